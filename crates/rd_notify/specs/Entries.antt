@@ -1,0 +1,7 @@
+-- Notification entries.
+use Rattle.rd_notify.specs.declared.notes.Entry.{Entry}
+use Rattle.rd_notify.specs.declared.notes.EntryState.TheVariants.{Idle}
+
+-- how an entry begins: value 0, idle
+abbrev pub idle_entry : Entry
+idle_entry = record { value = 0; state = Idle }

@@ -1,0 +1,94 @@
+ghost use Rattle.std.specs.Prelude.{◌≡◌, ◌<◌, ◌≤◌, length, replicate, slice_get, Some};
+ghost use Rattle.rd_notify.specs.Entries.{idle_entry};
+
+use arrayvec::ArrayVec;
+use std::marker::Model;
+
+/// How many notification entries a task has at the most.
+pub const MAX_ENTRIES: usize = 4;
+
+/// What has become of a notification entry since its task last looked at it.
+#[derive(Clone, Copy, Debug, Default, PartialEq, Eq)]
+pub enum EntryState {
+    /// Nothing has come, and its task doesn't wait for it.
+    #[default]
+    Idle,
+    /// Its task waits for it.
+    Waiting,
+    /// Something has come that its task hasn't taken yet.
+    Received,
+}
+
+/// One notification entry of a task.
+#[derive(Clone, Copy, Debug, Default, PartialEq, Eq)]
+pub struct Entry {
+    pub value: u32,
+    pub state: EntryState,
+}
+
+/// The notification entries of one task, 1 to 4 of them, counted from 0
+/// (`configTASK_NOTIFICATION_ARRAY_ENTRIES`).
+#[derive(Drop)]
+pub struct Notes {
+    entries: ArrayVec<Entry, MAX_ENTRIES>,
+}
+
+impl Model for Notes {
+    ghost use Rattle.std.specs.Prelude.{List};
+    ghost use Rattle.rd_notify.specs.declared.notes.Entry.{Entry};
+
+    ghost Value = { List Entry };
+
+    ghost view = { λ n. n.entries.items };
+}
+
+impl Notes {
+    /// `count` entries of value 0, all idle.
+    pub fn new(count: usize) -> Notes
+        requires { count ≤ 4 }
+        ensures { result ≡ replicate count idle_entry }
+    {
+        let mut entries = ArrayVec::new();
+        for _ in 0..count {
+            entries.push(Entry {
+                value: 0,
+                state: EntryState::Idle,
+            });
+        }
+        Notes { entries }
+    }
+
+    /// Equal entries.
+    pub fn copy(&self) -> Notes
+        ensures { result ≡ self.now }
+    {
+        let mut entries = ArrayVec::new();
+        entries
+            .try_extend_from_slice(self.entries.as_slice())
+            .unwrap();
+        Notes { entries }
+    }
+
+    /// How many entries there are.
+    pub fn len(&self) -> usize
+        ensures len { result ≡ length self.now }
+        ensures few { result ≤ 4 }
+    {
+        self.entries.len()
+    }
+
+    /// The entry at `index`.
+    pub fn entry(&self, index: usize) -> Entry
+        requires { index < length self.now }
+        ensures { slice_get self.now index ≡ Some result }
+    {
+        self.entries[index]
+    }
+
+    /// All entries, in order.
+    pub fn as_slice(&self) -> &[Entry]
+        ensures { result.now ≡ self.now }
+    {
+        self.entries.as_slice()
+    }
+}

@@ -1,0 +1,2 @@
+pub mod QueueSnapshot
+pub mod Queues

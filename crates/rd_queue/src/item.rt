@@ -1,0 +1,41 @@
+ghost use Rattle.std.specs.Prelude.{◌≡◌, ◌≤◌, length};
+
+use arrayvec::ArrayVec;
+use std::marker::Model;
+
+/// How many bytes an item has at the most.
+pub const MAX_ITEM_SIZE: usize = 64;
+
+/// An item by value: 0 to 64 bytes.
+#[derive(Drop)]
+pub struct Item {
+    bytes: ArrayVec<u8, MAX_ITEM_SIZE>,
+}
+
+impl Model for Item {
+    ghost use Rattle.std.specs.Prelude.{ℕ, List};
+
+    ghost Value = { List ℕ };
+
+    ghost view = { λ i. i.bytes.items };
+}
+
+impl Item {
+    /// An item of these bytes.
+    pub fn new(bytes: &[u8]) -> Item
+        requires { length bytes.now ≤ 64 }
+        ensures { result ≡ bytes.now }
+    {
+        let mut item = ArrayVec::new();
+        item.try_extend_from_slice(bytes).unwrap();
+        Item { bytes: item }
+    }
+
+    /// The item's bytes.
+    pub fn as_slice(&self) -> &[u8]
+        ensures bytes { result.now ≡ self.now }
+        ensures short { length result.now ≤ 64 }
+    {
+        self.bytes.as_slice()
+    }
+}

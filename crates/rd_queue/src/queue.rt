@@ -1,0 +1,127 @@
+ghost use Rattle.std.specs.Prelude.{◌≡◌, ◌+◌, ◌-◌, ◌<◌, ◌≤◌, ◌↔◌, [], ◌∷◌, ◌++◌, length, take, drop, slice_get, Some, IsErr, IfOk, OnOk, OnErr};
+ghost use Rattle.rd_queue.specs.Queues.{empty_queue, with_items};
+
+use crate::item::Item;
+use std::alloc::{AllocError, Global};
+use std::collections::VecDeque;
+use std::marker::Model;
+use thiserror::Error;
+
+/// The queue has no free place.
+#[derive(Debug, Drop, Error)]
+#[error("the queue is full")]
+pub struct Full;
+
+/// The queue has no item.
+#[derive(Debug, Drop, Error)]
+#[error("the queue is empty")]
+pub struct Empty;
+
+/// A queue with room for `capacity` items of `item_size` bytes each. All its memory is taken by `new`.
+#[derive(Drop)]
+pub struct Queue {
+    items: VecDeque<Item>,
+    capacity: usize,
+    item_size: usize,
+}
+
+impl Model for Queue {
+    ghost use Rattle.std.specs.Prelude.{◌≡◌, ◌≤◌, length, All};
+    ghost use Rattle.std.specs.VecDeque.{deque_capacity};
+    ghost use Rattle.rd_queue.specs.QueueSnapshot.{QueueSnapshot};
+
+    ghost Value = { QueueSnapshot };
+
+    ghost view = { λ q. record { items = q.items.items; capacity = q.capacity; item_size = q.item_size } };
+
+    // The items fit in the room, each has the size, and the room is reserved.
+    ghost invariant = { λ q. (length q.items.items ≤ q.capacity) × All (λ item. length item ≡ q.item_size) q.items.items
+        × (q.capacity ≤ deque_capacity q.items) × (q.item_size ≤ 64) };
+}
+
+impl Queue {
+    /// An empty queue with room for `capacity` items of `item_size` bytes, at most 64 (`xQueueCreate`).
+    pub fn new(alloc: Global, capacity: usize, item_size: usize) -> Result<Queue, AllocError>
+        requires { item_size ≤ 64 }
+        ensures { IfOk result (λ queue. queue ≡ empty_queue capacity item_size) }
+    {
+        let items = VecDeque::with_capacity(alloc, capacity)?;
+        Ok(Queue {
+            items,
+            capacity,
+            item_size,
+        })
+    }
+
+    /// How many items there are (`uxQueueMessagesWaiting`).
+    pub fn count(&self) -> usize
+        ensures count { result ≡ length self.now.items }
+        ensures within { result ≤ self.now.capacity }
+    {
+        self.items.len()
+    }
+
+    /// How many places are free (`uxQueueSpacesAvailable`).
+    pub fn spaces(&self) -> usize
+        ensures { result + length self.now.items ≡ self.now.capacity }
+    {
+        self.capacity - self.items.len()
+    }
+
+    /// How many items there is room for.
+    pub fn capacity(&self) -> usize
+        ensures { result ≡ self.now.capacity }
+    {
+        self.capacity
+    }
+
+    /// How many bytes each item has.
+    pub fn item_size(&self) -> usize
+        ensures size { result ≡ self.now.item_size }
+        ensures small { result ≤ 64 }
+    {
+        self.item_size
+    }
+
+    /// Puts an item at the back (`xQueueSendToBack`). A full queue refuses, and stays as it was.
+    pub fn put_back(&mut self, item: &[u8]) -> Result<(), Full>
+        requires { length item.now ≡ self.old.item_size }
+        ensures full { IsErr result ↔ (length self.old.items ≡ self.old.capacity) }
+        ensures ok { OnOk result (self.new ≡ with_items self.old (self.old.items ++ item.now ∷ [])) }
+        ensures err { OnErr result (self.new ≡ self.old) }
+    {
+        if self.items.len() == self.capacity {
+            return Err(Full);
+        }
+        self.items.push_back_reserved(Item::new(item));
+        Ok(())
+    }
+
+    /// Takes the item at the front (`xQueueReceive`). An empty queue refuses, and stays as it was.
+    pub fn take(&mut self) -> Result<Item, Empty>
+        ensures empty { IsErr result ↔ (self.old.items ≡ []) }
+        ensures ok { IfOk result (λ item. self.new ≡ with_items self.old (drop 1 self.old.items)) }
+        ensures item { IfOk result (λ item. slice_get self.old.items 0 ≡ Some item) }
+        ensures err { OnErr result (self.new ≡ self.old) }
+    {
+        self.items.pop_front().ok_or(Empty)
+    }
+
+    /// Puts an item back at the front: what undoes `take`.
+    pub fn untake(&mut self, item: &[u8])
+        requires room { length self.old.items < self.old.capacity }
+        requires size { length item.now ≡ self.old.item_size }
+        ensures { self.new ≡ with_items self.old (item.now ∷ self.old.items) }
+    {
+        self.items.push_front_reserved(Item::new(item));
+    }
+
+    /// Takes the item at the back out again: what undoes `put_back`.
+    pub fn unput(&mut self) -> Item
+        requires { 0 < length self.old.items }
+        ensures item { slice_get self.old.items (length self.old.items - 1) ≡ Some result }
+        ensures rest { self.new ≡ with_items self.old (take (length self.old.items - 1) self.old.items) }
+    {
+        self.items.pop_back().unwrap()
+    }
+}

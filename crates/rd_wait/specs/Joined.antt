@@ -1,0 +1,20 @@
+-- Priority order: the highest priority first, and among equals the longest waiting first
+-- (FreeRTOS API reference, "Task Priorities" and the waiting order of queues).
+use Rattle.std.specs.Prelude.{ℕ, ◌<◌, Bool, List, length, All, nat_le, slice_index, insert}
+use Rattle.std.specs.List.{prefix_len}
+
+-- Each member is a task that has a priority.
+abbrev pub AreTasks : List ℕ → List ℕ → Type 0
+AreTasks priorities tasks = All (λ task. task < length priorities) tasks
+
+-- does the task have at least that priority?
+abbrev pub is_at_least : List ℕ → ℕ → ℕ → Bool
+is_at_least priorities priority task = nat_le priority (slice_index priorities task)
+
+-- where a task of that priority joins: behind those at the front that have at least its priority
+abbrev pub place_of : List ℕ → List ℕ → ℕ → ℕ
+place_of priorities tasks priority = prefix_len (is_at_least priorities priority) tasks
+
+-- the list with the task joined to it
+abbrev pub joined : List ℕ → List ℕ → ℕ → List ℕ
+joined priorities tasks task = insert tasks (place_of priorities tasks (slice_index priorities task)) task

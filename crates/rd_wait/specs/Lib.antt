@@ -1,0 +1,2 @@
+pub mod TaskList
+pub mod Joined

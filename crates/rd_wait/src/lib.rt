@@ -1,0 +1,4 @@
+//! Lists of waiting tasks.
+#![tactic(auto)]
+
+pub mod prio_list;
