@@ -1,0 +1,4 @@
+pub mod TaskScript
+pub mod Application
+pub mod Inside
+pub mod Builtin

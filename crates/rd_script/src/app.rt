@@ -1,0 +1,117 @@
+ghost use Rattle.std.specs.Prelude.{◌≡◌, ◌<◌, length, position, slice_get, slice_index, Some, IfOk};
+ghost use Rattle.rd_script.specs.Application.{names_of, code_of, priorities_of, IsApplication};
+ghost use Rattle.rd_script.specs.Builtin.{builtin};
+
+use crate::bytes::Bytes;
+use crate::instr::Instr;
+use indexmap::IndexSet;
+use std::alloc::{AllocError, Global};
+use std::marker::Model;
+
+/// What kind of thing a name stands for.
+#[derive(Clone, Copy, Debug, PartialEq, Eq)]
+pub enum Kind {
+    Queue,
+    Task,
+}
+
+/// A queue to be made: room for 1 to 64 items of 1 to 64 bytes each.
+#[derive(Clone, Copy, Debug, PartialEq, Eq)]
+pub struct QueueShape {
+    pub capacity: usize,
+    pub item_size: usize,
+}
+
+/// A task to be made: its priority, 0 to 31, higher before lower, and its instructions.
+#[derive(Drop)]
+pub struct Script {
+    priority: u8,
+    code: Vec<Instr>,
+}
+
+impl Model for Script {
+    ghost use Rattle.rd_script.specs.TaskScript.{TaskScript};
+
+    ghost Value = { TaskScript };
+
+    ghost view = { λ s. record { priority = s.priority; code = s.code.items } };
+}
+
+/// An application within the limits. It never changes.
+#[derive(Drop)]
+pub struct App {
+    cores: usize,
+    notes: usize,
+    tick: u32,
+    queues: Vec<QueueShape>,
+    queue_names: IndexSet<String>,
+    scripts: Vec<Script>,
+    task_names: IndexSet<String>,
+    priorities: Vec<u8>,
+}
+
+impl Model for App {
+    ghost use Rattle.std.specs.Prelude.{◌≡◌};
+    ghost use Rattle.rd_script.specs.Application.{Application, priorities_of, IsApplication};
+
+    ghost Value = { Application };
+
+    ghost use Rattle.rd_script.specs.Inside.{application_of};
+
+    ghost view = { application_of };
+
+    ghost invariant = { λ a. IsApplication (application_of a) × (a.priorities.items ≡ priorities_of (application_of a)) };
+}
+
+impl App {
+    /// The limits that every application keeps.
+    pub fn limits(&self)
+        ensures { IsApplication self.now }
+    {
+        let _ = &self.cores;
+    }
+
+    /// How many cores there are.
+    pub fn cores(&self) -> usize
+        ensures { result ≡ self.now.cores }
+    {
+        self.cores
+    }
+
+    /// How many notification entries each task has.
+    pub fn notes(&self) -> usize
+        ensures { result ≡ self.now.notes }
+    {
+        self.notes
+    }
+
+    /// The tick at boot.
+    pub fn tick(&self) -> u32
+        ensures { result ≡ self.now.tick }
+    {
+        self.tick
+    }
+
+    /// The queues, by number.
+    pub fn queues(&self) -> &[QueueShape]
+        ensures { result.now ≡ self.now.queues }
+    {
+        self.queues.as_slice()
+    }
+
+    /// The instructions of the task's script.
+    pub fn code(&self, task: usize) -> &[Instr]
+        requires { task < length self.now.scripts }
+        ensures { result.now ≡ code_of self.now task }
+    {
+        let script = &self.scripts[task];
+        script.code.as_slice()
+    }
+
+    /// The tasks' priorities, by number.
+    pub fn priorities(&self) -> &[u8]
+        ensures { result.now ≡ priorities_of self.now }
+    {
+        self.priorities.as_slice()
+    }
+}

@@ -1,0 +1,59 @@
+ghost use Rattle.std.specs.Prelude.{◌≡◌, ◌≤◌, [], length};
+
+use arrayvec::ArrayVec;
+use std::marker::Model;
+
+/// How many bytes a task's data has at the most.
+pub const MAX_BYTES: usize = 256;
+
+/// The data of a task, or of an instruction: 0 to 256 bytes, which take no memory elsewhere.
+#[derive(Drop)]
+pub struct Bytes {
+    bytes: ArrayVec<u8, MAX_BYTES>,
+}
+
+impl Model for Bytes {
+    ghost use Rattle.std.specs.Prelude.{ℕ, List};
+
+    ghost Value = { List ℕ };
+
+    ghost view = { λ b. b.bytes.items };
+}
+
+impl Bytes {
+    /// No bytes.
+    pub fn new() -> Bytes
+        ensures { result ≡ [] }
+    {
+        Bytes {
+            bytes: ArrayVec::new(),
+        }
+    }
+
+    /// These bytes.
+    pub fn from_slice(bytes: &[u8]) -> Bytes
+        requires { length bytes.now ≤ 256 }
+        ensures { result ≡ bytes.now }
+    {
+        let mut made = Bytes::new();
+        made.replace(bytes);
+        made
+    }
+
+    /// The bytes.
+    pub fn as_slice(&self) -> &[u8]
+        ensures bytes { result.now ≡ self.now }
+        ensures few { length result.now ≤ 256 }
+    {
+        self.bytes.as_slice()
+    }
+
+    /// Makes them these bytes.
+    pub fn replace(&mut self, bytes: &[u8])
+        requires { length bytes.now ≤ 256 }
+        ensures { self.new ≡ bytes.now }
+    {
+        self.bytes.clear();
+        self.bytes.try_extend_from_slice(bytes).unwrap();
+    }
+}

@@ -1,0 +1,32 @@
+use crate::bytes::Bytes;
+
+/// How many registers a task has.
+pub const REGISTERS: usize = 8;
+
+/// One instruction of a task's script. Registers are 0 to 7; queues and places in the script are
+/// counted from 0.
+#[derive(Drop)]
+pub enum Instr {
+    /// `set R N`: the register becomes the value.
+    Set { register: usize, value: u32 },
+    /// `add R N`: the register grows by the value, modulo 2^32.
+    Add { register: usize, value: u32 },
+    /// `move R R`: the first register becomes the second's value.
+    Move { into: usize, from: usize },
+    /// `data HEX`: the task's data becomes these bytes.
+    Data { bytes: Bytes },
+    /// `pack R`: the data becomes the register's four bytes, lowest first.
+    Pack { register: usize },
+    /// `unpack R`: the register becomes the data's first four bytes, lowest first, missing ones 0.
+    Unpack { register: usize },
+    /// `jump L`: the script goes on at the target.
+    Jump { target: usize },
+    /// `jumpz R L`: the script goes on at the target if the register is 0.
+    JumpZero { register: usize, target: usize },
+    /// `end`: the task has ended.
+    End,
+    /// `send Q 0`: puts the data at the queue's back and doesn't wait (`xQueueSend`).
+    Send { queue: usize },
+    /// `recv Q 0`: takes the queue's first item as the data and doesn't wait (`xQueueReceive`).
+    Receive { queue: usize },
+}

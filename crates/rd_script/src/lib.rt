@@ -1,0 +1,7 @@
+//! The application that is debugged: its tasks' scripts, its cores, its queues and their names.
+#![tactic(auto)]
+
+pub mod app;
+pub mod bytes;
+pub mod instr;
+pub mod phase;
