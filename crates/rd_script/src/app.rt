@@ -1,4 +1,5 @@
-ghost use Rattle.std.specs.Prelude.{◌≡◌, ◌<◌, length, position, slice_get, slice_index, Some, IfOk};
+ghost use Rattle.std.specs.Prelude.{◌≡◌, ◌<◌, ◌∷◌, [], length, map, position, slice_get, string_bytes, Some, IfOk};
+ghost use Rattle.std.specs.Str.{bytes_eq};
 ghost use Rattle.rd_script.specs.Application.{names_of, code_of, priorities_of, IsApplication};
 ghost use Rattle.rd_script.specs.Builtin.{builtin};
 
@@ -63,7 +64,43 @@ impl Model for App {
     ghost invariant = { λ a. IsApplication (application_of a) × (a.priorities.items ≡ priorities_of (application_of a)) };
 }
 
+// The set of one name.
+fn lone_name(alloc: Global, name: &str) -> Result<IndexSet<String>, AllocError>
+    ensures { IfOk result (λ names. map string_bytes names.keys ≡ name.now ∷ []) }
+{
+    let mut names = IndexSet::new(alloc);
+    names.insert(String::from_str(alloc, name)?)?;
+    Ok(names)
+}
+
 impl App {
+    /// The built-in application: one task that sends three times to a queue for two items.
+    pub fn builtin(alloc: Global) -> Result<App, AllocError>
+        ensures { IfOk result (λ app. app ≡ builtin) }
+    {
+        let queue = QueueShape {
+            capacity: 2,
+            item_size: 1,
+        };
+        let code = vec![in alloc;
+            Instr::Data { bytes: Bytes::from_slice(b"\x41") },
+            Instr::Send { queue: 0 },
+            Instr::Send { queue: 0 },
+            Instr::Send { queue: 0 },
+            Instr::End,
+        ]?;
+        Ok(App {
+            cores: 1,
+            notes: 1,
+            tick: 0,
+            queues: vec![in alloc; queue]?,
+            queue_names: lone_name(alloc, "q0")?,
+            scripts: vec![in alloc; Script { priority: 1, code }]?,
+            task_names: lone_name(alloc, "t0")?,
+            priorities: vec![in alloc; 1]?,
+        })
+    }
+
     /// The limits that every application keeps.
     pub fn limits(&self)
         ensures { IsApplication self.now }
@@ -97,6 +134,31 @@ impl App {
         ensures { result.now ≡ self.now.queues }
     {
         self.queues.as_slice()
+    }
+
+    /// The number of the thing of that kind with that name, if there is one.
+    pub fn find(&self, kind: Kind, name: &str) -> Option<usize>
+        ensures { result ≡ position (λ other. bytes_eq name.now other) (names_of kind self.now) }
+    {
+        match kind {
+            Kind::Queue => self.queue_names.get_index_of(name),
+            Kind::Task => self.task_names.get_index_of(name),
+        }
+    }
+
+    /// The name of the thing of that kind with that number.
+    pub fn name(&self, kind: Kind, number: usize) -> &str
+        requires { number < length (names_of kind self.now) }
+        ensures { slice_get (names_of kind self.now) number ≡ Some result.now }
+    {
+        let names = match kind {
+            Kind::Queue => &self.queue_names,
+            Kind::Task => &self.task_names,
+        };
+        match names.get_index(number) {
+            Some(name) => name.as_str(),
+            None => unreachable!(),
+        }
     }
 
     /// The instructions of the task's script.
