@@ -1,7 +1,7 @@
 -- Priority order: the highest priority first, and among equals the longest waiting first
 -- (FreeRTOS API reference, "Task Priorities" and the waiting order of queues).
-use Rattle.std.specs.Prelude.{ℕ, ◌<◌, Bool, List, length, All, nat_le, slice_index, insert}
-use Rattle.std.specs.List.{prefix_len}
+use Rattle.std.specs.Prelude.{ℕ, ◌<◌, ◌≤◌, Bool, List, [], ◌∷◌, length, All, nat_le, slice_index, insert}
+use Rattle.std.specs.List.{prefix_len, AllByRecursion}
 
 -- Each member is a task that has a priority.
 abbrev pub AreTasks : List ℕ → List ℕ → Type 0
@@ -18,3 +18,8 @@ place_of priorities tasks priority = prefix_len (is_at_least priorities priority
 -- the list with the task joined to it
 abbrev pub joined : List ℕ → List ℕ → ℕ → List ℕ
 joined priorities tasks task = insert tasks (place_of priorities tasks (slice_index priorities task)) task
+
+-- Nowhere does a priority rise from front to back.
+abbrev pub IsInOrder : List ℕ → List ℕ → Type 0
+IsInOrder priorities [] = Unit {0}
+IsInOrder priorities (task ∷ tasks) = AllByRecursion (λ later. slice_index priorities later ≤ slice_index priorities task) tasks × IsInOrder priorities tasks

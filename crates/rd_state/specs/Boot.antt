@@ -1,0 +1,36 @@
+-- The state at boot: every task is ready at its first instruction, every object is empty, and then the
+-- scheduler runs.
+use Rattle.std.specs.Prelude.{ℕ, zero, suc, List, [], length, map, replicate, None}
+use Rattle.rd_notify.specs.Entries.{idle_entry}
+use Rattle.rd_queue.specs.QueueSnapshot.{QueueSnapshot}
+use Rattle.rd_queue.specs.Queues.{empty_queue}
+use Rattle.rd_script.specs.declared.app.QueueShape.{QueueShape}
+use Rattle.rd_script.specs.declared.phase.Phase.TheVariants.{Run}
+use Rattle.rd_script.specs.Application.{Application, priorities_of}
+use Rattle.rd_wait.specs.Joined.{joined}
+use Rattle.rd_state.specs.Snapshot.{Snapshot, TaskSnapshot}
+use Rattle.rd_state.specs.Settled.{settled}
+
+abbrev pub new_task : Application → TaskSnapshot
+new_task app = record { pc = 0; registers = replicate 8 0; bytes = []; phase = Run; entries = replicate app.notes idle_entry }
+
+abbrev pub new_queue : QueueShape → QueueSnapshot
+new_queue shape = empty_queue shape.capacity shape.item_size
+
+-- the first n tasks, joined by rising number
+abbrev pub all_joined : List ℕ → ℕ → List ℕ
+all_joined priorities zero = []
+all_joined priorities (suc n) = joined priorities (all_joined priorities n) n
+
+abbrev pub before_scheduling : Application → Snapshot
+before_scheduling app = record {
+  tick = app.tick;
+  turn = 0;
+  cores = replicate app.cores None;
+  ready = all_joined (priorities_of app) (length app.scripts);
+  tasks = replicate (length app.scripts) (new_task app);
+  queues = map new_queue app.queues;
+}
+
+abbrev pub boot_of : Application → Snapshot
+boot_of app = settled (priorities_of app) (before_scheduling app)

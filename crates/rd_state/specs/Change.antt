@@ -1,0 +1,85 @@
+-- The primitive changes: what each does, at which states it fits, and what undoes it.
+use Rattle.std.specs.Prelude.{ℕ, ◌≡◌, ◌+◌, ◌-◌, ◌<◌, ◌≤◌, List, [], ◌∷◌, ◌++◌, length, slice_index, slice_index_or, slice_set, insert, remove, take, drop, sum_by, Option, IfSome}
+use Rattle.rd_queue.specs.Queues.{with_items}
+use Rattle.rd_queue.specs.QueueSnapshot.{QueueSnapshot}
+use Rattle.rd_state.specs.declared.change.Change.{Change}
+use Rattle.rd_state.specs.declared.change.Change.TheVariants.{SetTurn, SetCore, SetPc, SetReg, SetPhase, SetData, InsReady, DelReady, PutBack, TakeBack, PutFront, TakeFront}
+use Rattle.rd_state.specs.Snapshot.{Snapshot, TaskSnapshot, task_at, queue_at, core_at}
+
+-- the state with this in place of the task, and of the queue
+abbrev pub with_task : Snapshot → ℕ → TaskSnapshot → Snapshot
+with_task s task now = record s { tasks = slice_set s.tasks task now }
+
+abbrev pub with_queue : Snapshot → ℕ → QueueSnapshot → Snapshot
+with_queue s queue now = record s { queues = slice_set s.queues queue now }
+
+-- the items of a queue
+abbrev pub items_at : Snapshot → ℕ → List (List ℕ)
+items_at s queue = (queue_at s queue).items
+
+-- the state after a change
+abbrev pub applied : Snapshot → Change → Snapshot
+applied s (SetTurn turn) = record s { turn = turn }
+applied s (SetCore core task) = record s { cores = slice_set s.cores core task }
+applied s (SetPc task pc) = with_task s task (record (task_at s task) { pc = pc })
+applied s (SetReg task register value) = with_task s task (record (task_at s task) { registers = slice_set (task_at s task).registers register value })
+applied s (SetPhase task phase) = with_task s task (record (task_at s task) { phase = phase })
+applied s (SetData task bytes) = with_task s task (record (task_at s task) { bytes = bytes })
+applied s (InsReady place task) = record s { ready = insert s.ready place task }
+applied s (DelReady place) = record s { ready = remove s.ready place }
+applied s (PutBack queue item) = with_queue s queue (with_items (queue_at s queue) (items_at s queue ++ item ∷ []))
+applied s (TakeBack queue) = with_queue s queue (with_items (queue_at s queue) (take (length (items_at s queue) - 1) (items_at s queue)))
+applied s (PutFront queue item) = with_queue s queue (with_items (queue_at s queue) (item ∷ items_at s queue))
+applied s (TakeFront queue) = with_queue s queue (with_items (queue_at s queue) (drop 1 (items_at s queue)))
+
+-- the change that undoes a change made at this state
+abbrev pub inverse_of : Snapshot → Change → Change
+inverse_of s (SetTurn turn) = SetTurn s.turn
+inverse_of s (SetCore core task) = SetCore core (core_at s core)
+inverse_of s (SetPc task pc) = SetPc task (task_at s task).pc
+inverse_of s (SetReg task register value) = SetReg task register (slice_index (task_at s task).registers register)
+inverse_of s (SetPhase task phase) = SetPhase task (task_at s task).phase
+inverse_of s (SetData task bytes) = SetData task (task_at s task).bytes
+inverse_of s (InsReady place task) = DelReady place
+inverse_of s (DelReady place) = InsReady place (slice_index s.ready place)
+inverse_of s (PutBack queue item) = TakeBack queue
+inverse_of s (TakeBack queue) = PutBack queue (slice_index_or (items_at s queue) (length (items_at s queue) - 1) [])
+inverse_of s (PutFront queue item) = TakeFront queue
+inverse_of s (TakeFront queue) = PutFront queue (slice_index_or (items_at s queue) 0 [])
+
+-- the queue is there and takes one more item, this one
+abbrev pub Takes : Snapshot → ℕ → List ℕ → Type 0
+Takes s queue item = (queue < length s.queues) × (length (items_at s queue) < (queue_at s queue).capacity) × (length item ≡ (queue_at s queue).item_size)
+
+-- the queue is there and has an item
+abbrev pub HasItem : Snapshot → ℕ → Type 0
+HasItem s queue = (queue < length s.queues) × (0 < length (items_at s queue))
+
+-- The change names what is there, and there is room.
+abbrev pub Fits : Snapshot → Change → Type 0
+Fits s (SetTurn turn) = turn ≤ length s.cores
+Fits s (SetCore core task) = (core < length s.cores) × IfSome task (λ t. t < length s.tasks)
+Fits s (SetPc task pc) = task < length s.tasks
+Fits s (SetReg task register value) = (task < length s.tasks) × (register < 8)
+Fits s (SetPhase task phase) = task < length s.tasks
+Fits s (SetData task bytes) = (task < length s.tasks) × (length bytes ≤ 256)
+Fits s (InsReady place task) = (place ≤ length s.ready) × (length s.ready < length s.tasks) × (task < length s.tasks)
+Fits s (DelReady place) = place < length s.ready
+Fits s (PutBack queue item) = Takes s queue item
+Fits s (TakeBack queue) = HasItem s queue
+Fits s (PutFront queue item) = Takes s queue item
+Fits s (TakeFront queue) = HasItem s queue
+
+-- the bytes that a change carries
+abbrev pub saved_bytes : Change → ℕ
+saved_bytes (SetData task bytes) = length bytes
+saved_bytes (PutBack queue item) = length item
+saved_bytes (PutFront queue item) = length item
+saved_bytes _ = 0
+
+abbrev pub cost_of : Change → ℕ
+cost_of change = 1 + saved_bytes change
+
+-- how much a list of changes takes: the number of its changes and the bytes that they carry
+abbrev pub weight_of : List Change → ℕ
+weight_of changes = sum_by cost_of changes

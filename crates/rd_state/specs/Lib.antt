@@ -1,0 +1,14 @@
+pub mod Snapshot
+pub mod Change
+pub mod Sizes
+pub mod Undoing
+pub mod Settled
+pub mod Boot
+pub mod Valid
+pub use Rattle.rd_wait.specs.TaskList
+pub use Rattle.rd_wait.specs.Joined
+pub use Rattle.rd_notify.specs.Entries
+pub use Rattle.rd_queue.specs.QueueSnapshot
+pub use Rattle.rd_queue.specs.Queues
+pub use Rattle.rd_script.specs.TaskScript
+pub use Rattle.rd_script.specs.Application

@@ -1,0 +1,70 @@
+-- Scheduling: who runs, once the ready list or a core has changed. A ready task takes an idle core, or
+-- displaces a running task of lower priority.
+use Rattle.std.specs.Prelude.{ℕ, zero, suc, ◌+◌, ◌-◌, Bool, ◌&&◌, List, length, slice_index, slice_index_or, slice_set, drop, Option, Some, None, nat_lt, nat_le, if◌then◌else◌}
+use Rattle.rd_wait.specs.Joined.{joined}
+use Rattle.rd_state.specs.Snapshot.{Snapshot}
+
+-- who runs and who is ready
+pub record Seating : Type 0 where
+  pub cores : List (Option ℕ)
+  pub ready : List ℕ
+
+-- how hard a core is to take: an idle one not at all, a busy one as its task's priority says
+abbrev pub rank_of : List ℕ → Option ℕ → ℕ
+rank_of priorities None = 0
+rank_of priorities (Some task) = slice_index priorities task + 1
+
+abbrev pub running_on : List (Option ℕ) → ℕ → Option ℕ
+running_on cores core = slice_index_or cores core None
+
+-- the easiest to take of core 0 and the n after it, and the lowest of those where several are
+abbrev pub weakest_to : List ℕ → List (Option ℕ) → ℕ → ℕ
+weakest_to priorities cores zero = 0
+weakest_to priorities cores (suc n) =
+    let best = weakest_to priorities cores n in
+    if nat_lt (rank_of priorities (running_on cores (suc n))) (rank_of priorities (running_on cores best)) then suc n else best
+
+abbrev pub weakest_of : List ℕ → List (Option ℕ) → ℕ
+weakest_of priorities cores = weakest_to priorities cores (length cores - 1)
+
+abbrev pub head_of : List ℕ → ℕ
+head_of ready = slice_index ready 0
+
+-- Is there a head of the ready list, and does it outrank the task on that core?
+abbrev pub takes_core : List ℕ → Seating → ℕ → Bool
+takes_core priorities seats core = nat_lt 0 (length seats.ready) && nat_le (rank_of priorities (running_on seats.cores core)) (slice_index priorities (head_of seats.ready))
+
+-- the ready list with the task that was displaced, if one was, joined to it
+abbrev pub with_displaced : List ℕ → List ℕ → Option ℕ → List ℕ
+with_displaced priorities ready None = ready
+with_displaced priorities ready (Some task) = joined priorities ready task
+
+-- the head of the ready list has taken the core
+abbrev pub seated_on : List ℕ → Seating → ℕ → Seating
+seated_on priorities seats core = record {
+  cores = slice_set seats.cores core (Some (head_of seats.ready));
+  ready = with_displaced priorities (drop 1 seats.ready) (running_on seats.cores core);
+}
+
+-- one round: the head takes the weakest core, if it can
+abbrev pub seated_once : List ℕ → Seating → Seating
+seated_once priorities seats =
+    let core = weakest_of priorities seats.cores in
+    if takes_core priorities seats core then seated_on priorities seats core else seats
+
+abbrev pub seated_rounds : List ℕ → ℕ → Seating → Seating
+seated_rounds priorities zero seats = seats
+seated_rounds priorities (suc rounds) seats = seated_rounds priorities rounds (seated_once priorities seats)
+
+-- Who was seated outranks all who are still ready, so each core changes hands once at the most: as many
+-- rounds as there are cores are enough.
+abbrev pub seating_of : Snapshot → Seating
+seating_of s = record { cores = s.cores; ready = s.ready }
+
+abbrev pub settled_in : List ℕ → ℕ → Snapshot → Snapshot
+settled_in priorities rounds s =
+    let seats = seated_rounds priorities rounds (seating_of s) in
+    record s { cores = seats.cores; ready = seats.ready }
+
+abbrev pub settled : List ℕ → Snapshot → Snapshot
+settled priorities s = settled_in priorities (length s.cores) s

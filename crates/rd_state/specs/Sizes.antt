@@ -1,0 +1,24 @@
+-- What holds of a state at any time, also in the middle of a step: members of lists are tasks, and
+-- lengths are within what there is room for.
+use Rattle.std.specs.Prelude.{ℕ, ◌≡◌, ◌<◌, ◌≤◌, List, length, All, Option, IfSome}
+use Rattle.rd_queue.specs.QueueSnapshot.{QueueSnapshot}
+use Rattle.rd_state.specs.Snapshot.{Snapshot, TaskSnapshot}
+
+-- a core's task, if it has one, is one of that many
+abbrev pub IsTaskOrIdle : ℕ → Option ℕ → Type 0
+IsTaskOrIdle tasks running = IfSome running (λ task. task < tasks)
+
+abbrev pub IsSizedTask : TaskSnapshot → Type 0
+IsSizedTask task = (length task.registers ≡ 8) × (length task.bytes ≤ 256)
+
+abbrev pub IsSizedQueue : QueueSnapshot → Type 0
+IsSizedQueue queue = (length queue.items ≤ queue.capacity) × All (λ item. length item ≡ queue.item_size) queue.items × (queue.item_size ≤ 64)
+
+pub record IsSized (s : Snapshot) : Type 0 where
+  pub turn : s.turn ≤ length s.cores
+  pub some_cores : 0 < length s.cores
+  pub cores : All (IsTaskOrIdle (length s.tasks)) s.cores
+  pub ready : All (λ task. task < length s.tasks) s.ready
+  pub room : length s.ready ≤ length s.tasks
+  pub tasks : All IsSizedTask s.tasks
+  pub queues : All IsSizedQueue s.queues

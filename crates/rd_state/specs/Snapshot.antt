@@ -1,0 +1,41 @@
+-- The whole state of the target, as plain lists: what a contract sees of a `State`.
+use Rattle.std.specs.Prelude.{ℕ, List, [], Option, None, slice_index_or}
+use Rattle.rd_notify.specs.declared.notes.Entry.{Entry}
+use Rattle.rd_queue.specs.QueueSnapshot.{QueueSnapshot}
+use Rattle.rd_script.specs.declared.phase.Phase.{Phase}
+use Rattle.rd_script.specs.declared.phase.Phase.TheVariants.{Run}
+
+-- a task: its place in its script, its 8 registers, its data, what it does, its notification entries
+pub record TaskSnapshot : Type 0 where
+  pub pc : ℕ
+  pub registers : List ℕ
+  pub bytes : List ℕ
+  pub phase : Phase
+  pub entries : List Entry
+
+-- Cores, tasks and queues go by number. A core has its task, or none when it is idle. The ready list
+-- has its first task first. Two states are the same where their snapshots are equal.
+pub record Snapshot : Type 0 where
+  pub tick : ℕ
+  pub turn : ℕ
+  pub cores : List (Option ℕ)
+  pub ready : List ℕ
+  pub tasks : List TaskSnapshot
+  pub queues : List QueueSnapshot
+
+-- what stands for a task, and for a queue, that isn't there
+abbrev pub no_task : TaskSnapshot
+no_task = record { pc = 0; registers = []; bytes = []; phase = Run; entries = [] }
+
+abbrev pub no_queue : QueueSnapshot
+no_queue = record { items = []; capacity = 0; item_size = 0 }
+
+abbrev pub task_at : Snapshot → ℕ → TaskSnapshot
+task_at s task = slice_index_or s.tasks task no_task
+
+abbrev pub queue_at : Snapshot → ℕ → QueueSnapshot
+queue_at s queue = slice_index_or s.queues queue no_queue
+
+-- the task on a core
+abbrev pub core_at : Snapshot → ℕ → Option ℕ
+core_at s core = slice_index_or s.cores core None

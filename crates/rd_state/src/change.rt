@@ -1,0 +1,40 @@
+ghost use Rattle.std.specs.Prelude.{◌≡◌, ◌^◌, ◌<◌};
+ghost use Rattle.rd_state.specs.Change.{cost_of};
+
+use crate::saved::SavedBytes;
+use rd_script::phase::Phase;
+
+/// A primitive change of the state: all that a move does is made of these, and each has an inverse
+/// among them. Tasks, cores, queues and registers go by number, places count from the front.
+#[derive(Drop)]
+pub enum Change {
+    /// The turn becomes this core's.
+    SetTurn { turn: usize },
+    /// The core has this task, or none.
+    SetCore { core: usize, task: Option<usize> },
+    /// The task stands at this instruction.
+    SetPc { task: usize, pc: usize },
+    /// The task's register becomes the value.
+    SetReg {
+        task: usize,
+        register: usize,
+        value: u32,
+    },
+    /// The task is in this phase.
+    SetPhase { task: usize, phase: Phase },
+    /// The task's data becomes these bytes.
+    SetData { task: usize, bytes: SavedBytes },
+    /// The task is put into the ready list at the place.
+    InsReady { place: usize, task: usize },
+    /// The task at the place leaves the ready list.
+    DelReady { place: usize },
+    /// The item goes to the queue's back.
+    PutBack { queue: usize, item: SavedBytes },
+    /// The item at the queue's back leaves it.
+    TakeBack { queue: usize },
+    /// The item goes to the queue's front.
+    PutFront { queue: usize, item: SavedBytes },
+    /// The item at the queue's front leaves it.
+    TakeFront { queue: usize },
+}
+

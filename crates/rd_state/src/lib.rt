@@ -1,0 +1,7 @@
+//! The state of the target, its primitive changes, and records that undo them.
+#![tactic(auto)]
+
+pub mod change;
+pub mod no_memory;
+pub mod saved;
+pub mod task;

@@ -1,0 +1,40 @@
+ghost use Rattle.std.specs.Prelude.{◌≡◌, [], IfOk, length};
+
+use crate::no_memory::NoMemory;
+use smallvec::SmallVec;
+use std::alloc::Global;
+use std::marker::Model;
+
+/// How many bytes a change keeps without memory elsewhere.
+const INLINE: usize = 16;
+
+/// The bytes that a change carries: any number of them, and none of up to 16 take memory elsewhere.
+#[derive(Drop)]
+pub struct SavedBytes {
+    bytes: SmallVec<u8, INLINE>,
+}
+
+impl Model for SavedBytes {
+    ghost use Rattle.std.specs.Prelude.{ℕ, List};
+
+    ghost Value = { List ℕ };
+
+    ghost view = { λ b. b.bytes.items };
+}
+
+impl SavedBytes {
+    /// These bytes.
+    pub fn from_slice(alloc: Global, bytes: &[u8]) -> Result<SavedBytes, NoMemory>
+        ensures { IfOk result (λ saved. saved ≡ bytes.now) }
+    {
+        let bytes = SmallVec::from_slice(alloc, bytes)?;
+        Ok(SavedBytes { bytes })
+    }
+
+    /// The bytes.
+    pub fn as_slice(&self) -> &[u8]
+        ensures { result.now ≡ self.now }
+    {
+        self.bytes.as_slice()
+    }
+}

@@ -1,0 +1,131 @@
+ghost use Rattle.std.specs.Prelude.{◌≡◌, ◌<◌, ◌≤◌, [], length, replicate, slice_index, slice_set, Some, IfOk};
+ghost use Rattle.rd_notify.specs.Entries.{idle_entry};
+ghost use Rattle.rd_script.specs.declared.phase.Phase.TheVariants.{Run};
+
+use rd_notify::notes::Notes;
+use rd_script::bytes::Bytes;
+use rd_script::instr::REGISTERS;
+use rd_script::phase::Phase;
+use std::marker::Model;
+
+/// A task of the target.
+#[derive(Drop)]
+pub struct Task {
+    pc: usize,
+    registers: [u32; REGISTERS],
+    bytes: Bytes,
+    phase: Phase,
+    notes: Notes,
+}
+
+impl Model for Task {
+    ghost use Rattle.rd_state.specs.Snapshot.{TaskSnapshot};
+
+    ghost Value = { TaskSnapshot };
+
+    ghost view = { λ t. record { pc = t.pc; registers = t.registers; bytes = t.bytes; phase = t.phase; entries = t.notes } };
+}
+
+impl Task {
+    /// A task at its first instruction, with that many idle notification entries.
+    pub fn new(notes: usize) -> Task
+        requires { notes ≤ 4 }
+        ensures { result ≡ record { pc = 0; registers = replicate 8 0; bytes = []; phase = Phase.Run; entries = replicate notes idle_entry } }
+    {
+        Task {
+            pc: 0,
+            registers: [0; REGISTERS],
+            bytes: Bytes::new(),
+            phase: Phase::Run,
+            notes: Notes::new(notes),
+        }
+    }
+
+    /// An equal task.
+    pub fn copy(&self) -> Task
+        ensures { result ≡ self.now }
+    {
+        Task {
+            pc: self.pc,
+            registers: self.registers,
+            bytes: Bytes::from_slice(self.bytes.as_slice()),
+            phase: self.phase,
+            notes: self.notes.copy(),
+        }
+    }
+
+    /// The place in the script.
+    pub fn pc(&self) -> usize
+        ensures { result ≡ self.now.pc }
+    {
+        self.pc
+    }
+
+    /// The registers.
+    pub fn registers(&self) -> &[u32]
+        ensures values { result.now ≡ self.now.registers }
+        ensures eight { length result.now ≡ 8 }
+    {
+        &self.registers
+    }
+
+    /// The value of a register.
+    pub fn register(&self, register: usize) -> u32
+        requires { register < 8 }
+        ensures { result ≡ slice_index self.now.registers register }
+    {
+        self.registers[register]
+    }
+
+    /// The data.
+    pub fn bytes(&self) -> &[u8]
+        ensures bytes { result.now ≡ self.now.bytes }
+        ensures few { length result.now ≤ 256 }
+    {
+        self.bytes.as_slice()
+    }
+
+    /// What the task does.
+    pub fn phase(&self) -> Phase
+        ensures { result ≡ self.now.phase }
+    {
+        self.phase
+    }
+
+    /// The notification entries.
+    pub fn notes(&self) -> &Notes
+        ensures { result.now ≡ self.now.entries }
+    {
+        &self.notes
+    }
+
+    /// Moves the task to another place in its script.
+    pub fn set_pc(&mut self, pc: usize)
+        ensures { self.new ≡ record self.old { pc = pc } }
+    {
+        self.pc = pc;
+    }
+
+    /// Sets a register.
+    pub fn set_register(&mut self, register: usize, value: u32)
+        requires { register < 8 }
+        ensures { self.new ≡ record self.old { registers = slice_set self.old.registers register value } }
+    {
+        self.registers[register] = value;
+    }
+
+    /// Replaces the data.
+    pub fn set_bytes(&mut self, bytes: &[u8])
+        requires { length bytes.now ≤ 256 }
+        ensures { self.new ≡ record self.old { bytes = bytes.now } }
+    {
+        self.bytes.replace(bytes);
+    }
+
+    /// Puts the task into another phase.
+    pub fn set_phase(&mut self, phase: Phase)
+        ensures { self.new ≡ record self.old { phase = phase } }
+    {
+        self.phase = phase;
+    }
+}
