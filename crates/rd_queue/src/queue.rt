@@ -1,4 +1,4 @@
-ghost use Rattle.std.specs.Prelude.{◌≡◌, ◌+◌, ◌-◌, ◌<◌, ◌≤◌, ◌↔◌, [], ◌∷◌, ◌++◌, length, take, drop, slice_get, Some, IsErr, IfOk, OnOk, OnErr};
+ghost use Rattle.std.specs.Prelude.{◌≡◌, ◌+◌, ◌-◌, ◌<◌, ◌≤◌, ◌↔◌, [], ◌∷◌, ◌++◌, length, take, drop, slice_get, slice_index_or, Some, IsErr, IfOk, OnOk, OnErr};
 ghost use Rattle.rd_queue.specs.Queues.{empty_queue, with_items};
 
 use crate::item::Item;
@@ -81,6 +81,26 @@ impl Queue {
         ensures small { result ≤ 64 }
     {
         self.item_size
+    }
+
+    /// The item at the front.
+    pub fn first(&self) -> &[u8]
+        requires { 0 < length self.now.items }
+        ensures item { result.now ≡ slice_index_or self.now.items 0 [] }
+        ensures short { length result.now ≤ 64 }
+    {
+        let item = &self.items[0];
+        item.as_slice()
+    }
+
+    /// The item at the back.
+    pub fn last(&self) -> &[u8]
+        requires { 0 < length self.now.items }
+        ensures item { result.now ≡ slice_index_or self.now.items (length self.now.items - 1) [] }
+        ensures short { length result.now ≤ 64 }
+    {
+        let item = &self.items[self.items.len() - 1];
+        item.as_slice()
     }
 
     /// Puts an item at the back (`xQueueSendToBack`). A full queue refuses, and stays as it was.

@@ -1,6 +1,8 @@
 pub mod Snapshot
 pub mod Change
 pub mod Sizes
+pub mod Inside
+pub mod Edit
 pub mod Undoing
 pub mod Settled
 pub mod Boot

@@ -16,7 +16,6 @@ IsSizedQueue queue = (length queue.items ≤ queue.capacity) × All (λ item. le
 
 pub record IsSized (s : Snapshot) : Type 0 where
   pub turn : s.turn ≤ length s.cores
-  pub some_cores : 0 < length s.cores
   pub cores : All (IsTaskOrIdle (length s.tasks)) s.cores
   pub ready : All (λ task. task < length s.tasks) s.ready
   pub room : length s.ready ≤ length s.tasks

@@ -1,4 +1,4 @@
-ghost use Rattle.std.specs.Prelude.{◌≡◌, ◌^◌, ◌<◌};
+ghost use Rattle.std.specs.Prelude.{◌≡◌};
 ghost use Rattle.rd_state.specs.Change.{cost_of};
 
 use crate::saved::SavedBytes;
@@ -38,3 +38,25 @@ pub enum Change {
     TakeFront { queue: usize },
 }
 
+
+impl Change {
+    /// How much it takes in a record: one, and the bytes that it carries.
+    pub fn cost(&self) -> usize
+        ensures { result ≡ cost_of self.now }
+    {
+        match self {
+            Change::SetData { bytes, .. } => 1 + bytes.as_slice().len(),
+            Change::PutBack { item, .. } | Change::PutFront { item, .. } => {
+                1 + item.as_slice().len()
+            }
+            _ => 1,
+        }
+    }
+}
+
+/// A change of nothing that matters, for room in a record that no change has taken yet.
+impl Default for Change {
+    fn default() -> Change {
+        Change::SetTurn { turn: 0 }
+    }
+}

@@ -4,4 +4,6 @@
 pub mod change;
 pub mod no_memory;
 pub mod saved;
+pub mod state;
 pub mod task;
+pub mod undo;

@@ -35,6 +35,16 @@ impl PrioList {
         Ok(PrioList { tasks, room })
     }
 
+    /// An empty list with room for no task. It takes no memory.
+    pub fn without_room(alloc: Global) -> PrioList
+        ensures { result ≡ record { tasks = []; room = 0 } }
+    {
+        PrioList {
+            tasks: Vec::new(alloc),
+            room: 0,
+        }
+    }
+
     /// An equal list.
     pub fn copy(&self, alloc: Global) -> Result<PrioList, AllocError>
         ensures { IfOk result (λ list. list ≡ self.now) }

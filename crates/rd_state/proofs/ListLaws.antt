@@ -1,0 +1,27 @@
+-- Laws of plain lists: edits against one another, and what holds of each member after one.
+use Rattle.std.proofs.Common.{◌≡◌, ◌∙◌, ℕ, zero, suc, ◌+◌, ◌-◌, ◌<◌, ◌≤◌, List, [], ◌∷◌, ◌++◌, length, get_or, set, take, drop, refl, ap, sym, arith, add-one}
+use Rattle.std.specs.Prelude.{All, insert, remove}
+use Rattle.std.proofs.lemmas.List.{get_or-set_same, set-set, set-get_or}
+use Rattle.std.proofs.lemmas.List.Elements.{All-append, All-take, All-drop, All-cons}
+
+pub All-remove : {X : Type 0} (P : X → Type 0) (xs : List X) (i : ℕ) → All P xs → All P (remove xs i)
+All-remove P xs i h = All-append P (take i xs) (drop (suc i) xs) (All-take P i xs h) (All-drop P (suc i) xs h)
+
+pub All-insert : {X : Type 0} (P : X → Type 0) (xs : List X) (i : ℕ) (x : X) → All P xs → P x → All P (insert xs i x)
+All-insert P xs i x h here = All-append P (take i xs) (x ∷ drop i xs) (All-take P i xs h) (All-cons P x (drop i xs) here (All-drop P i xs h))
+
+-- what was put in is taken out again
+pub remove-insert : {X : Type 0} (xs : List X) (i : ℕ) (x : X) → i ≤ length xs → remove (insert xs i x) i ≡ xs
+remove-insert xs zero x h = refl
+remove-insert [] (suc i) x h = absurd (omega (arith, h))
+remove-insert (y ∷ xs) (suc i) x h = ap (λ rest. y ∷ rest) (remove-insert xs i x (omega (arith, h)))
+
+-- what was taken out is put in again
+pub insert-remove : {X : Type 0} (xs : List X) (i : ℕ) (d : X) → i < length xs → insert (remove xs i) i (get_or xs i d) ≡ xs
+insert-remove [] i d h = absurd (omega (arith, h))
+insert-remove (y ∷ xs) zero d h = refl
+insert-remove (y ∷ xs) (suc i) d h = ap (λ rest. y ∷ rest) (insert-remove xs i d (omega (arith, h)))
+
+-- a member that is changed, and then changed back
+pub set_back : {X : Type 0} (xs : List X) (i : ℕ) (d y : X) → set (set xs i y) i (get_or xs i d) ≡ xs
+set_back xs i d y = set-set xs i y (get_or xs i d) ∙ set-get_or xs i d

@@ -1,0 +1,9 @@
+use Rattle.std.proofs.Common.{ℕ, ◌<◌, length, ap, arith}
+use Rattle.rd_state.specs.Snapshot.{Snapshot}
+use Rattle.rd_state.proofs.SizeLaws.{IsKept-remove}
+use Rattle.rd_state.proofs.state.State.delete_ready.Goals as goal
+
+pub invariant_of-self : goal.invariant_of-self
+invariant_of-self c =
+    let there : c.args.place < length c.self.inside.ready.tasks = omega (arith, c.requires, ap (λ (s : Snapshot). length s.ready) c.self.view_is) in
+    rw c.remove_at.ensures.rest (IsKept-remove c.self.inside c.args.place there c.self.invariant)

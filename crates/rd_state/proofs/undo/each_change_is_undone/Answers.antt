@@ -1,0 +1,5 @@
+use Rattle.rd_state.proofs.UndoLaws.{each_is_undone}
+use Rattle.rd_state.proofs.undo.each_change_is_undone.Goals as goal
+
+pub returns : goal.returns
+returns c = each_is_undone

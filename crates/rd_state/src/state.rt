@@ -1,0 +1,289 @@
+ghost use Rattle.std.specs.Prelude.{◌≡◌, ◌-◌, ◌<◌, ◌≤◌, ◌↔◌, length, slice_get, Some, IfOk, IsTrue};
+ghost use Rattle.rd_state.specs.Change.{applied, inverse_of, Fits};
+ghost use Rattle.rd_state.specs.Settled.{weakest_of, rank_of};
+ghost use Rattle.rd_state.specs.Sizes.{IsSized};
+ghost use Rattle.rd_state.specs.Snapshot.{task_at, queue_at, core_at};
+
+use crate::change::Change;
+use crate::no_memory::NoMemory;
+use crate::saved::SavedBytes;
+use crate::task::Task;
+use rd_queue::queue::Queue;
+use rd_script::phase::Phase;
+use rd_wait::prio_list::PrioList;
+use std::alloc::Global;
+use std::marker::Model;
+
+/// The whole state of the target. It changes by primitive changes alone.
+#[derive(Drop)]
+pub struct State {
+    tick: u32,
+    turn: usize,
+    cores: Vec<Option<usize>>,
+    ready: PrioList,
+    tasks: Vec<Task>,
+    queues: Vec<Queue>,
+}
+
+impl Model for State {
+    ghost use Rattle.rd_state.specs.Snapshot.{Snapshot};
+
+    ghost Value = { Snapshot };
+
+    ghost use Rattle.rd_state.specs.Inside.{snapshot_of, IsKept};
+
+    ghost view = { snapshot_of };
+
+    ghost invariant = { IsKept };
+}
+
+impl State {
+    /// A state of nothing, which takes no memory. It stands in for a state that is taken out for a while.
+    pub fn hollow(alloc: Global) -> State {
+        State {
+            tick: 0,
+            turn: 0,
+            cores: Vec::new(alloc),
+            ready: PrioList::without_room(alloc),
+            tasks: Vec::new(alloc),
+            queues: Vec::new(alloc),
+        }
+    }
+
+    /// The sizes that every state keeps.
+    pub fn sizes(&self)
+        ensures { IsSized self.now }
+    {
+        let _ = &self.turn;
+    }
+
+    /// The tick count (`xTaskGetTickCount`).
+    pub fn tick(&self) -> u32
+        ensures { result ≡ self.now.tick }
+    {
+        self.tick
+    }
+
+    /// The core from which the next move is chosen.
+    pub fn turn(&self) -> usize
+        ensures { result ≡ self.now.turn }
+    {
+        self.turn
+    }
+
+    /// The cores by number: the task on each, or none where it is idle.
+    pub fn cores(&self) -> &[Option<usize>]
+        ensures { result.now ≡ self.now.cores }
+    {
+        self.cores.as_slice()
+    }
+
+    /// The task on a core.
+    pub fn core(&self, core: usize) -> Option<usize>
+        requires { core < length self.now.cores }
+        ensures { result ≡ core_at self.now core }
+    {
+        self.cores[core]
+    }
+
+    /// The tasks that are ready and not on a core, the first to run first.
+    pub fn ready(&self) -> &PrioList
+        ensures tasks { result.now.tasks ≡ self.now.ready }
+        ensures room { result.now.room ≡ length self.now.tasks }
+    {
+        &self.ready
+    }
+
+    /// How many tasks there are.
+    pub fn task_count(&self) -> usize
+        ensures { result ≡ length self.now.tasks }
+    {
+        self.tasks.len()
+    }
+
+    /// A task.
+    pub fn task(&self, task: usize) -> &Task
+        requires { task < length self.now.tasks }
+        ensures { result.now ≡ task_at self.now task }
+    {
+        &self.tasks[task]
+    }
+
+    /// How many queues there are.
+    pub fn queue_count(&self) -> usize
+        ensures { result ≡ length self.now.queues }
+    {
+        self.queues.len()
+    }
+
+    /// A queue.
+    pub fn queue(&self, queue: usize) -> &Queue
+        requires { queue < length self.now.queues }
+        ensures { result.now ≡ queue_at self.now queue }
+    {
+        &self.queues[queue]
+    }
+
+    fn set_turn(&mut self, turn: usize)
+        requires { Fits self.old (Change.SetTurn turn) }
+        ensures { self.new ≡ applied self.old (Change.SetTurn turn) }
+    {
+        self.turn = turn;
+    }
+
+    fn set_core(&mut self, core: usize, task: Option<usize>)
+        requires { Fits self.old (Change.SetCore core task) }
+        ensures { self.new ≡ applied self.old (Change.SetCore core task) }
+    {
+        self.cores[core] = task;
+    }
+
+    fn set_pc(&mut self, task: usize, pc: usize)
+        requires { Fits self.old (Change.SetPc task pc) }
+        ensures { self.new ≡ applied self.old (Change.SetPc task pc) }
+    {
+        let target = &mut self.tasks[task];
+        target.set_pc(pc);
+    }
+
+    fn set_register(&mut self, task: usize, register: usize, value: u32)
+        requires { Fits self.old (Change.SetReg task register value) }
+        ensures { self.new ≡ applied self.old (Change.SetReg task register value) }
+    {
+        let target = &mut self.tasks[task];
+        target.set_register(register, value);
+    }
+
+    fn set_phase(&mut self, task: usize, phase: Phase)
+        requires { Fits self.old (Change.SetPhase task phase) }
+        ensures { self.new ≡ applied self.old (Change.SetPhase task phase) }
+    {
+        let target = &mut self.tasks[task];
+        target.set_phase(phase);
+    }
+
+    fn set_data(&mut self, task: usize, bytes: &[u8])
+        requires { Fits self.old (Change.SetData task bytes.now) }
+        ensures { self.new ≡ applied self.old (Change.SetData task bytes.now) }
+    {
+        let target = &mut self.tasks[task];
+        target.set_bytes(bytes);
+    }
+
+    fn insert_ready(&mut self, place: usize, task: usize)
+        requires { Fits self.old (Change.InsReady place task) }
+        ensures { self.new ≡ applied self.old (Change.InsReady place task) }
+    {
+        self.ready.insert_at(place, task);
+    }
+
+    fn delete_ready(&mut self, place: usize)
+        requires { Fits self.old (Change.DelReady place) }
+        ensures { self.new ≡ applied self.old (Change.DelReady place) }
+    {
+        self.ready.remove_at(place);
+    }
+
+    fn put_back(&mut self, queue: usize, item: &[u8])
+        requires { Fits self.old (Change.PutBack queue item.now) }
+        ensures { self.new ≡ applied self.old (Change.PutBack queue item.now) }
+    {
+        let target = &mut self.queues[queue];
+        target.put_back(item).unwrap();
+    }
+
+    fn take_back(&mut self, queue: usize)
+        requires { Fits self.old (Change.TakeBack queue) }
+        ensures { self.new ≡ applied self.old (Change.TakeBack queue) }
+    {
+        let target = &mut self.queues[queue];
+        target.unput();
+    }
+
+    fn put_front(&mut self, queue: usize, item: &[u8])
+        requires { Fits self.old (Change.PutFront queue item.now) }
+        ensures { self.new ≡ applied self.old (Change.PutFront queue item.now) }
+    {
+        let target = &mut self.queues[queue];
+        target.untake(item);
+    }
+
+    fn take_front(&mut self, queue: usize)
+        requires { Fits self.old (Change.TakeFront queue) }
+        ensures { self.new ≡ applied self.old (Change.TakeFront queue) }
+    {
+        let target = &mut self.queues[queue];
+        target.take().unwrap();
+    }
+
+    /// Makes a change. It takes no memory.
+    pub fn apply(&mut self, change: Change)
+        requires { Fits self.old change }
+        ensures { self.new ≡ applied self.old change }
+    {
+        match change {
+            Change::SetTurn { turn } => self.set_turn(turn),
+            Change::SetCore { core, task } => self.set_core(core, task),
+            Change::SetPc { task, pc } => self.set_pc(task, pc),
+            Change::SetReg {
+                task,
+                register,
+                value,
+            } => self.set_register(task, register, value),
+            Change::SetPhase { task, phase } => self.set_phase(task, phase),
+            Change::SetData { task, bytes } => self.set_data(task, bytes.as_slice()),
+            Change::InsReady { place, task } => self.insert_ready(place, task),
+            Change::DelReady { place } => self.delete_ready(place),
+            Change::PutBack { queue, item } => self.put_back(queue, item.as_slice()),
+            Change::TakeBack { queue } => self.take_back(queue),
+            Change::PutFront { queue, item } => self.put_front(queue, item.as_slice()),
+            Change::TakeFront { queue } => self.take_front(queue),
+        }
+    }
+
+    /// The change that undoes `change`, made at this state. It needs memory only for bytes that are saved.
+    pub fn inverse_of(&self, alloc: Global, change: &Change) -> Result<Change, NoMemory>
+        requires { Fits self.now change.now }
+        ensures { IfOk result (λ inverse. inverse ≡ inverse_of self.now change.now) }
+    {
+        match change {
+            Change::SetTurn { .. } => Ok(Change::SetTurn { turn: self.turn }),
+            Change::SetCore { core, .. } => Ok(Change::SetCore {
+                core: *core,
+                task: self.core(*core),
+            }),
+            Change::SetPc { task, .. } => Ok(Change::SetPc {
+                task: *task,
+                pc: self.task(*task).pc(),
+            }),
+            Change::SetReg { task, register, .. } => Ok(Change::SetReg {
+                task: *task,
+                register: *register,
+                value: self.task(*task).register(*register),
+            }),
+            Change::SetPhase { task, .. } => Ok(Change::SetPhase {
+                task: *task,
+                phase: self.task(*task).phase(),
+            }),
+            Change::SetData { task, .. } => Ok(Change::SetData {
+                task: *task,
+                bytes: SavedBytes::from_slice(alloc, self.task(*task).bytes())?,
+            }),
+            Change::InsReady { place, .. } => Ok(Change::DelReady { place: *place }),
+            Change::DelReady { place } => Ok(Change::InsReady {
+                place: *place,
+                task: self.ready.as_slice()[*place],
+            }),
+            Change::PutBack { queue, .. } => Ok(Change::TakeBack { queue: *queue }),
+            Change::TakeBack { queue } => Ok(Change::PutBack {
+                queue: *queue,
+                item: SavedBytes::from_slice(alloc, self.queue(*queue).last())?,
+            }),
+            Change::PutFront { queue, .. } => Ok(Change::TakeFront { queue: *queue }),
+            Change::TakeFront { queue } => Ok(Change::PutFront {
+                queue: *queue,
+                item: SavedBytes::from_slice(alloc, self.queue(*queue).first())?,
+            }),
+        }
+    }
+}
