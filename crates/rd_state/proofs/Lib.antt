@@ -1,3 +1,4 @@
 pub mod ListLaws
 pub mod SizeLaws
 pub mod UndoLaws
+pub mod EditLaws

@@ -2,6 +2,7 @@
 #![tactic(auto)]
 
 pub mod change;
+pub mod editing;
 pub mod no_memory;
 pub mod saved;
 pub mod state;

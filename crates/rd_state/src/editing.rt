@@ -1,0 +1,88 @@
+ghost use Rattle.std.specs.Prelude.{◌≡◌, ◌+◌, ◌*◌, ◌<◌, length, slice_index, Ok, Option, IfSome, IfOk, OnOk, OnErr};
+ghost use Rattle.rd_wait.specs.Joined.{joined};
+ghost use Rattle.rd_state.specs.Change.{applied, inverse_of, cost_of, weight_of, Fits};
+ghost use Rattle.rd_state.specs.Edit.{Comes};
+ghost use Rattle.rd_state.specs.Settled.{settled, settled_in, weakest_of, rank_of, seated_once, seating_of};
+ghost use Rattle.rd_state.specs.Sizes.{IsTaskOrIdle};
+ghost use Rattle.rd_state.specs.Undoing.{undone, CanUndo};
+
+use crate::change::Change;
+use crate::no_memory::NoMemory;
+use crate::state::State;
+use crate::undo::{Undo, act};
+use std::alloc::Global;
+use std::marker::Model;
+
+/// A step in the middle: the state, which it owns, and the record of what was changed so far. The rules of
+/// the kernel are written over it. It ends in `commit` or in `roll_back`.
+pub struct Editing {
+    state: State,
+    undo: Undo,
+}
+
+impl Model for Editing {
+    ghost use Rattle.rd_state.specs.Edit.{Edit};
+
+    ghost Value = { Edit };
+
+    ghost use Rattle.rd_state.specs.Undoing.{undone, CanUndo};
+    ghost use Rattle.rd_state.specs.Change.{weight_of};
+
+    ghost view = { λ e. record { now = e.state; base = undone e.state e.undo; weight = weight_of e.undo } };
+
+    ghost invariant = { λ e. CanUndo e.state e.undo };
+}
+
+impl Editing {
+    /// Begins at a state, with nothing recorded.
+    pub fn begin(alloc: Global, state: State) -> Editing
+        ensures { result ≡ record { now = state; base = state; weight = 0 } }
+    {
+        Editing {
+            state,
+            undo: Undo::new(alloc),
+        }
+    }
+
+    /// The state as it is now.
+    pub fn state(&self) -> &State
+        ensures { result.now ≡ self.now.now }
+    {
+        &self.state
+    }
+
+    /// Makes a change and records what undoes it. Where there is no memory for that, nothing has changed.
+    pub fn change(&mut self, change: Change) -> Result<(), NoMemory>
+        requires { Fits self.old.now change }
+        ensures ok { OnOk result (Comes self.old self.new (applied self.old.now change)
+            (cost_of (inverse_of self.old.now change))) }
+        ensures err { OnErr result (self.new ≡ self.old) }
+    {
+        self.state.sizes();
+        act(&mut self.state, &mut self.undo, change)
+    }
+
+    /// Ends the step: the state goes to its place, and the record is handed out.
+    pub fn commit(self, state: &mut State) -> Undo
+        ensures state { state.new ≡ self.now }
+        ensures leads_back { undone state.new result ≡ self.base }
+        ensures fits { CanUndo state.new result }
+        ensures weight { weight_of result ≡ self.weight }
+    {
+        let Editing { state: now, undo } = self;
+        *state = now;
+        undo
+    }
+
+    /// Takes the step back: the state from before it goes to its place. It takes no memory.
+    pub fn roll_back(self, state: &mut State)
+        ensures { state.new ≡ self.base }
+    {
+        let Editing {
+            state: mut now,
+            undo,
+        } = self;
+        now.back(undo);
+        *state = now;
+    }
+}
