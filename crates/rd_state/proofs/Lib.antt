@@ -2,3 +2,4 @@ pub mod ListLaws
 pub mod SizeLaws
 pub mod UndoLaws
 pub mod EditLaws
+pub mod SettleLaws

@@ -5,6 +5,7 @@ pub mod change;
 pub mod editing;
 pub mod no_memory;
 pub mod saved;
+pub mod scheduling;
 pub mod state;
 pub mod task;
 pub mod undo;

@@ -1,0 +1,4 @@
+use Rattle.rd_state.proofs.editing.Editing.+settle_in.Given as goal
+
+abbrev pub decreases-settle_in : goal.decreases-settle_in
+decreases-settle_in l = l.rounds

@@ -1,0 +1,114 @@
+ghost use Rattle.std.specs.Prelude.{◌≡◌, ◌+◌, ◌*◌, ◌-◌, ◌<◌, ◌≤◌, length, slice_index, Ok, false, IfOk, OnOk, OnErr};
+ghost use Rattle.rd_wait.specs.Joined.{joined};
+ghost use Rattle.rd_state.specs.Edit.{Comes};
+ghost use Rattle.rd_state.specs.Settled.{settled, settled_in, weakest_of, rank_of, seated_once, seating_of};
+ghost use Rattle.rd_state.specs.Sizes.{IsTaskOrIdle};
+
+use crate::change::Change;
+use crate::editing::Editing;
+use crate::no_memory::NoMemory;
+use crate::state::State;
+
+/// How hard a core is to take: an idle one not at all, a busy one as its task's priority says.
+fn rank_of(priorities: &[u8], running: Option<usize>) -> usize
+    requires { IsTaskOrIdle (length priorities.now) running }
+    ensures { result ≡ rank_of priorities.now running }
+{
+    match running {
+        None => 0,
+        Some(task) => usize::from(priorities[task]) + 1,
+    }
+}
+
+impl State {
+    /// The core that is easiest to take: an idle one, else the one whose task has the lowest priority; the
+    /// lowest of those where several are.
+    fn weakest_core(&self, priorities: &[u8]) -> usize
+        requires cores { 0 < length self.now.cores }
+        requires priorities { length priorities.now ≡ length self.now.tasks }
+        ensures weakest { result ≡ weakest_of priorities.now self.now.cores }
+        ensures within { result < length self.now.cores }
+    {
+        self.sizes();
+        let mut weakest = 0;
+        for core in 1..self.cores().len() {
+            let rank = rank_of(priorities, self.core(core));
+            if rank < rank_of(priorities, self.core(weakest)) {
+                weakest = core;
+            }
+        }
+        weakest
+    }
+}
+
+impl Editing {
+    /// Joins a task to the ready list, at the place of its priority.
+    pub fn join_ready(&mut self, priorities: &[u8], task: usize) -> Result<(), NoMemory>
+        requires task { task < length self.old.now.tasks }
+        requires room { length self.old.now.ready < length self.old.now.tasks }
+        requires priorities { length priorities.now ≡ length self.old.now.tasks }
+        ensures ok { OnOk result (Comes self.old self.new
+            (record self.old.now { ready = joined priorities.now self.old.now.ready task }) 1) }
+        ensures err { OnErr result (self.new ≡ self.old) }
+    {
+        self.state().sizes();
+        let place = self.state().ready().place_of(priorities, priorities[task]);
+        self.change(Change::InsReady { place, task })
+    }
+
+    /// The head of the ready list takes the weakest core, if it outranks who runs there. Answers whether it
+    /// did.
+    fn seat_head(&mut self, priorities: &[u8]) -> Result<bool, NoMemory>
+        requires cores { 0 < length self.old.now.cores }
+        requires priorities { length priorities.now ≡ length self.old.now.tasks }
+        ensures ok { OnOk result (Comes self.old self.new (settled_in priorities.now 1 self.old.now) 3) }
+        ensures still { result ≡ Ok false → seated_once priorities.now (seating_of self.old.now) ≡ seating_of self.old.now }
+        ensures err { OnErr result (self.new.base ≡ self.old.base) }
+    {
+        self.state().sizes();
+        let Some(head) = self.state().ready().first() else {
+            return Ok(false);
+        };
+        let core = self.state().weakest_core(priorities);
+        let running = self.state().core(core);
+        if rank_of(priorities, running) > usize::from(priorities[head]) {
+            return Ok(false);
+        }
+        self.change(Change::DelReady { place: 0 })?;
+        if let Some(displaced) = running {
+            self.join_ready(priorities, displaced)?;
+        }
+        let task = Some(head);
+        self.change(Change::SetCore { core, task })?;
+        Ok(true)
+    }
+
+    /// Seats heads of the ready list, at most that many.
+    fn settle_in(&mut self, priorities: &[u8], rounds: usize) -> Result<(), NoMemory>
+        requires cores { 0 < length self.old.now.cores }
+        requires priorities { length priorities.now ≡ length self.old.now.tasks }
+        ensures ok { OnOk result (Comes self.old self.new (settled_in priorities.now rounds self.old.now) (3 * rounds)) }
+        ensures err { OnErr result (self.new.base ≡ self.old.base) }
+    {
+        if rounds == 0 {
+            return Ok(());
+        }
+        if self.seat_head(priorities)? {
+            self.settle_in(priorities, rounds - 1)
+        } else {
+            Ok(())
+        }
+    }
+
+    /// Schedules: ready tasks take idle cores and displace tasks of lower priority, until none can.
+    pub fn settle(&mut self, priorities: &[u8]) -> Result<(), NoMemory>
+        requires cores { 0 < length self.old.now.cores }
+        requires priorities { length priorities.now ≡ length self.old.now.tasks }
+        ensures ok { OnOk result (Comes self.old self.new (settled priorities.now self.old.now)
+            (3 * length self.old.now.cores)) }
+        ensures err { OnErr result (self.new.base ≡ self.old.base) }
+    {
+        let rounds = self.state().cores().len();
+        self.settle_in(priorities, rounds)
+    }
+}
