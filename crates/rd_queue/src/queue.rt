@@ -53,6 +53,22 @@ impl Queue {
         })
     }
 
+    /// An equal queue.
+    pub fn copy(&self, alloc: Global) -> Result<Queue, AllocError>
+        ensures { IfOk result (λ queue. queue ≡ self.now) }
+    {
+        let mut items = VecDeque::with_capacity(alloc, self.capacity)?;
+        for place in 0..self.items.len() {
+            let item = &self.items[place];
+            items.push_back_reserved(Item::new(item.as_slice()));
+        }
+        Ok(Queue {
+            items,
+            capacity: self.capacity,
+            item_size: self.item_size,
+        })
+    }
+
     /// How many items there are (`uxQueueMessagesWaiting`).
     pub fn count(&self) -> usize
         ensures count { result ≡ length self.now.items }

@@ -11,8 +11,9 @@ use Rattle.rd_wait.specs.Joined.{joined}
 use Rattle.rd_state.specs.Snapshot.{Snapshot, TaskSnapshot}
 use Rattle.rd_state.specs.Settled.{settled}
 
-abbrev pub new_task : Application → TaskSnapshot
-new_task app = record { pc = 0; registers = replicate 8 0; bytes = []; phase = Run; entries = replicate app.notes idle_entry }
+-- a task at its first instruction, with as many notification entries
+abbrev pub fresh_task : ℕ → TaskSnapshot
+fresh_task notes = record { pc = 0; registers = replicate 8 0; bytes = []; phase = Run; entries = replicate notes idle_entry }
 
 abbrev pub new_queue : QueueShape → QueueSnapshot
 new_queue shape = empty_queue shape.capacity shape.item_size
@@ -28,7 +29,7 @@ before_scheduling app = record {
   turn = 0;
   cores = replicate app.cores None;
   ready = all_joined (priorities_of app) (length app.scripts);
-  tasks = replicate (length app.scripts) (new_task app);
+  tasks = replicate (length app.scripts) (fresh_task app.notes);
   queues = map new_queue app.queues;
 }
 

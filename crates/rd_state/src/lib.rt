@@ -1,6 +1,7 @@
 //! The state of the target, its primitive changes, and records that undo them.
 #![tactic(auto)]
 
+mod boot;
 pub mod change;
 pub mod editing;
 pub mod no_memory;

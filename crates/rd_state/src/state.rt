@@ -1,14 +1,17 @@
 ghost use Rattle.std.specs.Prelude.{◌≡◌, ◌-◌, ◌<◌, ◌≤◌, ◌↔◌, length, slice_get, Some, IfOk, IsTrue};
+ghost use Rattle.rd_state.specs.Boot.{before_scheduling};
 ghost use Rattle.rd_state.specs.Change.{applied, inverse_of, Fits};
 ghost use Rattle.rd_state.specs.Settled.{weakest_of, rank_of};
 ghost use Rattle.rd_state.specs.Sizes.{IsSized};
 ghost use Rattle.rd_state.specs.Snapshot.{task_at, queue_at, core_at};
 
+use crate::boot::{all_ready, new_queues, new_tasks};
 use crate::change::Change;
 use crate::no_memory::NoMemory;
 use crate::saved::SavedBytes;
 use crate::task::Task;
 use rd_queue::queue::Queue;
+use rd_script::app::App;
 use rd_script::phase::Phase;
 use rd_wait::prio_list::PrioList;
 use std::alloc::Global;
@@ -37,6 +40,28 @@ impl Model for State {
     ghost invariant = { IsKept };
 }
 
+// Equal tasks.
+fn copy_tasks(alloc: Global, tasks: &[Task]) -> Result<Vec<Task>, NoMemory>
+    ensures { IfOk result (λ copies. copies.items ≡ tasks.now) }
+{
+    let mut copies = Vec::with_capacity(alloc, tasks.len())?;
+    for task in tasks {
+        copies.push(task.copy())?;
+    }
+    Ok(copies)
+}
+
+// Equal queues.
+fn copy_queues(alloc: Global, queues: &[Queue]) -> Result<Vec<Queue>, NoMemory>
+    ensures { IfOk result (λ copies. copies.items ≡ queues.now) }
+{
+    let mut copies = Vec::with_capacity(alloc, queues.len())?;
+    for queue in queues {
+        copies.push(queue.copy(alloc)?)?;
+    }
+    Ok(copies)
+}
+
 impl State {
     /// A state of nothing, which takes no memory. It stands in for a state that is taken out for a while.
     pub fn hollow(alloc: Global) -> State {
@@ -48,6 +73,36 @@ impl State {
             tasks: Vec::new(alloc),
             queues: Vec::new(alloc),
         }
+    }
+
+    // The state before anything is scheduled.
+    pub(crate) fn before_scheduling(alloc: Global, app: &App) -> Result<State, NoMemory>
+        ensures { IfOk result (λ state. state ≡ before_scheduling app.now) }
+    {
+        app.limits();
+        let priorities = app.priorities();
+        Ok(State {
+            tick: app.tick(),
+            turn: 0,
+            cores: vec![in alloc; None; app.cores()]?,
+            ready: all_ready(alloc, priorities)?,
+            tasks: new_tasks(alloc, priorities.len(), app.notes())?,
+            queues: new_queues(alloc, app.queues())?,
+        })
+    }
+
+    /// An equal state.
+    pub fn copy(&self, alloc: Global) -> Result<State, NoMemory>
+        ensures { IfOk result (λ state. state ≡ self.now) }
+    {
+        Ok(State {
+            tick: self.tick,
+            turn: self.turn,
+            cores: Vec::from_slice(alloc, self.cores.as_slice())?,
+            ready: self.ready.copy(alloc)?,
+            tasks: copy_tasks(alloc, self.tasks.as_slice())?,
+            queues: copy_queues(alloc, self.queues.as_slice())?,
+        })
     }
 
     /// The sizes that every state keeps.

@@ -1,6 +1,5 @@
 ghost use Rattle.std.specs.Prelude.{◌≡◌, ◌<◌, ◌≤◌, [], length, replicate, slice_index, slice_set, Some, IfOk};
-ghost use Rattle.rd_notify.specs.Entries.{idle_entry};
-ghost use Rattle.rd_script.specs.declared.phase.Phase.TheVariants.{Run};
+ghost use Rattle.rd_state.specs.Boot.{fresh_task};
 
 use rd_notify::notes::Notes;
 use rd_script::bytes::Bytes;
@@ -30,7 +29,7 @@ impl Task {
     /// A task at its first instruction, with that many idle notification entries.
     pub fn new(notes: usize) -> Task
         requires { notes ≤ 4 }
-        ensures { result ≡ record { pc = 0; registers = replicate 8 0; bytes = []; phase = Phase.Run; entries = replicate notes idle_entry } }
+        ensures { result ≡ fresh_task notes }
     {
         Task {
             pc: 0,

@@ -1,0 +1,10 @@
+pub mod Outcomes
+pub mod Local
+pub mod Step
+pub use Rattle.rd_state.specs.Snapshot
+pub use Rattle.rd_state.specs.Change
+pub use Rattle.rd_state.specs.Undoing
+pub use Rattle.rd_state.specs.Settled
+pub use Rattle.rd_state.specs.Boot
+pub use Rattle.rd_state.specs.Valid
+pub use Rattle.rd_script.specs.Application

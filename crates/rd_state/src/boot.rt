@@ -1,0 +1,69 @@
+ghost use Rattle.std.specs.Prelude.{◌≡◌, ◌<◌, ◌≤◌, length, map, replicate, All, IfOk};
+ghost use Rattle.rd_notify.specs.Entries.{idle_entry};
+ghost use Rattle.rd_script.specs.Application.{IsQueueShape};
+ghost use Rattle.rd_state.specs.Boot.{all_joined, before_scheduling, boot_of, fresh_task, new_queue};
+
+use crate::editing::Editing;
+use crate::no_memory::NoMemory;
+use crate::state::State;
+use crate::task::Task;
+use rd_queue::queue::Queue;
+use rd_script::app::{App, QueueShape};
+use rd_wait::prio_list::PrioList;
+use std::alloc::Global;
+
+// As many tasks at their first instruction, each with as many notification entries.
+pub(crate) fn new_tasks(alloc: Global, count: usize, notes: usize) -> Result<Vec<Task>, NoMemory>
+    requires { notes ≤ 4 }
+    ensures { IfOk result (λ tasks. tasks.items ≡ replicate count (fresh_task notes)) }
+{
+    let mut tasks = Vec::with_capacity(alloc, count)?;
+    for _ in 0..count {
+        tasks.push(Task::new(notes))?;
+    }
+    Ok(tasks)
+}
+
+// The ready list of all tasks, joined by rising number.
+pub(crate) fn all_ready(alloc: Global, priorities: &[u8]) -> Result<PrioList, NoMemory>
+    ensures { IfOk result (λ list. list ≡ record {
+        tasks = all_joined priorities.now (length priorities.now);
+        room = length priorities.now;
+    }) }
+{
+    let mut ready = PrioList::new(alloc, priorities.len())?;
+    for task in 0..priorities.len() {
+        let place = ready.place_of(priorities, priorities[task]);
+        ready.insert_at(place, task);
+    }
+    Ok(ready)
+}
+
+// The queues, empty.
+pub(crate) fn new_queues(alloc: Global, shapes: &[QueueShape]) -> Result<Vec<Queue>, NoMemory>
+    requires { All IsQueueShape shapes.now }
+    ensures { IfOk result (λ queues. queues.items ≡ map new_queue shapes.now) }
+{
+    let mut queues = Vec::with_capacity(alloc, shapes.len())?;
+    for shape in shapes {
+        queues.push(Queue::new(alloc, shape.capacity, shape.item_size)?)?;
+    }
+    Ok(queues)
+}
+
+impl State {
+    /// The state at boot: every task ready at its first instruction, every object empty, and then scheduled
+    /// (`vTaskStartScheduler`). All memory that the state needs is taken here.
+    pub fn boot(alloc: Global, app: &App) -> Result<State, NoMemory>
+        ensures state { IfOk result (λ state. state ≡ boot_of app.now) }
+    {
+        let before = State::before_scheduling(alloc, app)?;
+        app.limits();
+        let mut editing = Editing::begin(alloc, before);
+        let settled = editing.settle(app.priorities());
+        let mut state = State::hollow(alloc);
+        editing.commit(&mut state).retire();
+        settled?;
+        Ok(state)
+    }
+}
