@@ -1,3 +1,4 @@
+pub mod Tasks
 pub mod Outcomes
 pub mod Local
 pub mod Step

@@ -1,0 +1,92 @@
+//! Single changes of a task in the middle of a step.
+ghost use Rattle.std.specs.Prelude.{◌≡◌, ◌+◌, ◌<◌, ◌≤◌, length, OnOk, OnErr};
+ghost use Rattle.rd_script.specs.declared.phase.Phase.TheVariants.{Run};
+ghost use Rattle.rd_state.specs.Edit.{Comes};
+ghost use Rattle.rd_state.specs.Snapshot.{task_at};
+ghost use Rattle.rd_calls.specs.Tasks.{with_register, with_pc, with_bytes, with_phase, advanced};
+ghost use Rattle.rd_calls.specs.Outcomes.{returned};
+
+use rd_script::phase::Phase;
+use rd_state::change::Change;
+use rd_state::editing::Editing;
+use rd_state::no_memory::NoMemory;
+use rd_state::saved::SavedBytes;
+use std::alloc::Global;
+
+/// Sets a register of a task.
+pub fn set_register(
+    editing: &mut Editing,
+    task: usize,
+    register: usize,
+    value: u32,
+) -> Result<(), NoMemory>
+    requires task { task < length editing.old.now.tasks }
+    requires register { register < 8 }
+    ensures ok { OnOk result (Comes editing.old editing.new (with_register editing.old.now task register value) 1) }
+    ensures err { OnErr result (editing.new.base ≡ editing.old.base) }
+{
+    editing.change(Change::SetReg {
+        task,
+        register,
+        value,
+    })
+}
+
+/// Makes these bytes a task's data.
+pub fn set_bytes(
+    alloc: Global,
+    editing: &mut Editing,
+    task: usize,
+    bytes: &[u8],
+) -> Result<(), NoMemory>
+    requires task { task < length editing.old.now.tasks }
+    requires few { length bytes.now ≤ 256 }
+    ensures ok { OnOk result (Comes editing.old editing.new (with_bytes editing.old.now task bytes.now) 257) }
+    ensures err { OnErr result (editing.new.base ≡ editing.old.base) }
+{
+    editing.state().sizes();
+    let bytes = SavedBytes::from_slice(alloc, bytes)?;
+    editing.change(Change::SetData { task, bytes })
+}
+
+/// Moves a task to another place in its script.
+pub fn set_pc(editing: &mut Editing, task: usize, pc: usize) -> Result<(), NoMemory>
+    requires { task < length editing.old.now.tasks }
+    ensures ok { OnOk result (Comes editing.old editing.new (with_pc editing.old.now task pc) 1) }
+    ensures err { OnErr result (editing.new.base ≡ editing.old.base) }
+{
+    editing.change(Change::SetPc { task, pc })
+}
+
+/// Moves a task to its next instruction.
+pub fn advance(editing: &mut Editing, task: usize) -> Result<(), NoMemory>
+    requires task { task < length editing.old.now.tasks }
+    requires place { (task_at editing.old.now task).pc < 256 }
+    ensures ok { OnOk result (Comes editing.old editing.new (advanced editing.old.now task) 1) }
+    ensures err { OnErr result (editing.new.base ≡ editing.old.base) }
+{
+    let pc = editing.state().task(task).pc();
+    set_pc(editing, task, pc + 1)
+}
+
+/// Puts a task into another phase.
+pub fn set_phase(editing: &mut Editing, task: usize, phase: Phase) -> Result<(), NoMemory>
+    requires { task < length editing.old.now.tasks }
+    ensures ok { OnOk result (Comes editing.old editing.new (with_phase editing.old.now task phase) 1) }
+    ensures err { OnErr result (editing.new.base ≡ editing.old.base) }
+{
+    editing.change(Change::SetPhase { task, phase })
+}
+
+/// Ends a task's call: its answer stands in r0, and its script goes on.
+pub fn return_from(editing: &mut Editing, task: usize, answer: u32) -> Result<(), NoMemory>
+    requires task { task < length editing.old.now.tasks }
+    requires place { (task_at editing.old.now task).pc < 256 }
+    ensures ok { OnOk result (Comes editing.old editing.new (returned editing.old.now task answer) 3) }
+    ensures err { OnErr result (editing.new.base ≡ editing.old.base) }
+{
+    let pc = editing.state().task(task).pc();
+    set_register(editing, task, 0, answer)?;
+    set_pc(editing, task, pc + 1)?;
+    set_phase(editing, task, Phase::Run)
+}
