@@ -1,7 +1,6 @@
 -- The instructions that touch nothing but their own task.
-use Rattle.std.specs.Prelude.{ℕ, ◌+◌, ◌%◌, ◌^◌, List, nat_eq, None, slice_set, if◌then◌else◌}
+use Rattle.std.specs.Prelude.{ℕ, ◌+◌, ◌%◌, ◌^◌, ◌<◌, ◌≤◌, List, length, nat_eq, None, slice_set, if◌then◌else◌}
 use Rattle.std.specs.Int.{w32, to_le_bytes, from_le_bytes}
-use Rattle.rd_queue.specs.Queues.{fitted}
 use Rattle.rd_script.specs.declared.instr.Instr.{Instr}
 use Rattle.rd_script.specs.declared.instr.Instr.TheVariants.{Set, Add, Move, Data, Pack, Unpack, Jump, JumpZero, End, Send, Receive}
 use Rattle.rd_script.specs.declared.phase.Phase.TheVariants.{Ended}
@@ -14,7 +13,7 @@ off_core s core = record s { cores = slice_set s.cores core None }
 
 -- the first four bytes of a task's data, lowest first, missing ones 0, as a number
 abbrev pub unpacked : Snapshot → ℕ → ℕ
-unpacked s task = from_le_bytes w32 (fitted 4 (task_at s task).bytes)
+unpacked s task = from_le_bytes w32 (task_at s task).bytes
 
 -- The state after an instruction of the task on a core. A call of the kernel is no such instruction.
 abbrev pub local_step : Snapshot → ℕ → ℕ → Instr → Snapshot
@@ -29,3 +28,17 @@ local_step s core task (JumpZero register target) = with_pc s task (if nat_eq (r
 local_step s core task End = off_core (with_phase s task Ended) core
 local_step s core task (Send queue) = s
 local_step s core task (Receive queue) = s
+
+-- The registers that a local instruction names are there, and its bytes fit a task's data.
+abbrev pub NamesRegisters : Instr → Type 0
+NamesRegisters (Set register value) = register < 8
+NamesRegisters (Add register value) = register < 8
+NamesRegisters (Move into from) = (into < 8) × (from < 8)
+NamesRegisters (Data bytes) = length bytes ≤ 256
+NamesRegisters (Pack register) = register < 8
+NamesRegisters (Unpack register) = register < 8
+NamesRegisters (Jump target) = Unit {0}
+NamesRegisters (JumpZero register target) = register < 8
+NamesRegisters End = Unit {0}
+NamesRegisters (Send queue) = Unit {0}
+NamesRegisters (Receive queue) = Unit {0}

@@ -1,10 +1,11 @@
 -- What a kernel call does and answers. No call waits yet: a queue that can't serve answers 0.
-use Rattle.std.specs.Prelude.{ℕ, ◌+◌, ◌∷◌, ◌++◌, [], List, length, drop, slice_index_or, nat_eq, if◌then◌else◌, Bool}
+use Rattle.std.specs.Prelude.{ℕ, ◌≡◌, ◌+◌, ◌∷◌, ◌++◌, [], List, length, drop, slice_index_or, nat_eq, if◌then◌else◌, Bool}
 use Rattle.rd_queue.specs.QueueSnapshot.{QueueSnapshot}
 use Rattle.rd_queue.specs.Queues.{fitted, with_items}
 use Rattle.rd_script.specs.declared.phase.Phase.TheVariants.{Run}
 use Rattle.rd_state.specs.Snapshot.{Snapshot, task_at, queue_at}
 use Rattle.rd_state.specs.Change.{with_queue, items_at}
+use Rattle.rd_state.specs.Edit.{Edit, Comes}
 use Rattle.rd_calls.specs.Tasks.{with_register, with_pc, with_bytes, with_phase}
 use Rattle.rd_calls.specs.declared.outcome.Outcome.{Outcome}
 use Rattle.rd_calls.specs.declared.outcome.Outcome.TheVariants.{Returns}
@@ -50,3 +51,8 @@ concluded called task = concluded_as called.state task called.outcome
   where
     concluded_as : Snapshot → ℕ → Outcome → Snapshot
     concluded_as s task (Returns answer) = returned s task answer
+
+-- The call has been done, at that cost at the most, and this became of the caller.
+pub record DoesCall (old new : Edit) (called : Called) (cost : ℕ) (outcome : Outcome) : Type 0 where
+  pub comes : Comes old new called.state cost
+  pub becomes : outcome ≡ called.outcome

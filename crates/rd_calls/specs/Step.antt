@@ -1,13 +1,13 @@
 -- A move: one instruction of the task on a core, and then scheduling.
 use Rattle.std.specs.Prelude.{ℕ, ◌+◌, ◌*◌, ◌<◌, ◌≤◌, List, length, Option, None, Some, Result, Ok, Err}
 use Rattle.rd_script.specs.declared.instr.Instr.{Instr}
-use Rattle.rd_script.specs.declared.instr.Instr.TheVariants.{Set, Add, Move as Copy, Data, Pack, Unpack, Jump, JumpZero, End, Send, Receive}
+use Rattle.rd_script.specs.declared.instr.Instr.TheVariants.{Send, Receive}
 use Rattle.rd_script.specs.Application.{Application, instr_at, priorities_of}
 use Rattle.rd_state.specs.declared.change.Change.{Change}
 use Rattle.rd_state.specs.Change.{weight_of}
 use Rattle.rd_state.specs.Settled.{settled}
 use Rattle.rd_state.specs.Snapshot.{Snapshot, task_at, core_at}
-use Rattle.rd_calls.specs.Local.{local_step}
+use Rattle.rd_calls.specs.Local.{local_step, NamesRegisters}
 use Rattle.rd_calls.specs.Outcomes.{concluded, send_outcome, receive_outcome}
 use Rattle.rd_calls.specs.declared.moves.Move.{Move}
 use Rattle.rd_calls.specs.declared.moves.Move.TheVariants.{Core}
@@ -18,15 +18,7 @@ use Rattle.rd_calls.specs.declared.moves.PlayError.TheVariants.{NoTask}
 abbrev pub performed : Snapshot → ℕ → ℕ → Instr → Snapshot
 performed s core task (Send queue) = concluded (send_outcome s task queue) task
 performed s core task (Receive queue) = concluded (receive_outcome s task queue) task
-performed s core task (Set register value) = local_step s core task (Set register value)
-performed s core task (Add register value) = local_step s core task (Add register value)
-performed s core task (Copy into from) = local_step s core task (Copy into from)
-performed s core task (Data bytes) = local_step s core task (Data bytes)
-performed s core task (Pack register) = local_step s core task (Pack register)
-performed s core task (Unpack register) = local_step s core task (Unpack register)
-performed s core task (Jump target) = local_step s core task (Jump target)
-performed s core task (JumpZero register target) = local_step s core task (JumpZero register target)
-performed s core task End = local_step s core task End
+performed s core task instr = local_step s core task instr
 
 -- the instruction that a task stands at
 abbrev pub next_instr : Application → Snapshot → ℕ → Instr
@@ -53,3 +45,9 @@ IsMoveOf app (Core core) = core < app.cores
 -- beside the bytes of one task's data and one item.
 abbrev pub IsSmall : Snapshot → Move → List Change → Type 0
 IsSmall s move changes = weight_of changes ≤ 4 * length s.tasks + 6 * length s.cores + 16 + 512
+
+-- The registers and queues that an instruction names are there.
+abbrev pub NamesParts : ℕ → Instr → Type 0
+NamesParts queues (Send queue) = queue < queues
+NamesParts queues (Receive queue) = queue < queues
+NamesParts queues instr = NamesRegisters instr

@@ -1,6 +1,9 @@
 //! The kernel's rules: what each move does to the target.
 #![tactic(auto)]
 
+mod local;
 pub mod moves;
 pub mod outcome;
+mod perform;
+mod queues;
 mod steps;

@@ -1,4 +1,5 @@
 ghost use Rattle.std.specs.Prelude.{◌≡◌, ◌≤◌, length};
+ghost use Rattle.rd_queue.specs.Queues.{fitted};
 
 use arrayvec::ArrayVec;
 use std::marker::Model;
@@ -28,6 +29,18 @@ impl Item {
     {
         let mut item = ArrayVec::new();
         item.try_extend_from_slice(bytes).unwrap();
+        Item { bytes: item }
+    }
+
+    /// The item of `size` bytes that these bytes make: cut, or filled up with zero bytes.
+    pub fn fitted(bytes: &[u8], size: usize) -> Item
+        requires { size ≤ 64 }
+        ensures { result ≡ fitted size bytes.now }
+    {
+        let mut item = ArrayVec::new();
+        for place in 0..size {
+            item.push(bytes.get(place).copied().unwrap_or(0));
+        }
         Item { bytes: item }
     }
 

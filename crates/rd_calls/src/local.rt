@@ -1,0 +1,98 @@
+//! The instructions that touch nothing but their own task.
+ghost use Rattle.std.specs.Prelude.{◌≡◌, ◌<◌, ◌≤◌, length, slice_index, OnOk, OnErr};
+ghost use Rattle.std.specs.Int.{w32, from_le_bytes};
+ghost use Rattle.rd_state.specs.Edit.{Comes};
+ghost use Rattle.rd_state.specs.Snapshot.{task_at};
+ghost use Rattle.rd_calls.specs.Local.{local_step, off_core, NamesRegisters};
+ghost use Rattle.rd_calls.specs.Tasks.{register_at, with_phase};
+
+use crate::steps::{advance, set_bytes, set_pc, set_phase, set_register};
+use rd_script::instr::Instr;
+use rd_script::phase::Phase;
+use rd_state::change::Change;
+use rd_state::editing::Editing;
+use rd_state::no_memory::NoMemory;
+use std::alloc::Global;
+
+// The number whose four bytes, lowest first, begin the bytes; missing ones are 0.
+fn unpacked(bytes: &[u8]) -> u32
+    ensures { result ≡ from_le_bytes w32 bytes.now }
+{
+    let byte = |place: usize| bytes.get(place).copied().unwrap_or(0);
+    u32::from_le_bytes([byte(0), byte(1), byte(2), byte(3)])
+}
+
+fn register_of(editing: &Editing, task: usize, register: usize) -> u32
+    requires task { task < length editing.now.now.tasks }
+    requires register { register < 8 }
+    ensures { result ≡ register_at editing.now.now task register }
+{
+    editing.state().task(task).register(register)
+}
+
+// Ends a task: it leaves its core for good.
+fn end_task(editing: &mut Editing, core: usize, task: usize) -> Result<(), NoMemory>
+    requires task { task < length editing.old.now.tasks }
+    requires core { core < length editing.old.now.cores }
+    ensures ok { OnOk result (Comes editing.old editing.new
+        (off_core (with_phase editing.old.now task Phase.Ended) core) 2) }
+    ensures err { OnErr result (editing.new.base ≡ editing.old.base) }
+{
+    set_phase(editing, task, Phase::Ended)?;
+    editing.change(Change::SetCore { core, task: None })
+}
+
+/// Does an instruction that touches nothing but its own task.
+pub fn do_local(
+    alloc: Global,
+    editing: &mut Editing,
+    core: usize,
+    task: usize,
+    instr: &Instr,
+) -> Result<(), NoMemory>
+    requires task { task < length editing.old.now.tasks }
+    requires core { core < length editing.old.now.cores }
+    requires place { (task_at editing.old.now task).pc < 256 }
+    requires registers { NamesRegisters instr.now }
+    ensures ok { OnOk result (Comes editing.old editing.new (local_step editing.old.now core task instr.now) 258) }
+    ensures err { OnErr result (editing.new.base ≡ editing.old.base) }
+{
+    match instr {
+        Instr::Set { register, value } => {
+            set_register(editing, task, *register, *value)?;
+            advance(editing, task)
+        }
+        Instr::Add { register, value } => {
+            let sum = register_of(editing, task, *register).wrapping_add(*value);
+            set_register(editing, task, *register, sum)?;
+            advance(editing, task)
+        }
+        Instr::Move { into, from } => {
+            let value = register_of(editing, task, *from);
+            set_register(editing, task, *into, value)?;
+            advance(editing, task)
+        }
+        Instr::Data { bytes } => {
+            set_bytes(alloc, editing, task, bytes.as_slice())?;
+            advance(editing, task)
+        }
+        Instr::Pack { register } => {
+            let bytes = register_of(editing, task, *register).to_le_bytes();
+            set_bytes(alloc, editing, task, &bytes)?;
+            advance(editing, task)
+        }
+        Instr::Unpack { register } => {
+            let value = unpacked(editing.state().task(task).bytes());
+            set_register(editing, task, *register, value)?;
+            advance(editing, task)
+        }
+        Instr::Jump { target } => set_pc(editing, task, *target),
+        Instr::JumpZero { register, target } => {
+            let next = editing.state().task(task).pc() + 1;
+            let is_zero = register_of(editing, task, *register) == 0;
+            set_pc(editing, task, if is_zero { *target } else { next })
+        }
+        Instr::End => end_task(editing, core, task),
+        Instr::Send { .. } | Instr::Receive { .. } => Ok(()),
+    }
+}
