@@ -5,5 +5,6 @@ mod local;
 pub mod moves;
 pub mod outcome;
 mod perform;
+pub mod play;
 mod queues;
 mod steps;

@@ -1,5 +1,6 @@
-pub mod ListLaws
 pub mod SizeLaws
 pub mod UndoLaws
 pub mod EditLaws
 pub mod SettleLaws
+pub mod ScheduleLaws
+pub mod BootLaws

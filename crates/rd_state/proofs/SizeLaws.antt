@@ -13,7 +13,7 @@ use Rattle.rd_state.specs.declared.state.State.TheInside.{Inside}
 use Rattle.rd_state.specs.Boot.{all_joined, fresh_task, new_queue}
 use Rattle.rd_state.specs.Inside.{IsKept}
 use Rattle.rd_state.specs.Sizes.{IsSizedTask, IsSizedQueue, IsTaskOrIdle}
-use Rattle.rd_state.proofs.ListLaws.{All-insert, All-remove}
+use Rattle.rd_wait.proofs.ListLaws.{All-insert, All-remove}
 
 -- a task has left the ready list
 pub IsKept-remove : (s : Inside) (place : ℕ) → place < length s.ready.tasks → IsKept s → IsKept (record s { ready = record s.ready { tasks = remove s.ready.tasks place } })

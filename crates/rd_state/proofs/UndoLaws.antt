@@ -12,7 +12,7 @@ use Rattle.rd_state.specs.Snapshot.{Snapshot, TaskSnapshot, no_task, no_queue, t
 use Rattle.rd_state.specs.Change.{applied, inverse_of, Fits, Takes, HasItem, items_at, with_task, with_queue}
 use Rattle.rd_state.specs.Sizes.{IsSized, IsSizedTask, IsSizedQueue, IsTaskOrIdle}
 use Rattle.rd_state.specs.Undoing.{undone, CanUndo, IsUndone, EachIsUndone}
-use Rattle.rd_state.proofs.ListLaws.{remove-insert, insert-remove, set_back}
+use Rattle.rd_wait.proofs.ListLaws.{remove-insert, insert-remove, set_back}
 
 -- what is read at the place of a member that was changed is the changed one
 changed_at : {X : Type 0} (xs : List X) (i : ℕ) (d y : X) → i < length xs → get_or (set xs i y) i d ≡ y

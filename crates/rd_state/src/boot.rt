@@ -1,7 +1,8 @@
 ghost use Rattle.std.specs.Prelude.{◌≡◌, ◌<◌, ◌≤◌, length, map, replicate, All, IfOk};
 ghost use Rattle.rd_notify.specs.Entries.{idle_entry};
 ghost use Rattle.rd_script.specs.Application.{IsQueueShape};
-ghost use Rattle.rd_state.specs.Boot.{all_joined, before_scheduling, boot_of, fresh_task, new_queue};
+ghost use Rattle.rd_state.specs.Boot.{all_joined, boot_of, fresh_task, new_queue};
+ghost use Rattle.rd_state.specs.Valid.{IsValid};
 
 use crate::editing::Editing;
 use crate::no_memory::NoMemory;
@@ -56,6 +57,7 @@ impl State {
     /// (`vTaskStartScheduler`). All memory that the state needs is taken here.
     pub fn boot(alloc: Global, app: &App) -> Result<State, NoMemory>
         ensures state { IfOk result (λ state. state ≡ boot_of app.now) }
+        ensures valid { IfOk result (λ state. IsValid app.now state) }
     {
         let before = State::before_scheduling(alloc, app)?;
         app.limits();
@@ -64,6 +66,7 @@ impl State {
         let mut state = State::hollow(alloc);
         editing.commit(&mut state).retire();
         settled?;
+        state.sizes();
         Ok(state)
     }
 }

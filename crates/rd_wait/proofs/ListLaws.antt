@@ -1,8 +1,9 @@
 -- Laws of plain lists: edits against one another, and what holds of each member after one.
 use Rattle.std.proofs.Common.{◌≡◌, ◌∙◌, ℕ, zero, suc, ◌+◌, ◌-◌, ◌<◌, ◌≤◌, List, [], ◌∷◌, ◌++◌, length, get_or, set, take, drop, refl, ap, sym, arith, add-one}
 use Rattle.std.specs.Prelude.{All, insert, remove}
+use Rattle.std.specs.List.{AllByRecursion}
 use Rattle.std.proofs.lemmas.List.{get_or-set_same, set-set, set-get_or}
-use Rattle.std.proofs.lemmas.List.Elements.{All-append, All-take, All-drop, All-cons}
+use Rattle.std.proofs.lemmas.List.Elements.{All-append, All-take, All-drop, All-cons, All-from_recursion, recursion_from_All}
 
 pub All-remove : {X : Type 0} (P : X → Type 0) (xs : List X) (i : ℕ) → All P xs → All P (remove xs i)
 All-remove P xs i h = All-append P (take i xs) (drop (suc i) xs) (All-take P i xs h) (All-drop P (suc i) xs h)
@@ -25,3 +26,11 @@ insert-remove (y ∷ xs) (suc i) d h = ap (λ rest. y ∷ rest) (insert-remove x
 -- a member that is changed, and then changed back
 pub set_back : {X : Type 0} (xs : List X) (i : ℕ) (d y : X) → set (set xs i y) i (get_or xs i d) ≡ xs
 set_back xs i d y = set-set xs i y (get_or xs i d) ∙ set-get_or xs i d
+
+-- what holds of each member by recursion, after a member was put in
+pub AllByRecursion-insert : {X : Type 0} (P : X → Type 0) (xs : List X) (i : ℕ) (x : X) → AllByRecursion P xs → P x → AllByRecursion P (insert xs i x)
+AllByRecursion-insert P xs i x h here = recursion_from_All P (insert xs i x) (All-insert P xs i x (All-from_recursion P xs h) here)
+
+pub AllByRecursion-weaker : {X : Type 0} (P Q : X → Type 0) → ((x : X) → P x → Q x) → (xs : List X) → AllByRecursion P xs → AllByRecursion Q xs
+AllByRecursion-weaker P Q f [] h = tt
+AllByRecursion-weaker P Q f (x ∷ xs) h = (f x h.0, AllByRecursion-weaker P Q f xs h.1)

@@ -1,0 +1,70 @@
+-- The state at boot is valid.
+use Rattle.std.proofs.Common.{◌≡◌, ◌∙◌, ℕ, zero, suc, ◌+◌, ◌<◌, ◌≤◌, Bool, cond, List, [], ◌∷◌, length, get_or, map, replicate, Option, None, refl, ap, subst, sym, arith}
+use Rattle.std.specs.Prelude.{All, nat_eq}
+use Rattle.std.proofs.lemmas.List.{length-replicate, get_or-replicate}
+use Rattle.std.proofs.lemmas.List.Elements.{All-replicate, All-get_or}
+use Rattle.std.proofs.lemmas.List.Sums.{sum_by-cons}
+use Rattle.std.proofs.lemmas.Bool.Decides.{nat_tests}
+use Rattle.rd_notify.specs.declared.notes.Entry.{Entry}
+use Rattle.rd_notify.specs.Entries.{idle_entry}
+use Rattle.rd_script.specs.declared.app.QueueShape.{QueueShape}
+use Rattle.rd_script.specs.Application.{Application, IsApplication, IsScript, code_of, priorities_of}
+use Rattle.rd_script.specs.TaskScript.{TaskScript}
+use Rattle.rd_wait.specs.Joined.{joined, IsInOrder}
+use Rattle.rd_wait.proofs.JoinedLaws.{IsInOrder-joined}
+use Rattle.rd_state.specs.Boot.{all_joined, before_scheduling, boot_of, fresh_task, new_queue}
+use Rattle.rd_state.specs.Settled.{seating_of, settled}
+use Rattle.rd_state.specs.Sizes.{IsSized}
+use Rattle.rd_state.specs.Snapshot.{Snapshot, TaskSnapshot, no_task, task_at}
+use Rattle.rd_state.specs.Valid.{InLimits, IsNotWaiting, IsValid, is_on, places_to_run, shape_of, times, times_on}
+use Rattle.rd_state.proofs.ScheduleLaws.{SeatsKept, kept_settled, one_if, times-joined}
+
+-- Each of the tasks so far stands once in the list of all that joined, and no other does.
+times-all_joined : (priorities : List ℕ) (n task : ℕ) → (task < n → times task (all_joined priorities n) ≡ 1) × (n ≤ task → times task (all_joined priorities n) ≡ 0)
+times-all_joined priorities zero task = (λ h. absurd (omega (arith, h)), λ h. refl)
+times-all_joined priorities (suc n) task =
+    let before = times-all_joined priorities n task in
+    let joins = times-joined priorities (all_joined priorities n) task n in
+    (λ h. grind (arith, nat_tests, joins, before.0, before.1), λ h. grind (arith, nat_tests, joins, before.0, before.1))
+
+times_on-idle : (task n : ℕ) → times_on task (replicate n None) ≡ 0
+times_on-idle task zero = refl
+times_on-idle task (suc n) = omega (arith, sum_by-cons (λ r. one_if (is_on task r)) None (replicate n None), times_on-idle task n)
+
+in_order : (priorities : List ℕ) (n : ℕ) → IsInOrder priorities (all_joined priorities n)
+in_order priorities zero = tt
+in_order priorities (suc n) = IsInOrder-joined priorities (all_joined priorities n) n (in_order priorities n)
+
+same_shapes : (shapes : List QueueShape) → map shape_of (map new_queue shapes) ≡ shapes
+same_shapes [] = refl
+same_shapes (shape ∷ shapes) = ap (λ rest. shape ∷ rest) (same_shapes shapes)
+
+idle_is_not_waiting : IsNotWaiting idle_entry
+idle_is_not_waiting h = cc
+
+pub IsValid-boot : (app : Application) (s : Snapshot) → IsApplication app → IsSized s → s ≡ boot_of app → IsValid app s
+IsValid-boot app s limits sized e =
+    let priorities = priorities_of app in
+    let n = length app.scripts in
+    let before = before_scheduling app in
+    let cores : length before.cores ≡ app.cores = length-replicate app.cores None in
+    let kept : SeatsKept priorities (seating_of before) (seating_of (boot_of app)) = kept_settled priorities before (omega (arith, cores, limits.some_cores)) in
+    let tasks : length before.tasks ≡ n = length-replicate n (fresh_task app.notes) in
+    let there : (task : ℕ) → task < length before.tasks → task_at before task ≡ fresh_task app.notes = λ task h. get_or-replicate n task (fresh_task app.notes) no_task (omega (arith, h, tasks)) in
+    let valid : IsSized (boot_of app) → IsValid app (boot_of app) = λ z. record {
+      in_limits = record {
+        sized = z;
+        cores = kept.cores ∙ cores;
+        tasks = tasks;
+        places = λ task h.
+          let script : IsScript app (get_or app.scripts task (record { priority = 0; code = [] })) = All-get_or (IsScript app) app.scripts task (record { priority = 0; code = [] }) (omega (arith, h, tasks)) limits.scripts in
+          omega (arith, ap (λ (t : TaskSnapshot). t.pc) (there task h), script.some);
+        entries = All-replicate (λ (task : TaskSnapshot). length task.entries ≡ app.notes) n (fresh_task app.notes) (length-replicate app.notes idle_entry);
+        queues = same_shapes app.queues;
+      };
+      placed_once = λ task h.
+        omega (arith, kept.seats task, (times-all_joined priorities n task).0 (omega (arith, h, tasks)), times_on-idle task app.cores, ap (λ (t : TaskSnapshot). places_to_run t.phase) (there task h));
+      waiting_lists = kept.order (in_order priorities n);
+      entries = All-replicate (λ (task : TaskSnapshot). All IsNotWaiting task.entries) n (fresh_task app.notes) (All-replicate IsNotWaiting app.notes idle_entry idle_is_not_waiting);
+    } in
+    subst (λ (t : Snapshot). IsSized t → IsValid app t) (sym e) valid sized
