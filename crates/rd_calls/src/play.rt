@@ -31,10 +31,16 @@ fn play_task(
     ensures can_undo { IfOk result (λ undo. CanUndo state.new undo) }
     ensures small { IfOk result (λ undo. weight_of undo ≤ 326 + 3 * length state.old.cores) }
     ensures err { OnErr result (state.new ≡ state.old) }
+    ensures valid { OnOk result (IsValid app.now state.new) }
 {
+    app.limits();
     let mut editing = Editing::begin(alloc, mem::replace(state, State::hollow(alloc)));
     match move_core(alloc, app, &mut editing, core, task) {
-        Ok(()) => Ok(editing.commit(state)),
+        Ok(()) => {
+            let undo = editing.commit(state);
+            state.sizes();
+            Ok(undo)
+        }
         Err(NoMemory) => {
             editing.roll_back(state);
             Err(NoMemory)
