@@ -1,0 +1,24 @@
+-- What a contract sees of a timeline.
+use Rattle.std.specs.Prelude.{ℕ, ◌≡◌, ◌≤◌, List, length}
+use Rattle.rd_script.specs.Application.{Application}
+use Rattle.rd_state.specs.declared.change.Change.{Change}
+use Rattle.rd_state.specs.Snapshot.{Snapshot}
+use Rattle.rd_calls.specs.declared.moves.Move.{Move}
+use Rattle.rd_timeline.specs.History.{Retraces, CanRewind}
+
+-- the application, how many moves may be done, the target as it is now, the moves done from boot in order, the
+-- record of each, and the moves undone, the one to be redone next first
+pub record Course : Type 0 where
+  pub app : Application
+  pub limit : ℕ
+  pub target : Snapshot
+  pub done : List Move
+  pub log : List (List Change)
+  pub undone : List Move
+
+-- There is a record for each move done. Going back by them retraces the moves, and can be done.
+pub record IsKept (course : Course) : Type 0 where
+  pub records : length course.log ≡ length course.done
+  pub retraces : Retraces course.app course.done course.log course.target
+  pub rewinds : CanRewind course.target course.log
+  pub within : length course.done ≤ course.limit

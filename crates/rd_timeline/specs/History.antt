@@ -1,0 +1,39 @@
+-- Lists of moves: the state that they give from the start, and the way back through their records.
+use Rattle.std.specs.Prelude.{ℕ, ◌≡◌, ◌≤◌, List, [], ◌∷◌, length, take, drop, fold, Result, Ok, Err}
+use Rattle.rd_script.specs.Application.{Application}
+use Rattle.rd_state.specs.declared.change.Change.{Change}
+use Rattle.rd_state.specs.Boot.{boot_of}
+use Rattle.rd_state.specs.Snapshot.{Snapshot}
+use Rattle.rd_state.specs.Undoing.{undone, CanUndo}
+use Rattle.rd_state.specs.Valid.{IsValid}
+use Rattle.rd_calls.specs.declared.moves.Move.{Move}
+use Rattle.rd_calls.specs.declared.moves.PlayError.{PlayError}
+use Rattle.rd_calls.specs.Step.{step}
+
+-- one move more, where the ones before it gave a state
+abbrev pub stepped : Application → Result Snapshot PlayError → Move → Result Snapshot PlayError
+stepped app (Ok s) move = step app s move
+stepped app (Err refusal) move = Err refusal
+
+-- the state that the moves give from boot, one after the other, or the first refusal
+abbrev pub state_after : Application → List Move → Result Snapshot PlayError
+state_after app moves = fold (stepped app) (Ok (boot_of app)) moves
+
+-- the state after the moves of these records are undone, the last one first
+abbrev pub rewound : Snapshot → List (List Change) → Snapshot
+rewound s [] = s
+rewound s (first ∷ later) = undone (rewound s later) first
+
+-- each of them can be undone in its turn
+abbrev pub CanRewind : Snapshot → List (List Change) → Type 0
+CanRewind s [] = Unit {0}
+CanRewind s (first ∷ later) = CanRewind s later × CanUndo (rewound s later) first
+
+-- The state is valid, and the one that the moves give from boot.
+pub record IsStateAfter (app : Application) (moves : List Move) (s : Snapshot) : Type 0 where
+  pub state : state_after app moves ≡ Ok s
+  pub valid : IsValid app s
+
+-- Undoing the records from the end, down to any place, gives the state that the moves before it give.
+abbrev pub Retraces : Application → List Move → List (List Change) → Snapshot → Type 0
+Retraces app moves records s = (place : ℕ) → place ≤ length moves → IsStateAfter app (take place moves) (rewound s (drop place records))

@@ -1,0 +1,9 @@
+pub mod History
+pub mod Course
+pub mod Inside
+pub use Rattle.rd_calls.specs.Step
+pub use Rattle.rd_state.specs.Snapshot
+pub use Rattle.rd_state.specs.Undoing
+pub use Rattle.rd_state.specs.Boot
+pub use Rattle.rd_state.specs.Valid
+pub use Rattle.rd_script.specs.Application

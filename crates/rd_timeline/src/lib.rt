@@ -1,0 +1,5 @@
+//! The moves made so far, the way back through them, and the state that they give.
+#![tactic(auto)]
+
+pub mod log;
+pub mod timeline;

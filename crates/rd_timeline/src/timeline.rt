@@ -1,0 +1,141 @@
+ghost use Rattle.std.specs.Prelude.{◌≡◌, ◌↔◌, ◌+◌, ◌-◌, ◌<◌, ◌≤◌, ◌∷◌, ◌++◌, [], length, take, drop, Ok, Err, IfOk, IfErr, OnOk, OnErr, IsOk, IsErrOf};
+ghost use Rattle.rd_state.specs.Boot.{boot_of};
+ghost use Rattle.rd_calls.specs.Step.{step, IsMoveOf};
+ghost use Rattle.rd_timeline.specs.Course.{Course, IsKept};
+
+use crate::log::Log;
+use rd_calls::moves::{Move, PlayError};
+use rd_calls::play::play;
+use rd_script::app::App;
+use rd_state::no_memory::NoMemory;
+use rd_state::state::State;
+use rd_state::undo::Undo;
+use std::alloc::Global;
+use std::marker::Model;
+use thiserror::Error;
+
+/// Why a move wasn't made. The timeline is as it was.
+#[derive(Clone, Copy, Debug, PartialEq, Eq, Error)]
+pub enum Refusal {
+    /// The moves done are at their limit.
+    #[error("MovesFull")]
+    MovesFull,
+    /// The core is idle.
+    #[error("NoTask")]
+    NoTask,
+    /// A growth was refused.
+    #[error("NoMemory")]
+    NoMemory,
+}
+
+/// There are only so many moves to go back.
+#[derive(Clone, Copy, Debug, PartialEq, Eq, Error)]
+#[error("TooFar {done}")]
+pub struct TooFar {
+    pub done: usize,
+}
+
+/// The target with the moves that led to it. It can't be dropped: it ends in `close`.
+pub struct Timeline {
+    app: App,
+    limit: usize,
+    target: State,
+    done: Vec<Move>,
+    log: Log,
+    // The move to be redone next stands last. There is room here for all moves done, so that going back
+    // takes no memory.
+    undone: Vec<Move>,
+}
+
+impl Model for Timeline {
+    ghost use Rattle.rd_timeline.specs.Course.{Course};
+
+    ghost Value = { Course };
+
+    ghost use Rattle.rd_timeline.specs.Inside.{course_of, IsWhole};
+
+    ghost view = { course_of };
+
+    ghost invariant = { IsWhole };
+}
+
+impl Timeline {
+    /// A timeline at boot, for at most `limit` moves. A refusal drops the application.
+    pub fn new(alloc: Global, app: App, limit: usize) -> Result<Timeline, NoMemory>
+        ensures { IfOk result (λ timeline. timeline ≡ record {
+            app = app;
+            limit = limit;
+            target = boot_of app;
+            done = [];
+            log = [];
+            undone = [];
+        }) }
+    {
+        let target = State::boot(alloc, &app)?;
+        Ok(Timeline {
+            app,
+            limit,
+            target,
+            done: Vec::new(alloc),
+            log: Log::new(alloc),
+            undone: Vec::new(alloc),
+        })
+    }
+
+    /// The target is what the moves done give from boot, and the log leads back through them.
+    pub fn keeps(&self)
+        ensures { IsKept self.now }
+    {
+        let _ = &self.limit;
+    }
+
+    /// The application.
+    pub fn app(&self) -> &App
+        ensures { result.now ≡ self.now.app }
+    {
+        &self.app
+    }
+
+    /// The target as it is now.
+    pub fn target(&self) -> &State
+        ensures { result.now ≡ self.now.target }
+    {
+        &self.target
+    }
+
+    /// How many moves are done.
+    pub fn at(&self) -> usize
+        ensures { result ≡ length self.now.done }
+    {
+        self.done.len()
+    }
+
+    /// How many moves are undone and could be redone.
+    pub fn left(&self) -> usize
+        ensures { result ≡ length self.now.undone }
+    {
+        self.undone.len()
+    }
+
+    /// Keeps a record at the log's end. Where the log can't grow, the record is handed back, and both are as
+    /// they were.
+    pub fn keep(log: &mut Log, undo: Undo) -> Result<(), Undo>
+        ensures ok { OnOk result (log.new ≡ log.old ++ undo ∷ []) }
+        ensures err { IfErr result (λ back. (back ≡ undo) × (log.new ≡ log.old)) }
+    {
+        log.push(undo)
+    }
+
+    /// Ends the timeline.
+    pub fn close(self) {
+        let Timeline {
+            app: _,
+            limit: _,
+            target: _,
+            done: _,
+            log,
+            undone: _,
+        } = self;
+        log.retire();
+    }
+}
