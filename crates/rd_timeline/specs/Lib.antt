@@ -7,3 +7,4 @@ pub use Rattle.rd_state.specs.Undoing
 pub use Rattle.rd_state.specs.Boot
 pub use Rattle.rd_state.specs.Valid
 pub use Rattle.rd_script.specs.Application
+pub mod Refusals

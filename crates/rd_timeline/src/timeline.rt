@@ -1,7 +1,8 @@
 ghost use Rattle.std.specs.Prelude.{◌≡◌, ◌↔◌, ◌+◌, ◌-◌, ◌<◌, ◌≤◌, ◌∷◌, ◌++◌, [], length, take, drop, Ok, Err, IfOk, IfErr, OnOk, OnErr, IsOk, IsErrOf};
 ghost use Rattle.rd_state.specs.Boot.{boot_of};
 ghost use Rattle.rd_calls.specs.Step.{step, IsMoveOf};
-ghost use Rattle.rd_timeline.specs.Course.{Course, IsKept};
+ghost use Rattle.rd_timeline.specs.Course.{IsKept};
+ghost use Rattle.rd_timeline.specs.History.{state_after};
 
 use crate::log::Log;
 use rd_calls::moves::{Move, PlayError};
@@ -10,7 +11,7 @@ use rd_script::app::App;
 use rd_state::no_memory::NoMemory;
 use rd_state::state::State;
 use rd_state::undo::Undo;
-use std::alloc::Global;
+use std::alloc::{AllocError, Global};
 use std::marker::Model;
 use thiserror::Error;
 
@@ -26,6 +27,31 @@ pub enum Refusal {
     /// A growth was refused.
     #[error("NoMemory")]
     NoMemory,
+}
+
+impl From<PlayError> for Refusal {
+    ghost use Rattle.std.specs.Prelude.{◌≡◌};
+    ghost use Rattle.rd_timeline.specs.Refusals.{refusal_of};
+
+    ghost from_gives = { λ error refusal. refusal ≡ refusal_of error };
+
+    fn from(error: PlayError) -> Refusal {
+        match error {
+            PlayError::NoTask => Refusal::NoTask,
+            PlayError::NoMemory => Refusal::NoMemory,
+        }
+    }
+}
+
+impl From<AllocError> for Refusal {
+    ghost use Rattle.std.specs.Prelude.{◌≡◌};
+    ghost use Rattle.rd_timeline.specs.declared.timeline.Refusal.TheVariants.{NoMemory};
+
+    ghost from_gives = { λ error refusal. refusal ≡ NoMemory };
+
+    fn from(_error: AllocError) -> Refusal {
+        Refusal::NoMemory
+    }
 }
 
 /// There are only so many moves to go back.
@@ -71,6 +97,7 @@ impl Timeline {
             undone = [];
         }) }
     {
+        app.limits();
         let target = State::boot(alloc, &app)?;
         Ok(Timeline {
             app,
@@ -115,6 +142,46 @@ impl Timeline {
         ensures { result ≡ length self.now.undone }
     {
         self.undone.len()
+    }
+
+    /// Makes a move: it is laid on the moves done, and the moves undone are forgotten. Answers how many moves
+    /// are done. A refusal leaves the timeline as it was: `MovesFull` where the moves done are at their
+    /// limit, `NoTask` where the core is idle, `NoMemory` where a growth was refused.
+    pub fn go(&mut self, action: Move) -> Result<usize, Refusal>
+        requires named { IsMoveOf self.old.app action }
+        ensures at { IfOk result (λ at. at ≡ length self.new.done) }
+        ensures step { OnOk result (step self.old.app self.old.target action ≡ Ok self.new.target) }
+        ensures done { OnOk result (self.new.done ≡ self.old.done ++ action ∷ []) }
+        ensures undone { OnOk result (self.new.undone ≡ []) }
+        ensures rest { OnOk result ((self.new.app ≡ self.old.app) × (self.new.limit ≡ self.old.limit)) }
+        ensures leads { OnOk result (state_after self.new.app self.new.done ≡ Ok self.new.target) }
+
+        // When it is refused, and that nothing has changed then.
+        ensures moves_full { IsErrOf result Refusal.MovesFull ↔ (length self.old.done ≡ self.old.limit) }
+        ensures no_task { IsErrOf result Refusal.NoTask
+            → step self.old.app self.old.target action ≡ Err PlayError.NoTask }
+        ensures err { OnErr result (self.new ≡ self.old) }
+    {
+        if self.done.len() == self.limit {
+            return Err(Refusal::MovesFull);
+        }
+        // Room for one more move done, and for all of them once they are undone.
+        self.done.reserve(1)?;
+        self.undone.reserve(self.done.len() + 1)?;
+        let kept = action.copy();
+        let alloc = *self.done.allocator();
+        let undo = play(alloc, &mut self.target, &self.app, action)?;
+        match Timeline::keep(&mut self.log, undo) {
+            Ok(()) => {
+                self.done.push_reserved(kept);
+                self.undone.clear();
+                Ok(self.done.len())
+            }
+            Err(undo) => {
+                self.target.back(undo);
+                Err(Refusal::NoMemory)
+            }
+        }
     }
 
     /// Keeps a record at the log's end. Where the log can't grow, the record is handed back, and both are as

@@ -1,0 +1,82 @@
+-- Lists of moves with one more, and with one less.
+use Rattle.std.proofs.Common.{◌≡◌, ◌∙◌, ℕ, zero, suc, ◌+◌, ◌<◌, ◌≤◌, List, [], ◌∷◌, ◌++◌, length, take, drop, refl, ap, subst, sym, arith, ◌⊎◌, inl, inr}
+use Rattle.std.specs.Prelude.{Result, Ok, Err, fold}
+use Rattle.std.proofs.lemmas.Bool.{cases_lt}
+use Rattle.std.proofs.lemmas.List.{take_all, drop_all, take-append-le, drop-append-le, length_push}
+use Rattle.std.proofs.lemmas.List.Sums.{fold_push}
+use Rattle.rd_script.specs.Application.{Application}
+use Rattle.rd_state.specs.declared.change.Change.{Change}
+use Rattle.rd_state.specs.Boot.{boot_of}
+use Rattle.rd_state.specs.Snapshot.{Snapshot}
+use Rattle.rd_state.specs.Undoing.{undone, CanUndo}
+use Rattle.rd_state.specs.Valid.{IsValid}
+use Rattle.rd_calls.specs.declared.moves.Move.{Move}
+use Rattle.rd_calls.specs.declared.moves.PlayError.{PlayError}
+use Rattle.rd_calls.specs.Step.{step}
+use Rattle.rd_timeline.specs.History.{stepped, state_after, rewound, CanRewind, IsStateAfter, Retraces}
+
+-- one move more, after moves that gave a state
+pub state_after-push : (app : Application) (moves : List Move) (move : Move) (s : Snapshot) → state_after app moves ≡ Ok s → state_after app (moves ++ move ∷ []) ≡ step app s move
+state_after-push app moves move s e = fold_push (stepped app) (Ok (boot_of app)) moves move ∙ ap (λ r. stepped app r move) e
+
+-- back from one record more: first by that
+pub rewound-push : (s : Snapshot) (records : List (List Change)) (last : List Change) → rewound s (records ++ last ∷ []) ≡ rewound (undone s last) records
+rewound-push s [] last = refl
+rewound-push s (first ∷ later) last = ap (λ (t : Snapshot). undone t first) (rewound-push s later last)
+
+pub CanRewind-push : (s : Snapshot) (records : List (List Change)) (last : List Change) → CanUndo s last → CanRewind (undone s last) records → CanRewind s (records ++ last ∷ [])
+CanRewind-push s [] last can rewinds = (tt, can)
+CanRewind-push s (first ∷ later) last can rewinds =
+    let P : Snapshot → Type 0 = λ t. CanUndo t first in
+    (CanRewind-push s later last can rewinds.0, subst P (sym (rewound-push s later last)) rewinds.1)
+
+pub CanRewind-pop : (s : Snapshot) (records : List (List Change)) (last : List Change) → CanRewind s (records ++ last ∷ []) → CanUndo s last × CanRewind (undone s last) records
+CanRewind-pop s [] last rewinds = (rewinds.1, tt)
+CanRewind-pop s (first ∷ later) last rewinds =
+    let rest = CanRewind-pop s later last rewinds.0 in
+    let P : Snapshot → Type 0 = λ t. CanUndo t first in
+    (rest.0, (rest.1, subst P (rewound-push s later last) rewinds.1))
+
+-- at boot there is nothing to go back
+pub Retraces-boot : (app : Application) (s : Snapshot) → s ≡ boot_of app → IsValid app s → Retraces app [] [] s
+Retraces-boot app s e valid zero h = record { state = ap (λ (t : Snapshot). Ok t) (sym e); valid = valid }
+Retraces-boot app s e valid (suc place) h = absurd (omega (arith, h))
+
+-- the state now is that after all moves
+pub Retraces-now : (app : Application) (moves : List Move) (records : List (List Change)) (s : Snapshot) → length records ≡ length moves → Retraces app moves records s → IsStateAfter app moves s
+Retraces-now app moves records s same h =
+    let P : List Move → List (List Change) → Type 0 = λ ms rs. IsStateAfter app ms (rewound s rs) in
+    subst (λ (rs : List (List Change)). P moves rs) (drop_all (length moves) records (omega (arith, same)))
+    (subst (λ (ms : List Move). P ms (drop (length moves) records)) (take_all (length moves) moves (omega arith)) (h (length moves) (omega arith)))
+
+-- what stands before the last of one more
+before_last : {X : Type 0} (place : ℕ) (xs : List X) (x : X) → place ≤ length xs → take place (xs ++ x ∷ []) ≡ take place xs
+before_last place xs x h = take-append-le place xs (x ∷ []) h
+
+rewound-before : (place : ℕ) (records : List (List Change)) (last : List Change) (s : Snapshot) → place ≤ length records
+    → rewound s (drop place (records ++ last ∷ [])) ≡ rewound (undone s last) (drop place records)
+rewound-before place records last s h = ap (rewound s) (drop-append-le place records (last ∷ []) h) ∙ rewound-push s (drop place records) last
+
+pub Retraces-push : (app : Application) (moves : List Move) (records : List (List Change)) (move : Move) (last : List Change) (s s' : Snapshot) → length records ≡ length moves
+    → Retraces app moves records s → step app s move ≡ Ok s' → undone s' last ≡ s → IsValid app s' → Retraces app (moves ++ move ∷ []) (records ++ last ∷ []) s'
+Retraces-push app moves records move last s s' same h steps back valid place within =
+    elim (cases_lt place (length moves + 1)) [
+      inl earlier ↦ let here : place ≤ length moves = omega (arith, earlier) in
+        let was = h place here in
+        let before : rewound s' (drop place (records ++ last ∷ [])) ≡ rewound s (drop place records) =
+          rewound-before place records last s' (omega (arith, here, same)) ∙ ap (λ (t : Snapshot). rewound t (drop place records)) back in
+        subst (λ (t : Snapshot). IsStateAfter app (take place (moves ++ move ∷ [])) t) (sym before)
+        (subst (λ (ms : List Move). IsStateAfter app ms (rewound s (drop place records))) (sym (before_last place moves move here)) was)
+    | inr last_place ↦
+        let all = take_all place (moves ++ move ∷ []) (omega (arith, last_place, length_push moves move)) in
+        let none = drop_all place (records ++ last ∷ []) (omega (arith, last_place, length_push records last, same)) in
+        subst (λ (ms : List Move). IsStateAfter app ms (rewound s' (drop place (records ++ last ∷ [])))) (sym all)
+        (subst (λ (rs : List (List Change)). IsStateAfter app (moves ++ move ∷ []) (rewound s' rs)) (sym none)
+        (record { state = state_after-push app moves move s (Retraces-now app moves records s same h).state ∙ steps; valid = valid }))
+    ]
+
+pub Retraces-pop : (app : Application) (moves : List Move) (records : List (List Change)) (move : Move) (last : List Change) (s : Snapshot) → length records ≡ length moves
+    → Retraces app (moves ++ move ∷ []) (records ++ last ∷ []) s → Retraces app moves records (undone s last)
+Retraces-pop app moves records move last s same h place within =
+    subst (λ (t : Snapshot). IsStateAfter app (take place moves) t) (rewound-before place records last s (omega (arith, within, same)))
+    (subst (λ (ms : List Move). IsStateAfter app ms (rewound s (drop place (records ++ last ∷ [])))) (before_last place moves move within) (h place (omega (arith, within, length_push moves move))))

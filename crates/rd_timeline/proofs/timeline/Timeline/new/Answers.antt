@@ -1,0 +1,5 @@
+use Rattle.rd_timeline.proofs.TimelineLaws.{IsWhole-new}
+use Rattle.rd_timeline.proofs.timeline.Timeline.new.Goals as goal
+
+pub invariant_of-result : goal.invariant_of-result
+invariant_of-result c = IsWhole-new _ c.limits.ensures c.in_ok-target.ensures.state c.in_ok-target.ensures.valid c.new.ensures.items c.new-2.ensures c.new-3.ensures.items
