@@ -1,8 +1,8 @@
 -- Lists of moves with one more, and with one less.
-use Rattle.std.proofs.Common.{◌≡◌, ◌∙◌, ℕ, zero, suc, ◌+◌, ◌<◌, ◌≤◌, List, [], ◌∷◌, ◌++◌, length, take, drop, refl, ap, subst, sym, arith, ◌⊎◌, inl, inr}
+use Rattle.std.proofs.Common.{◌≡◌, ◌∙◌, ℕ, zero, suc, ◌+◌, ◌-◌, ◌<◌, ◌≤◌, List, [], ◌∷◌, ◌++◌, length, take, drop, refl, ap, subst, sym, arith, ◌⊎◌, inl, inr}
 use Rattle.std.specs.Prelude.{Result, Ok, Err, fold}
 use Rattle.std.proofs.lemmas.Bool.{cases_lt}
-use Rattle.std.proofs.lemmas.List.{take_all, drop_all, take-append-le, drop-append-le, length_push}
+use Rattle.std.proofs.lemmas.List.{append_assoc, take_all, drop_all, take-append-le, drop-append-le, length_push, length-take-le, take-take, take-append-drop, drop-take, drop-drop}
 use Rattle.std.proofs.lemmas.List.Sums.{fold_push}
 use Rattle.rd_script.specs.Application.{Application}
 use Rattle.rd_state.specs.declared.change.Change.{Change}
@@ -80,3 +80,22 @@ pub Retraces-pop : (app : Application) (moves : List Move) (records : List (List
 Retraces-pop app moves records move last s same h place within =
     subst (λ (t : Snapshot). IsStateAfter app (take place moves) t) (rewound-before place records last s (omega (arith, within, same)))
     (subst (λ (ms : List Move). IsStateAfter app ms (rewound s (drop place (records ++ last ∷ [])))) (before_last place moves move within) (h place (omega (arith, within, length_push moves move))))
+
+-- one member of a list, moved from a front's end to before the rest
+one_moved : {X : Type 0} (xs : List X) (k : ℕ) → drop k (take (k + 1) xs) ++ drop (k + 1) xs ≡ drop k xs
+one_moved xs k =
+    ap (λ ys. ys ++ drop (k + 1) xs) (drop-take k 1 xs) ∙ ap (λ ys. take 1 (drop k xs) ++ ys) (sym (drop-drop 1 k xs)) ∙ take-append-drop 1 (drop k xs)
+
+-- with i of the last moves undone, one more
+pub back_more : (done undone_ done₁ undone₁ done₂ undone₂ : List Move) (i : ℕ) → i < length done → done₁ ≡ take (length done - i) done → undone₁ ≡ drop (length done - i) done ++ undone_
+    → done₂ ≡ take (length done₁ - 1) done₁ → undone₂ ≡ drop (length done₁ - 1) done₁ ++ undone₁
+    → (done₂ ≡ take (length done - (i + 1)) done) × (undone₂ ≡ drop (length done - (i + 1)) done ++ undone_)
+back_more done undone_ done₁ undone₁ done₂ undone₂ i more d u dd uu =
+    let k = length done - (i + 1) in
+    let next : length done - i ≡ k + 1 = omega (arith, more) in
+    let front : done₁ ≡ take (k + 1) done = d ∙ ap (λ n. take n done) next in
+    let count : length done₁ - 1 ≡ k = omega (arith, ap length front, length-take-le (k + 1) done (omega (arith, more)), more) in
+    let last : done₂ ≡ take k (take (k + 1) done) = dd ∙ ap (λ n. take n done₁) count ∙ ap (take k) front in
+    let moved : undone₂ ≡ drop k (take (k + 1) done) ++ (drop (k + 1) done ++ undone_) =
+      uu ∙ ap (λ n. drop n done₁ ++ undone₁) count ∙ ap (λ xs. drop k xs ++ undone₁) front ∙ ap (λ ys. drop k (take (k + 1) done) ++ ys) (u ∙ ap (λ n. drop n done ++ undone_) next) in
+    (last ∙ take-take k (k + 1) done (omega arith), moved ∙ sym (append_assoc (drop k (take (k + 1) done)) (drop (k + 1) done) undone_) ∙ ap (λ ys. ys ++ undone_) (one_moved done k))

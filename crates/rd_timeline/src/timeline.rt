@@ -1,5 +1,6 @@
 ghost use Rattle.std.specs.Prelude.{◌≡◌, ◌↔◌, ◌+◌, ◌-◌, ◌<◌, ◌≤◌, ◌∷◌, ◌++◌, [], length, take, drop, Ok, Err, IfOk, IfErr, OnOk, OnErr, IsOk, IsErrOf};
 ghost use Rattle.rd_state.specs.Boot.{boot_of};
+ghost use Rattle.rd_state.specs.Valid.{IsValid};
 ghost use Rattle.rd_calls.specs.Step.{step, IsMoveOf};
 ghost use Rattle.rd_timeline.specs.Course.{IsKept};
 ghost use Rattle.rd_timeline.specs.History.{state_after};
@@ -111,7 +112,9 @@ impl Timeline {
 
     /// The target is what the moves done give from boot, and the log leads back through them.
     pub fn keeps(&self)
-        ensures { IsKept self.now }
+        ensures kept { IsKept self.now }
+        ensures leads { state_after self.now.app self.now.done ≡ Ok self.now.target }
+        ensures valid { IsValid self.now.app self.now.target }
     {
         let _ = &self.limit;
     }
@@ -182,6 +185,45 @@ impl Timeline {
                 Err(Refusal::NoMemory)
             }
         }
+    }
+
+    // Takes the last move back.
+    fn back_one(&mut self)
+        requires { 0 < length self.old.done }
+        ensures done { self.new.done ≡ take (length self.old.done - 1) self.old.done }
+        ensures undone { self.new.undone ≡ drop (length self.old.done - 1) self.old.done ++ self.old.undone }
+        ensures app { self.new.app ≡ self.old.app }
+        ensures limit { self.new.limit ≡ self.old.limit }
+    {
+        let undo = self.log.pop();
+        self.target.back(undo);
+        let action = self.done.pop().unwrap();
+        self.undone.push_reserved(action);
+    }
+
+    /// Goes back by `n` moves, which can be redone, the last one undone first. Answers how many moves are
+    /// done then. It takes no memory. `TooFar`, with the number of moves done, where there are fewer; the
+    /// timeline is then as it was.
+    pub fn back(&mut self, n: usize) -> Result<usize, TooFar>
+        ensures ok { IsOk result ↔ (n ≤ length self.old.done) }
+        ensures at { IfOk result (λ at. at ≡ length self.new.done) }
+        ensures done { OnOk result (self.new.done ≡ take (length self.old.done - n) self.old.done) }
+        ensures undone { OnOk result (self.new.undone
+            ≡ drop (length self.old.done - n) self.old.done ++ self.old.undone) }
+        ensures rest { OnOk result ((self.new.app ≡ self.old.app) × (self.new.limit ≡ self.old.limit)) }
+        ensures leads { OnOk result (state_after self.new.app self.new.done ≡ Ok self.new.target) }
+        ensures too_far { IfErr result (λ error. error.done ≡ length self.old.done) }
+        ensures err { OnErr result (self.new ≡ self.old) }
+    {
+        let done = self.at();
+        if n > done {
+            return Err(TooFar { done });
+        }
+        for _ in 0..n {
+            self.back_one();
+        }
+        self.keeps();
+        Ok(self.at())
     }
 
     /// Keeps a record at the log's end. Where the log can't grow, the record is handed back, and both are as
