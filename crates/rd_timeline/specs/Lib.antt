@@ -8,3 +8,4 @@ pub use Rattle.rd_state.specs.Boot
 pub use Rattle.rd_state.specs.Valid
 pub use Rattle.rd_script.specs.Application
 pub mod Refusals
+pub mod Runs

@@ -2,4 +2,5 @@
 #![tactic(auto)]
 
 pub mod log;
+pub mod runs;
 pub mod timeline;

@@ -1,0 +1,62 @@
+ghost use Rattle.std.specs.Prelude.{◌≡◌, ◌<◌, ℕ, All, length, take, Ok, OnOk, OnErr};
+ghost use Rattle.rd_timeline.specs.Course.{Course};
+ghost use Rattle.rd_timeline.specs.History.{state_after};
+ghost use Rattle.rd_timeline.specs.Runs.{moves_of, answered, all_answered, IsRequestOf};
+
+use crate::timeline::{Refusal, Timeline};
+use rd_calls::moves::Move;
+use rd_state::no_memory::NoMemory;
+
+/// What one asks of a timeline.
+#[derive(Debug, Drop)]
+pub enum Request {
+    /// Make this move.
+    Go { action: Move },
+    /// Go back by so many moves.
+    Back { count: usize },
+}
+
+impl Timeline {
+    /// Does what is asked; a request that is refused changes nothing. Where memory runs out, nothing has
+    /// changed either.
+    pub fn answer(&mut self, request: &Request) -> Result<(), NoMemory>
+        requires { IsRequestOf self.old.app request.now }
+        ensures ok { OnOk result (moves_of self.new ≡ answered self.old.app self.old.limit (moves_of self.old) request.now) }
+        ensures rest { (self.new.app ≡ self.old.app) × (self.new.limit ≡ self.old.limit) }
+        ensures leads { state_after self.new.app self.new.done ≡ Ok self.new.target }
+        ensures err { OnErr result (self.new ≡ self.old) }
+    {
+        self.keeps();
+        match request {
+            Request::Go { action } => match self.go(action.copy()) {
+                Ok(_) => Ok(()),
+                Err(Refusal::MovesFull) => Ok(()),
+                Err(Refusal::NoTask) => Ok(()),
+                Err(Refusal::NoMemory) => Err(NoMemory),
+            },
+            Request::Back { count } => {
+                let _ = self.back(*count);
+                Ok(())
+            }
+        }
+    }
+
+    /// Does all that is asked, in order. After any list of requests the target is the state that the moves not
+    /// undone give from boot, and these moves are what the requests leave of them, one by one. Where memory
+    /// runs out, that holds of the requests before.
+    pub fn run(&mut self, requests: &[Request]) -> Result<(), NoMemory>
+        requires { All (IsRequestOf self.old.app) requests.now }
+        ensures ok { OnOk result (moves_of self.new
+            ≡ all_answered self.old.app self.old.limit (moves_of self.old) requests.now) }
+        ensures err { OnErr result ((n : ℕ) × (n < length requests.now)
+            × (moves_of self.new ≡ all_answered self.old.app self.old.limit (moves_of self.old) (take n requests.now))) }
+        ensures rest { (self.new.app ≡ self.old.app) × (self.new.limit ≡ self.old.limit) }
+        ensures leads { state_after self.new.app self.new.done ≡ Ok self.new.target }
+    {
+        self.keeps();
+        for request in requests {
+            self.answer(request)?;
+        }
+        Ok(())
+    }
+}
