@@ -1,4 +1,4 @@
-ghost use Rattle.std.specs.Prelude.{◌≡◌, ◌<◌, ◌≤◌, length, replicate, slice_get, Some};
+ghost use Rattle.std.specs.Prelude.{◌≡◌, ◌↔◌, IsTrue, ◌<◌, ◌≤◌, length, replicate, slice_get, Some};
 ghost use Rattle.rd_notify.specs.Entries.{idle_entry};
 
 use arrayvec::ArrayVec;
@@ -42,6 +42,21 @@ impl Model for Notes {
     ghost view = { λ n. n.entries.items };
 }
 
+// Whether the entries are equal, one by one.
+fn same_entries(entries: &[Entry], others: &[Entry]) -> bool
+    ensures { IsTrue result ↔ (entries.now ≡ others.now) }
+{
+    if entries.len() != others.len() {
+        return false;
+    }
+    for index in 0..entries.len() {
+        if entries[index] != others[index] {
+            return false;
+        }
+    }
+    true
+}
+
 impl Notes {
     /// `count` entries of value 0, all idle.
     pub fn new(count: usize) -> Notes
@@ -67,6 +82,13 @@ impl Notes {
             .try_extend_from_slice(self.entries.as_slice())
             .unwrap();
         Notes { entries }
+    }
+
+    /// Whether the other entries are equal, one by one.
+    pub fn same(&self, other: &Notes) -> bool
+        ensures { IsTrue result ↔ (self.now ≡ other.now) }
+    {
+        same_entries(self.entries.as_slice(), other.entries.as_slice())
     }
 
     /// How many entries there are.

@@ -1,4 +1,4 @@
-ghost use Rattle.std.specs.Prelude.{◌≡◌, ◌≤◌, length};
+ghost use Rattle.std.specs.Prelude.{◌≡◌, ◌↔◌, ◌≤◌, length, IsTrue};
 ghost use Rattle.rd_queue.specs.Queues.{fitted};
 
 use arrayvec::ArrayVec;
@@ -42,6 +42,13 @@ impl Item {
             item.push(bytes.get(place).copied().unwrap_or(0));
         }
         Item { bytes: item }
+    }
+
+    /// Whether the other item has the same bytes.
+    pub fn same(&self, other: &Item) -> bool
+        ensures { IsTrue result ↔ (self.now ≡ other.now) }
+    {
+        self.as_slice() == other.as_slice()
     }
 
     /// The item's bytes.

@@ -1,4 +1,4 @@
-ghost use Rattle.std.specs.Prelude.{◌≡◌, ◌+◌, ◌-◌, ◌<◌, ◌≤◌, ◌↔◌, [], ◌∷◌, ◌++◌, length, take, drop, slice_get, slice_index_or, Some, IsErr, IfOk, OnOk, OnErr};
+ghost use Rattle.std.specs.Prelude.{◌≡◌, ◌+◌, ◌-◌, ◌<◌, ◌≤◌, ◌↔◌, [], ◌∷◌, ◌++◌, length, take, drop, slice_get, slice_index_or, Some, IsTrue, IsErr, IfOk, OnOk, OnErr};
 ghost use Rattle.rd_queue.specs.Queues.{empty_queue, with_items};
 
 use crate::item::Item;
@@ -39,6 +39,21 @@ impl Model for Queue {
         × (q.capacity ≤ deque_capacity q.items) × (q.item_size ≤ 64) };
 }
 
+// Whether the items are equal, one by one.
+fn same_items(items: &VecDeque<Item>, others: &VecDeque<Item>) -> bool
+    ensures { IsTrue result ↔ (items.now.items ≡ others.now.items) }
+{
+    if items.len() != others.len() {
+        return false;
+    }
+    for place in 0..items.len() {
+        if !items[place].same(&others[place]) {
+            return false;
+        }
+    }
+    true
+}
+
 impl Queue {
     /// An empty queue with room for `capacity` items of `item_size` bytes, at most 64 (`xQueueCreate`).
     pub fn new(alloc: Global, capacity: usize, item_size: usize) -> Result<Queue, AllocError>
@@ -67,6 +82,15 @@ impl Queue {
             capacity: self.capacity,
             item_size: self.item_size,
         })
+    }
+
+    /// Whether the other queue has the same items, the same room and the same item size.
+    pub fn same(&self, other: &Queue) -> bool
+        ensures { IsTrue result ↔ (self.now ≡ other.now) }
+    {
+        self.capacity == other.capacity
+            && self.item_size == other.item_size
+            && same_items(&self.items, &other.items)
     }
 
     /// How many items there are (`uxQueueMessagesWaiting`).
@@ -99,14 +123,23 @@ impl Queue {
         self.item_size
     }
 
+    /// The item at a place, 0 the front.
+    pub fn item(&self, place: usize) -> &[u8]
+        requires { place < length self.now.items }
+        ensures item { result.now ≡ slice_index_or self.now.items place [] }
+        ensures short { length result.now ≤ 64 }
+    {
+        let item = &self.items[place];
+        item.as_slice()
+    }
+
     /// The item at the front.
     pub fn first(&self) -> &[u8]
         requires { 0 < length self.now.items }
         ensures item { result.now ≡ slice_index_or self.now.items 0 [] }
         ensures short { length result.now ≤ 64 }
     {
-        let item = &self.items[0];
-        item.as_slice()
+        self.item(0)
     }
 
     /// The item at the back.
@@ -115,8 +148,7 @@ impl Queue {
         ensures item { result.now ≡ slice_index_or self.now.items (length self.now.items - 1) [] }
         ensures short { length result.now ≤ 64 }
     {
-        let item = &self.items[self.items.len() - 1];
-        item.as_slice()
+        self.item(self.items.len() - 1)
     }
 
     /// Puts an item at the back (`xQueueSendToBack`). A full queue refuses, and stays as it was.

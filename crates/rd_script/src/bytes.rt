@@ -1,4 +1,4 @@
-ghost use Rattle.std.specs.Prelude.{◌≡◌, ◌≤◌, [], length};
+ghost use Rattle.std.specs.Prelude.{◌≡◌, ◌↔◌, ◌≤◌, IsTrue, [], length};
 
 use arrayvec::ArrayVec;
 use std::marker::Model;
@@ -46,6 +46,13 @@ impl Bytes {
         ensures few { length result.now ≤ 256 }
     {
         self.bytes.as_slice()
+    }
+
+    /// Whether the others are the same bytes.
+    pub fn same(&self, other: &Bytes) -> bool
+        ensures { IsTrue result ↔ (self.now ≡ other.now) }
+    {
+        self.as_slice() == other.as_slice()
     }
 
     /// Makes them these bytes.

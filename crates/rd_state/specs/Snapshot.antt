@@ -1,5 +1,5 @@
 -- The whole state of the target, as plain lists: what a contract sees of a `State`.
-use Rattle.std.specs.Prelude.{ℕ, List, [], Option, None, slice_index_or}
+use Rattle.std.specs.Prelude.{ℕ, ◌≡◌, List, [], Option, None, slice_index_or}
 use Rattle.rd_notify.specs.declared.notes.Entry.{Entry}
 use Rattle.rd_queue.specs.QueueSnapshot.{QueueSnapshot}
 use Rattle.rd_script.specs.declared.phase.Phase.{Phase}
@@ -39,3 +39,14 @@ queue_at s queue = slice_index_or s.queues queue no_queue
 -- the task on a core
 abbrev pub core_at : Snapshot → ℕ → Option ℕ
 core_at s core = slice_index_or s.cores core None
+
+-- Two states are the same where both of these hold.
+pub record SameScheduling (s t : Snapshot) : Type 0 where
+  pub tick : s.tick ≡ t.tick
+  pub turn : s.turn ≡ t.turn
+  pub cores : s.cores ≡ t.cores
+  pub ready : s.ready ≡ t.ready
+
+pub record SameObjects (s t : Snapshot) : Type 0 where
+  pub tasks : s.tasks ≡ t.tasks
+  pub queues : s.queues ≡ t.queues

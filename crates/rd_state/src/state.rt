@@ -3,7 +3,7 @@ ghost use Rattle.rd_state.specs.Boot.{before_scheduling};
 ghost use Rattle.rd_state.specs.Change.{applied, inverse_of, Fits};
 ghost use Rattle.rd_state.specs.Settled.{weakest_of, rank_of};
 ghost use Rattle.rd_state.specs.Sizes.{IsSized};
-ghost use Rattle.rd_state.specs.Snapshot.{task_at, queue_at, core_at};
+ghost use Rattle.rd_state.specs.Snapshot.{task_at, queue_at, core_at, SameScheduling, SameObjects};
 
 use crate::boot::{all_ready, new_queues, new_tasks};
 use crate::change::Change;
@@ -62,6 +62,51 @@ fn copy_queues(alloc: Global, queues: &[Queue]) -> Result<Vec<Queue>, NoMemory>
     Ok(copies)
 }
 
+// Whether the same tasks run on the cores, one by one.
+fn same_cores(cores: &[Option<usize>], others: &[Option<usize>]) -> bool
+    ensures { IsTrue result ↔ (cores.now ≡ others.now) }
+{
+    if cores.len() != others.len() {
+        return false;
+    }
+    for number in 0..cores.len() {
+        if cores[number] != others[number] {
+            return false;
+        }
+    }
+    true
+}
+
+// Whether the tasks are equal, one by one.
+fn same_tasks(tasks: &[Task], others: &[Task]) -> bool
+    ensures { IsTrue result ↔ (tasks.now ≡ others.now) }
+{
+    if tasks.len() != others.len() {
+        return false;
+    }
+    for number in 0..tasks.len() {
+        if !tasks[number].same(&others[number]) {
+            return false;
+        }
+    }
+    true
+}
+
+// Whether the queues are equal, one by one.
+fn same_queues(queues: &[Queue], others: &[Queue]) -> bool
+    ensures { IsTrue result ↔ (queues.now ≡ others.now) }
+{
+    if queues.len() != others.len() {
+        return false;
+    }
+    for number in 0..queues.len() {
+        if !queues[number].same(&others[number]) {
+            return false;
+        }
+    }
+    true
+}
+
 impl State {
     /// A state of nothing, which takes no memory. It stands in for a state that is taken out for a while.
     pub fn hollow(alloc: Global) -> State {
@@ -103,6 +148,31 @@ impl State {
             tasks: copy_tasks(alloc, self.tasks.as_slice())?,
             queues: copy_queues(alloc, self.queues.as_slice())?,
         })
+    }
+
+    // Whether time and turn are the same, and who runs and is ready.
+    fn same_scheduling(&self, other: &State) -> bool
+        ensures { IsTrue result ↔ SameScheduling self.now other.now }
+    {
+        self.tick == other.tick
+            && self.turn == other.turn
+            && same_cores(self.cores.as_slice(), other.cores.as_slice())
+            && self.ready.as_slice() == other.ready.as_slice()
+    }
+
+    // Whether the tasks and the queues are equal.
+    fn same_objects(&self, other: &State) -> bool
+        ensures { IsTrue result ↔ SameObjects self.now other.now }
+    {
+        same_tasks(self.tasks.as_slice(), other.tasks.as_slice())
+            && same_queues(self.queues.as_slice(), other.queues.as_slice())
+    }
+
+    /// Whether the other state is the same, to the last field.
+    pub fn same(&self, other: &State) -> bool
+        ensures { IsTrue result ↔ (self.now ≡ other.now) }
+    {
+        self.same_scheduling(other) && self.same_objects(other)
     }
 
     /// The sizes that every state keeps.

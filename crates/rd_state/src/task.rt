@@ -1,4 +1,4 @@
-ghost use Rattle.std.specs.Prelude.{◌≡◌, ◌<◌, ◌≤◌, [], length, replicate, slice_index, slice_set, Some, IfOk};
+ghost use Rattle.std.specs.Prelude.{◌≡◌, ◌↔◌, IsTrue, ◌<◌, ◌≤◌, [], length, replicate, slice_index, slice_set, Some, IfOk};
 ghost use Rattle.rd_state.specs.Boot.{fresh_task};
 
 use rd_notify::notes::Notes;
@@ -51,6 +51,17 @@ impl Task {
             phase: self.phase,
             notes: self.notes.copy(),
         }
+    }
+
+    /// Whether the other task is equal, to the last field.
+    pub fn same(&self, other: &Task) -> bool
+        ensures { IsTrue result ↔ (self.now ≡ other.now) }
+    {
+        self.pc == other.pc
+            && self.registers == other.registers
+            && self.phase == other.phase
+            && self.bytes.same(&other.bytes)
+            && self.notes.same(&other.notes)
     }
 
     /// The place in the script.

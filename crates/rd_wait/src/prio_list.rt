@@ -1,4 +1,4 @@
-ghost use Rattle.std.specs.Prelude.{◌≡◌, ◌+◌, ◌<◌, ◌≤◌, [], ◌∷◌, ◌++◌, length, All, IfOk, take, drop, insert, remove, position, slice_get, nat_eq, slice_index_or};
+ghost use Rattle.std.specs.Prelude.{◌≡◌, ◌↔◌, ◌+◌, ◌<◌, ◌≤◌, IsTrue, [], ◌∷◌, ◌++◌, length, All, IfOk, take, drop, insert, remove, position, slice_get, nat_eq, slice_index_or};
 ghost use Rattle.rd_wait.specs.Joined.{place_of, AreTasks};
 
 use std::alloc::{AllocError, Global};
@@ -55,6 +55,13 @@ impl PrioList {
             tasks,
             room: self.room,
         })
+    }
+
+    /// Whether the other list has the same tasks in the same order, and the same room.
+    pub fn same(&self, other: &PrioList) -> bool
+        ensures { IsTrue result ↔ (self.now ≡ other.now) }
+    {
+        self.room == other.room && self.tasks.as_slice() == other.tasks.as_slice()
     }
 
     /// The tasks, from the first to be served to the last.
