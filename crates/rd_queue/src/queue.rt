@@ -74,8 +74,7 @@ impl Queue {
     {
         let mut items = VecDeque::with_capacity(alloc, self.capacity)?;
         for place in 0..self.items.len() {
-            let item = &self.items[place];
-            items.push_back_reserved(Item::new(item.as_slice()));
+            items.push_back_reserved(Item::new(self.item(place)));
         }
         Ok(Queue {
             items,

@@ -84,7 +84,7 @@ impl Task {
         requires { register < 8 }
         ensures { result ≡ slice_index self.now.registers register }
     {
-        self.registers[register]
+        self.registers()[register]
     }
 
     /// The data.

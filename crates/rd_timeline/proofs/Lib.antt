@@ -1,2 +1,3 @@
 pub mod HistoryLaws
 pub mod TimelineLaws
+pub mod Rows

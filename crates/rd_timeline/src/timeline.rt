@@ -195,8 +195,8 @@ impl Timeline {
         ensures app { self.new.app ≡ self.old.app }
         ensures limit { self.new.limit ≡ self.old.limit }
     {
-        let undo = self.log.pop();
-        self.target.back(undo);
+        let last = self.log.pop();
+        self.target.back(last);
         let action = self.done.pop().unwrap();
         self.undone.push_reserved(action);
     }

@@ -9,10 +9,10 @@ use Rattle.rd_timeline.proofs.timeline.Timeline.back_one.Goals as goal
 pub back-requires : goal.back-requires
 back-requires c =
     let t = c.self.inside in
-    (CanRewind-pop t.target c.pop-undo.new.self c.pop-undo.result (subst (CanRewind t.target) c.pop-undo.ensures c.self.invariant.kept.rewinds)).0
+    (CanRewind-pop t.target c.pop-last.new.self c.pop-last.result (subst (CanRewind t.target) c.pop-last.ensures c.self.invariant.kept.rewinds)).0
 
 pub invariant_of-self : goal.invariant_of-self
 invariant_of-self c =
-    IsWhole-pop c.self.inside _ _ _ _ c.unwrap-action.result c.pop-undo.result c.self.invariant
+    IsWhole-pop c.self.inside _ _ _ _ c.unwrap-action.result c.pop-last.result c.self.invariant
     (c.pop.ensures.items ∙ ap (λ (o : Option Move). c.pop.new.self.items ++ option_to_list o) c.unwrap-action.ensures)
-    c.pop-undo.ensures c.back.ensures c.push_reserved.ensures.items c.push_reserved.ensures.capacity
+    c.pop-last.ensures c.back.ensures c.push_reserved.ensures.items c.push_reserved.ensures.capacity
