@@ -4,3 +4,4 @@ pub mod EditLaws
 pub mod SettleLaws
 pub mod ScheduleLaws
 pub mod BootLaws
+pub mod EndLaws

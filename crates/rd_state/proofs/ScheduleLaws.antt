@@ -73,7 +73,7 @@ kept_on priorities seats core there some = record {
   order = λ h. order_displaced priorities (drop 1 seats.ready) (running_on seats.cores core) (IsInOrder-rest priorities seats.ready h);
 }
 
-kept_once : (priorities : List ℕ) (seats : Seating) → 0 < length seats.cores → SeatsKept priorities seats (seated_once priorities seats)
+pub kept_once : (priorities : List ℕ) (seats : Seating) → 0 < length seats.cores → SeatsKept priorities seats (seated_once priorities seats)
 kept_once priorities seats some =
     let core = weakest_of priorities seats.cores in
     let outranks = nat_le (rank_of priorities (running_on seats.cores core)) (slice_index priorities (head_of seats.ready)) in

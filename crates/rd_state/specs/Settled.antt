@@ -1,7 +1,7 @@
 -- Scheduling: who runs, once the ready list or a core has changed. A ready task takes an idle core, or
 -- displaces a running task of lower priority.
-use Rattle.std.specs.Prelude.{ℕ, zero, suc, ◌+◌, ◌-◌, Bool, ◌&&◌, List, length, slice_index, slice_index_or, slice_set, drop, Option, Some, None, nat_lt, nat_le, if◌then◌else◌}
-use Rattle.rd_wait.specs.Joined.{joined}
+use Rattle.std.specs.Prelude.{ℕ, ◌≡◌, zero, suc, ◌+◌, ◌-◌, ◌<◌, All, Bool, ◌&&◌, List, length, slice_index, slice_index_or, slice_set, drop, Option, Some, None, nat_lt, nat_le, if◌then◌else◌}
+use Rattle.rd_wait.specs.Joined.{joined, IsInOrder}
 use Rattle.rd_state.specs.Snapshot.{Snapshot}
 
 -- who runs and who is ready
@@ -68,3 +68,15 @@ settled_in priorities rounds s =
 
 abbrev pub settled : List ℕ → Snapshot → Snapshot
 settled priorities s = settled_in priorities (length s.cores) s
+
+-- No ready task outranks a running one, and no core is idle while a task is ready.
+abbrev pub IsSettled : List ℕ → Snapshot → Type 0
+IsSettled priorities s = All (λ task. All (λ running. slice_index priorities task < rank_of priorities running) s.cores) s.ready
+
+-- Scheduling ends in a settled state, and schedules nothing further there.
+pub record Settles (priorities : List ℕ) (s : Snapshot) : Type 0 where
+  pub settled_now : IsSettled priorities (settled priorities s)
+  pub stays : settled priorities (settled priorities s) ≡ settled priorities s
+
+abbrev pub SchedulingSettles : Type 0
+SchedulingSettles = (priorities : List ℕ) (s : Snapshot) → 0 < length s.cores → IsInOrder priorities s.ready → Settles priorities s

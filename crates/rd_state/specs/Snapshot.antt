@@ -23,6 +23,10 @@ pub record Snapshot : Type 0 where
   pub tasks : List TaskSnapshot
   pub queues : List QueueSnapshot
 
+-- a state with no cores, no tasks and no objects
+abbrev pub hollow_state : Snapshot
+hollow_state = record { tick = 0; turn = 0; cores = []; ready = []; tasks = []; queues = [] }
+
 -- what stands for a task, and for a queue, that isn't there
 abbrev pub no_task : TaskSnapshot
 no_task = record { pc = 0; registers = []; bytes = []; phase = Run; entries = [] }

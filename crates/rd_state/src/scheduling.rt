@@ -1,7 +1,7 @@
 ghost use Rattle.std.specs.Prelude.{◌≡◌, ◌+◌, ◌*◌, ◌-◌, ◌<◌, ◌≤◌, length, slice_index, Ok, false, IfOk, OnOk, OnErr};
 ghost use Rattle.rd_wait.specs.Joined.{joined};
 ghost use Rattle.rd_state.specs.Edit.{Comes};
-ghost use Rattle.rd_state.specs.Settled.{settled, settled_in, weakest_of, rank_of, seated_once, seating_of};
+ghost use Rattle.rd_state.specs.Settled.{settled, settled_in, weakest_of, rank_of, seated_once, seating_of, SchedulingSettles};
 ghost use Rattle.rd_state.specs.Sizes.{IsTaskOrIdle};
 
 use crate::change::Change;
@@ -111,4 +111,11 @@ impl Editing {
         let rounds = self.state().cores().len();
         self.settle_in(priorities, rounds)
     }
+}
+
+/// Scheduling ends with no ready task above a running one and no core idle beside a ready task, and a state
+/// that is scheduled isn't changed by scheduling it again.
+pub fn scheduling_settles()
+    ensures { SchedulingSettles }
+{
 }

@@ -3,7 +3,7 @@ ghost use Rattle.rd_state.specs.Boot.{before_scheduling};
 ghost use Rattle.rd_state.specs.Change.{applied, inverse_of, Fits};
 ghost use Rattle.rd_state.specs.Settled.{weakest_of, rank_of};
 ghost use Rattle.rd_state.specs.Sizes.{IsSized};
-ghost use Rattle.rd_state.specs.Snapshot.{task_at, queue_at, core_at, SameScheduling, SameObjects};
+ghost use Rattle.rd_state.specs.Snapshot.{hollow_state, task_at, queue_at, core_at, SameScheduling, SameObjects};
 
 use crate::boot::{all_ready, new_queues, new_tasks};
 use crate::change::Change;
@@ -109,7 +109,9 @@ fn same_queues(queues: &[Queue], others: &[Queue]) -> bool
 
 impl State {
     /// A state of nothing, which takes no memory. It stands in for a state that is taken out for a while.
-    pub fn hollow(alloc: Global) -> State {
+    pub fn hollow(alloc: Global) -> State
+        ensures { result ≡ hollow_state }
+    {
         State {
             tick: 0,
             turn: 0,

@@ -1,9 +1,11 @@
 -- Joining keeps the order.
-use Rattle.std.proofs.Common.{◌≡◌, ◌∙◌, ℕ, suc, ◌+◌, ◌<◌, ◌≤◌, Bool, true, false, cond, List, [], ◌∷◌, drop, refl, ap, subst, sym, arith, ◌⊎◌, inl, inr}
-use Rattle.std.specs.Prelude.{insert, slice_index}
+use Rattle.std.proofs.Common.{◌≡◌, ◌∙◌, ℕ, suc, ◌+◌, ◌<◌, ◌≤◌, Bool, true, false, cond, List, [], ◌∷◌, ◌++◌, drop, refl, ap, subst, sym, arith, ◌⊎◌, inl, inr}
+use Rattle.std.specs.Prelude.{filter, insert, nat_lt, slice_index}
 use Rattle.std.specs.List.{prefix_len, AllByRecursion}
-use Rattle.std.proofs.lemmas.Bool.Decides.{leb_tells}
-use Rattle.rd_wait.specs.Joined.{joined, is_at_least, IsInOrder}
+use Rattle.std.proofs.Math.Dec.{leb}
+use Rattle.std.proofs.lemmas.Bool.{le-leb}
+use Rattle.std.proofs.lemmas.Bool.Decides.{leb_tells, nat_tests}
+use Rattle.rd_wait.specs.Joined.{among, joined, is_at_least, IsInOrder, JoinsAmong}
 use Rattle.rd_wait.proofs.ListLaws.{AllByRecursion-insert, AllByRecursion-weaker}
 
 -- the list with the task at that place of the first member and the rest
@@ -36,3 +38,38 @@ IsInOrder-joined priorities (first ∷ rest) task h =
 pub IsInOrder-rest : (priorities tasks : List ℕ) → IsInOrder priorities tasks → IsInOrder priorities (drop 1 tasks)
 IsInOrder-rest priorities [] h = tt
 IsInOrder-rest priorities (first ∷ rest) h = h.1
+
+-- below a task's priority, nobody has at least it
+none_at_least : (priorities tasks : List ℕ) (priority : ℕ) → AllByRecursion (λ later. slice_index priorities later < priority) tasks
+    → (filter (λ member. is_at_least priorities priority member) tasks ≡ []) × (filter (λ member. nat_lt (slice_index priorities member) priority) tasks ≡ tasks)
+none_at_least priorities [] priority h = (refl, refl)
+none_at_least priorities (first ∷ rest) priority h =
+    let later = none_at_least priorities rest priority h.1 in
+    let at = slice_index priorities first in
+    let low : leb priority at ≡ false = grind (arith, nat_tests, h.0) in
+    let lower : leb (suc at) priority ≡ true = le-leb (suc at) priority h.0 in
+    (ap (λ b. cond b (first ∷ filter (λ member. is_at_least priorities priority member) rest) (filter (λ member. is_at_least priorities priority member) rest)) low ∙ later.0,
+     ap (λ b. cond b (first ∷ filter (λ member. nat_lt (slice_index priorities member) priority) rest) (filter (λ member. nat_lt (slice_index priorities member) priority) rest)) lower ∙ ap (λ r. first ∷ r) later.1)
+
+pub joined-among : (priorities tasks : List ℕ) (task : ℕ) → IsInOrder priorities tasks → joined priorities tasks task ≡ among priorities tasks task
+joined-among priorities [] task h = refl
+joined-among priorities (first ∷ rest) task h =
+    let at : ℕ → ℕ = λ t. slice_index priorities t in
+    let high = λ (member : ℕ). is_at_least priorities (at task) member in
+    let low = λ (member : ℕ). nat_lt (at member) (at task) in
+    joined-cons priorities first rest task ∙
+    elim (leb_tells (at task) (at first)) [
+      inl w ↦
+        let not_low : leb (suc (at first)) (at task) ≡ false = grind (arith, nat_tests, w.1) in
+        ap (λ b. cond b (first ∷ joined priorities rest task) (task ∷ first ∷ rest)) w.0
+        ∙ ap (λ r. first ∷ r) (joined-among priorities rest task h.1)
+        ∙ ap (λ b. cond b (first ∷ filter high rest) (filter high rest) ++ task ∷ filter low rest) (sym w.0)
+        ∙ ap (λ b. filter high (first ∷ rest) ++ task ∷ cond b (first ∷ filter low rest) (filter low rest)) (sym not_low)
+    | inr w ↦
+        let none = none_at_least priorities (first ∷ rest) (at task) (w.1, AllByRecursion-weaker (λ later. at later ≤ at first) (λ later. at later < at task) (λ later k. omega (arith, k, w.1)) rest h.0) in
+        ap (λ b. cond b (first ∷ joined priorities rest task) (task ∷ first ∷ rest)) w.0
+        ∙ ap (λ r. task ∷ r) (sym none.1) ∙ ap (λ r. r ++ task ∷ filter low (first ∷ rest)) (sym none.0)
+    ]
+
+pub joins_among : JoinsAmong
+joins_among priorities tasks task h = (joined-among priorities tasks task h, IsInOrder-joined priorities tasks task h)

@@ -1,6 +1,6 @@
 -- Priority order: the highest priority first, and among equals the longest waiting first
 -- (FreeRTOS API reference, "Task Priorities" and the waiting order of queues).
-use Rattle.std.specs.Prelude.{ℕ, ◌<◌, ◌≤◌, Bool, List, [], ◌∷◌, length, All, nat_le, slice_index, insert}
+use Rattle.std.specs.Prelude.{ℕ, ◌≡◌, ◌<◌, ◌≤◌, ◌++◌, Bool, List, [], ◌∷◌, length, All, filter, nat_le, nat_lt, slice_index, insert}
 use Rattle.std.specs.List.{prefix_len, AllByRecursion}
 
 -- Each member is a task that has a priority.
@@ -23,3 +23,14 @@ joined priorities tasks task = insert tasks (place_of priorities tasks (slice_in
 abbrev pub IsInOrder : List ℕ → List ℕ → Type 0
 IsInOrder priorities [] = Unit {0}
 IsInOrder priorities (task ∷ tasks) = AllByRecursion (λ later. slice_index priorities later ≤ slice_index priorities task) tasks × IsInOrder priorities tasks
+
+-- Joining, in the words of a waiting order: those of at least its priority, then the task, then the rest.
+abbrev pub among : List ℕ → List ℕ → ℕ → List ℕ
+among priorities tasks task =
+    filter (λ member. is_at_least priorities (slice_index priorities task) member) tasks
+    ++ task ∷ filter (λ member. nat_lt (slice_index priorities member) (slice_index priorities task)) tasks
+
+-- In a list in order that is what joining does, and the list stays in order.
+abbrev pub JoinsAmong : Type 0
+JoinsAmong = (priorities tasks : List ℕ) (task : ℕ) → IsInOrder priorities tasks
+    → (joined priorities tasks task ≡ among priorities tasks task) × IsInOrder priorities (joined priorities tasks task)

@@ -1,5 +1,5 @@
 ghost use Rattle.std.specs.Prelude.{◌≡◌, ◌↔◌, ◌+◌, ◌<◌, ◌≤◌, IsTrue, [], ◌∷◌, ◌++◌, length, All, IfOk, take, drop, insert, remove, position, slice_get, nat_eq, slice_index_or};
-ghost use Rattle.rd_wait.specs.Joined.{place_of, AreTasks};
+ghost use Rattle.rd_wait.specs.Joined.{place_of, AreTasks, JoinsAmong};
 
 use std::alloc::{AllocError, Global};
 use std::marker::Model;
@@ -116,4 +116,11 @@ impl PrioList {
     {
         self.tasks.first().copied()
     }
+}
+
+/// A task joins a list in order behind every member of at least its priority and before every other, and the
+/// list stays in order.
+pub fn joining_keeps_the_order()
+    ensures { JoinsAmong }
+{
 }

@@ -1,0 +1,162 @@
+-- Scheduling ends: each round that changes something leaves one core less that a ready task could take.
+use Rattle.std.proofs.Common.{◌≡◌, ◌∙◌, ℕ, zero, suc, ◌+◌, ◌-◌, ◌<◌, ◌≤◌, Bool, true, false, cond, List, [], ◌∷◌, length, get_or, set, drop, Option, Some, None, refl, ap, subst, sym, arith, ◌⊎◌, inl, inr}
+use Rattle.std.specs.Prelude.{All, count_by, insert, slice_index, nat_lt, nat_le, ◌&&◌}
+use Rattle.std.specs.List.{prefix_len, AllByRecursion}
+use Rattle.std.proofs.Math.Dec.{leb}
+use Rattle.std.proofs.lemmas.List.{length-set}
+use Rattle.std.proofs.lemmas.List.Elements.{All-from_recursion, All-from_get_or, All-weaker}
+use Rattle.std.proofs.lemmas.List.Sums.{sum_by-set, sum_by-le-sum_by, get_or-le-sum_by, count_by-le-length}
+use Rattle.std.proofs.lemmas.Bool.{cases_lt, le-leb}
+use Rattle.std.proofs.lemmas.Bool.Decides.{leb_tells, nat_tests}
+use Rattle.rd_wait.specs.Joined.{joined, is_at_least, IsInOrder}
+use Rattle.rd_wait.proofs.ListLaws.{AllByRecursion-insert}
+use Rattle.rd_state.specs.Settled.{Seating, running_on, rank_of, weakest_to, weakest_of, takes_core, head_of, with_displaced, seated_on, seated_once, seated_rounds, seating_of, settled, IsSettled, Settles, SchedulingSettles}
+use Rattle.rd_state.specs.Snapshot.{Snapshot}
+use Rattle.rd_state.proofs.ScheduleLaws.{kept_once, kept_rounds, one_if, weakest_of-lt}
+use Rattle.rd_state.proofs.SettleLaws.{seated_rounds-still, settled_in-still}
+
+-- one above the head's priority, or 0 where nobody is ready
+abbrev level_of : List ℕ → List ℕ → ℕ
+level_of priorities [] = 0
+level_of priorities (first ∷ rest) = slice_index priorities first + 1
+
+-- Could the head take that core?
+abbrev is_weak : List ℕ → ℕ → Option ℕ → Bool
+is_weak priorities level running = nat_lt (rank_of priorities running) level
+
+abbrev weak_cores : List ℕ → Seating → ℕ
+weak_cores priorities seats = count_by (is_weak priorities (level_of priorities seats.ready)) seats.cores
+
+-- the lowest rank is the weakest core's
+weakest_to-least : (priorities : List ℕ) (cores : List (Option ℕ)) (n core : ℕ) → core ≤ n → rank_of priorities (running_on cores (weakest_to priorities cores n)) ≤ rank_of priorities (running_on cores core)
+weakest_to-least priorities cores zero core h = let same : core ≡ 0 = omega (arith, h) in rw same (omega arith)
+weakest_to-least priorities cores (suc n) core h =
+    let rank : ℕ → ℕ = λ k. rank_of priorities (running_on cores k) in
+    let best = weakest_to priorities cores n in
+    elim (leb_tells (suc (rank (suc n))) (rank best)) [
+      inl w ↦ subst (λ (b : Bool). rank (cond b (suc n) best) ≤ rank core) (sym w.0)
+        (elim (cases_lt core (suc n)) [
+          inl lt ↦ omega (arith, w.1, weakest_to-least priorities cores n core (omega (arith, lt)))
+        | inr ge ↦ let same : core ≡ suc n = omega (arith, h, ge) in rw same (omega arith)
+        ])
+    | inr w ↦ subst (λ (b : Bool). rank (cond b (suc n) best) ≤ rank core) (sym w.0)
+        (elim (cases_lt core (suc n)) [
+          inl lt ↦ weakest_to-least priorities cores n core (omega (arith, lt))
+        | inr ge ↦ let same : core ≡ suc n = omega (arith, h, ge) in rw same (omega (arith, w.1))
+        ])
+    ]
+
+-- Where no member is above a priority, the level isn't either.
+level-le : (priorities tasks : List ℕ) (priority : ℕ) → AllByRecursion (λ task. slice_index priorities task ≤ priority) tasks → level_of priorities tasks ≤ priority + 1
+level-le priorities [] priority h = omega arith
+level-le priorities (first ∷ rest) priority h = omega (arith, h.0)
+
+below_displaced : (priorities tasks : List ℕ) (running : Option ℕ) (priority : ℕ) → AllByRecursion (λ task. slice_index priorities task ≤ priority) tasks → rank_of priorities running ≤ priority
+    → AllByRecursion (λ task. slice_index priorities task ≤ priority) (with_displaced priorities tasks running)
+below_displaced priorities tasks None priority h weak = h
+below_displaced priorities tasks (Some displaced) priority h weak =
+    AllByRecursion-insert (λ task. slice_index priorities task ≤ priority) tasks (prefix_len (is_at_least priorities (slice_index priorities displaced)) tasks) displaced h (omega (arith, weak))
+
+-- a seating that changes something
+fewer_weak : (priorities : List ℕ) (seats : Seating) (core : ℕ) → core < length seats.cores → IsInOrder priorities seats.ready → rank_of priorities (running_on seats.cores core) < level_of priorities seats.ready
+    → weak_cores priorities (seated_on priorities seats core) + 1 ≤ weak_cores priorities seats
+fewer_weak priorities seats core there order weak = fewer seats.cores seats.ready there order weak
+  where
+    fewer : (cores : List (Option ℕ)) (ready : List ℕ) → core < length cores → IsInOrder priorities ready → rank_of priorities (running_on cores core) < level_of priorities ready
+      → weak_cores priorities (seated_on priorities (record { cores = cores; ready = ready }) core) + 1 ≤ weak_cores priorities (record { cores = cores; ready = ready })
+    fewer cores [] there order weak = absurd (omega (arith, weak))
+    fewer cores (first ∷ rest) there order weak =
+        let priority = slice_index priorities first in
+        let now = with_displaced priorities rest (running_on cores core) in
+        let level = level_of priorities now in
+        let lower : level ≤ priority + 1 = level-le priorities now priority (below_displaced priorities rest (running_on cores core) priority order.0 (omega (arith, weak))) in
+        let old : Option ℕ → ℕ = λ r. one_if (is_weak priorities (priority + 1) r) in
+        let new : Option ℕ → ℕ = λ r. one_if (is_weak priorities level r) in
+        let sum = sum_by-set old cores core (Some first) None there in
+        let was : old (running_on cores core) ≡ 1 = grind (arith, nat_tests, weak) in
+        let is : old (Some first) ≡ 0 = grind (arith, nat_tests) in
+        let under : (r : Option ℕ) → new r ≤ old r = λ r. grind (arith, nat_tests, lower) in
+        omega (arith, sum, was, is, sum_by-le-sum_by new old (set cores core (Some first)) under)
+
+-- A round leaves everything where the weakest core outranks all who are ready, and else seats the head there.
+abbrev Leaves : List ℕ → Seating → Type 0
+Leaves priorities seats = (seated_once priorities seats ≡ seats) × (level_of priorities seats.ready ≤ rank_of priorities (running_on seats.cores (weakest_of priorities seats.cores)))
+
+abbrev Seats : List ℕ → Seating → Type 0
+Seats priorities seats =
+    (seated_once priorities seats ≡ seated_on priorities seats (weakest_of priorities seats.cores)) × (rank_of priorities (running_on seats.cores (weakest_of priorities seats.cores)) < level_of priorities seats.ready)
+
+round_cases : (priorities : List ℕ) (cores : List (Option ℕ)) (ready : List ℕ) → Leaves priorities (record { cores = cores; ready = ready }) ⊎ Seats priorities (record { cores = cores; ready = ready })
+round_cases priorities cores [] = inl (refl, omega arith)
+round_cases priorities cores (first ∷ rest) =
+    let seats : Seating = record { cores = cores; ready = first ∷ rest } in
+    let core = weakest_of priorities cores in
+    let rank = rank_of priorities (running_on cores core) in
+    let some : leb 1 (length (first ∷ rest)) ≡ true = le-leb 1 (length (first ∷ rest)) (omega arith) in
+    let choose : Bool → Bool → Seating = λ b c. cond (b && c) (seated_on priorities seats core) seats in
+    elim (leb_tells rank (slice_index priorities first)) [
+      inl w ↦ inr (ap (λ b. choose b (leb rank (slice_index priorities first))) some ∙ ap (choose true) w.0, omega (arith, w.1))
+    | inr w ↦ inl (ap (λ b. choose b (leb rank (slice_index priorities first))) some ∙ ap (choose true) w.0, omega (arith, w.1))
+    ]
+
+-- the weakest core counts, if it is weak
+some_weak : (priorities : List ℕ) (seats : Seating) → 0 < length seats.cores → rank_of priorities (running_on seats.cores (weakest_of priorities seats.cores)) < level_of priorities seats.ready → 1 ≤ weak_cores priorities seats
+some_weak priorities seats some weak =
+    let core = weakest_of priorities seats.cores in
+    let count : Option ℕ → ℕ = λ r. one_if (is_weak priorities (level_of priorities seats.ready) r) in
+    let one : count (running_on seats.cores core) ≡ 1 = grind (arith, nat_tests, weak) in
+    omega (arith, get_or-le-sum_by count seats.cores core None (weakest_of-lt priorities seats.cores some), one)
+
+-- With no more weak cores than rounds, the last round leaves everything.
+last_round : (priorities : List ℕ) (rounds : ℕ) (seats : Seating) → 0 < length seats.cores → IsInOrder priorities seats.ready → weak_cores priorities seats ≤ rounds
+    → seated_once priorities (seated_rounds priorities rounds seats) ≡ seated_rounds priorities rounds seats
+last_round priorities zero seats some order few =
+    elim (round_cases priorities seats.cores seats.ready) [
+      inl leaves ↦ leaves.0
+    | inr takes ↦ absurd (omega (arith, few, some_weak priorities seats some takes.1))
+    ]
+last_round priorities (suc rounds) seats some order few =
+    let next = seated_once priorities seats in
+    elim (round_cases priorities seats.cores seats.ready) [
+      inl leaves ↦ let still = seated_rounds-still priorities (suc rounds) seats leaves.0 in
+        ap (seated_once priorities) still ∙ leaves.0 ∙ sym still
+    | inr takes ↦ let kept = kept_once priorities seats some in
+        let fewer = fewer_weak priorities seats (weakest_of priorities seats.cores) (weakest_of-lt priorities seats.cores some) order takes.1 in
+        let same : weak_cores priorities next ≡ weak_cores priorities (seated_on priorities seats (weakest_of priorities seats.cores)) = ap (weak_cores priorities) takes.0 in
+        last_round priorities rounds next (omega (arith, kept.cores, some)) (kept.order order) (omega (arith, few, fewer, same))
+    ]
+
+-- Where a round leaves everything, the weakest core outranks all who are ready.
+outranks : (priorities : List ℕ) (seats : Seating) → 0 < length seats.cores → IsInOrder priorities seats.ready → seated_once priorities seats ≡ seats
+    → level_of priorities seats.ready ≤ rank_of priorities (running_on seats.cores (weakest_of priorities seats.cores))
+outranks priorities seats some order still =
+    elim (round_cases priorities seats.cores seats.ready) [
+      inl leaves ↦ leaves.1
+    | inr takes ↦
+        let fewer = fewer_weak priorities seats (weakest_of priorities seats.cores) (weakest_of-lt priorities seats.cores some) order takes.1 in
+        let same : weak_cores priorities seats ≡ weak_cores priorities (seated_on priorities seats (weakest_of priorities seats.cores)) = ap (weak_cores priorities) (sym still ∙ takes.0) in
+        absurd (omega (arith, fewer, same))
+    ]
+
+all_outranked : (priorities : List ℕ) (cores : List (Option ℕ)) (ready : List ℕ) → 0 < length cores → IsInOrder priorities ready
+    → level_of priorities ready ≤ rank_of priorities (running_on cores (weakest_of priorities cores))
+    → All (λ task. All (λ running. slice_index priorities task < rank_of priorities running) cores) ready
+all_outranked priorities cores [] some order low = All-from_recursion (λ task. All (λ running. slice_index priorities task < rank_of priorities running) cores) [] tt
+all_outranked priorities cores (first ∷ rest) some order low =
+    let top = slice_index priorities first in
+    let at_most : All (λ task. slice_index priorities task ≤ top) (first ∷ rest) = All-from_recursion (λ task. slice_index priorities task ≤ top) (first ∷ rest) (omega arith, order.0) in
+    All-weaker (λ task. slice_index priorities task ≤ top) (λ task. All (λ running. slice_index priorities task < rank_of priorities running) cores)
+    (λ task below. All-from_get_or (λ running. slice_index priorities task < rank_of priorities running) cores None
+      (λ core there. omega (arith, below, low, weakest_to-least priorities cores (length cores - 1) core (omega (arith, there)))))
+    (first ∷ rest) at_most
+
+pub settles : SchedulingSettles
+settles priorities s some order =
+    let seats = seating_of s in
+    let end = seated_rounds priorities (length s.cores) seats in
+    let kept = kept_rounds priorities (length s.cores) seats some in
+    let still : seated_once priorities end ≡ end = last_round priorities (length s.cores) seats some order (count_by-le-length (is_weak priorities (level_of priorities s.ready)) s.cores) in
+    record {
+      settled_now = all_outranked priorities end.cores end.ready (omega (arith, kept.cores, some)) (kept.order order) (outranks priorities end (omega (arith, kept.cores, some)) (kept.order order) still);
+      stays = settled_in-still priorities (length end.cores) (settled priorities s) still;
+    }
