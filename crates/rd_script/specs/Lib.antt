@@ -1,3 +1,4 @@
+pub mod Words
 pub mod TaskScript
 pub mod Application
 pub mod Inside

@@ -83,7 +83,9 @@ impl App {
             item_size: 1,
         };
         let code = vec![in alloc;
-            Instr::Data { bytes: Bytes::from_slice(b"\x41") },
+            Instr::Data {
+                bytes: Bytes::from_slice(b"\x41")
+            },
             Instr::Send { queue: 0 },
             Instr::Send { queue: 0 },
             Instr::Send { queue: 0 },

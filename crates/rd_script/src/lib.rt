@@ -5,3 +5,4 @@ pub mod app;
 pub mod bytes;
 pub mod instr;
 pub mod phase;
+pub mod words;

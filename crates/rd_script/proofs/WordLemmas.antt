@@ -1,0 +1,119 @@
+-- The words of a line, from the first on.
+use Rattle.std.proofs.Common.{◌≡◌, ◌∙◌, ℕ, zero, suc, ◌+◌, ◌-◌, ◌<◌, ◌++◌, ◌&&◌, Bool, true, false, cond, List, [], ◌∷◌, get_or, length, take, drop, filter, not, refl, sym, ap, arith}
+use Rattle.std.proofs.lemmas.Bool.{lt-ltb}
+use Rattle.std.proofs.lemmas.Bool.Decides.{nat_tests}
+use Rattle.std.proofs.lemmas.List.{length-take}
+use Rattle.std.proofs.lemmas.List.Sums.{prefix_len-le-length}
+use Rattle.std.specs.Char.{is_ascii_digit, digit_value}
+use Rattle.std.specs.List.{slice_split, onto_first, prefix_len, list_all}
+use Rattle.rd_script.specs.Words.{is_space, is_some_word, words_of}
+
+abbrev pub is_solid : ℕ → Bool
+is_solid byte = not (is_space byte)
+
+one_more : (n : ℕ) → 1 + n ≡ suc n
+one_more n = omega arith
+
+-- the parts behind the first one
+abbrev parts_after : List ℕ → List (List ℕ)
+parts_after [] = []
+parts_after (y ∷ ys) = slice_split is_space ys
+
+-- the first part ends before the first space
+split_first : (xs : List ℕ) → slice_split is_space xs ≡ take (prefix_len is_solid xs) xs ∷ parts_after (drop (prefix_len is_solid xs) xs)
+split_first [] = refl
+split_first (x ∷ xs) =
+    let rest = split_first xs in
+    elim (is_space x) as (λ b. cond b ([] ∷ slice_split is_space xs) (onto_first x (slice_split is_space xs)) ≡ take (cond (not b) (1 + prefix_len is_solid xs) 0) (x ∷ xs) ∷ parts_after (drop (cond (not b) (1 + prefix_len is_solid xs) 0) (x ∷ xs))) [
+      | true ↦ refl
+      | false ↦ rw (one_more (prefix_len is_solid xs)) (ap (onto_first x) rest)
+    ]
+
+-- behind the first part: nothing, or a space and more parts
+parts_behind : (xs : List ℕ) → filter is_some_word (parts_after (drop (prefix_len is_solid xs) xs)) ≡ words_of (drop (prefix_len is_solid xs) xs)
+parts_behind [] = refl
+parts_behind (x ∷ xs) =
+    let rest = parts_behind xs in
+    elim (is_space x) as (λ b. (is_space x ≡ b) → filter is_some_word (parts_after (drop (cond (not b) (1 + prefix_len is_solid xs) 0) (x ∷ xs))) ≡ words_of (drop (cond (not b) (1 + prefix_len is_solid xs) 0) (x ∷ xs))) [
+      | true ↦ λ e. rw e refl
+      | false ↦ λ e. rw (one_more (prefix_len is_solid xs)) rest
+    ] refl
+
+-- spaces before the first word don't count
+words-spaces : (xs : List ℕ) → words_of xs ≡ words_of (drop (prefix_len is_space xs) xs)
+words-spaces [] = refl
+words-spaces (x ∷ xs) =
+    let rest = words-spaces xs in
+    elim (is_space x) as (λ b. (is_space x ≡ b) → words_of (x ∷ xs) ≡ words_of (drop (cond b (1 + prefix_len is_space xs) 0) (x ∷ xs))) [
+      | true ↦ λ e. rw (e, one_more (prefix_len is_space xs)) rest
+      | false ↦ λ e. refl
+    ] refl
+
+-- the first word, where there is one, and those behind it
+words_from : (xs : List ℕ) → words_of xs ≡ filter is_some_word (take (prefix_len is_solid xs) xs ∷ []) ++ words_of (drop (prefix_len is_solid xs) xs)
+words_from xs =
+    let part = take (prefix_len is_solid xs) xs in
+    let later = parts_behind xs in
+    ap (filter is_some_word) (split_first xs)
+    ∙ elim (is_some_word part) as (λ b. cond b (part ∷ filter is_some_word (parts_after (drop (prefix_len is_solid xs) xs))) (filter is_some_word (parts_after (drop (prefix_len is_solid xs) xs))) ≡ cond b (part ∷ []) [] ++ words_of (drop (prefix_len is_solid xs) xs)) [
+      | true ↦ ap (λ (ws : List (List ℕ)). part ∷ ws) later
+      | false ↦ later
+    ]
+
+-- the line behind the spaces that it begins with
+abbrev pub unspaced : List ℕ → List ℕ
+unspaced line = drop (prefix_len is_space line) line
+
+-- a byte that is no space begins a word
+stuck : (x : ℕ) (xs : List ℕ) → is_space x ≡ false → prefix_len is_solid (x ∷ xs) ≡ 0 → ⊥
+stuck x xs e h = let one : 1 + prefix_len is_solid xs ≡ 0 = rw e at h in omega arith
+
+-- where no word begins behind the spaces, nothing is there
+no_word : (line : List ℕ) → prefix_len is_solid (unspaced line) ≡ 0 → unspaced line ≡ []
+no_word [] = λ e. refl
+no_word (x ∷ xs) =
+    let rest = no_word xs in
+    elim (is_space x) as (λ b. (is_space x ≡ b) → prefix_len is_solid (drop (cond b (1 + prefix_len is_space xs) 0) (x ∷ xs)) ≡ 0 → drop (cond b (1 + prefix_len is_space xs) 0) (x ∷ xs) ≡ []) [
+      | true ↦ λ e. rw (one_more (prefix_len is_space xs)) rest
+      | false ↦ λ e. λ h. absurd (stuck x xs e h)
+    ] refl
+
+-- a line is spaces, a word that is empty only at the end, and the rest
+pub record IsCut (line word rest : List ℕ) : Type 0 where
+  pub first : word ≡ take (prefix_len is_solid (unspaced line)) (unspaced line)
+  pub later : rest ≡ drop (prefix_len is_solid (unspaced line)) (unspaced line)
+
+length_first : (line word rest : List ℕ) → IsCut line word rest → length word ≡ prefix_len is_solid (unspaced line)
+length_first line word rest cut = rw cut.first (omega (arith, length-take (prefix_len is_solid (unspaced line)) (unspaced line), prefix_len-le-length is_solid (unspaced line)))
+
+pub cut_none : (line word rest : List ℕ) → IsCut line word rest → length word ≡ 0 → (words_of line ≡ []) × (words_of rest ≡ [])
+cut_none line word rest cut e =
+    let ended = no_word line (sym (length_first line word rest cut) ∙ e) in
+    (words-spaces line ∙ ap words_of ended, ap words_of (cut.later ∙ ap (λ (from : List ℕ). drop (prefix_len is_solid from) from) ended))
+
+pub cut_some : (line word rest : List ℕ) → IsCut line word rest → 0 < length word → words_of line ≡ word ∷ words_of rest
+cut_some line word rest cut lt =
+    let from = unspaced line in
+    let n = prefix_len is_solid from in
+    let some : is_some_word (take n from) ≡ true = lt-ltb _ _ (omega (arith, length_first line word rest cut, ap length cut.first)) in
+    rw (cut.first, cut.later) (words-spaces line ∙ words_from from ∙ rw some refl)
+
+and_left : (a b : Bool) → (a && b) ≡ true → a ≡ true
+and_left true b h = refl
+and_left false b h = h
+
+and_right : (a b : Bool) → (a && b) ≡ true → b ≡ true
+and_right true b h = h
+and_right false b h = absurd cc
+
+-- an element that passes
+pub all_at : (p : ℕ → Bool) (xs : List ℕ) (i : ℕ) → list_all p xs ≡ true → i < length xs → p (get_or xs i 0) ≡ true
+all_at p [] i h lt = absurd (omega arith)
+all_at p (x ∷ xs) zero h lt = and_left (p x) (list_all p xs) h
+all_at p (x ∷ xs) (suc i) h lt = all_at p xs i (and_right (p x) (list_all p xs) h) (omega arith)
+
+pub digit_is : (c : ℕ) → is_ascii_digit c ≡ true → digit_value c ≡ c - 48
+digit_is c h = grind (arith, nat_tests)
+
+pub digit_small : (c : ℕ) → is_ascii_digit c ≡ true → c < 58
+digit_small c h = grind (arith, nat_tests)

@@ -1,0 +1,42 @@
+-- The words of a line, and what some of them stand for.
+use Rattle.std.specs.Prelude.{ℕ, ◌^◌, ◌&&◌, ◌||◌, ◌==◌, Bool, List, [], codes, length, slice_index, filter, nat_lt, nat_le, if◌then◌else◌, Option, Some, None}
+use Rattle.std.specs.List.{slice_split, list_all}
+use Rattle.std.specs.Char.{is_ascii_digit}
+use Rattle.std.specs.Result.{result_ok}
+use Rattle.std.specs.Str.{bytes_eq}
+use Rattle.std.specs.Str.Parse.{digits_value}
+use Rattle.hex.specs.Hex.{decode_of}
+
+abbrev pub is_space : ℕ → Bool
+is_space byte = byte == 32
+
+abbrev pub is_some_word : List ℕ → Bool
+is_some_word part = nat_lt 0 (length part)
+
+-- what stands between the spaces
+abbrev pub words_of : List ℕ → List (List ℕ)
+words_of line = filter is_some_word (slice_split is_space line)
+
+-- the value of 1 to 10 decimal digits, if it is at most 4,294,967,295
+abbrev pub number_of : List ℕ → Option ℕ
+number_of word =
+    if is_some_word word && nat_le (length word) 10 && list_all is_ascii_digit word && nat_lt (digits_value 10 word) (2 ^ 32)
+    then Some (digits_value 10 word)
+    else None
+
+abbrev pub is_letter : ℕ → Bool
+is_letter byte = nat_le 97 byte && nat_le byte 122
+
+abbrev pub is_name_byte : ℕ → Bool
+is_name_byte byte = is_letter byte || is_ascii_digit byte || byte == 95
+
+-- is it 1 to 16 of `a` to `z`, `0` to `9` and `_`, the first a letter?
+abbrev pub is_name : List ℕ → Bool
+is_name word = nat_le (length word) 16 && is_letter (slice_index word 0) && list_all is_name_byte word
+
+-- `-` for no bytes, or 1 to 256 bytes as pairs of hexadecimal digits of either case
+abbrev pub bytes_of : List ℕ → Option (List ℕ)
+bytes_of word =
+    if bytes_eq word (codes "-") then Some []
+    else if is_some_word word && nat_le (length word) 512 then result_ok (decode_of word)
+    else None
