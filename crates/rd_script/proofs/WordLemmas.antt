@@ -98,11 +98,11 @@ cut_some line word rest cut lt =
     let some : is_some_word (take n from) ≡ true = lt-ltb _ _ (omega (arith, length_first line word rest cut, ap length cut.first)) in
     rw (cut.first, cut.later) (words-spaces line ∙ words_from from ∙ rw some refl)
 
-and_left : (a b : Bool) → (a && b) ≡ true → a ≡ true
+pub and_left : (a b : Bool) → (a && b) ≡ true → a ≡ true
 and_left true b h = refl
 and_left false b h = h
 
-and_right : (a b : Bool) → (a && b) ≡ true → b ≡ true
+pub and_right : (a b : Bool) → (a && b) ≡ true → b ≡ true
 and_right true b h = h
 and_right false b h = absurd cc
 

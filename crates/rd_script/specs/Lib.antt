@@ -1,4 +1,5 @@
 pub mod Words
+pub mod Spelling
 pub mod TaskScript
 pub mod Application
 pub mod Inside
