@@ -1,2 +1,3 @@
 pub mod NameLemmas
 pub mod WordLemmas
+pub mod FileLemmas

@@ -4,3 +4,4 @@ pub mod TaskScript
 pub mod Application
 pub mod Inside
 pub mod Builtin
+pub mod File
