@@ -1,6 +1,6 @@
 -- The application of a file's JSON value, or the first fault that is met: of an object first its keys, and then what
 -- stands at them, in the order below.
-use Rattle.std.specs.Prelude.{ℕ, ◌≡◌, ◌≢◌, ◌-◌, ◌^◌, ◌&&◌, is_some, Bool, true, false, not, codes, List, [], ◌∷◌, ◌++◌, length, slice_index_or, nat_lt, nat_le, if◌then◌else◌, Option, Some, None, Result, Ok, Err, ok_or, option_map, option_and_then, unwrap_or, ⊤}
+use Rattle.std.specs.Prelude.{ℕ, ◌≡◌, ◌≢◌, ◌-◌, ◌^◌, ◌&&◌, is_some, Bool, true, false, not, codes, List, [], ◌∷◌, ◌++◌, length, slice_get, nat_lt, nat_le, if◌then◌else◌, Option, Some, None, Result, Ok, Err, ok_or, option_map, option_and_then, unwrap_or, ⊤}
 use Rattle.std.specs.List.{list_all, list_any}
 use Rattle.std.specs.Str.{bytes_eq, is_utf8}
 use Rattle.serde_json.specs.Data.{Data, Items, no_items, item, Members, no_members, member}
@@ -12,7 +12,6 @@ use Rattle.rd_script.specs.declared.app.QueueShape.{QueueShape}
 use Rattle.rd_script.specs.declared.error.AppError.{AppError}
 use Rattle.rd_script.specs.declared.error.AppError.TheVariants as fault
 use Rattle.rd_script.specs.declared.instr.Instr.{Instr}
-use Rattle.rd_script.specs.declared.instr.Instr.TheVariants.{End}
 use Rattle.rd_script.specs.Application.{Application, is_final}
 use Rattle.rd_script.specs.Spelling.{◌>>=◌, instr_of}
 use Rattle.rd_script.specs.TaskScript.{TaskScript}
@@ -27,9 +26,12 @@ keys_of (member key d ms) = key ∷ keys_of ms
 abbrev pub has_only : List (List ℕ) → Members → Bool
 has_only known ms = list_all (λ key. list_any (λ name. bytes_eq name key) known) (keys_of ms)
 
--- an object with no other keys than these
+-- is it an object with no other keys than these?
+abbrev pub is_object_with : List (List ℕ) → Data → Bool
+is_object_with known d = unwrap_or (option_map (has_only known) (as_object d)) false
+
 abbrev pub object_with : List (List ℕ) → Data → Result ⊤ AppError
-object_with known d = if unwrap_or (option_map (has_only known) (as_object d)) false then Ok tt else Err fault.Shape
+object_with known d = if is_object_with known d then Ok tt else Err fault.Shape
 
 -- what stands at a key
 abbrev pub field : List ℕ → Data → Result Data AppError
@@ -119,19 +121,28 @@ tasks_after names drafts (item d ds) = do
   task ← task_of names d
   tasks_after (names ++ task.0 ∷ []) (drafts ++ task.1 ∷ []) ds
 
--- the instructions before, and those of the texts
-abbrev pub instrs_after : List (List ℕ) → ℕ → List Instr → Items → Result (List Instr) AppError
-instrs_after queues len before no_items = Ok before
-instrs_after queues len before (item d ds) = do
+-- the instruction of a value, in a script of that length
+abbrev pub line_of : List (List ℕ) → ℕ → Data → Result Instr AppError
+line_of queues len d = do
   text ← ok_or (as_str d) fault.Shape
-  instr ← instr_of queues len text
-  instrs_after queues len (before ++ instr ∷ []) ds
+  instr_of queues len text
+
+-- the instructions before, and those of the values
+abbrev pub lines_after : List (List ℕ) → ℕ → List Instr → Items → Result (List Instr) AppError
+lines_after queues len before no_items = Ok before
+lines_after queues len before (item d ds) = do
+  instr ← line_of queues len d
+  lines_after queues len (before ++ instr ∷ []) ds
+
+-- does the last instruction never go on at the next?
+abbrev pub ends : List Instr → Bool
+ends code = unwrap_or (option_map is_final (slice_get code (length code - 1))) false
 
 -- the instructions of a task, the last of which never goes on at the next
 unfoldable pub code_of : List (List ℕ) → Items → Result (List Instr) AppError
 code_of queues lines = do
-  code ← instrs_after queues (items_len lines) [] lines
-  if is_final (slice_index_or code (length code - 1) End) then Ok code else Err fault.Instr
+  code ← lines_after queues (items_len lines) [] lines
+  if ends code then Ok code else Err fault.Instr
 
 abbrev pub scripts_after : List (List ℕ) → List TaskScript → List Draft → Result (List TaskScript) AppError
 scripts_after queues scripts [] = Ok scripts

@@ -5,3 +5,4 @@ pub mod Application
 pub mod Inside
 pub mod Builtin
 pub mod File
+pub mod Draft

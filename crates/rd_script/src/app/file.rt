@@ -1,18 +1,22 @@
 //! Reads an application from its file.
 
-ghost use Rattle.std.specs.Prelude.{◌≡◌, [], map, string_bytes};
+ghost use Rattle.std.specs.Prelude.{◌≡◌, [], ◌∷◌, ◌++◌, false, map, string_bytes, OnOk};
 ghost use Rattle.std.specs.List.{list_any};
 ghost use Rattle.std.specs.Str.{bytes_eq};
 ghost use Rattle.serde_json.specs.Find.{get};
+ghost use Rattle.rd_script.specs.Application.{is_final};
 ghost use Rattle.serde_json.specs.View.{view, items_view, members_view};
-ghost use Rattle.rd_script.specs.File.{Gives, GivesOrNoMemory, queues_after, has_only, object_with, field, in_limits, number_in, number_or, array_in, array_or_empty, new_name, queue_of};
+ghost use Rattle.rd_script.specs.File.{ends, line_of, lines_after, code_of, scripts_after, are_texts, task_of, tasks_after, Gives, GivesOrNoMemory, queues_after, has_only, object_with, field, in_limits, number_in, number_or, array_in, array_or_empty, new_name, queue_of};
+ghost use Rattle.rd_script.specs.Draft.{draft_view};
 
-use crate::app::QueueShape;
+use crate::app::{QueueShape, Script};
 use crate::error::AppError;
+use crate::instr::Instr;
+use crate::spelling::read_instr;
 use crate::words::is_name;
 use indexmap::IndexSet;
 use serde_json::{Map, Value};
-use std::alloc::Global;
+use std::alloc::{AllocError, Global};
 
 /// How many cores an application has at the most.
 pub const MAX_CORES: u64 = 1;
@@ -120,6 +124,15 @@ fn read_queue<'a>(
     ))
 }
 
+// Puts a new name behind the others.
+fn add_name(alloc: Global, names: &mut IndexSet<String>, name: &str) -> Result<(), AllocError>
+    requires { list_any (bytes_eq name.now) (map string_bytes names.old.keys) ≡ false }
+    ensures { OnOk result (map string_bytes names.new.keys ≡ map string_bytes names.old.keys ++ name.now ∷ []) }
+{
+    names.insert(String::from_str(alloc, name)?)?;
+    Ok(())
+}
+
 // The queues of an array, and their names.
 #[derive(Drop)]
 struct Queues {
@@ -135,8 +148,146 @@ fn read_queues(alloc: Global, values: &[Value]) -> Result<Queues, AppError>
     let mut shapes = Vec::new(alloc);
     for value in values {
         let (name, shape) = read_queue(value, &names)?;
-        names.insert(String::from_str(alloc, name)?)?;
+        add_name(alloc, &mut names, name)?;
         shapes.push(shape)?;
     }
     Ok(Queues { names, shapes })
+}
+
+// A task's priority and the texts of its instructions, which are not read yet.
+#[derive(Drop)]
+struct Draft<'a> {
+    priority: u8,
+    lines: &'a [Value],
+}
+
+fn are_texts(values: &[Value]) -> bool
+    ensures { result ≡ are_texts (items_view values.now) }
+{
+    for value in values {
+        if !value.is_string() {
+            return false;
+        }
+    }
+    true
+}
+
+#[tactic(auto, unfolding(crate::specs::File::task_of))]
+fn read_task<'a>(
+    value: &'a Value,
+    names: &IndexSet<String>,
+) -> Result<(&'a str, Draft<'a>), AppError>
+    ensures { Gives (λ task. (task.0.now, draft_view task.1)) result (task_of (map string_bytes names.now.keys) (view value.now)) }
+{
+    object_with(value, &["name", "priority", "code"])?;
+    let name = field(value, "name")?;
+    let priority = field(value, "priority")?;
+    let code = field(value, "code")?;
+    let name = new_name(name, names)?;
+    let priority = number(priority, 0, 31)? as u8;
+    let lines = array(code, 1, 256)?;
+    if !are_texts(lines) {
+        return Err(AppError::Shape);
+    }
+    Ok((name, Draft { priority, lines }))
+}
+
+// The tasks of an array, and their names.
+#[derive(Drop)]
+struct Tasks<'a> {
+    names: IndexSet<String>,
+    drafts: Vec<Draft<'a>>,
+}
+
+fn read_tasks(alloc: Global, values: &[Value]) -> Result<Tasks<'_>, AppError>
+    ensures { GivesOrNoMemory (λ tasks. (map string_bytes tasks.names.keys, map draft_view tasks.drafts.items))
+        result (tasks_after [] [] (items_view values.now)) }
+{
+    let mut names = IndexSet::new(alloc);
+    let mut drafts = Vec::new(alloc);
+    for value in values {
+        let (name, draft) = read_task(value, &names)?;
+        add_name(alloc, &mut names, name)?;
+        drafts.push(draft)?;
+    }
+    Ok(Tasks { names, drafts })
+}
+
+fn read_line(
+    line: &Value,
+    queues: &IndexSet<String>,
+    len: usize,
+) -> Result<Instr, AppError>
+    ensures { result ≡ line_of (map string_bytes queues.now.keys) len (view line.now) }
+{
+    let text = line.as_str().ok_or(AppError::Shape)?;
+    read_instr(text.as_bytes(), queues, len)
+}
+
+// The instructions of texts, in a script of that length.
+fn read_lines(
+    alloc: Global,
+    lines: &[Value],
+    queues: &IndexSet<String>,
+    len: usize,
+) -> Result<Vec<Instr>, AppError>
+    ensures { GivesOrNoMemory (λ code. code.items)
+        result (lines_after (map string_bytes queues.now.keys) len [] (items_view lines.now)) }
+{
+    let mut code = Vec::new(alloc);
+    for line in lines {
+        code.push(read_line(line, queues, len)?)?;
+    }
+    Ok(code)
+}
+
+// Does the script never go on at the next instruction?
+fn is_final(instr: &Instr) -> bool
+    ensures { result ≡ is_final instr.now }
+{
+    matches!(instr, Instr::Jump { .. } | Instr::End)
+}
+
+fn ends(code: &[Instr]) -> bool
+    ensures { result ≡ ends code.now }
+{
+    match code.last() {
+        None => false,
+        Some(instr) => is_final(instr),
+    }
+}
+
+#[tactic(auto, using(crate::proofs::FileLemmas::items_count), unfolding(crate::specs::File::code_of))]
+fn read_code(
+    alloc: Global,
+    lines: &[Value],
+    queues: &IndexSet<String>,
+) -> Result<Vec<Instr>, AppError>
+    ensures { GivesOrNoMemory (λ code. code.items)
+        result (code_of (map string_bytes queues.now.keys) (items_view lines.now)) }
+{
+    let code = read_lines(alloc, lines, queues, lines.len())?;
+    if !ends(&code) {
+        return Err(AppError::Instr);
+    }
+    Ok(code)
+}
+
+fn read_scripts(
+    alloc: Global,
+    drafts: &[Draft<'_>],
+    queues: &IndexSet<String>,
+) -> Result<Vec<Script>, AppError>
+    ensures { GivesOrNoMemory (λ scripts. scripts.items)
+        result (scripts_after (map string_bytes queues.now.keys) [] (map draft_view drafts.now)) }
+{
+    let mut scripts = Vec::new(alloc);
+    for draft in drafts {
+        let code = read_code(alloc, draft.lines, queues)?;
+        scripts.push(Script {
+            priority: draft.priority,
+            code,
+        })?;
+    }
+    Ok(scripts)
 }
