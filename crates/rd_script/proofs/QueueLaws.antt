@@ -8,7 +8,8 @@ use Rattle.rd_script.specs.declared.app.QueueShape.{QueueShape}
 use Rattle.rd_script.specs.Application.{IsQueueShape}
 use Rattle.rd_script.specs.Words.{is_name}
 use Rattle.rd_script.specs.File.{is_object_with, object_with, field, number_in, new_name, queue_keys, queue_of}
-use Rattle.rd_script.proofs.Values.{bind_ok, object_ok, field_ok, number_ok, name_ok}
+use Rattle.rd_script.proofs.Steps.{bind_ok}
+use Rattle.rd_script.proofs.Values.{object_ok, field_ok, number_ok, name_ok}
 
 -- what a value says of a queue
 pub record IsQueue (d : Data) (name : List ℕ) (shape : QueueShape) : Type 0 where

@@ -4,7 +4,8 @@ use Rattle.serde_json.specs.Data.{Data, number, unsigned, string, array}
 use Rattle.serde_json.specs.Events.{items_len}
 use Rattle.serde_json.specs.Find.{get}
 use Rattle.rd_script.specs.File.{is_object_with, object_with, field, number_in, array_in, new_name, are_texts, Draft, task_keys, task_of}
-use Rattle.rd_script.proofs.Values.{bind_ok, guard_ok, object_ok, field_ok, number_ok, array_ok, name_ok}
+use Rattle.rd_script.proofs.Steps.{bind_ok, guard_ok}
+use Rattle.rd_script.proofs.Values.{object_ok, field_ok, number_ok, array_ok, name_ok}
 use Rattle.rd_script.proofs.QueueLaws.{IsNewName}
 
 -- what a value says of a task

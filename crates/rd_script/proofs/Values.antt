@@ -11,21 +11,8 @@ use Rattle.rd_script.specs.declared.error.AppError.{AppError}
 use Rattle.rd_script.specs.Spelling.{◌>>=◌}
 use Rattle.rd_script.specs.Words.{is_name}
 use Rattle.rd_script.specs.File.{is_object_with, object_with, field, in_limits, number_in, array_in, new_name}
+use Rattle.rd_script.proofs.Steps.{bind_ok, guard_ok, ok_or_ok}
 use Rattle.rd_script.proofs.WordLemmas.{and_left, and_right}
-
--- the value of a step that did not fail
-pub bind_ok : {A B : Type 0} (r : Result A AppError) (f : A → Result B AppError) (y : B) → (r >>= f) ≡ Ok y → (x : A) × (r ≡ Ok x) × (f x ≡ Ok y)
-bind_ok (Ok x) f y e = (x, refl, e)
-bind_ok (Err d) f y e = absurd cc
-
--- a test that did not fail
-pub guard_ok : {A : Type 0} (b : Bool) (x y : A) (d : AppError) → cond b (Ok x) (Err d) ≡ Ok y → (b ≡ true) × (x ≡ y)
-guard_ok true x y d e = (refl, cc)
-guard_ok false x y d e = absurd cc
-
-pub ok_or_ok : {A : Type 0} (o : Option A) (x : A) (d : AppError) → ok_or o d ≡ Ok x → o ≡ Some x
-ok_or_ok (Some y) x d e = cc
-ok_or_ok None x d e = absurd cc
 
 pub object_ok : (known : List (List ℕ)) (d : Data) (u : Unit {0}) → object_with known d ≡ Ok u → is_object_with known d ≡ true
 object_ok known d u e = (guard_ok (is_object_with known d) tt u _ e).0

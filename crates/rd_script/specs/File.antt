@@ -15,7 +15,7 @@ use Rattle.rd_script.specs.declared.instr.Instr.{Instr}
 use Rattle.rd_script.specs.Application.{Application, is_final}
 use Rattle.rd_script.specs.Spelling.{◌>>=◌, instr_of}
 use Rattle.rd_script.specs.TaskScript.{TaskScript}
-use Rattle.rd_script.specs.Words.{is_name}
+use Rattle.rd_script.specs.Words.{words_of, is_name}
 
 -- ---- values
 
@@ -125,7 +125,7 @@ tasks_after names drafts (item d ds) = do
 abbrev pub line_of : List (List ℕ) → ℕ → Data → Result Instr AppError
 line_of queues len d = do
   text ← ok_or (as_str d) fault.Shape
-  instr_of queues len text
+  instr_of queues len (words_of text)
 
 -- the instructions before, and those of the values
 abbrev pub lines_after : List (List ℕ) → ℕ → List Instr → Items → Result (List Instr) AppError

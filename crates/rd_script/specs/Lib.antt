@@ -1,5 +1,6 @@
 pub mod Words
 pub mod Spelling
+pub mod Spells
 pub mod TaskScript
 pub mod Application
 pub mod Inside

@@ -125,8 +125,8 @@ operation_of queues len Receive words = do
   queue ← object_at queues words
   Ok (instr.Receive queue)
 
--- the instruction of a text, or its fault: one in the form of a word comes before an unknown name
-unfoldable pub instr_of : List (List ℕ) → ℕ → List ℕ → Result Instr AppError
-instr_of queues len text = do
-  keyword ← operand keyword_of (words_of text)
+-- the instruction of a text's words, or its fault: one in the form of a word comes before an unknown name
+unfoldable pub instr_of : List (List ℕ) → ℕ → List (List ℕ) → Result Instr AppError
+instr_of queues len words = do
+  keyword ← operand keyword_of words
   operation_of queues len keyword.0 keyword.1

@@ -2,7 +2,7 @@
 
 ghost use Rattle.std.specs.Prelude.{◌≡◌, map, string_bytes};
 ghost use Rattle.rd_script.specs.Spelling.{Takes, TakesBy, operand, keyword_of, register_of, target_of, name_of, no_wait_of, ended, queue_of, object_at, operation_of, instr_of};
-ghost use Rattle.rd_script.specs.Words.{number_of, bytes_of};
+ghost use Rattle.rd_script.specs.Words.{words_of, number_of, bytes_of};
 
 use crate::bytes::Bytes;
 use crate::error::AppError;
@@ -196,7 +196,7 @@ pub(crate) fn read_instr(
     queues: &IndexSet<String>,
     len: usize,
 ) -> Result<Instr, AppError>
-    ensures { result ≡ instr_of (map string_bytes queues.now.keys) len text.now }
+    ensures { result ≡ instr_of (map string_bytes queues.now.keys) len (words_of text.now) }
 {
     let mut words = Words::new(text);
     let word = words.next().ok_or(AppError::Instr)?;

@@ -1,6 +1,6 @@
 //! Reads an application from its file.
 
-ghost use Rattle.std.specs.Prelude.{◌≡◌, [], ◌∷◌, ◌++◌, false, map, string_bytes, OnOk};
+ghost use Rattle.std.specs.Prelude.{◌≡◌, [], ◌∷◌, ◌++◌, false, map, option_map, string_bytes, OnOk};
 ghost use Rattle.std.specs.List.{list_any};
 ghost use Rattle.std.specs.Str.{bytes_eq};
 ghost use Rattle.serde_json.specs.Find.{get};
@@ -290,4 +290,27 @@ fn read_scripts(
         })?;
     }
     Ok(scripts)
+}
+
+fn number_or(
+    value: Option<&Value>,
+    otherwise: u64,
+    least: u64,
+    most: u64,
+) -> Result<u64, AppError>
+    ensures { result ≡ number_or otherwise least most (option_map (λ value. view value.now) value.entry) }
+{
+    match value {
+        None => Ok(otherwise),
+        Some(value) => number(value, least, most),
+    }
+}
+
+fn array_or_empty(value: Option<&Value>, most: u64) -> Result<&[Value], AppError>
+    ensures { Gives (λ values. items_view values.now) result (array_or_empty most (option_map (λ value. view value.now) value.entry)) }
+{
+    match value {
+        None => Ok(&[]),
+        Some(value) => array(value, 0, most),
+    }
 }
