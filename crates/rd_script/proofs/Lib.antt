@@ -6,3 +6,4 @@ pub mod SpellingLaws
 pub mod Values
 pub mod QueueLaws
 pub mod TaskLaws
+pub mod ScriptLaws

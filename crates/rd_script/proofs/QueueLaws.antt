@@ -1,22 +1,22 @@
 -- A queue that is read is spelled by its value, and what spells a queue is read.
-use Rattle.std.proofs.Common.{◌≡◌, ◌∙◌, ℕ, ◌+◌, ◌<◌, ◌≤◌, ◌&&◌, ◌||◌, Bool, true, false, not, cond, codes, List, [], ◌∷◌, ◌++◌, length, map, get_or, drop, Option, Some, None, Result, Ok, Err, refl, sym, ap, subst, string_bytes, String, Global, arith, nat_le}
+use Rattle.std.proofs.Common.{◌≡◌, ◌∙◌, ℕ, ◌+◌, ◌<◌, ◌≤◌, ◌&&◌, ◌||◌, Bool, true, false, not, cond, codes, List, [], ◌∷◌, ◌++◌, length, map, get_or, drop, Option, Some, None, Result, Ok, Err, refl, sym, ap, subst, string_bytes, String, Global, append_assoc, add-one, arith, nat_le}
 use Rattle.std.specs.List.{list_all, list_any}
+use Rattle.std.specs.List.{AllByRecursion}
 use Rattle.std.specs.Str.{bytes_eq}
+use Rattle.std.proofs.lemmas.List.{length-append, append-nil}
+use Rattle.std.proofs.lemmas.List.Folds.{list_all-append, list_any-append}
+use Rattle.std.proofs.lemmas.Slice.Eq.{bytes_eq-Decides}
 use Rattle.serde_json.specs.Data.{Data, Items, no_items, item, number, unsigned, string}
+use Rattle.serde_json.specs.Events.{items_len}
 use Rattle.serde_json.specs.Find.{get}
 use Rattle.rd_script.specs.declared.app.QueueShape.{QueueShape}
-use Rattle.rd_script.specs.Application.{IsQueueShape}
+use Rattle.rd_script.specs.Application.{IsQueueShape, AreNames, are_distinct}
+use Rattle.rd_script.specs.Says.{IsQueue, AreQueues}
 use Rattle.rd_script.specs.Words.{is_name}
-use Rattle.rd_script.specs.File.{is_object_with, object_with, field, number_in, new_name, queue_keys, queue_of}
+use Rattle.rd_script.specs.File.{object_with, field, number_in, new_name, queue_keys, queue_of, queues_after}
 use Rattle.rd_script.proofs.Steps.{bind_ok}
-use Rattle.rd_script.proofs.Values.{object_ok, field_ok, number_ok, name_ok}
-
--- what a value says of a queue
-pub record IsQueue (d : Data) (name : List ℕ) (shape : QueueShape) : Type 0 where
-  pub keys : is_object_with queue_keys d ≡ true
-  pub name_at : get (codes "name") d ≡ Some (string name)
-  pub length_at : get (codes "length") d ≡ Some (number (unsigned shape.capacity))
-  pub item_at : get (codes "item") d ≡ Some (number (unsigned shape.item_size))
+use Rattle.rd_script.proofs.WordLemmas.{and_left, and_right}
+use Rattle.rd_script.proofs.Values.{not_true, object_ok, field_ok, number_ok, name_ok}
 
 pub record IsNewName (names : List (List ℕ)) (name : List ℕ) : Type 0 where
   pub named : is_name name ≡ true
@@ -46,3 +46,69 @@ queue_takes names d q e =
       record { named = named.1; fresh = named.2 },
       (omega (arith, first.1), first.2, omega (arith, second.1), second.2),
     )
+
+-- ---- names
+
+bytes_eq-sym : (xs ys : List ℕ) → bytes_eq xs ys ≡ true → bytes_eq ys xs ≡ true
+bytes_eq-sym xs ys e = (bytes_eq-Decides ys xs).1 (sym ((bytes_eq-Decides xs ys).0 e))
+
+apart : (xs ys : List ℕ) → bytes_eq xs ys ≡ false → bytes_eq ys xs ≡ false
+apart xs ys e = elim (bytes_eq ys xs) as (λ b. (bytes_eq ys xs ≡ b) → b ≡ false) [
+  | true ↦ λ h. sym (bytes_eq-sym ys xs h) ∙ e
+  | false ↦ λ h. refl
+] refl
+
+or_false : (a b : Bool) → (a || b) ≡ false → (a ≡ false) × (b ≡ false)
+or_false true b e = absurd cc
+or_false false b e = (refl, e)
+
+distinct_more : (names : List (List ℕ)) (name : List ℕ) → are_distinct names ≡ true → list_any (bytes_eq name) names ≡ false → are_distinct (names ++ name ∷ []) ≡ true
+distinct_more [] name d f = refl
+distinct_more (n ∷ names) name d f =
+    let parts = or_false (bytes_eq name n) (list_any (bytes_eq name) names) f in
+    let alone : list_any (bytes_eq n) names ≡ false = not_true _ (and_left _ _ d) in
+    let still : list_any (bytes_eq n) (names ++ name ∷ []) ≡ false = list_any-append (bytes_eq n) names (name ∷ []) ∙ rw (alone, apart name n parts.0) refl in
+    rw still (distinct_more names name (and_right (not (list_any (bytes_eq n) names)) _ d) parts.1)
+
+pub AreNames-push : (names : List (List ℕ)) (name : List ℕ) → AreNames names → IsNewName names name → AreNames (names ++ name ∷ [])
+AreNames-push names name are new = record {
+  named = list_all-append is_name names (name ∷ []) ∙ rw (are.named, new.named) refl;
+  distinct = distinct_more names name are.distinct new.fresh;
+}
+
+AllByRecursion-push : {X : Type 0} (P : X → Type 0) (xs : List X) (x : X) → AllByRecursion P xs → P x → AllByRecursion P (xs ++ x ∷ [])
+AllByRecursion-push P [] x h p = (p, tt)
+AllByRecursion-push P (y ∷ ys) x h p = (h.0, AllByRecursion-push P ys x h.1 p)
+
+-- ---- the queues of an array
+
+pub record AreKept (names : List (List ℕ)) (shapes : List QueueShape) : Type 0 where
+  pub are_names : AreNames names
+  pub are_shapes : AllByRecursion IsQueueShape shapes
+
+-- the queues that an array adds
+pub record Adds (ds : Items) (names : List (List ℕ)) (shapes : List QueueShape) (q : List (List ℕ) × List QueueShape) (more : List (List ℕ)) (others : List QueueShape) : Type 0 where
+  pub names_are : q.0 ≡ names ++ more
+  pub shapes_are : q.1 ≡ shapes ++ others
+  pub said : AreQueues ds more others
+  pub kept : AreKept q.0 q.1
+
+pub queues_take : (ds : Items) (names : List (List ℕ)) (shapes : List QueueShape) (q : List (List ℕ) × List QueueShape) → queues_after names shapes ds ≡ Ok q → AreKept names shapes → (more : List (List ℕ)) × (others : List QueueShape) × Adds ds names shapes q more others
+queues_take no_items names shapes q e kept =
+    let is : (names, shapes) ≡ q = cc in
+    ([], [], record {
+      names_are = ap (λ (q : List (List ℕ) × List QueueShape). q.0) (sym is) ∙ sym (append-nil names);
+      shapes_are = ap (λ (q : List (List ℕ) × List QueueShape). q.1) (sym is) ∙ sym (append-nil shapes);
+      said = tt;
+      kept = subst (λ (q : List (List ℕ) × List QueueShape). AreKept q.0 q.1) is kept;
+    })
+queues_take (item d ds) names shapes q e kept =
+    let first = bind_ok (queue_of names d) _ q e in
+    let taken = queue_takes names d first.0 first.1 in
+    let rest = queues_take ds (names ++ first.0.0 ∷ []) (shapes ++ first.0.1 ∷ []) q first.2 (record { are_names = AreNames-push names first.0.0 kept.are_names taken.1; are_shapes = AllByRecursion-push IsQueueShape shapes first.0.1 kept.are_shapes taken.2 }) in
+    (first.0.0 ∷ rest.0, first.0.1 ∷ rest.1, record {
+      names_are = rest.2.names_are ∙ append_assoc names (first.0.0 ∷ []) rest.0;
+      shapes_are = rest.2.shapes_are ∙ append_assoc shapes (first.0.1 ∷ []) rest.1;
+      said = (taken.0, rest.2.said);
+      kept = rest.2.kept;
+    })

@@ -139,7 +139,7 @@ found_again : {X Y : Type 0} (read : List ℕ → Option X) (wait : List ℕ →
     → (operand read (first ∷ second ∷ []) >>= λ x. operand wait x.1 >>= λ y. ended y.1 >>= λ _. ok_or (find x.0) fault.Name) ≡ Ok queue
 found_again read wait find first second x y queue e f g = rw (e, f, g) refl
 
-then_some : {X Y : Type 0} (f : X → Option Y) (o : Option X) (y : Y) → option_and_then f o ≡ Some y → (x : X) × (o ≡ Some x) × (f x ≡ Some y)
+pub then_some : {X Y : Type 0} (f : X → Option Y) (o : Option X) (y : Y) → option_and_then f o ≡ Some y → (x : X) × (o ≡ Some x) × (f x ≡ Some y)
 then_some f (Some x) y e = (x, refl, e)
 then_some f None y e = absurd cc
 

@@ -52,7 +52,7 @@ array_ok least most (array es) ds e =
     (ap array is, omega (arith, ap items_len is), omega (arith, ap items_len is))
 array_ok least most (object ms) ds e = absurd cc
 
-not_true : (b : Bool) → not b ≡ true → b ≡ false
+pub not_true : (b : Bool) → not b ≡ true → b ≡ false
 not_true true e = sym e
 not_true false e = refl
 

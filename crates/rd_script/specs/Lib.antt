@@ -7,3 +7,4 @@ pub mod Inside
 pub mod Builtin
 pub mod File
 pub mod Draft
+pub mod Says
