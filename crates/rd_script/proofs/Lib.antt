@@ -5,5 +5,6 @@ pub mod Steps
 pub mod SpellingLaws
 pub mod Values
 pub mod QueueLaws
-pub mod TaskLaws
 pub mod ScriptLaws
+pub mod TaskLaws
+pub mod AppLaws

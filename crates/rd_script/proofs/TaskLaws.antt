@@ -1,12 +1,18 @@
 -- A task that is read is spelled by its value, and what spells a task is read.
-use Rattle.std.proofs.Common.{◌≡◌, ◌∙◌, ℕ, ◌≤◌, Bool, true, cond, codes, List, [], ◌∷◌, Some, Ok, refl, sym, ap, subst, arith}
-use Rattle.serde_json.specs.Data.{Data, number, unsigned, string, array}
+use Rattle.std.proofs.Common.{◌≡◌, ◌∙◌, ℕ, suc, ◌≤◌, Bool, true, cond, codes, List, [], ◌∷◌, ◌++◌, length, Some, Ok, refl, sym, ap, subst, append_assoc, arith}
+use Rattle.serde_json.specs.Data.{Data, number, unsigned, string, array, Items, no_items, item}
 use Rattle.serde_json.specs.Events.{items_len}
 use Rattle.serde_json.specs.Find.{get}
-use Rattle.rd_script.specs.File.{is_object_with, object_with, field, number_in, array_in, new_name, are_texts, Draft, task_keys, task_of}
+use Rattle.std.specs.List.{AllByRecursion}
+use Rattle.std.proofs.lemmas.List.{append-nil}
+use Rattle.rd_script.specs.Application.{Application, AreNames, IsScript}
+use Rattle.rd_script.specs.Says.{IsTask, AreTasks}
+use Rattle.rd_script.specs.TaskScript.{TaskScript}
+use Rattle.rd_script.specs.File.{is_object_with, object_with, field, number_in, array_in, new_name, are_texts, Draft, task_keys, task_of, tasks_after}
 use Rattle.rd_script.proofs.Steps.{bind_ok, guard_ok}
 use Rattle.rd_script.proofs.Values.{object_ok, field_ok, number_ok, array_ok, name_ok}
-use Rattle.rd_script.proofs.QueueLaws.{IsNewName}
+use Rattle.rd_script.proofs.QueueLaws.{IsNewName, AreNames-push, AllByRecursion-push}
+use Rattle.rd_script.proofs.ScriptLaws.{AreScripts, is_script}
 
 -- what a value says of a task
 pub record IsDraft (d : Data) (name : List ℕ) (draft : Draft) : Type 0 where
@@ -45,3 +51,67 @@ task_takes names d t e =
       record { named = named.1; fresh = named.2 },
       record { priority = first.2; some = second.1; few = second.2 },
     )
+
+-- ---- the tasks of an array
+
+abbrev pub AreDrafts : Items → List (List ℕ) → List Draft → Type 0
+AreDrafts no_items [] [] = Unit {0}
+AreDrafts (item d ds) (name ∷ names) (draft ∷ drafts) = IsDraft d name draft × AreDrafts ds names drafts
+AreDrafts _ _ _ = ⊥
+
+pub record AreKept (names : List (List ℕ)) (drafts : List Draft) : Type 0 where
+  pub are_names : AreNames names
+  pub are_drafts : AllByRecursion IsDraftInLimits drafts
+
+-- the tasks that an array adds
+pub record Adds (ds : Items) (names : List (List ℕ)) (drafts : List Draft) (t : List (List ℕ) × List Draft) (more : List (List ℕ)) (others : List Draft) : Type 0 where
+  pub names_are : t.0 ≡ names ++ more
+  pub drafts_are : t.1 ≡ drafts ++ others
+  pub said : AreDrafts ds more others
+  pub kept : AreKept t.0 t.1
+
+pub tasks_take : (ds : Items) (names : List (List ℕ)) (drafts : List Draft) (t : List (List ℕ) × List Draft) → tasks_after names drafts ds ≡ Ok t → AreKept names drafts → (more : List (List ℕ)) × (others : List Draft) × Adds ds names drafts t more others
+tasks_take no_items names drafts t e kept =
+    let is : (names, drafts) ≡ t = cc in
+    ([], [], record {
+      names_are = ap (λ (t : List (List ℕ) × List Draft). t.0) (sym is) ∙ sym (append-nil names);
+      drafts_are = ap (λ (t : List (List ℕ) × List Draft). t.1) (sym is) ∙ sym (append-nil drafts);
+      said = tt;
+      kept = subst (λ (t : List (List ℕ) × List Draft). AreKept t.0 t.1) is kept;
+    })
+tasks_take (item d ds) names drafts t e kept =
+    let first = bind_ok (task_of names d) _ t e in
+    let taken = task_takes names d first.0 first.1 in
+    let rest = tasks_take ds (names ++ first.0.0 ∷ []) (drafts ++ first.0.1 ∷ []) t first.2 (record { are_names = AreNames-push names first.0.0 kept.are_names taken.1; are_drafts = AllByRecursion-push IsDraftInLimits drafts first.0.1 kept.are_drafts taken.2 }) in
+    (first.0.0 ∷ rest.0, first.0.1 ∷ rest.1, record {
+      names_are = rest.2.names_are ∙ append_assoc names (first.0.0 ∷ []) rest.0;
+      drafts_are = rest.2.drafts_are ∙ append_assoc drafts (first.0.1 ∷ []) rest.1;
+      said = (taken.0, rest.2.said);
+      kept = rest.2.kept;
+    })
+
+-- drafts and their scripts are tasks
+pub tasks_said : (queues : List (List ℕ)) (ds : Items) (names : List (List ℕ)) (drafts : List Draft) (scripts : List TaskScript) → AreDrafts ds names drafts → AreScripts queues drafts scripts → AreTasks queues ds names scripts × (length names ≡ length scripts)
+tasks_said queues no_items [] [] [] a b = (tt, refl)
+tasks_said queues no_items [] [] (s ∷ scripts) a b = absurd b
+tasks_said queues no_items [] (draft ∷ drafts) scripts a b = absurd a
+tasks_said queues no_items (n ∷ names) drafts scripts a b = absurd a
+tasks_said queues (item d ds) [] drafts scripts a b = absurd a
+tasks_said queues (item d ds) (n ∷ names) [] scripts a b = absurd a
+tasks_said queues (item d ds) (n ∷ names) (draft ∷ drafts) [] a b = absurd b
+tasks_said queues (item d ds) (n ∷ names) (draft ∷ drafts) (s ∷ scripts) a b =
+    let rest = tasks_said queues ds names drafts scripts a.1 b.2 in
+    (((draft.lines, record {
+      keys = a.0.keys;
+      name_at = a.0.name_at;
+      priority_at = a.0.priority_at ∙ ap (λ (p : ℕ). Some (number (unsigned p))) b.0;
+      code_at = a.0.code_at;
+      code = b.1;
+    }), rest.0), ap suc rest.1)
+
+pub scripts_in_limits : (app : Application) (queues : List (List ℕ)) (drafts : List Draft) (scripts : List TaskScript) → length app.queues ≡ length queues → AllByRecursion IsDraftInLimits drafts → AreScripts queues drafts scripts → AllByRecursion (IsScript app) scripts
+scripts_in_limits app queues [] [] sizes a b = tt
+scripts_in_limits app queues [] (s ∷ scripts) sizes a b = absurd b
+scripts_in_limits app queues (draft ∷ drafts) [] sizes a b = absurd b
+scripts_in_limits app queues (draft ∷ drafts) (s ∷ scripts) sizes a b =
+    (is_script app queues draft.lines s sizes (omega (arith, b.0, a.0.priority)) a.0.some a.0.few b.1, scripts_in_limits app queues drafts scripts sizes a.1 b.2)

@@ -1,15 +1,15 @@
 //! Reads an application from its file.
 
-ghost use Rattle.std.specs.Prelude.{◌≡◌, [], ◌∷◌, ◌++◌, false, map, option_map, string_bytes, OnOk};
+ghost use Rattle.std.specs.Prelude.{◌≡◌, [], ◌∷◌, ◌++◌, false, map, option_map, string_bytes, IfOk, OnOk};
 ghost use Rattle.std.specs.List.{list_any};
 ghost use Rattle.std.specs.Str.{bytes_eq};
 ghost use Rattle.serde_json.specs.Find.{get};
 ghost use Rattle.rd_script.specs.Application.{is_final};
 ghost use Rattle.serde_json.specs.View.{view, items_view, members_view};
-ghost use Rattle.rd_script.specs.File.{ends, line_of, lines_after, code_of, scripts_after, are_texts, task_of, tasks_after, Gives, GivesOrNoMemory, queues_after, has_only, object_with, field, in_limits, number_in, number_or, array_in, array_or_empty, new_name, queue_of};
+ghost use Rattle.rd_script.specs.File.{app_of, ends, line_of, lines_after, code_of, scripts_after, are_texts, task_of, tasks_after, Gives, GivesOrNoMemory, queues_after, has_only, object_with, field, in_limits, number_in, number_or, array_in, array_or_empty, new_name, queue_of};
 ghost use Rattle.rd_script.specs.Draft.{draft_view};
 
-use crate::app::{QueueShape, Script};
+use crate::app::{App, QueueShape, Script};
 use crate::error::AppError;
 use crate::instr::Instr;
 use crate::spelling::read_instr;
@@ -313,4 +313,44 @@ fn array_or_empty(value: Option<&Value>, most: u64) -> Result<&[Value], AppError
         None => Ok(&[]),
         Some(value) => array(value, 0, most),
     }
+}
+
+// The tasks' priorities, by number.
+fn priorities_of(alloc: Global, scripts: &[Script]) -> Result<Vec<u8>, AllocError>
+    ensures { IfOk result (λ priorities. priorities.items ≡ map (λ script. script.priority) scripts.now) }
+{
+    let mut priorities = Vec::new(alloc);
+    for script in scripts {
+        let script: &Script = script;
+        priorities.push(script.priority)?;
+    }
+    Ok(priorities)
+}
+
+#[tactic(auto, unfolding(crate::specs::File::app_of))]
+fn read_file(alloc: Global, file: &Value) -> Result<App, AppError>
+    ensures { GivesOrNoMemory (λ app. app) result (app_of (view file.now)) }
+{
+    object_with(file, &["profile", "cores", "notes", "tick", "queues", "tasks"])?;
+    let profile = field(file, "profile")?;
+    let cores = field(file, "cores")?;
+    let tasks = field(file, "tasks")?;
+    number(profile, 1, 1)?;
+    let cores = number(cores, 1, MAX_CORES)? as usize;
+    let notes = number_or(file.get("notes"), 1, 1, 4)? as usize;
+    let tick = number_or(file.get("tick"), 0, 0, u64::from(u32::MAX))? as u32;
+    let queues = read_queues(alloc, array_or_empty(file.get("queues"), 32)?)?;
+    let tasks = read_tasks(alloc, array(tasks, 1, MAX_TASKS)?)?;
+    let scripts = read_scripts(alloc, &tasks.drafts, &queues.names)?;
+    let priorities = priorities_of(alloc, &scripts)?;
+    Ok(App {
+        cores,
+        notes,
+        tick,
+        queues: queues.shapes,
+        queue_names: queues.names,
+        scripts,
+        task_names: tasks.names,
+        priorities,
+    })
 }
