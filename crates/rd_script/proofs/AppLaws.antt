@@ -1,7 +1,10 @@
 -- An application that is read is what its file says, within the limits.
-use Rattle.std.proofs.Common.{◌≡◌, ◌∙◌, ℕ, suc, ◌+◌, ◌-◌, ◌^◌, ◌<◌, ◌≤◌, Bool, true, codes, List, [], ◌∷◌, ◌++◌, length, Option, Some, None, Result, Ok, refl, sym, ap, subst, arith}
+use Rattle.std.proofs.Common.{◌≡◌, ◌∙◌, ℕ, suc, ◌+◌, ◌-◌, ◌^◌, ◌<◌, ◌≤◌, Bool, true, codes, List, [], ◌∷◌, ◌++◌, length, Option, Some, None, Result, Ok, ok_or, refl, sym, ap, subst, arith}
 use Rattle.std.specs.List.{AllByRecursion}
-use Rattle.std.proofs.lemmas.List.Elements.{All-from_recursion}
+use Rattle.std.proofs.lemmas.List.Elements.{All-from_recursion, recursion_from_All}
+use Rattle.std.proofs.lemmas.Str.{IsUtf8-from_is_utf8, is_utf8-from_IsUtf8}
+use Rattle.std.specs.Str.{is_utf8}
+use Rattle.serde_json.specs.Read.{read}
 use Rattle.serde_json.specs.Data.{Data, number, unsigned, array, Items, no_items, item}
 use Rattle.serde_json.specs.Events.{items_len}
 use Rattle.serde_json.specs.Find.{get}
@@ -9,13 +12,13 @@ use Rattle.rd_script.specs.declared.app.file.TheConstants as limit
 use Rattle.rd_script.specs.declared.app.QueueShape.{QueueShape}
 use Rattle.rd_script.specs.declared.error.AppError.{AppError}
 use Rattle.rd_script.specs.Application.{Application, IsApplication, IsQueueShape, IsScript, AreNames}
-use Rattle.rd_script.specs.File.{Draft, object_with, field, number_in, number_or, array_in, array_or_empty, queues_after, tasks_after, scripts_after, file_keys, app_of}
-use Rattle.rd_script.specs.Says.{IsNumberOr, IsArrayOrEmpty, AreQueues, Says}
+use Rattle.rd_script.specs.File.{Draft, object_with, field, number_in, number_or, array_in, array_or_empty, queues_after, tasks_after, scripts_after, file_keys, app_of, file_of}
+use Rattle.rd_script.specs.Says.{IsNumberOr, IsArrayOrEmpty, AreQueues, Says, IsSupported, FileSays}
 use Rattle.rd_script.specs.TaskScript.{TaskScript}
-use Rattle.rd_script.proofs.Steps.{bind_ok}
-use Rattle.rd_script.proofs.Values.{object_ok, field_ok, number_ok, array_ok}
+use Rattle.rd_script.proofs.Steps.{bind_ok, ok_or_ok, then_is, chosen}
+use Rattle.rd_script.proofs.Values.{object_ok, field_ok, number_ok, array_ok, object_again, field_again, number_again, array_again, limits_again}
 use Rattle.rd_script.proofs.QueueLaws as queue
-use Rattle.rd_script.proofs.ScriptLaws.{AreScripts, scripts_take}
+use Rattle.rd_script.proofs.ScriptLaws.{AreScripts, scripts_take, scripts_again}
 use Rattle.rd_script.proofs.TaskLaws as task
 
 number_or_ok : (otherwise least most : ℕ) (o : Option Data) (n : ℕ) → least ≤ otherwise → otherwise ≤ most → number_or otherwise least most o ≡ Ok n → IsNumberOr otherwise o n × (least ≤ n) × (n ≤ most)
@@ -61,7 +64,7 @@ pub record IsRead (d : Data) (app : Application) (profile cores tasks : Data) (q
 no_names : AreNames []
 no_names = record { named = refl; distinct = refl }
 
-pub read_takes : (d : Data) (app : Application) (profile cores tasks : Data) (queue_items task_items : Items) (drafts : List Draft) → IsRead d app profile cores tasks queue_items task_items drafts → Says d app queue_items task_items × IsApplication app
+pub read_takes : (d : Data) (app : Application) (profile cores tasks : Data) (queue_items task_items : Items) (drafts : List Draft) → IsRead d app profile cores tasks queue_items task_items drafts → Says d app queue_items task_items × IsApplication app × IsSupported app
 read_takes d app profile cores tasks queue_items task_items drafts read =
     let one = number_ok 1 1 profile 1 read.one in
     let core_count = number_ok 1 limit.MAX_CORES cores app.cores read.core_count in
@@ -108,9 +111,10 @@ read_takes d app profile cores tasks queue_items task_items drafts read =
         task_names = tasks_said.1;
         named_tasks = taken.2.kept.are_names;
       },
+      record { cores = omega (arith, core_count); tasks = omega (arith, task_array, count, tasks_said.1) },
     )
 
-is_one : (d : Data) (n : ℕ) → number_in 1 1 d ≡ Ok n → number_in 1 1 d ≡ Ok 1
+pub is_one : (d : Data) (n : ℕ) → number_in 1 1 d ≡ Ok n → number_in 1 1 d ≡ Ok 1
 is_one d n e =
     let h = number_ok 1 1 d n e in
     let single : n ≡ 1 = omega (arith, h.1, h.2) in
@@ -122,7 +126,7 @@ done x = Ok x
 ok_is : {A : Type 0} (x y : A) → done x ≡ done y → x ≡ y
 ok_is x y e = cc
 
-pub app_takes : (d : Data) (app : Application) → app_of d ≡ Ok app → (queue_items : Items) × (task_items : Items) × Says d app queue_items task_items × IsApplication app
+pub app_takes : (d : Data) (app : Application) → app_of d ≡ Ok app → (queue_items : Items) × (task_items : Items) × Says d app queue_items task_items × IsApplication app × IsSupported app
 unfolding app_of
 app_takes d app e =
     let keys = bind_ok (object_with file_keys d) _ app e in
@@ -155,4 +159,52 @@ app_takes d app e =
       drafts_are = drafts.1;
       scripts = scripts.1;
     }) in
-    (queue_items.0, task_items.0, subst (λ (app : Application). Says d app queue_items.0 task_items.0) is all.0, subst IsApplication is all.1)
+    (queue_items.0, task_items.0, subst (λ (app : Application). Says d app queue_items.0 task_items.0) is all.0, subst IsApplication is all.1, subst IsSupported is all.2)
+
+-- ---- what a file says is read
+
+number_or_again : (otherwise least most : ℕ) (o : Option Data) (n : ℕ) → IsNumberOr otherwise o n → least ≤ n → n ≤ most → number_or otherwise least most o ≡ Ok n
+number_or_again otherwise least most None n h low high = ap Ok (sym h)
+number_or_again otherwise least most (Some d) n h low high = number_again least most d n h low high
+
+array_or_again : (most : ℕ) (o : Option Data) (ds : Items) → IsArrayOrEmpty o ds → items_len ds ≤ most → array_or_empty most o ≡ Ok ds
+array_or_again most None ds h few = ap Ok (sym h)
+array_or_again most (Some d) ds h few = array_again 0 most d ds h (omega arith) few
+
+pub app_again : (d : Data) (app : Application) (queue_items task_items : Items) → Says d app queue_items task_items → IsApplication app → IsSupported app → app_of d ≡ Ok app
+unfolding app_of
+app_again d app queue_items task_items says limits supported =
+    let sizes = length_queues queue_items app.queue_names app.queues says.queues in
+    let same : length app.queues ≡ length app.queue_names = omega (arith, sizes) in
+    let shapes = recursion_from_All IsQueueShape app.queues limits.queues in
+    let scripts = recursion_from_All (IsScript app) app.scripts limits.scripts in
+    let split = task.tasks_split app app.queue_names task_items app.task_names app.scripts says.tasks scripts in
+    let drafts = split.0 in
+    let count = length_drafts task_items app.task_names drafts split.1 in
+    then_is (object_with file_keys d) _ tt _ (object_again file_keys d says.keys)
+    (then_is (field (codes "profile") d) _ (number (unsigned 1)) _ (field_again (codes "profile") d _ says.profile_at)
+    (then_is (field (codes "cores") d) _ (number (unsigned app.cores)) _ (field_again (codes "cores") d _ says.cores_at)
+    (then_is (field (codes "tasks") d) _ (array task_items) _ (field_again (codes "tasks") d _ says.tasks_at)
+    (then_is (number_in 1 1 (number (unsigned 1))) _ 1 _ (limits_again 1 1 1 (omega arith) (omega arith))
+    (then_is (number_in 1 limit.MAX_CORES (number (unsigned app.cores))) _ app.cores _ (limits_again 1 limit.MAX_CORES app.cores (omega (arith, limits.some_cores)) supported.cores)
+    (then_is (number_or 1 1 4 (get (codes "notes") d)) _ app.notes _ (number_or_again 1 1 4 (get (codes "notes") d) app.notes says.notes_at (omega (arith, limits.some_notes)) limits.few_notes)
+    (then_is (number_or 0 0 (2 ^ 32 - 1) (get (codes "tick") d)) _ app.tick _ (number_or_again 0 0 (2 ^ 32 - 1) (get (codes "tick") d) app.tick says.tick_at (omega arith) (omega (arith, limits.tick)))
+    (then_is (array_or_empty 32 (get (codes "queues") d)) _ queue_items _ (array_or_again 32 (get (codes "queues") d) queue_items says.queues_at (omega (arith, sizes, limits.few_queues)))
+    (then_is (queues_after [] [] queue_items) _ (app.queue_names, app.queues) _ (queue.queues_again queue_items [] [] app.queue_names app.queues says.queues limits.named_queues shapes)
+    (then_is (array_in 1 limit.MAX_TASKS (array task_items)) _ task_items _ (array_again 1 limit.MAX_TASKS (array task_items) task_items refl (omega (arith, count, limits.some_tasks, limits.task_names)) (omega (arith, count, supported.tasks, limits.task_names)))
+    (then_is (tasks_after [] [] task_items) _ (app.task_names, drafts) _ (task.tasks_again task_items [] [] app.task_names drafts split.1 limits.named_tasks split.2)
+    (then_is (scripts_after app.queue_names [] drafts) _ app.scripts _ (scripts_again app.queue_names drafts [] app.scripts split.3)
+    refl))))))))))))
+
+-- ---- the bytes of a file
+
+pub file_takes : (bytes : List ℕ) (app : Application) → file_of bytes ≡ Ok app → FileSays bytes app × IsApplication app × IsSupported app
+file_takes bytes app e =
+    let text = chosen (is_utf8 bytes) _ _ app e in
+    let d = bind_ok (ok_or (read bytes) _) _ app text.1 in
+    let taken = app_takes d.0 app d.2 in
+    ((d.0, IsUtf8-from_is_utf8 bytes text.0, ok_or_ok (read bytes) d.0 _ d.1, taken.0, taken.1, taken.2), taken.3, taken.4)
+
+pub file_again : (bytes : List ℕ) (app : Application) → FileSays bytes app → IsApplication app → IsSupported app → file_of bytes ≡ Ok app
+file_again bytes app says limits supported =
+    rw (is_utf8-from_IsUtf8 bytes says.1) (then_is (ok_or (read bytes) _) _ says.0 _ (ap (λ o. ok_or o _) says.2) (app_again says.0 app says.3 says.4 says.5 limits supported))

@@ -14,9 +14,9 @@ use Rattle.rd_script.specs.Application.{IsQueueShape, AreNames, are_distinct}
 use Rattle.rd_script.specs.Says.{IsQueue, AreQueues}
 use Rattle.rd_script.specs.Words.{is_name}
 use Rattle.rd_script.specs.File.{object_with, field, number_in, new_name, queue_keys, queue_of, queues_after}
-use Rattle.rd_script.proofs.Steps.{bind_ok}
+use Rattle.rd_script.proofs.Steps.{bind_ok, then_is}
 use Rattle.rd_script.proofs.WordLemmas.{and_left, and_right}
-use Rattle.rd_script.proofs.Values.{not_true, object_ok, field_ok, number_ok, name_ok}
+use Rattle.rd_script.proofs.Values.{object_again, field_again, name_again, limits_again, not_true, object_ok, field_ok, number_ok, name_ok}
 
 pub record IsNewName (names : List (List ℕ)) (name : List ℕ) : Type 0 where
   pub named : is_name name ≡ true
@@ -112,3 +112,46 @@ queues_take (item d ds) names shapes q e kept =
       said = (taken.0, rest.2.said);
       kept = rest.2.kept;
     })
+
+-- ---- what spells a queue is read
+
+pub queue_again : (names : List (List ℕ)) (d : Data) (name : List ℕ) (shape : QueueShape) → IsQueue d name shape → IsNewName names name → IsQueueShape shape → queue_of names d ≡ Ok (name, shape)
+unfolding queue_of
+queue_again names d name shape h new limits =
+    then_is (object_with queue_keys d) _ tt _ (object_again queue_keys d h.keys)
+    (then_is (field (codes "name") d) _ (string name) _ (field_again (codes "name") d _ h.name_at)
+    (then_is (field (codes "length") d) _ (number (unsigned shape.capacity)) _ (field_again (codes "length") d _ h.length_at)
+    (then_is (field (codes "item") d) _ (number (unsigned shape.item_size)) _ (field_again (codes "item") d _ h.item_at)
+    (then_is (new_name names (string name)) _ name _ (name_again names (string name) name refl new.named new.fresh)
+    (then_is (number_in 1 64 (number (unsigned shape.capacity))) _ shape.capacity _ (limits_again 1 64 shape.capacity (omega (arith, limits.0)) limits.1)
+    (then_is (number_in 1 64 (number (unsigned shape.item_size))) _ shape.item_size _ (limits_again 1 64 shape.item_size (omega (arith, limits.2)) limits.3)
+    refl))))))
+
+or_both : (a b : Bool) → a ≡ false → b ≡ false → (a || b) ≡ false
+or_both a b e f = rw (e, f) refl
+
+-- a name that stands behind others that are distinct is none of them
+behind_fresh : (names : List (List ℕ)) (name : List ℕ) (rest : List (List ℕ)) → are_distinct (names ++ name ∷ rest) ≡ true → list_any (bytes_eq name) names ≡ false
+behind_fresh [] name rest d = refl
+behind_fresh (n ∷ names) name rest d =
+    let alone : list_any (bytes_eq n) (names ++ name ∷ rest) ≡ false = not_true _ (and_left _ _ d) in
+    let parts = or_false (list_any (bytes_eq n) names) (list_any (bytes_eq n) (name ∷ rest)) (sym (list_any-append (bytes_eq n) names (name ∷ rest)) ∙ alone) in
+    let other = (or_false (bytes_eq n name) (list_any (bytes_eq n) rest) parts.1).0 in
+    or_both (bytes_eq name n) (list_any (bytes_eq name) names) (apart n name other) (behind_fresh names name rest (and_right (not (list_any (bytes_eq n) (names ++ name ∷ rest))) _ d))
+
+named_behind : (names : List (List ℕ)) (name : List ℕ) (rest : List (List ℕ)) → list_all is_name (names ++ name ∷ rest) ≡ true → is_name name ≡ true
+named_behind names name rest h = and_left (is_name name) (list_all is_name rest) (and_right (list_all is_name names) _ (sym (list_all-append is_name names (name ∷ rest)) ∙ h))
+
+pub IsNewName-behind : (names : List (List ℕ)) (name : List ℕ) (rest : List (List ℕ)) → AreNames (names ++ name ∷ rest) → IsNewName names name
+IsNewName-behind names name rest are = record { named = named_behind names name rest are.named; fresh = behind_fresh names name rest are.distinct }
+
+pub queues_again : (ds : Items) (names : List (List ℕ)) (shapes : List QueueShape) (more : List (List ℕ)) (others : List QueueShape) → AreQueues ds more others → AreNames (names ++ more) → AllByRecursion IsQueueShape others → queues_after names shapes ds ≡ Ok (names ++ more, shapes ++ others)
+queues_again no_items names shapes [] [] h are limits = rw (append-nil names, append-nil shapes) refl
+queues_again no_items names shapes [] (s ∷ others) h are limits = absurd h
+queues_again no_items names shapes (n ∷ more) others h are limits = absurd h
+queues_again (item d ds) names shapes [] others h are limits = absurd h
+queues_again (item d ds) names shapes (n ∷ more) [] h are limits = absurd h
+queues_again (item d ds) names shapes (n ∷ more) (s ∷ others) h are limits =
+    let all : AreNames ((names ++ n ∷ []) ++ more) = subst AreNames (sym (append_assoc names (n ∷ []) more)) are in
+    then_is (queue_of names d) _ (n, s) _ (queue_again names d n s h.0 (IsNewName-behind names n more are) limits.0)
+    (queues_again ds (names ++ n ∷ []) (shapes ++ s ∷ []) more others h.1 all limits.1 ∙ rw (append_assoc names (n ∷ []) more, append_assoc shapes (s ∷ []) others) refl)

@@ -123,7 +123,7 @@ lines_again queues len (item d ds) before (i ∷ more) h =
     ap (λ r. r >>= λ i. lines_after queues len (before ++ i ∷ []) ds) (line_again queues len d i h.0)
     ∙ lines_again queues len ds (before ++ i ∷ []) more h.1 ∙ ap Ok (append_assoc before (i ∷ []) more)
 
-length_lines : (queues : List (List ℕ)) (len : ℕ) (ds : Items) (code : List Instr) → AreLines queues len ds code → length code ≡ items_len ds
+pub length_lines : (queues : List (List ℕ)) (len : ℕ) (ds : Items) (code : List Instr) → AreLines queues len ds code → length code ≡ items_len ds
 length_lines queues len no_items [] h = refl
 length_lines queues len no_items (i ∷ code) h = absurd h
 length_lines queues len (item d ds) [] h = absurd h

@@ -1,5 +1,5 @@
 -- Steps that did not fail.
-use Rattle.std.proofs.Common.{◌≡◌, Bool, true, false, cond, Option, Some, None, Result, Ok, Err, ok_or, refl}
+use Rattle.std.proofs.Common.{◌≡◌, ◌∙◌, ap, Bool, true, false, cond, Option, Some, None, Result, Ok, Err, ok_or, refl}
 use Rattle.rd_script.specs.declared.error.AppError.{AppError}
 use Rattle.rd_script.specs.Spelling.{◌>>=◌}
 
@@ -16,3 +16,12 @@ guard_ok false x y d e = absurd cc
 pub ok_or_ok : {A : Type 0} (o : Option A) (x : A) (d : AppError) → ok_or o d ≡ Ok x → o ≡ Some x
 ok_or_ok (Some y) x d e = cc
 ok_or_ok None x d e = absurd cc
+
+-- a step that did not fail, and what follows
+pub then_is : {A B : Type 0} (r : Result A AppError) (f : A → Result B AppError) (x : A) (y : Result B AppError) → r ≡ Ok x → f x ≡ y → (r >>= f) ≡ y
+then_is r f x y e h = ap (λ r. r >>= f) e ∙ h
+
+-- what a test chose, where the other way is a fault
+pub chosen : {A : Type 0} (b : Bool) (r : Result A AppError) (d : AppError) (y : A) → cond b r (Err d) ≡ Ok y → (b ≡ true) × (r ≡ Ok y)
+chosen true r d y e = (refl, e)
+chosen false r d y e = absurd cc

@@ -5,14 +5,15 @@ use Rattle.serde_json.specs.Events.{items_len}
 use Rattle.serde_json.specs.Find.{get}
 use Rattle.std.specs.List.{AllByRecursion}
 use Rattle.std.proofs.lemmas.List.{append-nil}
+use Rattle.rd_script.specs.declared.instr.Instr.{Instr}
 use Rattle.rd_script.specs.Application.{Application, AreNames, IsScript}
-use Rattle.rd_script.specs.Says.{IsTask, AreTasks}
+use Rattle.rd_script.specs.Says.{IsTask, AreTasks, AreLines}
 use Rattle.rd_script.specs.TaskScript.{TaskScript}
 use Rattle.rd_script.specs.File.{is_object_with, object_with, field, number_in, array_in, new_name, are_texts, Draft, task_keys, task_of, tasks_after}
-use Rattle.rd_script.proofs.Steps.{bind_ok, guard_ok}
-use Rattle.rd_script.proofs.Values.{object_ok, field_ok, number_ok, array_ok, name_ok}
-use Rattle.rd_script.proofs.QueueLaws.{IsNewName, AreNames-push, AllByRecursion-push}
-use Rattle.rd_script.proofs.ScriptLaws.{AreScripts, is_script}
+use Rattle.rd_script.proofs.Steps.{bind_ok, guard_ok, then_is}
+use Rattle.rd_script.proofs.Values.{object_again, field_again, name_again, array_again, limits_again, object_ok, field_ok, number_ok, array_ok, name_ok}
+use Rattle.rd_script.proofs.QueueLaws.{IsNewName, IsNewName-behind, AreNames-push, AllByRecursion-push}
+use Rattle.rd_script.proofs.ScriptLaws.{AreScripts, is_script, length_lines}
 
 -- what a value says of a task
 pub record IsDraft (d : Data) (name : List ℕ) (draft : Draft) : Type 0 where
@@ -115,3 +116,62 @@ scripts_in_limits app queues [] (s ∷ scripts) sizes a b = absurd b
 scripts_in_limits app queues (draft ∷ drafts) [] sizes a b = absurd b
 scripts_in_limits app queues (draft ∷ drafts) (s ∷ scripts) sizes a b =
     (is_script app queues draft.lines s sizes (omega (arith, b.0, a.0.priority)) a.0.some a.0.few b.1, scripts_in_limits app queues drafts scripts sizes a.1 b.2)
+
+-- ---- what spells a task is read
+
+pub task_again : (names : List (List ℕ)) (d : Data) (name : List ℕ) (draft : Draft) → IsDraft d name draft → IsNewName names name → IsDraftInLimits draft → are_texts draft.lines ≡ true → task_of names d ≡ Ok (name, draft)
+unfolding task_of
+task_again names d name draft h new limits texts =
+    then_is (object_with task_keys d) _ tt _ (object_again task_keys d h.keys)
+    (then_is (field (codes "name") d) _ (string name) _ (field_again (codes "name") d _ h.name_at)
+    (then_is (field (codes "priority") d) _ (number (unsigned draft.priority)) _ (field_again (codes "priority") d _ h.priority_at)
+    (then_is (field (codes "code") d) _ (array draft.lines) _ (field_again (codes "code") d _ h.code_at)
+    (then_is (new_name names (string name)) _ name _ (name_again names (string name) name refl new.named new.fresh)
+    (then_is (number_in 0 31 (number (unsigned draft.priority))) _ draft.priority _ (limits_again 0 31 draft.priority (omega arith) limits.priority)
+    (then_is (array_in 1 256 (array draft.lines)) _ draft.lines _ (array_again 1 256 (array draft.lines) draft.lines refl limits.some limits.few)
+    (rw texts refl)))))))
+
+-- drafts that can be read
+pub record IsReadable (draft : Draft) : Type 0 where
+  pub in_limits : IsDraftInLimits draft
+  pub texts : are_texts draft.lines ≡ true
+
+pub tasks_again : (ds : Items) (names : List (List ℕ)) (drafts : List Draft) (more : List (List ℕ)) (others : List Draft) → AreDrafts ds more others → AreNames (names ++ more) → AllByRecursion IsReadable others → tasks_after names drafts ds ≡ Ok (names ++ more, drafts ++ others)
+tasks_again no_items names drafts [] [] h are limits = rw (append-nil names, append-nil drafts) refl
+tasks_again no_items names drafts [] (s ∷ others) h are limits = absurd h
+tasks_again no_items names drafts (n ∷ more) others h are limits = absurd h
+tasks_again (item d ds) names drafts [] others h are limits = absurd h
+tasks_again (item d ds) names drafts (n ∷ more) [] h are limits = absurd h
+tasks_again (item d ds) names drafts (n ∷ more) (s ∷ others) h are limits =
+    let all : AreNames ((names ++ n ∷ []) ++ more) = subst AreNames (sym (append_assoc names (n ∷ []) more)) are in
+    then_is (task_of names d) _ (n, s) _ (task_again names d n s h.0 (IsNewName-behind names n more are) limits.0.in_limits limits.0.texts)
+    (tasks_again ds (names ++ n ∷ []) (drafts ++ s ∷ []) more others h.1 all limits.1 ∙ rw (append_assoc names (n ∷ []) more, append_assoc drafts (s ∷ []) others) refl)
+
+texts_said : (queues : List (List ℕ)) (len : ℕ) (lines : Items) (code : List Instr) → AreLines queues len lines code → are_texts lines ≡ true
+texts_said queues len no_items [] h = refl
+texts_said queues len no_items (i ∷ code) h = absurd h
+texts_said queues len (item d ds) [] h = absurd h
+texts_said queues len (item d ds) (i ∷ code) h = rw h.0.1 (texts_said queues len ds code h.1)
+
+-- tasks are drafts and their scripts
+pub tasks_split : (app : Application) (queues : List (List ℕ)) (ds : Items) (names : List (List ℕ)) (scripts : List TaskScript) → AreTasks queues ds names scripts → AllByRecursion (IsScript app) scripts → (drafts : List Draft) × AreDrafts ds names drafts × AllByRecursion IsReadable drafts × AreScripts queues drafts scripts
+tasks_split app queues no_items [] [] h limits = ([], tt, tt, tt)
+tasks_split app queues no_items [] (s ∷ scripts) h limits = absurd h
+tasks_split app queues no_items (n ∷ names) scripts h limits = absurd h
+tasks_split app queues (item d ds) [] scripts h limits = absurd h
+tasks_split app queues (item d ds) (n ∷ names) [] h limits = absurd h
+tasks_split app queues (item d ds) (n ∷ names) (s ∷ scripts) h limits =
+    let lines = h.0.0 in
+    let said = h.0.1 in
+    let rest = tasks_split app queues ds names scripts h.1 limits.1 in
+    let len = length_lines queues (items_len lines) lines s.code said.code.0 in
+    let draft : Draft = record { priority = s.priority; lines = lines } in
+    (
+      draft ∷ rest.0,
+      (record { keys = said.keys; name_at = said.name_at; priority_at = said.priority_at; code_at = said.code_at }, rest.1),
+      (record {
+        in_limits = record { priority = limits.0.priority; some = omega (arith, limits.0.some); few = omega (arith, limits.0.few) };
+        texts = texts_said queues (items_len lines) lines s.code said.code.0;
+      }, rest.2),
+      (refl, said.code, rest.3),
+    )

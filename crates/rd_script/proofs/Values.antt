@@ -8,10 +8,11 @@ use Rattle.serde_json.specs.Data.{Data, null, boolean, number, string, array, ob
 use Rattle.serde_json.specs.Events.{items_len}
 use Rattle.serde_json.specs.Find.{get}
 use Rattle.rd_script.specs.declared.error.AppError.{AppError}
+use Rattle.rd_script.specs.declared.error.AppError.TheVariants as fault
 use Rattle.rd_script.specs.Spelling.{◌>>=◌}
 use Rattle.rd_script.specs.Words.{is_name}
 use Rattle.rd_script.specs.File.{is_object_with, object_with, field, in_limits, number_in, array_in, new_name}
-use Rattle.rd_script.proofs.Steps.{bind_ok, guard_ok, ok_or_ok}
+use Rattle.rd_script.proofs.Steps.{bind_ok, guard_ok, ok_or_ok, then_is}
 use Rattle.rd_script.proofs.WordLemmas.{and_left, and_right}
 
 pub object_ok : (known : List (List ℕ)) (d : Data) (u : Unit {0}) → object_with known d ≡ Ok u → is_object_with known d ≡ true
@@ -67,3 +68,20 @@ name_ok names (string s) name e =
     (ap string g.1, ap is_name (sym g.1) ∙ named, ap (λ (t : List ℕ). list_any (bytes_eq t) names) (sym g.1) ∙ fresh)
 name_ok names (array ds) name e = absurd cc
 name_ok names (object ms) name e = absurd cc
+
+-- ---- and again
+
+pub object_again : (known : List (List ℕ)) (d : Data) → is_object_with known d ≡ true → object_with known d ≡ Ok tt
+object_again known d e = ap (λ b. cond b (Ok tt) (Err fault.Shape)) e
+
+pub field_again : (key : List ℕ) (d x : Data) → get key d ≡ Some x → field key d ≡ Ok x
+field_again key d x e = ap (λ o. ok_or o fault.Shape) e
+
+pub number_again : (least most : ℕ) (d : Data) (n : ℕ) → d ≡ number (unsigned n) → least ≤ n → n ≤ most → number_in least most d ≡ Ok n
+number_again least most d n e low high = ap (number_in least most) e ∙ limits_again least most n low high
+
+pub array_again : (least most : ℕ) (d : Data) (ds : Items) → d ≡ array ds → least ≤ items_len ds → items_len ds ≤ most → array_in least most d ≡ Ok ds
+array_again least most d ds e low high = ap (array_in least most) e ∙ then_is (in_limits least most (items_len ds)) _ (items_len ds) _ (limits_again least most (items_len ds) low high) refl
+
+pub name_again : (names : List (List ℕ)) (d : Data) (name : List ℕ) → d ≡ string name → is_name name ≡ true → list_any (bytes_eq name) names ≡ false → new_name names d ≡ Ok name
+name_again names d name e named fresh = ap (new_name names) e ∙ ap (λ b. cond (b && not (list_any (bytes_eq name) names)) (Ok name) (Err fault.Name)) named ∙ ap (λ b. cond (true && not b) (Ok name) (Err fault.Name)) fresh

@@ -1,5 +1,7 @@
 -- Which application a file's JSON value says, whatever the order in which it is read.
-use Rattle.std.specs.Prelude.{ℕ, ◌≡◌, Bool, true, codes, List, [], ◌∷◌, Option, Some, None}
+use Rattle.std.specs.Prelude.{ℕ, ◌≡◌, ◌≤◌, Bool, true, codes, length, List, [], ◌∷◌, Option, Some, None, IsUtf8}
+use Rattle.serde_json.specs.Read.{read}
+use Rattle.rd_script.specs.declared.app.file.TheConstants as limit
 use Rattle.serde_json.specs.Data.{Data, number, unsigned, string, array, Items, no_items, item}
 use Rattle.serde_json.specs.Events.{items_len}
 use Rattle.serde_json.specs.Find.{get}
@@ -67,3 +69,12 @@ pub record Says (d : Data) (app : Application) (queue_items task_items : Items) 
   pub queues : AreQueues queue_items app.queue_names app.queues
   pub tasks_at : get (codes "tasks") d ≡ Some (array task_items)
   pub tasks : AreTasks app.queue_names task_items app.task_names app.scripts
+
+-- the bytes are JSON whose value says the application
+abbrev pub FileSays : List ℕ → Application → Type 0
+FileSays bytes app = (d : Data) × IsUtf8 bytes × (read bytes ≡ Some d) × (queue_items : Items) × (task_items : Items) × Says d app queue_items task_items
+
+-- what this version runs
+pub record IsSupported (app : Application) : Type 0 where
+  pub cores : app.cores ≤ limit.MAX_CORES
+  pub tasks : length app.scripts ≤ limit.MAX_TASKS

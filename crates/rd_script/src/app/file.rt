@@ -1,12 +1,13 @@
 //! Reads an application from its file.
 
-ghost use Rattle.std.specs.Prelude.{◌≡◌, [], ◌∷◌, ◌++◌, false, map, option_map, string_bytes, IfOk, OnOk};
+ghost use Rattle.std.specs.Prelude.{◌≡◌, [], ◌∷◌, ◌++◌, false, map, option_map, string_bytes, Ok, IfOk, OnOk};
 ghost use Rattle.std.specs.List.{list_any};
 ghost use Rattle.std.specs.Str.{bytes_eq};
 ghost use Rattle.serde_json.specs.Find.{get};
-ghost use Rattle.rd_script.specs.Application.{is_final};
+ghost use Rattle.rd_script.specs.Application.{Application, IsApplication, is_final};
+ghost use Rattle.rd_script.specs.Says.{FileSays, IsSupported};
 ghost use Rattle.serde_json.specs.View.{view, items_view, members_view};
-ghost use Rattle.rd_script.specs.File.{app_of, ends, line_of, lines_after, code_of, scripts_after, are_texts, task_of, tasks_after, Gives, GivesOrNoMemory, queues_after, has_only, object_with, field, in_limits, number_in, number_or, array_in, array_or_empty, new_name, queue_of};
+ghost use Rattle.rd_script.specs.File.{file_of, app_of, ends, line_of, lines_after, code_of, scripts_after, are_texts, task_of, tasks_after, Gives, GivesOrNoMemory, queues_after, has_only, object_with, field, in_limits, number_in, number_or, array_in, array_or_empty, new_name, queue_of};
 ghost use Rattle.rd_script.specs.Draft.{draft_view};
 
 use crate::app::{App, QueueShape, Script};
@@ -353,4 +354,31 @@ fn read_file(alloc: Global, file: &Value) -> Result<App, AppError>
         task_names: tasks.names,
         priorities,
     })
+}
+
+fn read_bytes(alloc: Global, text: &[u8]) -> Result<App, AppError>
+    ensures { GivesOrNoMemory (λ app. app) result (file_of text.now) }
+{
+    match Value::from_slice(alloc, text) {
+        Ok(file) => read_file(alloc, &file),
+        Err(e) => Err(if e.is_memory() {
+            AppError::Memory
+        } else {
+            AppError::NotJson
+        }),
+    }
+}
+
+/// The application of a file's bytes: a JSON object with the keys `profile`, `cores`, `notes`, `tick`, `queues` and
+/// `tasks`.
+pub fn read_app(alloc: Global, text: &[u8]) -> Result<App, AppError>
+    // What is read is what the file says, within the limits.
+    ensures accepted { IfOk result (λ app. FileSays text.now app × IsApplication app × IsSupported app) }
+    // What the file says is read, if it is within the limits.
+    ensures only { (app : Application) → FileSays text.now app → IsApplication app → IsSupported app
+        → GivesOrNoMemory (λ app. app) result (Ok app) }
+    // Which fault it is.
+    ensures exact { GivesOrNoMemory (λ app. app) result (file_of text.now) }
+{
+    read_bytes(alloc, text)
 }
