@@ -1,6 +1,5 @@
 -- An application that is read is what its file says, within the limits.
-use Rattle.std.proofs.Common.{◌≡◌, ◌∙◌, ℕ, suc, ◌+◌, ◌-◌, ◌^◌, ◌<◌, ◌≤◌, Bool, true, codes, List, [], ◌∷◌, ◌++◌, length, Option, Some, None, Result, Ok, ok_or, refl, sym, ap, subst, arith}
-use Rattle.std.specs.List.{AllByRecursion}
+use Rattle.std.proofs.Common.{IfOk, ◌≡◌, ◌∙◌, ℕ, suc, ◌-◌, ◌^◌, ◌≤◌, true, codes, List, [], ◌∷◌, length, Option, Some, None, IsUtf8, cond, false, Result, Ok, Err, ok_or, refl, sym, ap, subst, arith}
 use Rattle.std.proofs.lemmas.List.Elements.{All-from_recursion, recursion_from_All}
 use Rattle.std.proofs.lemmas.Str.{IsUtf8-from_is_utf8, is_utf8-from_IsUtf8}
 use Rattle.std.specs.Str.{is_utf8}
@@ -11,10 +10,11 @@ use Rattle.serde_json.specs.Find.{get}
 use Rattle.rd_script.specs.declared.app.file.TheConstants as limit
 use Rattle.rd_script.specs.declared.app.QueueShape.{QueueShape}
 use Rattle.rd_script.specs.declared.error.AppError.{AppError}
+use Rattle.rd_script.specs.declared.error.AppError.TheVariants as fault
+use Rattle.rd_script.specs.Spelling.{◌>>=◌}
 use Rattle.rd_script.specs.Application.{Application, IsApplication, IsQueueShape, IsScript, AreNames}
-use Rattle.rd_script.specs.File.{Draft, object_with, field, number_in, number_or, array_in, array_or_empty, queues_after, tasks_after, scripts_after, file_keys, app_of, file_of}
+use Rattle.rd_script.specs.File.{Draft, object_with, field, number_in, number_or, array_in, array_or_empty, queues_after, tasks_after, scripts_after, file_keys, app_of, file_of, GivesOrNoMemory}
 use Rattle.rd_script.specs.Says.{IsNumberOr, IsArrayOrEmpty, AreQueues, Says, IsSupported, FileSays}
-use Rattle.rd_script.specs.TaskScript.{TaskScript}
 use Rattle.rd_script.proofs.Steps.{bind_ok, ok_or_ok, then_is, chosen}
 use Rattle.rd_script.proofs.Values.{object_ok, field_ok, number_ok, array_ok, object_again, field_again, number_again, array_again, limits_again}
 use Rattle.rd_script.proofs.QueueLaws as queue
@@ -82,8 +82,7 @@ read_takes d app profile cores tasks queue_items task_items drafts read =
     let sizes = length_queues queue_items app.queue_names app.queues names_said in
     let count = length_drafts task_items app.task_names drafts drafts_said in
     let same : length app.queues ≡ length app.queue_names = omega (arith, sizes) in
-    let within = task.scripts_in_limits app app.queue_names drafts app.scripts same taken.2.kept.are_drafts scripts_said in
-    (
+    let within = task.scripts_in_limits app app.queue_names drafts app.scripts same taken.2.kept.are_drafts scripts_said in (
       record {
         keys = object_ok file_keys d tt read.keys;
         profile_at = field_ok (codes "profile") d profile read.profile_at ∙ ap Some one.0;
@@ -171,30 +170,47 @@ array_or_again : (most : ℕ) (o : Option Data) (ds : Items) → IsArrayOrEmpty 
 array_or_again most None ds h few = ap Ok (sym h)
 array_or_again most (Some d) ds h few = array_again 0 most d ds h (omega arith) few
 
-pub app_again : (d : Data) (app : Application) (queue_items task_items : Items) → Says d app queue_items task_items → IsApplication app → IsSupported app → app_of d ≡ Ok app
+-- what was read so is the answer
+app_read : (d : Data) (app : Application) (profile cores tasks : Data) (queue_items task_items : Items) (drafts : List Draft) → IsRead d app profile cores tasks queue_items task_items drafts → app_of d ≡ Ok app
 unfolding app_of
+app_read d app profile cores tasks queue_items task_items drafts read =
+    then_is (object_with file_keys d) _ tt _ read.keys
+    (then_is (field (codes "profile") d) _ profile _ read.profile_at
+    (then_is (field (codes "cores") d) _ cores _ read.cores_at
+    (then_is (field (codes "tasks") d) _ tasks _ read.tasks_at
+    (then_is (number_in 1 1 profile) _ 1 _ read.one
+    (then_is (number_in 1 limit.MAX_CORES cores) _ app.cores _ read.core_count
+    (then_is (number_or 1 1 4 (get (codes "notes") d)) _ app.notes _ read.notes
+    (then_is (number_or 0 0 (2 ^ 32 - 1) (get (codes "tick") d)) _ app.tick _ read.tick
+    (then_is (array_or_empty 32 (get (codes "queues") d)) _ queue_items _ read.queue_array
+    (then_is (queues_after [] [] queue_items) _ (app.queue_names, app.queues) _ read.queues
+    (then_is (array_in 1 limit.MAX_TASKS tasks) _ task_items _ read.task_array
+    (then_is (tasks_after [] [] task_items) _ (app.task_names, drafts) _ read.drafts_are
+    (then_is (scripts_after app.queue_names [] drafts) _ app.scripts _ read.scripts
+    refl))))))))))))
+
+pub app_again : (d : Data) (app : Application) (queue_items task_items : Items) → Says d app queue_items task_items → IsApplication app → IsSupported app → app_of d ≡ Ok app
 app_again d app queue_items task_items says limits supported =
     let sizes = length_queues queue_items app.queue_names app.queues says.queues in
-    let same : length app.queues ≡ length app.queue_names = omega (arith, sizes) in
     let shapes = recursion_from_All IsQueueShape app.queues limits.queues in
     let scripts = recursion_from_All (IsScript app) app.scripts limits.scripts in
     let split = task.tasks_split app app.queue_names task_items app.task_names app.scripts says.tasks scripts in
-    let drafts = split.0 in
-    let count = length_drafts task_items app.task_names drafts split.1 in
-    then_is (object_with file_keys d) _ tt _ (object_again file_keys d says.keys)
-    (then_is (field (codes "profile") d) _ (number (unsigned 1)) _ (field_again (codes "profile") d _ says.profile_at)
-    (then_is (field (codes "cores") d) _ (number (unsigned app.cores)) _ (field_again (codes "cores") d _ says.cores_at)
-    (then_is (field (codes "tasks") d) _ (array task_items) _ (field_again (codes "tasks") d _ says.tasks_at)
-    (then_is (number_in 1 1 (number (unsigned 1))) _ 1 _ (limits_again 1 1 1 (omega arith) (omega arith))
-    (then_is (number_in 1 limit.MAX_CORES (number (unsigned app.cores))) _ app.cores _ (limits_again 1 limit.MAX_CORES app.cores (omega (arith, limits.some_cores)) supported.cores)
-    (then_is (number_or 1 1 4 (get (codes "notes") d)) _ app.notes _ (number_or_again 1 1 4 (get (codes "notes") d) app.notes says.notes_at (omega (arith, limits.some_notes)) limits.few_notes)
-    (then_is (number_or 0 0 (2 ^ 32 - 1) (get (codes "tick") d)) _ app.tick _ (number_or_again 0 0 (2 ^ 32 - 1) (get (codes "tick") d) app.tick says.tick_at (omega arith) (omega (arith, limits.tick)))
-    (then_is (array_or_empty 32 (get (codes "queues") d)) _ queue_items _ (array_or_again 32 (get (codes "queues") d) queue_items says.queues_at (omega (arith, sizes, limits.few_queues)))
-    (then_is (queues_after [] [] queue_items) _ (app.queue_names, app.queues) _ (queue.queues_again queue_items [] [] app.queue_names app.queues says.queues limits.named_queues shapes)
-    (then_is (array_in 1 limit.MAX_TASKS (array task_items)) _ task_items _ (array_again 1 limit.MAX_TASKS (array task_items) task_items refl (omega (arith, count, limits.some_tasks, limits.task_names)) (omega (arith, count, supported.tasks, limits.task_names)))
-    (then_is (tasks_after [] [] task_items) _ (app.task_names, drafts) _ (task.tasks_again task_items [] [] app.task_names drafts split.1 limits.named_tasks split.2)
-    (then_is (scripts_after app.queue_names [] drafts) _ app.scripts _ (scripts_again app.queue_names drafts [] app.scripts split.3)
-    refl))))))))))))
+    let count = length_drafts task_items app.task_names split.0 split.1 in
+    app_read d app (number (unsigned 1)) (number (unsigned app.cores)) (array task_items) queue_items task_items split.0 (record {
+      keys = object_again file_keys d says.keys;
+      profile_at = field_again (codes "profile") d _ says.profile_at;
+      cores_at = field_again (codes "cores") d _ says.cores_at;
+      tasks_at = field_again (codes "tasks") d _ says.tasks_at;
+      one = refl;
+      core_count = limits_again 1 limit.MAX_CORES app.cores (omega (arith, limits.some_cores)) supported.cores;
+      notes = number_or_again 1 1 4 (get (codes "notes") d) app.notes says.notes_at (omega (arith, limits.some_notes)) limits.few_notes;
+      tick = number_or_again 0 0 (2 ^ 32 - 1) (get (codes "tick") d) app.tick says.tick_at (omega arith) (omega (arith, limits.tick));
+      queue_array = array_or_again 32 (get (codes "queues") d) queue_items says.queues_at (omega (arith, sizes, limits.few_queues));
+      queues = queue.queues_again queue_items [] [] app.queue_names app.queues says.queues limits.named_queues shapes;
+      task_array = array_again 1 limit.MAX_TASKS (array task_items) task_items refl (omega (arith, count, limits.some_tasks, limits.task_names)) (omega (arith, count, supported.tasks, limits.task_names));
+      drafts_are = task.tasks_again task_items [] [] app.task_names split.0 split.1 limits.named_tasks split.2;
+      scripts = scripts_again app.queue_names split.0 [] app.scripts split.3;
+    })
 
 -- ---- the bytes of a file
 
@@ -205,6 +221,19 @@ file_takes bytes app e =
     let taken = app_takes d.0 app d.2 in
     ((d.0, IsUtf8-from_is_utf8 bytes text.0, ok_or_ok (read bytes) d.0 _ d.1, taken.0, taken.1, taken.2), taken.3, taken.4)
 
+pub file_of_read : (bytes : List ℕ) (d : Data) → IsUtf8 bytes → read bytes ≡ Some d → file_of bytes ≡ app_of d
+file_of_read bytes d text is = rw (is_utf8-from_IsUtf8 bytes text) (then_is (ok_or (read bytes) fault.NotJson) app_of d _ (ap (λ o. ok_or o fault.NotJson) is) refl)
+
+pub file_of_none : (bytes : List ℕ) → (IsUtf8 bytes → read bytes ≡ None) → file_of bytes ≡ Err fault.NotJson
+file_of_none bytes none =
+    elim (is_utf8 bytes) as (λ b. (is_utf8 bytes ≡ b) → cond b (ok_or (read bytes) fault.NotJson >>= app_of) (Err fault.NotJson) ≡ Err fault.NotJson) [
+      | true ↦ λ e. ap (λ o. ok_or o fault.NotJson >>= app_of) (none (IsUtf8-from_is_utf8 bytes e))
+      | false ↦ λ e. refl
+    ] refl
+
 pub file_again : (bytes : List ℕ) (app : Application) → FileSays bytes app → IsApplication app → IsSupported app → file_of bytes ≡ Ok app
-file_again bytes app says limits supported =
-    rw (is_utf8-from_IsUtf8 bytes says.1) (then_is (ok_or (read bytes) _) _ says.0 _ (ap (λ o. ok_or o _) says.2) (app_again says.0 app says.3 says.4 says.5 limits supported))
+file_again bytes app says limits supported = file_of_read bytes says.0 says.1 says.2 ∙ app_again says.0 app says.3 says.4 says.5 limits supported
+
+pub is_accepted : (bytes : List ℕ) (r : Result Application AppError) → GivesOrNoMemory (λ app. app) r (file_of bytes) → IfOk r (λ app. FileSays bytes app × IsApplication app × IsSupported app)
+is_accepted bytes (Ok app) e = file_takes bytes app e
+is_accepted bytes (Err d) e = tt

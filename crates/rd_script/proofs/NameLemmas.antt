@@ -6,7 +6,7 @@ use Rattle.std.proofs.lemmas.Bool.{cases_lt}
 use Rattle.std.proofs.lemmas.Bool.Decides.{nat_tests}
 use Rattle.std.proofs.lemmas.Str.{IsUtf8-from_ascii}
 use Rattle.rd_script.specs.Words.{is_name, is_name_byte, is_letter}
-use Rattle.rd_script.proofs.WordLemmas.{all_at, and_left, and_right}
+use Rattle.rd_script.proofs.WordLemmas.{all_at, and_right}
 use Rattle.std.proofs.lemmas.List.{length-map}
 use Rattle.std.specs.List.{prefix_len}
 

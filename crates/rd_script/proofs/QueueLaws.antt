@@ -1,14 +1,12 @@
 -- A queue that is read is spelled by its value, and what spells a queue is read.
-use Rattle.std.proofs.Common.{◌≡◌, ◌∙◌, ℕ, ◌+◌, ◌<◌, ◌≤◌, ◌&&◌, ◌||◌, Bool, true, false, not, cond, codes, List, [], ◌∷◌, ◌++◌, length, map, get_or, drop, Option, Some, None, Result, Ok, Err, refl, sym, ap, subst, string_bytes, String, Global, append_assoc, add-one, arith, nat_le}
+use Rattle.std.proofs.Common.{◌≡◌, ◌∙◌, ℕ, ◌||◌, Bool, true, false, not, codes, List, [], ◌∷◌, ◌++◌, Some, Ok, refl, sym, ap, subst, append_assoc, arith}
 use Rattle.std.specs.List.{list_all, list_any}
 use Rattle.std.specs.List.{AllByRecursion}
 use Rattle.std.specs.Str.{bytes_eq}
-use Rattle.std.proofs.lemmas.List.{length-append, append-nil}
+use Rattle.std.proofs.lemmas.List.{append-nil}
 use Rattle.std.proofs.lemmas.List.Folds.{list_all-append, list_any-append}
 use Rattle.std.proofs.lemmas.Slice.Eq.{bytes_eq-Decides}
 use Rattle.serde_json.specs.Data.{Data, Items, no_items, item, number, unsigned, string}
-use Rattle.serde_json.specs.Events.{items_len}
-use Rattle.serde_json.specs.Find.{get}
 use Rattle.rd_script.specs.declared.app.QueueShape.{QueueShape}
 use Rattle.rd_script.specs.Application.{IsQueueShape, AreNames, are_distinct}
 use Rattle.rd_script.specs.Says.{IsQueue, AreQueues}
@@ -95,23 +93,29 @@ pub record Adds (ds : Items) (names : List (List ℕ)) (shapes : List QueueShape
 
 pub queues_take : (ds : Items) (names : List (List ℕ)) (shapes : List QueueShape) (q : List (List ℕ) × List QueueShape) → queues_after names shapes ds ≡ Ok q → AreKept names shapes → (more : List (List ℕ)) × (others : List QueueShape) × Adds ds names shapes q more others
 queues_take no_items names shapes q e kept =
-    let is : (names, shapes) ≡ q = cc in
-    ([], [], record {
-      names_are = ap (λ (q : List (List ℕ) × List QueueShape). q.0) (sym is) ∙ sym (append-nil names);
-      shapes_are = ap (λ (q : List (List ℕ) × List QueueShape). q.1) (sym is) ∙ sym (append-nil shapes);
-      said = tt;
-      kept = subst (λ (q : List (List ℕ) × List QueueShape). AreKept q.0 q.1) is kept;
-    })
+    let is : (names, shapes) ≡ q = cc in (
+      [],
+      [],
+      record {
+        names_are = ap (λ (q : List (List ℕ) × List QueueShape). q.0) (sym is) ∙ sym (append-nil names);
+        shapes_are = ap (λ (q : List (List ℕ) × List QueueShape). q.1) (sym is) ∙ sym (append-nil shapes);
+        said = tt;
+        kept = subst (λ (q : List (List ℕ) × List QueueShape). AreKept q.0 q.1) is kept;
+      },
+    )
 queues_take (item d ds) names shapes q e kept =
     let first = bind_ok (queue_of names d) _ q e in
     let taken = queue_takes names d first.0 first.1 in
-    let rest = queues_take ds (names ++ first.0.0 ∷ []) (shapes ++ first.0.1 ∷ []) q first.2 (record { are_names = AreNames-push names first.0.0 kept.are_names taken.1; are_shapes = AllByRecursion-push IsQueueShape shapes first.0.1 kept.are_shapes taken.2 }) in
-    (first.0.0 ∷ rest.0, first.0.1 ∷ rest.1, record {
-      names_are = rest.2.names_are ∙ append_assoc names (first.0.0 ∷ []) rest.0;
-      shapes_are = rest.2.shapes_are ∙ append_assoc shapes (first.0.1 ∷ []) rest.1;
-      said = (taken.0, rest.2.said);
-      kept = rest.2.kept;
-    })
+    let rest = queues_take ds (names ++ first.0.0 ∷ []) (shapes ++ first.0.1 ∷ []) q first.2 (record { are_names = AreNames-push names first.0.0 kept.are_names taken.1; are_shapes = AllByRecursion-push IsQueueShape shapes first.0.1 kept.are_shapes taken.2 }) in (
+      first.0.0 ∷ rest.0,
+      first.0.1 ∷ rest.1,
+      record {
+        names_are = rest.2.names_are ∙ append_assoc names (first.0.0 ∷ []) rest.0;
+        shapes_are = rest.2.shapes_are ∙ append_assoc shapes (first.0.1 ∷ []) rest.1;
+        said = (taken.0, rest.2.said);
+        kept = rest.2.kept;
+      },
+    )
 
 -- ---- what spells a queue is read
 

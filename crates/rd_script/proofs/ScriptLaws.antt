@@ -1,7 +1,6 @@
 -- Scripts that are read are spelled by their texts, and what spells a script is read.
-use Rattle.std.proofs.Common.{◌≡◌, ◌∙◌, ℕ, zero, suc, ◌+◌, ◌*◌, ◌-◌, ◌<◌, ◌≤◌, ◌&&◌, ◌==◌, Bool, true, false, cond, codes, List, [], ◌∷◌, ◌++◌, length, slice_index, Option, Some, None, Result, Ok, Err, nat_le, nat_lt, ok_or, option_and_then, position, refl, sym, ap, subst, append_assoc, arith}
+use Rattle.std.proofs.Common.{◌≡◌, ◌∙◌, ℕ, zero, suc, ◌-◌, ◌<◌, ◌≤◌, ◌&&◌, ◌==◌, Bool, true, false, cond, codes, List, [], ◌∷◌, ◌++◌, length, slice_index, Option, Some, None, Result, Ok, Err, nat_le, nat_lt, ok_or, position, refl, sym, ap, subst, append_assoc, arith}
 use Rattle.std.specs.Str.{bytes_eq}
-use Rattle.std.proofs.lemmas.Bool.{ltb-false}
 use Rattle.std.proofs.lemmas.Bool.Decides.{nat_tests}
 use Rattle.std.proofs.lemmas.List.Quantifiers.{position-Some}
 use Rattle.std.specs.Result.{result_ok}
@@ -10,7 +9,7 @@ use Rattle.hex.proofs.HexLemmas.{decode_of-ok}
 use Rattle.rd_script.specs.declared.instr.Instr.{Instr}
 use Rattle.rd_script.specs.declared.instr.Instr.TheVariants as instr
 use Rattle.rd_script.specs.Application.{Application, IsWithin, IsScript, is_final}
-use Rattle.rd_script.specs.Spelling.{◌>>=◌, register_of, target_of, name_of, instr_of}
+use Rattle.rd_script.specs.Spelling.{◌>>=◌, register_of, target_of, name_of}
 use Rattle.serde_json.specs.Data.{Data, null, boolean, number, string, array, object, Items, no_items, item}
 use Rattle.serde_json.specs.Events.{items_len}
 use Rattle.serde_json.specs.Find.{as_str}
@@ -25,7 +24,7 @@ use Rattle.rd_script.specs.TaskScript.{TaskScript}
 use Rattle.rd_script.specs.Words.{words_of, number_of, bytes_of, is_some_word}
 use Rattle.rd_script.proofs.SpellingLaws.{then_some, instr_takes, instr_again}
 use Rattle.rd_script.proofs.Steps.{bind_ok, guard_ok, ok_or_ok}
-use Rattle.rd_script.proofs.WordLemmas.{and_left, and_right}
+use Rattle.rd_script.proofs.WordLemmas.{and_right}
 
 -- the value that a test lets through
 some_if : {X : Type 0} (b : Bool) (x y : X) → cond b (Some x) None ≡ Some y → (b ≡ true) × (x ≡ y)

@@ -1,14 +1,13 @@
 -- An instruction that is read is spelled by its words, and what spells an instruction is read.
-use Rattle.std.proofs.Common.{◌≡◌, ◌∙◌, ℕ, Bool, true, false, cond, codes, List, [], ◌∷◌, Option, Some, None, Result, Ok, Err, ok_or, option_map, option_and_then, position, refl, sym, ap, subst}
+use Rattle.std.proofs.Common.{◌≡◌, ◌∙◌, ℕ, true, false, cond, codes, List, [], ◌∷◌, Option, Some, None, Ok, ok_or, option_map, option_and_then, position, refl, sym, ap, subst}
 use Rattle.std.specs.Str.{bytes_eq}
 use Rattle.std.proofs.lemmas.Slice.Eq.{bytes_eq-Decides}
-use Rattle.rd_script.specs.declared.error.AppError.{AppError}
 use Rattle.rd_script.specs.declared.error.AppError.TheVariants as fault
 use Rattle.rd_script.specs.declared.instr.Instr.{Instr}
 use Rattle.rd_script.specs.declared.instr.Instr.TheVariants as instr
 use Rattle.rd_script.specs.declared.spelling.Keyword.{Keyword}
 use Rattle.rd_script.specs.declared.spelling.Keyword.TheVariants.{Set, Add, Move, Data, Pack, Unpack, Jump, JumpZero, End, Send, Receive}
-use Rattle.rd_script.specs.Spelling.{◌>>=◌, keyword_of, register_of, target_of, name_of, no_wait_of, queue_of, operand, ended, object_at, operation_of, instr_of}
+use Rattle.rd_script.specs.Spelling.{◌>>=◌, keyword_of, register_of, target_of, name_of, no_wait_of, operand, ended, object_at, operation_of, instr_of}
 use Rattle.rd_script.specs.Spells.{HasOne, HasTwo, queue_named, Spells}
 use Rattle.rd_script.specs.Words.{number_of, bytes_of}
 use Rattle.rd_script.proofs.Steps.{bind_ok, ok_or_ok}

@@ -1,5 +1,5 @@
 -- A task that is read is spelled by its value, and what spells a task is read.
-use Rattle.std.proofs.Common.{◌≡◌, ◌∙◌, ℕ, suc, ◌≤◌, Bool, true, cond, codes, List, [], ◌∷◌, ◌++◌, length, Some, Ok, refl, sym, ap, subst, append_assoc, arith}
+use Rattle.std.proofs.Common.{◌≡◌, ◌∙◌, ℕ, suc, ◌≤◌, true, codes, List, [], ◌∷◌, ◌++◌, length, Some, Ok, refl, sym, ap, subst, append_assoc, arith}
 use Rattle.serde_json.specs.Data.{Data, number, unsigned, string, array, Items, no_items, item}
 use Rattle.serde_json.specs.Events.{items_len}
 use Rattle.serde_json.specs.Find.{get}
@@ -7,7 +7,7 @@ use Rattle.std.specs.List.{AllByRecursion}
 use Rattle.std.proofs.lemmas.List.{append-nil}
 use Rattle.rd_script.specs.declared.instr.Instr.{Instr}
 use Rattle.rd_script.specs.Application.{Application, AreNames, IsScript}
-use Rattle.rd_script.specs.Says.{IsTask, AreTasks, AreLines}
+use Rattle.rd_script.specs.Says.{AreTasks, AreLines}
 use Rattle.rd_script.specs.TaskScript.{TaskScript}
 use Rattle.rd_script.specs.File.{is_object_with, object_with, field, number_in, array_in, new_name, are_texts, Draft, task_keys, task_of, tasks_after}
 use Rattle.rd_script.proofs.Steps.{bind_ok, guard_ok, then_is}
@@ -73,23 +73,29 @@ pub record Adds (ds : Items) (names : List (List ℕ)) (drafts : List Draft) (t 
 
 pub tasks_take : (ds : Items) (names : List (List ℕ)) (drafts : List Draft) (t : List (List ℕ) × List Draft) → tasks_after names drafts ds ≡ Ok t → AreKept names drafts → (more : List (List ℕ)) × (others : List Draft) × Adds ds names drafts t more others
 tasks_take no_items names drafts t e kept =
-    let is : (names, drafts) ≡ t = cc in
-    ([], [], record {
-      names_are = ap (λ (t : List (List ℕ) × List Draft). t.0) (sym is) ∙ sym (append-nil names);
-      drafts_are = ap (λ (t : List (List ℕ) × List Draft). t.1) (sym is) ∙ sym (append-nil drafts);
-      said = tt;
-      kept = subst (λ (t : List (List ℕ) × List Draft). AreKept t.0 t.1) is kept;
-    })
+    let is : (names, drafts) ≡ t = cc in (
+      [],
+      [],
+      record {
+        names_are = ap (λ (t : List (List ℕ) × List Draft). t.0) (sym is) ∙ sym (append-nil names);
+        drafts_are = ap (λ (t : List (List ℕ) × List Draft). t.1) (sym is) ∙ sym (append-nil drafts);
+        said = tt;
+        kept = subst (λ (t : List (List ℕ) × List Draft). AreKept t.0 t.1) is kept;
+      },
+    )
 tasks_take (item d ds) names drafts t e kept =
     let first = bind_ok (task_of names d) _ t e in
     let taken = task_takes names d first.0 first.1 in
-    let rest = tasks_take ds (names ++ first.0.0 ∷ []) (drafts ++ first.0.1 ∷ []) t first.2 (record { are_names = AreNames-push names first.0.0 kept.are_names taken.1; are_drafts = AllByRecursion-push IsDraftInLimits drafts first.0.1 kept.are_drafts taken.2 }) in
-    (first.0.0 ∷ rest.0, first.0.1 ∷ rest.1, record {
-      names_are = rest.2.names_are ∙ append_assoc names (first.0.0 ∷ []) rest.0;
-      drafts_are = rest.2.drafts_are ∙ append_assoc drafts (first.0.1 ∷ []) rest.1;
-      said = (taken.0, rest.2.said);
-      kept = rest.2.kept;
-    })
+    let rest = tasks_take ds (names ++ first.0.0 ∷ []) (drafts ++ first.0.1 ∷ []) t first.2 (record { are_names = AreNames-push names first.0.0 kept.are_names taken.1; are_drafts = AllByRecursion-push IsDraftInLimits drafts first.0.1 kept.are_drafts taken.2 }) in (
+      first.0.0 ∷ rest.0,
+      first.0.1 ∷ rest.1,
+      record {
+        names_are = rest.2.names_are ∙ append_assoc names (first.0.0 ∷ []) rest.0;
+        drafts_are = rest.2.drafts_are ∙ append_assoc drafts (first.0.1 ∷ []) rest.1;
+        said = (taken.0, rest.2.said);
+        kept = rest.2.kept;
+      },
+    )
 
 -- drafts and their scripts are tasks
 pub tasks_said : (queues : List (List ℕ)) (ds : Items) (names : List (List ℕ)) (drafts : List Draft) (scripts : List TaskScript) → AreDrafts ds names drafts → AreScripts queues drafts scripts → AreTasks queues ds names scripts × (length names ≡ length scripts)
@@ -101,14 +107,22 @@ tasks_said queues (item d ds) [] drafts scripts a b = absurd a
 tasks_said queues (item d ds) (n ∷ names) [] scripts a b = absurd a
 tasks_said queues (item d ds) (n ∷ names) (draft ∷ drafts) [] a b = absurd b
 tasks_said queues (item d ds) (n ∷ names) (draft ∷ drafts) (s ∷ scripts) a b =
-    let rest = tasks_said queues ds names drafts scripts a.1 b.2 in
-    (((draft.lines, record {
-      keys = a.0.keys;
-      name_at = a.0.name_at;
-      priority_at = a.0.priority_at ∙ ap (λ (p : ℕ). Some (number (unsigned p))) b.0;
-      code_at = a.0.code_at;
-      code = b.1;
-    }), rest.0), ap suc rest.1)
+    let rest = tasks_said queues ds names drafts scripts a.1 b.2 in (
+      (
+        (
+          draft.lines,
+          record {
+            keys = a.0.keys;
+            name_at = a.0.name_at;
+            priority_at = a.0.priority_at ∙ ap (λ (p : ℕ). Some (number (unsigned p))) b.0;
+            code_at = a.0.code_at;
+            code = b.1;
+          },
+        ),
+        rest.0,
+      ),
+      ap suc rest.1,
+    )
 
 pub scripts_in_limits : (app : Application) (queues : List (List ℕ)) (drafts : List Draft) (scripts : List TaskScript) → length app.queues ≡ length queues → AllByRecursion IsDraftInLimits drafts → AreScripts queues drafts scripts → AllByRecursion (IsScript app) scripts
 scripts_in_limits app queues [] [] sizes a b = tt
@@ -165,13 +179,15 @@ tasks_split app queues (item d ds) (n ∷ names) (s ∷ scripts) h limits =
     let said = h.0.1 in
     let rest = tasks_split app queues ds names scripts h.1 limits.1 in
     let len = length_lines queues (items_len lines) lines s.code said.code.0 in
-    let draft : Draft = record { priority = s.priority; lines = lines } in
-    (
+    let draft : Draft = record { priority = s.priority; lines = lines } in (
       draft ∷ rest.0,
       (record { keys = said.keys; name_at = said.name_at; priority_at = said.priority_at; code_at = said.code_at }, rest.1),
-      (record {
-        in_limits = record { priority = limits.0.priority; some = omega (arith, limits.0.some); few = omega (arith, limits.0.few) };
-        texts = texts_said queues (items_len lines) lines s.code said.code.0;
-      }, rest.2),
+      (
+        record {
+          in_limits = record { priority = limits.0.priority; some = omega (arith, limits.0.some); few = omega (arith, limits.0.few) };
+          texts = texts_said queues (items_len lines) lines s.code said.code.0;
+        },
+        rest.2,
+      ),
       (refl, said.code, rest.3),
     )

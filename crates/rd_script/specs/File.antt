@@ -1,6 +1,6 @@
 -- The application of a file's JSON value, or the first fault that is met: of an object first its keys, and then what
 -- stands at them, in the order below.
-use Rattle.std.specs.Prelude.{ℕ, ◌≡◌, ◌≢◌, ◌-◌, ◌^◌, ◌&&◌, is_some, Bool, true, false, not, codes, List, [], ◌∷◌, ◌++◌, length, slice_get, nat_lt, nat_le, if◌then◌else◌, Option, Some, None, Result, Ok, Err, ok_or, option_map, option_and_then, unwrap_or, ⊤}
+use Rattle.std.specs.Prelude.{ℕ, ◌≡◌, ◌≢◌, ◌-◌, ◌^◌, ◌&&◌, is_some, Bool, true, false, not, codes, List, [], ◌∷◌, ◌++◌, length, slice_get, nat_le, if◌then◌else◌, Option, Some, None, Result, Ok, Err, ok_or, option_map, option_and_then, unwrap_or, ⊤}
 use Rattle.std.specs.List.{list_all, list_any}
 use Rattle.std.specs.Str.{bytes_eq, is_utf8}
 use Rattle.serde_json.specs.Data.{Data, Items, no_items, item, Members, no_members, member}

@@ -214,11 +214,7 @@ fn read_tasks(alloc: Global, values: &[Value]) -> Result<Tasks<'_>, AppError>
     Ok(Tasks { names, drafts })
 }
 
-fn read_line(
-    line: &Value,
-    queues: &IndexSet<String>,
-    len: usize,
-) -> Result<Instr, AppError>
+fn read_line(line: &Value, queues: &IndexSet<String>, len: usize) -> Result<Instr, AppError>
     ensures { result ≡ line_of (map string_bytes queues.now.keys) len (view line.now) }
 {
     let text = line.as_str().ok_or(AppError::Shape)?;
@@ -293,12 +289,7 @@ fn read_scripts(
     Ok(scripts)
 }
 
-fn number_or(
-    value: Option<&Value>,
-    otherwise: u64,
-    least: u64,
-    most: u64,
-) -> Result<u64, AppError>
+fn number_or(value: Option<&Value>, otherwise: u64, least: u64, most: u64) -> Result<u64, AppError>
     ensures { result ≡ number_or otherwise least most (option_map (λ value. view value.now) value.entry) }
 {
     match value {
@@ -332,7 +323,10 @@ fn priorities_of(alloc: Global, scripts: &[Script]) -> Result<Vec<u8>, AllocErro
 fn read_file(alloc: Global, file: &Value) -> Result<App, AppError>
     ensures { GivesOrNoMemory (λ app. app) result (app_of (view file.now)) }
 {
-    object_with(file, &["profile", "cores", "notes", "tick", "queues", "tasks"])?;
+    object_with(
+        file,
+        &["profile", "cores", "notes", "tick", "queues", "tasks"],
+    )?;
     let profile = field(file, "profile")?;
     let cores = field(file, "cores")?;
     let tasks = field(file, "tasks")?;

@@ -1,6 +1,5 @@
 use Rattle.std.proofs.Common.{rules, ◌≡◌, codes, refl, arith}
 use Rattle.std.proofs.lemmas.Slice.Eq.{text_from_reads}
-use Rattle.rd_script.specs.Spelling.{keyword_of}
 use Rattle.rd_script.proofs.spelling.keyword_of.Goals as goal
 
 pub returns-in-unpack : goal.returns-in-unpack

@@ -1,4 +1,4 @@
-use Rattle.std.proofs.Common.{◌≡◌, true, rules, IsUtf8, List, ℕ, IsOk}
+use Rattle.std.proofs.Common.{◌≡◌, true, rules}
 use Rattle.rd_script.specs.Words.{is_name}
 use Rattle.rd_script.proofs.NameLemmas.{name-IsUtf8}
 use Rattle.rd_script.proofs.spelling.name.Goals as goal

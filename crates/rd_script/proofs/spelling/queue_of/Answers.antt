@@ -1,4 +1,4 @@
-use Rattle.std.proofs.Common.{◌∙◌, ℕ, Option, ap, ok_or, sym, string_bytes, position}
+use Rattle.std.proofs.Common.{◌∙◌, ℕ, Option, ap, ok_or, sym, string_bytes}
 use Rattle.std.specs.Str.{bytes_eq}
 use Rattle.rd_script.specs.declared.error.AppError.TheVariants as fault
 use Rattle.rd_script.proofs.NameLemmas.{position-map}

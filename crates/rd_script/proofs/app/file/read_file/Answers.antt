@@ -1,9 +1,8 @@
-use Rattle.std.proofs.Common.{◌≡◌, ◌∙◌, sym, ap, rules, map, string_bytes}
+use Rattle.std.proofs.Common.{◌∙◌, sym, ap, rules, map, string_bytes}
 use Rattle.serde_json.specs.View.{view, items_view}
 use Rattle.rd_script.specs.Application.{Application}
 use Rattle.rd_script.specs.Draft.{draft_view}
-use Rattle.rd_script.specs.File.{Draft}
-use Rattle.rd_script.proofs.AppLaws.{IsRead, is_one, read_takes}
+use Rattle.rd_script.proofs.AppLaws.{is_one, read_takes}
 use Rattle.rd_script.proofs.app.file.read_file.Goals as goal
 
 pub invariant_of-result : goal.invariant_of-result
@@ -32,4 +31,4 @@ invariant_of-result c =
       drafts_are = c.in_ok-tasks-2.ensures;
       scripts = search rules;
     }) in
-    (read.1, ap (λ x. x) c.in_ok-priorities.ensures)
+    (read.1, c.in_ok-priorities.ensures ∙ ap (map (λ script. script.priority)) c.deref-2.ensures.value)

@@ -1,7 +1,5 @@
-use Rattle.std.proofs.Common.{◌∙◌, ◌≡◌, ap, map, string_bytes, Ok, List, ℕ}
-use Rattle.serde_json.specs.View.{view, items_view}
-use Rattle.rd_script.specs.declared.app.QueueShape.{QueueShape}
-use Rattle.rd_script.specs.File.{queue_of, queues_after}
+use Rattle.std.proofs.Common.{◌∙◌, map, string_bytes}
+use Rattle.serde_json.specs.View.{view}
 use Rattle.rd_script.proofs.FileLemmas.{queues_step}
 use Rattle.rd_script.proofs.QueueLaws.{queue_takes}
 use Rattle.rd_script.proofs.app.file.read_queues.Goals as goal
