@@ -10,6 +10,8 @@ use std::alloc::{AllocError, Global};
 use std::marker::Model;
 
 pub mod file;
+#[cfg(test)]
+mod tests;
 
 /// What kind of thing a name stands for.
 #[derive(Clone, Copy, Debug, PartialEq, Eq)]
