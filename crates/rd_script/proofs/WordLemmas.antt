@@ -1,15 +1,12 @@
 -- The words of a line, from the first on.
-use Rattle.std.proofs.Common.{◌≡◌, ◌∙◌, ℕ, zero, suc, ◌+◌, ◌-◌, ◌<◌, ◌++◌, ◌&&◌, Bool, true, false, cond, List, [], ◌∷◌, get_or, length, take, drop, filter, not, refl, sym, ap, arith}
-use Rattle.std.proofs.lemmas.Bool.{lt-ltb}
+use Rattle.std.proofs.Common.{◌≡◌, ◌∙◌, ℕ, zero, suc, ◌+◌, ◌-◌, ◌<◌, ◌≤◌, ◌++◌, ◌&&◌, Bool, true, false, cond, List, [], ◌∷◌, get_or, length, take, drop, filter, not, refl, sym, ap, subst, inl, inr, arith}
+use Rattle.std.proofs.lemmas.Bool.{lt-ltb, cases_lt}
 use Rattle.std.proofs.lemmas.Bool.Decides.{nat_tests}
-use Rattle.std.proofs.lemmas.List.{length-take}
+use Rattle.std.proofs.lemmas.List.{length-take, length-drop, take_at, drop_at, append-nil, take-append-drop, nil_from_length}
 use Rattle.std.proofs.lemmas.List.Sums.{prefix_len-le-length}
 use Rattle.std.specs.Char.{is_ascii_digit, digit_value}
 use Rattle.std.specs.List.{slice_split, onto_first, prefix_len, list_all}
-use Rattle.rd_script.specs.Words.{is_space, is_some_word, words_of}
-
-abbrev pub is_solid : ℕ → Bool
-is_solid byte = not (is_space byte)
+use Rattle.rd_script.specs.Words.{is_solid, is_word, ends_word, AreWords, is_space, is_some_word, words_of}
 
 one_more : (n : ℕ) → 1 + n ≡ suc n
 one_more n = omega arith
@@ -117,3 +114,101 @@ digit_is c h = grind (arith, nat_tests)
 
 pub digit_small : (c : ℕ) → is_ascii_digit c ≡ true → c < 58
 digit_small c h = grind (arith, nat_tests)
+
+-- ---- spaces and words in a row
+
+gap_words : (gap line : List ℕ) → list_all is_space gap ≡ true → words_of (gap ++ line) ≡ words_of line
+gap_words [] line h = refl
+gap_words (x ∷ gap) line h =
+    let space : is_space x ≡ true = and_left (is_space x) (list_all is_space gap) h in
+    rw space (gap_words gap line (and_right (is_space x) (list_all is_space gap) h))
+
+word_len : (word rest : List ℕ) → list_all is_solid word ≡ true → ends_word rest ≡ true → prefix_len is_solid (word ++ rest) ≡ length word
+word_len [] [] h e = refl
+word_len [] (y ∷ rest) h e = ap (λ b. cond (not b) (1 + prefix_len is_solid rest) 0) e
+word_len (x ∷ word) rest h e =
+    let more = word_len word rest (and_right (is_solid x) (list_all is_solid word) h) e in
+    let one : 1 + prefix_len is_solid (word ++ rest) ≡ suc (length word) = omega arith in
+    ap (λ b. cond b (1 + prefix_len is_solid (word ++ rest)) 0) (and_left (is_solid x) (list_all is_solid word) h) ∙ one
+
+word_words : (word rest : List ℕ) → is_word word ≡ true → ends_word rest ≡ true → words_of (word ++ rest) ≡ word ∷ words_of rest
+word_words word rest h e =
+    let some : is_some_word word ≡ true = and_left (is_some_word word) (list_all is_solid word) h in
+    let len = word_len word rest (and_right (is_some_word word) (list_all is_solid word) h) e in
+    let first = take_at word rest (length word) refl in
+    let later = drop_at word rest (length word) refl in
+    words_from (word ++ rest)
+    ∙ ap (λ (n : ℕ). filter is_some_word (take n (word ++ rest) ∷ []) ++ words_of (drop n (word ++ rest))) len
+    ∙ ap (λ (w : List ℕ). filter is_some_word (w ∷ []) ++ words_of (drop (length word) (word ++ rest))) first
+    ∙ ap (λ (r : List ℕ). filter is_some_word (word ∷ []) ++ words_of r) later
+    ∙ ap (λ b. cond b (word ∷ []) [] ++ words_of rest) some
+
+pub words_only : (words : List (List ℕ)) (line : List ℕ) → AreWords words line → words ≡ words_of line
+words_only [] line h = sym (ap words_of (sym (append-nil line)) ∙ gap_words line [] h)
+words_only (word ∷ words) line h =
+    ap (λ (ws : List (List ℕ)). word ∷ ws) (words_only words h.1 h.6)
+    ∙ sym (ap words_of h.2 ∙ gap_words h.0 (word ++ h.1) h.3 ∙ word_words word h.1 h.4 h.5)
+
+prefix_passes : (p : ℕ → Bool) (xs : List ℕ) → list_all p (take (prefix_len p xs) xs) ≡ true
+prefix_passes p [] = refl
+prefix_passes p (x ∷ xs) =
+    let rest = prefix_passes p xs in
+    elim (p x) as (λ b. (p x ≡ b) → list_all p (take (cond b (1 + prefix_len p xs) 0) (x ∷ xs)) ≡ true) [
+      | true ↦ λ e. rw (one_more (prefix_len p xs)) (ap (λ b. b && list_all p (take (prefix_len p xs) xs)) e ∙ rest)
+      | false ↦ λ e. refl
+    ] refl
+
+ends_prefix : (xs : List ℕ) → ends_word (drop (prefix_len is_solid xs) xs) ≡ true
+ends_prefix [] = refl
+ends_prefix (x ∷ xs) =
+    let rest = ends_prefix xs in
+    elim (is_space x) as (λ b. (is_space x ≡ b) → ends_word (drop (cond (not b) (1 + prefix_len is_solid xs) 0) (x ∷ xs)) ≡ true) [
+      | true ↦ λ e. e
+      | false ↦ λ e. rw (one_more (prefix_len is_solid xs)) rest
+    ] refl
+
+-- the line's first word and what stands around it
+cut_of : (line : List ℕ) → IsCut line (take (prefix_len is_solid (unspaced line)) (unspaced line)) (drop (prefix_len is_solid (unspaced line)) (unspaced line))
+cut_of line = record { first = refl; later = refl }
+
+both_hold : (a b : Bool) → a ≡ true → b ≡ true → (a && b) ≡ true
+both_hold a b e f = rw (e, f) refl
+
+line_parts : (line : List ℕ) → line ≡ take (prefix_len is_space line) line ++ (take (prefix_len is_solid (unspaced line)) (unspaced line) ++ drop (prefix_len is_solid (unspaced line)) (unspaced line))
+line_parts line = sym (ap (λ (r : List ℕ). take (prefix_len is_space line) line ++ r) (take-append-drop (prefix_len is_solid (unspaced line)) (unspaced line)) ∙ take-append-drop (prefix_len is_space line) line)
+
+no_words : (line : List ℕ) → prefix_len is_solid (unspaced line) ≡ 0 → AreWords (words_of line) line
+no_words line e =
+    let ended = no_word line e in
+    let none : words_of line ≡ [] = words-spaces line ∙ ap words_of ended in
+    let whole : line ≡ take (prefix_len is_space line) line = sym (take-append-drop (prefix_len is_space line) line) ∙ ap (λ (r : List ℕ). take (prefix_len is_space line) line ++ r) ended ∙ append-nil (take (prefix_len is_space line) line) in
+    let blank : list_all is_space line ≡ true = ap (list_all is_space) whole ∙ prefix_passes is_space line in
+    subst (λ (ws : List (List ℕ)). AreWords ws line) (sym none) blank
+
+some_words : (line : List ℕ) → 0 < prefix_len is_solid (unspaced line) → AreWords (words_of (drop (prefix_len is_solid (unspaced line)) (unspaced line))) (drop (prefix_len is_solid (unspaced line)) (unspaced line)) → AreWords (words_of line) line
+some_words line lt others =
+    let from = unspaced line in
+    let word = take (prefix_len is_solid from) from in
+    let rest = drop (prefix_len is_solid from) from in
+    let len = length_first line word rest (cut_of line) in
+    let some : is_some_word word ≡ true = lt-ltb _ _ (omega (arith, len)) in
+    let solid = prefix_passes is_solid from in
+    let first = cut_some line word rest (cut_of line) (omega (arith, len)) in
+    subst (λ (ws : List (List ℕ)). AreWords ws line) (sym first) (take (prefix_len is_space line) line, rest, line_parts line, prefix_passes is_space line, both_hold _ _ some solid, ends_prefix from, others)
+
+words_up_to : (n : ℕ) (line : List ℕ) → length line ≤ n → AreWords (words_of line) line
+words_up_to zero line h =
+    let none : line ≡ [] = nil_from_length line (omega arith) in
+    subst (λ (l : List ℕ). AreWords (words_of l) l) (sym none) refl
+words_up_to (suc n) line h =
+    let from = unspaced line in
+    let shorter = length-drop (prefix_len is_solid from) from in
+    let behind = length-drop (prefix_len is_space line) line in
+    elim (cases_lt 0 (prefix_len is_solid from)) [
+      | inl lt ↦ some_words line lt (words_up_to n (drop (prefix_len is_solid from) from) (omega (arith, shorter, behind, h, lt)))
+      | inr le ↦ no_words line (omega arith)
+    ]
+
+-- the words of a line are its words
+pub words_said : (line : List ℕ) → AreWords (words_of line) line
+words_said line = words_up_to (length line) line (omega arith)

@@ -1,5 +1,5 @@
 -- The words of a line, and what some of them stand for.
-use Rattle.std.specs.Prelude.{ℕ, ◌^◌, ◌&&◌, ◌||◌, ◌==◌, Bool, List, [], codes, length, slice_index, filter, nat_lt, nat_le, if◌then◌else◌, Option, Some, None}
+use Rattle.std.specs.Prelude.{ℕ, ◌≡◌, ◌∷◌, ◌++◌, true, not, ◌^◌, ◌&&◌, ◌||◌, ◌==◌, Bool, List, [], codes, length, slice_index, filter, nat_lt, nat_le, if◌then◌else◌, Option, Some, None}
 use Rattle.std.specs.List.{slice_split, list_all}
 use Rattle.std.specs.Char.{is_ascii_digit}
 use Rattle.std.specs.Result.{result_ok}
@@ -40,3 +40,22 @@ bytes_of word =
     if bytes_eq word (codes "-") then Some []
     else if is_some_word word && nat_le (length word) 512 then result_ok (decode_of word)
     else None
+
+-- ---- the words of a line, as spaces and words in a row
+
+abbrev pub is_solid : ℕ → Bool
+is_solid byte = not (is_space byte)
+
+-- is it at least one byte, and no space?
+abbrev pub is_word : List ℕ → Bool
+is_word word = is_some_word word && list_all is_solid word
+
+-- is a word over before this: at a space, or at the end?
+abbrev pub ends_word : List ℕ → Bool
+ends_word [] = true
+ends_word (byte ∷ rest) = is_space byte
+
+-- Spaces may stand before each word and behind the last, and a word goes on up to a space or the end.
+abbrev pub AreWords : List (List ℕ) → List ℕ → Type 0
+AreWords [] line = list_all is_space line ≡ true
+AreWords (word ∷ words) line = (gap : List ℕ) × (rest : List ℕ) × (line ≡ gap ++ (word ++ rest)) × (list_all is_space gap ≡ true) × (is_word word ≡ true) × (ends_word rest ≡ true) × AreWords words rest

@@ -1,11 +1,11 @@
 //! The words of instructions and command lines: ASCII, apart by one or more spaces.
 
-ghost use Rattle.std.specs.Prelude.{◌≡◌, ◌≤◌, true, not, length};
+ghost use Rattle.std.specs.Prelude.{◌≡◌, ◌≤◌, ℕ, List, true, not, length};
 ghost use Rattle.std.specs.Char.{is_ascii_digit};
 ghost use Rattle.std.specs.List.{list_all, prefix_len};
 ghost use Rattle.std.specs.Str.Parse.{digits_value};
 ghost use Rattle.std.specs.Iterator.{YieldsFirstBy, item_count};
-ghost use Rattle.rd_script.specs.Words.{is_space, words_of, number_of, is_name, is_name_byte, bytes_of};
+ghost use Rattle.rd_script.specs.Words.{AreWords, is_space, words_of, number_of, is_name, is_name_byte, bytes_of};
 
 use crate::bytes::{Bytes, MAX_BYTES};
 use std::marker::Model;
@@ -31,7 +31,10 @@ impl<'a> Model for Words<'a> {
 impl<'a> Words<'a> {
     /// The words of a line. Spaces at either end are dropped.
     pub fn new(line: &'a [u8]) -> Words<'a>
-        ensures { result ≡ words_of line.now }
+        ensures words { result ≡ words_of line.now }
+        // They are the line's words, and the only ones.
+        ensures spaced { AreWords result line.now }
+        ensures only { (words : List (List ℕ)) → AreWords words line.now → words ≡ result }
     {
         Words { rest: line }
     }

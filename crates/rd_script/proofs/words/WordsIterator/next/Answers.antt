@@ -1,7 +1,8 @@
 use Rattle.std.proofs.Common.{ℕ, List, ◌∙◌, ◌-◌, length, take, drop, ap, arith, rules}
 use Rattle.std.specs.List.{prefix_len}
 use Rattle.std.proofs.lemmas.List.{take_all, length-drop}
-use Rattle.rd_script.proofs.WordLemmas.{is_solid, IsCut, cut_none, cut_some}
+use Rattle.rd_script.specs.Words.{is_solid}
+use Rattle.rd_script.proofs.WordLemmas.{IsCut, cut_none, cut_some}
 use Rattle.rd_script.proofs.words.WordsIterator.next.Goals as goal
 use Rattle.rd_script.proofs.words.WordsIterator.next.Goals.{then-is_empty, else-is_empty}
 
