@@ -1,1 +1,10 @@
 pub mod NameLemmas
+pub mod WordLemmas
+pub mod FileLemmas
+pub mod Steps
+pub mod SpellingLaws
+pub mod Values
+pub mod QueueLaws
+pub mod ScriptLaws
+pub mod TaskLaws
+pub mod AppLaws

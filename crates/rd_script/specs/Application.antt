@@ -1,11 +1,14 @@
 -- An application: what a contract sees of an `App`, and the limits that each keeps.
-use Rattle.std.specs.Prelude.{ℕ, ◌≡◌, ◌-◌, ◌^◌, ◌<◌, ◌≤◌, Bool, true, false, List, [], length, map, slice_index_or, All}
+use Rattle.std.specs.Prelude.{ℕ, ◌≡◌, ◌-◌, ◌^◌, ◌<◌, ◌≤◌, Bool, true, false, List, [], ◌∷◌, length, map, slice_index_or, All, not, ◌&&◌}
+use Rattle.std.specs.List.{list_all, list_any}
+use Rattle.std.specs.Str.{bytes_eq}
 use Rattle.rd_script.specs.declared.app.QueueShape.{QueueShape}
 use Rattle.rd_script.specs.declared.app.Kind.{Kind}
 use Rattle.rd_script.specs.declared.app.Kind.TheVariants.{Queue, Task}
 use Rattle.rd_script.specs.declared.instr.Instr.{Instr}
 use Rattle.rd_script.specs.declared.instr.Instr.TheVariants.{Set, Add, Move, Data, Pack, Unpack, Jump, JumpZero, End, Send, Receive}
 use Rattle.rd_script.specs.TaskScript.{TaskScript}
+use Rattle.rd_script.specs.Words.{is_name}
 
 -- Names and what they stand for go by number: the place in these lists.
 pub record Application : Type 0 where
@@ -58,6 +61,16 @@ is_final (Jump target) = true
 is_final End = true
 is_final _ = false
 
+-- does none of the names stand again behind its place?
+abbrev pub are_distinct : List (List ℕ) → Bool
+are_distinct [] = true
+are_distinct (name ∷ names) = not (list_any (bytes_eq name) names) && are_distinct names
+
+-- names of one kind
+pub record AreNames (names : List (List ℕ)) : Type 0 where
+  pub named : list_all is_name names ≡ true
+  pub distinct : are_distinct names ≡ true
+
 abbrev pub IsQueueShape : QueueShape → Type 0
 IsQueueShape queue = (0 < queue.capacity) × (queue.capacity ≤ 64) × (0 < queue.item_size) × (queue.item_size ≤ 64)
 
@@ -77,7 +90,9 @@ pub record IsApplication (app : Application) : Type 0 where
   pub few_queues : length app.queues ≤ 32
   pub queues : All IsQueueShape app.queues
   pub queue_names : length app.queue_names ≡ length app.queues
+  pub named_queues : AreNames app.queue_names
   pub some_tasks : 0 < length app.scripts
   pub few_tasks : length app.scripts ≤ 32
   pub scripts : All (IsScript app) app.scripts
   pub task_names : length app.task_names ≡ length app.scripts
+  pub named_tasks : AreNames app.task_names

@@ -1,5 +1,5 @@
 -- The built-in application: one task that sends three times to a queue with room for two items.
-use Rattle.std.specs.Prelude.{codes, List, [], ◌∷◌}
+use Rattle.std.specs.Prelude.{codes, [], ◌∷◌}
 use Rattle.rd_script.specs.declared.instr.Instr.TheVariants.{Data, End, Send}
 use Rattle.rd_script.specs.Application.{Application}
 

@@ -9,6 +9,10 @@ use indexmap::IndexSet;
 use std::alloc::{AllocError, Global};
 use std::marker::Model;
 
+pub mod file;
+#[cfg(test)]
+mod tests;
+
 /// What kind of thing a name stands for.
 #[derive(Clone, Copy, Debug, PartialEq, Eq)]
 pub enum Kind {
@@ -83,7 +87,9 @@ impl App {
             item_size: 1,
         };
         let code = vec![in alloc;
-            Instr::Data { bytes: Bytes::from_slice(b"\x41") },
+            Instr::Data {
+                bytes: Bytes::from_slice(b"\x41")
+            },
             Instr::Send { queue: 0 },
             Instr::Send { queue: 0 },
             Instr::Send { queue: 0 },

@@ -3,5 +3,8 @@
 
 pub mod app;
 pub mod bytes;
+pub mod error;
 pub mod instr;
 pub mod phase;
+mod spelling;
+pub mod words;

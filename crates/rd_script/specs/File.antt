@@ -1,0 +1,197 @@
+-- The application of a file's JSON value, or the first fault that is met: of an object first its keys, and then what
+-- stands at them, in the order below.
+use Rattle.std.specs.Prelude.{ℕ, ◌≡◌, ◌≢◌, ◌-◌, ◌^◌, ◌&&◌, is_some, Bool, true, false, not, codes, List, [], ◌∷◌, ◌++◌, length, slice_get, nat_le, if◌then◌else◌, Option, Some, None, Result, Ok, Err, ok_or, option_map, option_and_then, unwrap_or, ⊤}
+use Rattle.std.specs.List.{list_all, list_any}
+use Rattle.std.specs.Str.{bytes_eq, is_utf8}
+use Rattle.serde_json.specs.Data.{Data, Items, no_items, item, Members, no_members, member}
+use Rattle.serde_json.specs.Events.{items_len}
+use Rattle.serde_json.specs.Find.{get, as_number, as_u64, as_str, as_array, as_object}
+use Rattle.serde_json.specs.Read.{read}
+use Rattle.rd_script.specs.declared.app.file.TheConstants as limit
+use Rattle.rd_script.specs.declared.app.QueueShape.{QueueShape}
+use Rattle.rd_script.specs.declared.error.AppError.{AppError}
+use Rattle.rd_script.specs.declared.error.AppError.TheVariants as fault
+use Rattle.rd_script.specs.declared.instr.Instr.{Instr}
+use Rattle.rd_script.specs.Application.{Application, is_final}
+use Rattle.rd_script.specs.Spelling.{◌>>=◌, instr_of}
+use Rattle.rd_script.specs.TaskScript.{TaskScript}
+use Rattle.rd_script.specs.Words.{words_of, is_name}
+
+-- ---- values
+
+abbrev pub keys_of : Members → List (List ℕ)
+keys_of no_members = []
+keys_of (member key d ms) = key ∷ keys_of ms
+
+abbrev pub has_only : List (List ℕ) → Members → Bool
+has_only known ms = list_all (λ key. list_any (λ name. bytes_eq name key) known) (keys_of ms)
+
+-- is it an object with no other keys than these?
+abbrev pub is_object_with : List (List ℕ) → Data → Bool
+is_object_with known d = unwrap_or (option_map (has_only known) (as_object d)) false
+
+abbrev pub object_with : List (List ℕ) → Data → Result ⊤ AppError
+object_with known d = if is_object_with known d then Ok tt else Err fault.Shape
+
+-- what stands at a key
+abbrev pub field : List ℕ → Data → Result Data AppError
+field key d = ok_or (get key d) fault.Shape
+
+abbrev pub in_limits : ℕ → ℕ → ℕ → Result ℕ AppError
+in_limits least most n = if nat_le least n && nat_le n most then Ok n else Err fault.Limit
+
+abbrev pub number_in : ℕ → ℕ → Data → Result ℕ AppError
+number_in least most d = do
+  n ← ok_or (option_and_then as_u64 (as_number d)) fault.Shape
+  in_limits least most n
+
+-- the same of a key that may be left out
+abbrev pub number_or : ℕ → ℕ → ℕ → Option Data → Result ℕ AppError
+number_or otherwise least most None = Ok otherwise
+number_or otherwise least most (Some d) = number_in least most d
+
+abbrev pub array_in : ℕ → ℕ → Data → Result Items AppError
+array_in least most d = do
+  ds ← ok_or (as_array d) fault.Shape
+  _ ← in_limits least most (items_len ds)
+  Ok ds
+
+abbrev pub array_or_empty : ℕ → Option Data → Result Items AppError
+array_or_empty most None = Ok no_items
+array_or_empty most (Some d) = array_in 0 most d
+
+-- a name that is none of those before it
+abbrev pub new_name : List (List ℕ) → Data → Result (List ℕ) AppError
+new_name names d = do
+  name ← ok_or (as_str d) fault.Shape
+  if is_name name && not (list_any (bytes_eq name) names) then Ok name else Err fault.Name
+
+-- ---- queues
+
+abbrev pub queue_keys : List (List ℕ)
+queue_keys = codes "name" ∷ codes "length" ∷ codes "item" ∷ []
+
+unfoldable pub queue_of : List (List ℕ) → Data → Result (List ℕ × QueueShape) AppError
+queue_of names d = do
+  _ ← object_with queue_keys d
+  name ← field (codes "name") d
+  capacity ← field (codes "length") d
+  item_size ← field (codes "item") d
+  name ← new_name names name
+  capacity ← number_in 1 64 capacity
+  item_size ← number_in 1 64 item_size
+  Ok (name, record { capacity = capacity; item_size = item_size })
+
+-- those before, and those of the array
+abbrev pub queues_after : List (List ℕ) → List QueueShape → Items → Result (List (List ℕ) × List QueueShape) AppError
+queues_after names shapes no_items = Ok (names, shapes)
+queues_after names shapes (item d ds) = do
+  queue ← queue_of names d
+  queues_after (names ++ queue.0 ∷ []) (shapes ++ queue.1 ∷ []) ds
+
+-- ---- tasks
+
+-- a task's priority and the texts of its instructions
+pub record Draft : Type 0 where
+  pub priority : ℕ
+  pub lines : Items
+
+abbrev pub task_keys : List (List ℕ)
+task_keys = codes "name" ∷ codes "priority" ∷ codes "code" ∷ []
+
+-- is each a text?
+abbrev pub are_texts : Items → Bool
+are_texts no_items = true
+are_texts (item d ds) = is_some (as_str d) && are_texts ds
+
+unfoldable pub task_of : List (List ℕ) → Data → Result (List ℕ × Draft) AppError
+task_of names d = do
+  _ ← object_with task_keys d
+  name ← field (codes "name") d
+  priority ← field (codes "priority") d
+  code ← field (codes "code") d
+  name ← new_name names name
+  priority ← number_in 0 31 priority
+  lines ← array_in 1 256 code
+  if are_texts lines then Ok (name, record { priority = priority; lines = lines }) else Err fault.Shape
+
+abbrev pub tasks_after : List (List ℕ) → List Draft → Items → Result (List (List ℕ) × List Draft) AppError
+tasks_after names drafts no_items = Ok (names, drafts)
+tasks_after names drafts (item d ds) = do
+  task ← task_of names d
+  tasks_after (names ++ task.0 ∷ []) (drafts ++ task.1 ∷ []) ds
+
+-- the instruction of a value, in a script of that length
+abbrev pub line_of : List (List ℕ) → ℕ → Data → Result Instr AppError
+line_of queues len d = do
+  text ← ok_or (as_str d) fault.Shape
+  instr_of queues len (words_of text)
+
+-- the instructions before, and those of the values
+abbrev pub lines_after : List (List ℕ) → ℕ → List Instr → Items → Result (List Instr) AppError
+lines_after queues len before no_items = Ok before
+lines_after queues len before (item d ds) = do
+  instr ← line_of queues len d
+  lines_after queues len (before ++ instr ∷ []) ds
+
+-- does the last instruction never go on at the next?
+abbrev pub ends : List Instr → Bool
+ends code = unwrap_or (option_map is_final (slice_get code (length code - 1))) false
+
+-- the instructions of a task, the last of which never goes on at the next
+unfoldable pub code_of : List (List ℕ) → Items → Result (List Instr) AppError
+code_of queues lines = do
+  code ← lines_after queues (items_len lines) [] lines
+  if ends code then Ok code else Err fault.Instr
+
+abbrev pub scripts_after : List (List ℕ) → List TaskScript → List Draft → Result (List TaskScript) AppError
+scripts_after queues scripts [] = Ok scripts
+scripts_after queues scripts (draft ∷ drafts) = do
+  code ← code_of queues draft.lines
+  scripts_after queues (scripts ++ record { priority = draft.priority; code = code } ∷ []) drafts
+
+-- ---- the file
+
+abbrev pub file_keys : List (List ℕ)
+file_keys = codes "profile" ∷ codes "cores" ∷ codes "notes" ∷ codes "tick" ∷ codes "queues" ∷ codes "tasks" ∷ []
+
+unfoldable pub app_of : Data → Result Application AppError
+app_of d = do
+  _ ← object_with file_keys d
+  profile ← field (codes "profile") d
+  cores ← field (codes "cores") d
+  tasks ← field (codes "tasks") d
+  _ ← number_in 1 1 profile
+  cores ← number_in 1 limit.MAX_CORES cores
+  notes ← number_or 1 1 4 (get (codes "notes") d)
+  tick ← number_or 0 0 (2 ^ 32 - 1) (get (codes "tick") d)
+  queues ← array_or_empty 32 (get (codes "queues") d)
+  queues ← queues_after [] [] queues
+  tasks ← array_in 1 limit.MAX_TASKS tasks
+  tasks ← tasks_after [] [] tasks
+  scripts ← scripts_after queues.0 [] tasks.1
+  Ok (record {
+    cores = cores;
+    notes = notes;
+    tick = tick;
+    queues = queues.1;
+    queue_names = queues.0;
+    scripts = scripts;
+    task_names = tasks.0;
+  })
+
+-- the application of a file's bytes, or the first fault
+abbrev pub file_of : List ℕ → Result Application AppError
+file_of bytes = if is_utf8 bytes then ok_or (read bytes) fault.NotJson >>= app_of else Err fault.NotJson
+
+-- ---- what the code gives
+
+-- What was returned, seen by view, is what reading gives.
+abbrev pub Gives : {X Y : Type 0} → (X → Y) → Result X AppError → Result Y AppError → Type 0
+Gives view (Ok x) read = read ≡ Ok (view x)
+Gives view (Err e) read = read ≡ Err e
+
+-- The same, unless memory ran out.
+abbrev pub GivesOrNoMemory : {X Y : Type 0} → (X → Y) → Result X AppError → Result Y AppError → Type 0
+GivesOrNoMemory view (Ok x) read = read ≡ Ok (view x)
+GivesOrNoMemory view (Err e) read = e ≢ fault.Memory → read ≡ Err e

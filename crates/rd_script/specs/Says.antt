@@ -1,0 +1,80 @@
+-- Which application a file's JSON value says, whatever the order in which it is read.
+use Rattle.std.specs.Prelude.{ℕ, ◌≡◌, ◌≤◌, true, codes, length, List, [], ◌∷◌, Option, Some, None, IsUtf8}
+use Rattle.serde_json.specs.Read.{read}
+use Rattle.rd_script.specs.declared.app.file.TheConstants as limit
+use Rattle.serde_json.specs.Data.{Data, number, unsigned, string, array, Items, no_items, item}
+use Rattle.serde_json.specs.Events.{items_len}
+use Rattle.serde_json.specs.Find.{get}
+use Rattle.rd_script.specs.declared.app.QueueShape.{QueueShape}
+use Rattle.rd_script.specs.declared.instr.Instr.{Instr}
+use Rattle.rd_script.specs.Application.{Application}
+use Rattle.rd_script.specs.File.{is_object_with, queue_keys, task_keys, file_keys, ends}
+use Rattle.rd_script.specs.Spells.{Spells}
+use Rattle.rd_script.specs.TaskScript.{TaskScript}
+use Rattle.rd_script.specs.Words.{words_of}
+
+pub record IsQueue (d : Data) (name : List ℕ) (shape : QueueShape) : Type 0 where
+  pub keys : is_object_with queue_keys d ≡ true
+  pub name_at : get (codes "name") d ≡ Some (string name)
+  pub length_at : get (codes "length") d ≡ Some (number (unsigned shape.capacity))
+  pub item_at : get (codes "item") d ≡ Some (number (unsigned shape.item_size))
+
+-- one after another
+abbrev pub AreQueues : Items → List (List ℕ) → List QueueShape → Type 0
+AreQueues no_items [] [] = Unit {0}
+AreQueues (item d ds) (name ∷ names) (shape ∷ shapes) = IsQueue d name shape × AreQueues ds names shapes
+AreQueues _ _ _ = ⊥
+
+-- a text whose words spell the instruction
+abbrev pub IsLine : List (List ℕ) → ℕ → Data → Instr → Type 0
+IsLine queues len d instr = (text : List ℕ) × (d ≡ string text) × Spells queues len (words_of text) instr
+
+abbrev pub AreLines : List (List ℕ) → ℕ → Items → List Instr → Type 0
+AreLines queues len no_items [] = Unit {0}
+AreLines queues len (item d ds) (instr ∷ code) = IsLine queues len d instr × AreLines queues len ds code
+AreLines queues len _ _ = ⊥
+
+-- the texts spell the script, which never goes on behind its last instruction
+abbrev pub IsCode : List (List ℕ) → Items → List Instr → Type 0
+IsCode queues lines code = AreLines queues (items_len lines) lines code × (ends code ≡ true)
+
+pub record IsTask (queues : List (List ℕ)) (d : Data) (name : List ℕ) (script : TaskScript) (lines : Items) : Type 0 where
+  pub keys : is_object_with task_keys d ≡ true
+  pub name_at : get (codes "name") d ≡ Some (string name)
+  pub priority_at : get (codes "priority") d ≡ Some (number (unsigned script.priority))
+  pub code_at : get (codes "code") d ≡ Some (array lines)
+  pub code : IsCode queues lines script.code
+
+abbrev pub AreTasks : List (List ℕ) → Items → List (List ℕ) → List TaskScript → Type 0
+AreTasks queues no_items [] [] = Unit {0}
+AreTasks queues (item d ds) (name ∷ names) (script ∷ scripts) = ((lines : Items) × IsTask queues d name script lines) × AreTasks queues ds names scripts
+AreTasks queues _ _ _ = ⊥
+
+-- what stands at a key, or what it means to leave the key out
+abbrev pub IsNumberOr : ℕ → Option Data → ℕ → Type 0
+IsNumberOr otherwise None n = n ≡ otherwise
+IsNumberOr otherwise (Some d) n = d ≡ number (unsigned n)
+
+abbrev pub IsArrayOrEmpty : Option Data → Items → Type 0
+IsArrayOrEmpty None ds = ds ≡ no_items
+IsArrayOrEmpty (Some d) ds = d ≡ array ds
+
+pub record Says (d : Data) (app : Application) (queue_items task_items : Items) : Type 0 where
+  pub keys : is_object_with file_keys d ≡ true
+  pub profile_at : get (codes "profile") d ≡ Some (number (unsigned 1))
+  pub cores_at : get (codes "cores") d ≡ Some (number (unsigned app.cores))
+  pub notes_at : IsNumberOr 1 (get (codes "notes") d) app.notes
+  pub tick_at : IsNumberOr 0 (get (codes "tick") d) app.tick
+  pub queues_at : IsArrayOrEmpty (get (codes "queues") d) queue_items
+  pub queues : AreQueues queue_items app.queue_names app.queues
+  pub tasks_at : get (codes "tasks") d ≡ Some (array task_items)
+  pub tasks : AreTasks app.queue_names task_items app.task_names app.scripts
+
+-- the bytes are JSON whose value says the application
+abbrev pub FileSays : List ℕ → Application → Type 0
+FileSays bytes app = (d : Data) × IsUtf8 bytes × (read bytes ≡ Some d) × (queue_items : Items) × (task_items : Items) × Says d app queue_items task_items
+
+-- what this version runs
+pub record IsSupported (app : Application) : Type 0 where
+  pub cores : app.cores ≤ limit.MAX_CORES
+  pub tasks : length app.scripts ≤ limit.MAX_TASKS

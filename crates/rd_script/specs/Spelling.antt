@@ -1,0 +1,132 @@
+-- How an instruction is spelled.
+use Rattle.std.specs.Prelude.{ℕ, ◌≡◌, ◌-◌, ◌&&◌, ◌==◌, codes, List, [], ◌∷◌, length, slice_index, nat_lt, nat_le, if◌then◌else◌, Option, Some, None, Result, Ok, Err, ok_or, option_map, option_and_then, position, ⊤}
+use Rattle.std.specs.Str.{bytes_eq}
+use Rattle.rd_script.specs.declared.error.AppError.{AppError}
+use Rattle.rd_script.specs.declared.error.AppError.TheVariants as fault
+use Rattle.rd_script.specs.declared.instr.Instr.{Instr}
+use Rattle.rd_script.specs.declared.instr.Instr.TheVariants as instr
+use Rattle.rd_script.specs.declared.spelling.Keyword.{Keyword}
+use Rattle.rd_script.specs.declared.spelling.Keyword.TheVariants.{Set, Add, Move, Data, Pack, Unpack, Jump, JumpZero, End, Send, Receive}
+use Rattle.rd_script.specs.Words.{number_of, bytes_of, is_name}
+
+abbrev pub keyword_of : List ℕ → Option Keyword
+keyword_of word =
+    if bytes_eq word (codes "set") then Some Set
+    else if bytes_eq word (codes "add") then Some Add
+    else if bytes_eq word (codes "move") then Some Move
+    else if bytes_eq word (codes "data") then Some Data
+    else if bytes_eq word (codes "pack") then Some Pack
+    else if bytes_eq word (codes "unpack") then Some Unpack
+    else if bytes_eq word (codes "jump") then Some Jump
+    else if bytes_eq word (codes "jumpz") then Some JumpZero
+    else if bytes_eq word (codes "end") then Some End
+    else if bytes_eq word (codes "send") then Some Send
+    else if bytes_eq word (codes "recv") then Some Receive
+    else None
+
+-- `r0` to `r7`
+abbrev pub register_of : List ℕ → Option ℕ
+register_of word =
+    if length word == 2 && slice_index word 0 == 114 && nat_le 48 (slice_index word 1) && nat_le (slice_index word 1) 55
+    then Some (slice_index word 1 - 48)
+    else None
+
+-- the place of an instruction in a script of that length
+abbrev pub target_of : ℕ → List ℕ → Option ℕ
+target_of len word = option_and_then (λ target. if nat_lt target len then Some target else None) (number_of word)
+
+abbrev pub name_of : List ℕ → Option (List ℕ)
+name_of word = if is_name word then Some word else None
+
+-- the block time 0
+abbrev pub no_wait_of : List ℕ → Option ⊤
+no_wait_of word = option_and_then (λ time. if time == 0 then Some tt else None) (number_of word)
+
+abbrev pub queue_of : List (List ℕ) → List ℕ → Result ℕ AppError
+queue_of queues name = ok_or (position (bytes_eq name) queues) fault.Name
+
+-- ---- from the first word to the last
+
+infixl 10 ◌>>=◌
+abbrev pub ◌>>=◌ : {A B : Type 0} → Result A AppError → (A → Result B AppError) → Result B AppError
+(Ok x) >>= f = f x
+(Err e) >>= f = Err e
+
+-- the next word, as what it stands for, and the words behind it
+abbrev pub operand : {X : Type 0} → (List ℕ → Option X) → List (List ℕ) → Result (X × List (List ℕ)) AppError
+operand read [] = Err fault.Instr
+operand read (word ∷ words) = ok_or (option_map (λ x. (x, words)) (read word)) fault.Instr
+
+abbrev pub ended : List (List ℕ) → Result ⊤ AppError
+ended [] = Ok tt
+ended (word ∷ words) = Err fault.Instr
+
+-- What was read, and the words that are left, are what reading gives.
+abbrev pub TakesBy : {X Y : Type 0} → (X → Y) → Result X AppError → List (List ℕ) → Result (Y × List (List ℕ)) AppError → Type 0
+TakesBy view (Ok x) left read = read ≡ Ok (view x, left)
+TakesBy view (Err e) left read = read ≡ Err e
+
+abbrev pub Takes : {X : Type 0} → Result X AppError → List (List ℕ) → Result (X × List (List ℕ)) AppError → Type 0
+Takes result left read = TakesBy (λ x. x) result left read
+
+-- a queue's name and the block time, and no more
+unfoldable pub object_at : List (List ℕ) → List (List ℕ) → Result ℕ AppError
+object_at queues words = do
+  name ← operand name_of words
+  time ← operand no_wait_of name.1
+  _ ← ended time.1
+  queue_of queues name.0
+
+-- the words behind the first
+unfoldable pub operation_of : List (List ℕ) → ℕ → Keyword → List (List ℕ) → Result Instr AppError
+operation_of queues len Set words = do
+  register ← operand register_of words
+  value ← operand number_of register.1
+  _ ← ended value.1
+  Ok (instr.Set register.0 value.0)
+operation_of queues len Add words = do
+  register ← operand register_of words
+  value ← operand number_of register.1
+  _ ← ended value.1
+  Ok (instr.Add register.0 value.0)
+operation_of queues len Move words = do
+  into ← operand register_of words
+  from ← operand register_of into.1
+  _ ← ended from.1
+  Ok (instr.Move into.0 from.0)
+operation_of queues len Data words = do
+  bytes ← operand bytes_of words
+  _ ← ended bytes.1
+  Ok (instr.Data bytes.0)
+operation_of queues len Pack words = do
+  register ← operand register_of words
+  _ ← ended register.1
+  Ok (instr.Pack register.0)
+operation_of queues len Unpack words = do
+  register ← operand register_of words
+  _ ← ended register.1
+  Ok (instr.Unpack register.0)
+operation_of queues len Jump words = do
+  target ← operand (target_of len) words
+  _ ← ended target.1
+  Ok (instr.Jump target.0)
+operation_of queues len JumpZero words = do
+  register ← operand register_of words
+  target ← operand (target_of len) register.1
+  _ ← ended target.1
+  Ok (instr.JumpZero register.0 target.0)
+operation_of queues len End words = do
+  _ ← ended words
+  Ok instr.End
+operation_of queues len Send words = do
+  queue ← object_at queues words
+  Ok (instr.Send queue)
+operation_of queues len Receive words = do
+  queue ← object_at queues words
+  Ok (instr.Receive queue)
+
+-- the instruction of a text's words, or its fault: one in the form of a word comes before an unknown name
+unfoldable pub instr_of : List (List ℕ) → ℕ → List (List ℕ) → Result Instr AppError
+instr_of queues len words = do
+  keyword ← operand keyword_of words
+  operation_of queues len keyword.0 keyword.1
