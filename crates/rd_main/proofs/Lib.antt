@@ -1,0 +1,4 @@
+pub mod AnswerLaws
+pub mod LineLaws
+pub mod NameLaws
+pub mod TextLaws

@@ -1,0 +1,10 @@
+use Rattle.std.proofs.Common.{◌≡◌, true, rules}
+use Rattle.rd_script.specs.Words.{is_name}
+use Rattle.rd_main.proofs.NameLaws.{name-IsUtf8}
+use Rattle.rd_main.proofs.command.name_of.Goals as goal
+
+pub unwrap-requires : goal.unwrap-requires
+unwrap-requires c =
+    let named : is_name c.args.word.now ≡ true = search rules in
+    let text = name-IsUtf8 c.args.word.now named in
+    search rules

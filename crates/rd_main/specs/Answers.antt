@@ -1,0 +1,84 @@
+-- What is answered to a command, and what becomes of the timeline.
+use Rattle.std.specs.Prelude.{ℕ, ◌≡◌, ◌-◌, ◌<◌, ◌≤◌, ◌⊎◌, List, [], ◌∷◌, ◌++◌, length, take, drop, Option, Some, None, Result, Ok, Err, position}
+use Rattle.std.specs.Str.{bytes_eq}
+use Rattle.rd_calls.specs.Step.{step}
+use Rattle.rd_calls.specs.declared.moves.Move.TheVariants.{Core}
+use Rattle.rd_calls.specs.declared.moves.PlayError.TheVariants as play
+use Rattle.rd_state.specs.Snapshot.{queue_at, task_at}
+use Rattle.rd_timeline.specs.Course.{Course}
+use Rattle.rd_main.specs.Commands.{Asked, Step, Back, ShowQueue, ShowTask}
+use Rattle.rd_main.specs.Replies.{line_of, reply_text, queue_text, task_text, is_task}
+use Rattle.rd_main.specs.declared.reply.Refusal.TheVariants.{NoTask, TooFar, MovesFull, NoSuch, NoMemory, Syntax}
+use Rattle.rd_main.specs.declared.reply.Reply.{Reply}
+use Rattle.rd_main.specs.declared.reply.Reply.TheVariants.{Done, Refused}
+
+-- The move is laid on the moves done, and the moves undone are forgotten.
+pub record Goes (old : Course) (core : ℕ) (new : Course) : Type 0 where
+  pub there : core < old.app.cores
+  pub step : step old.app old.target (Core core) ≡ Ok new.target
+  pub done : new.done ≡ old.done ++ Core core ∷ []
+  pub undone : new.undone ≡ []
+  pub app : new.app ≡ old.app
+  pub limit : new.limit ≡ old.limit
+
+-- the answers to `step`; a refusal leaves the timeline
+abbrev pub StepReply : Course → ℕ → Course → Reply → Type 0
+StepReply old core new (Done at) = (at ≡ length new.done) × Goes old core new
+StepReply old core new (Refused NoSuch) = (old.app.cores ≤ core) × (new ≡ old)
+StepReply old core new (Refused MovesFull) = (core < old.app.cores) × (length old.done ≡ old.limit) × (new ≡ old)
+StepReply old core new (Refused NoTask) = (core < old.app.cores) × (step old.app old.target (Core core) ≡ Err play.NoTask) × (new ≡ old)
+StepReply old core new (Refused NoMemory) = (core < old.app.cores) × (new ≡ old)
+StepReply old core new reply = ⊥
+
+-- The last moves done are undone, and can be redone.
+pub record GoesBack (old : Course) (count : ℕ) (new : Course) : Type 0 where
+  pub enough : count ≤ length old.done
+  pub done : new.done ≡ take (length old.done - count) old.done
+  pub undone : new.undone ≡ drop (length old.done - count) old.done ++ old.undone
+  pub app : new.app ≡ old.app
+  pub limit : new.limit ≡ old.limit
+
+-- the answers to `back`; a refusal leaves the timeline
+abbrev pub BackReply : Course → ℕ → Course → Reply → Type 0
+BackReply old count new (Done at) = (at ≡ length new.done) × GoesBack old count new
+BackReply old count new (Refused (TooFar done)) = (length old.done < count) × (done ≡ length old.done) × (new ≡ old)
+BackReply old count new reply = ⊥
+
+-- what was added meets this
+abbrev pub Adds : List ℕ → List ℕ → (List ℕ → Type 0) → Type 0
+Adds old new IsAdded = (line : List ℕ) × (new ≡ old ++ line) × IsAdded line
+
+-- the line of a refusal
+abbrev pub no_such : List ℕ
+no_such = line_of (reply_text (Refused NoSuch))
+
+abbrev pub no_memory : List ℕ
+no_memory = line_of (reply_text (Refused NoMemory))
+
+-- The page is added where it was written, or that there is no memory.
+abbrev pub PutsPage : {T E : Type 0} → List ℕ → Result T E → List ℕ → List ℕ → Type 0
+PutsPage old (Ok done) page new = (new ≡ old ++ page) ⊎ (new ≡ old ++ no_memory)
+PutsPage old (Err error) page new = new ≡ old ++ no_memory
+
+-- A view of what has a name, or `no NoSuch` where nothing has it, or `no NoMemory`.
+abbrev pub IsView : Option ℕ → (ℕ → List ℕ) → List ℕ → Type 0
+IsView None view line = line ≡ no_such
+IsView (Some number) view line = (line ≡ line_of (view number)) ⊎ (line ≡ no_memory)
+
+-- the number of what has the name
+abbrev pub number_named : List ℕ → List (List ℕ) → Option ℕ
+number_named name names = position (bytes_eq name) names
+
+abbrev pub QueueLine : Course → List ℕ → List ℕ → Type 0
+QueueLine course name line = IsView (number_named name course.app.queue_names) (λ queue. queue_text name (queue_at course.target queue)) line
+
+abbrev pub TaskLine : Course → List ℕ → List ℕ → Type 0
+TaskLine course name line = IsView (number_named name course.app.task_names) (λ task. task_text name (position (is_task task) course.target.cores) (task_at course.target task)) line
+
+-- the answer to a line, by the command that it spells
+abbrev pub IsAnswer : Course → Option Asked → Course → List ℕ → Type 0
+IsAnswer old None new line = (line ≡ line_of (reply_text (Refused Syntax))) × (new ≡ old)
+IsAnswer old (Some (Step core)) new line = (reply : Reply) × (line ≡ line_of (reply_text reply)) × StepReply old core new reply
+IsAnswer old (Some (Back count)) new line = (reply : Reply) × (line ≡ line_of (reply_text reply)) × BackReply old count new reply
+IsAnswer old (Some (ShowQueue name)) new line = QueueLine old name line × (new ≡ old)
+IsAnswer old (Some (ShowTask name)) new line = TaskLine old name line × (new ≡ old)

@@ -1,0 +1,46 @@
+-- How a command is spelled, by the words of its line.
+use Rattle.std.specs.Prelude.{ℕ, ◌&&◌, Bool, codes, List, [], ◌∷◌, nat_lt, nat_le, if◌then◌else◌, Option, Some, None, Result, Ok, Err, option_map, option_and_then}
+use Rattle.std.specs.Str.{bytes_eq}
+use Rattle.rd_script.specs.Words.{number_of, is_name}
+use Rattle.rd_main.specs.declared.command.Command.{Command}
+use Rattle.rd_main.specs.declared.command.Command.TheVariants as command
+
+-- A command, with its names as plain text.
+pub data Asked : Type 0 where
+  Step : ℕ → Asked
+  Back : ℕ → Asked
+  ShowQueue : List ℕ → Asked
+  ShowTask : List ℕ → Asked
+
+abbrev pub asked : Command → Asked
+asked (command.Step core) = Step core
+asked (command.Back count) = Back count
+asked (command.ShowQueue name) = ShowQueue name.now
+asked (command.ShowTask name) = ShowTask name.now
+
+-- a number of moves: 1 to 1,000,000
+abbrev pub count_of : List ℕ → Option ℕ
+count_of word = option_and_then (λ count. if nat_lt 0 count && nat_le count 1000000 then Some count else None) (number_of word)
+
+abbrev pub name_of : List ℕ → Option (List ℕ)
+name_of word = if is_name word then Some word else None
+
+-- `step N`, `back COUNT`
+abbrev pub numbered : List ℕ → List ℕ → Option Asked
+numbered verb number =
+    if bytes_eq verb (codes "step") then option_map Step (number_of number)
+    else if bytes_eq verb (codes "back") then option_map Back (count_of number)
+    else None
+
+-- `show queue Q`, `show task K`
+abbrev pub view_of : List ℕ → List ℕ → Option Asked
+view_of kind name =
+    if bytes_eq kind (codes "queue") then option_map ShowQueue (name_of name)
+    else if bytes_eq kind (codes "task") then option_map ShowTask (name_of name)
+    else None
+
+-- the command that these words spell, if they do
+abbrev pub command_of : List (List ℕ) → Option Asked
+command_of (verb ∷ number ∷ []) = numbered verb number
+command_of (verb ∷ kind ∷ name ∷ []) = if bytes_eq verb (codes "show") then view_of kind name else None
+command_of _ = None

@@ -1,0 +1,5 @@
+pub mod Answers
+pub mod Commands
+pub mod Lines
+pub mod Replies
+pub mod SessionView

@@ -1,0 +1,98 @@
+-- The text of replies.
+use Rattle.std.specs.Prelude.{ℕ, ◌==◌, Bool, false, codes, decimal, List, [], ◌∷◌, ◌++◌, length, Option, Some, None, position}
+use Rattle.std.specs.List.{flat_map}
+use Rattle.hex.specs.Hex.{encode_lower}
+use Rattle.rd_notify.specs.declared.notes.Entry.{Entry}
+use Rattle.rd_notify.specs.declared.notes.EntryState.{EntryState}
+use Rattle.rd_notify.specs.declared.notes.EntryState.TheVariants.{Idle, Waiting, Received}
+use Rattle.rd_queue.specs.QueueSnapshot.{QueueSnapshot}
+use Rattle.rd_script.specs.declared.phase.Phase.{Phase}
+use Rattle.rd_script.specs.declared.phase.Phase.TheVariants.{Run, Ended}
+use Rattle.rd_state.specs.Snapshot.{Snapshot, TaskSnapshot, task_at}
+use Rattle.rd_main.specs.declared.reply.Refusal.{Refusal}
+use Rattle.rd_main.specs.declared.reply.Refusal.TheVariants.{NoTask, TooFar, MovesFull, NoSuch, NoMemory, Syntax, LineTooLong}
+use Rattle.rd_main.specs.declared.reply.Reply.{Reply}
+use Rattle.rd_main.specs.declared.reply.Reply.TheVariants.{Done, Refused}
+
+-- a text and its LF
+abbrev pub line_of : List ℕ → List ℕ
+line_of text = text ++ 10 ∷ []
+
+-- ---- answers to moves, and refusals
+
+abbrev pub refusal_text : Refusal → List ℕ
+refusal_text NoTask = codes "NoTask"
+refusal_text (TooFar done) = codes "TooFar " ++ decimal done
+refusal_text MovesFull = codes "MovesFull"
+refusal_text NoSuch = codes "NoSuch"
+refusal_text NoMemory = codes "NoMemory"
+refusal_text Syntax = codes "Syntax"
+refusal_text LineTooLong = codes "LineTooLong"
+
+abbrev pub reply_text : Reply → List ℕ
+reply_text (Done at) = codes "ok at " ++ decimal at
+reply_text (Refused refusal) = codes "no " ++ refusal_text refusal
+
+-- ---- parts of views
+
+-- the members, with `,` between each two
+abbrev pub joined : {X : Type 0} → (X → List ℕ) → List X → List ℕ
+joined text [] = []
+joined text (x ∷ xs) = text x ++ flat_map (λ y. 44 ∷ text y) xs
+
+-- a list; `-` where it is empty
+abbrev pub list_text : {X : Type 0} → (X → List ℕ) → List X → List ℕ
+list_text text [] = codes "-"
+list_text text (x ∷ xs) = joined text (x ∷ xs)
+
+-- two lower-case hexadecimal digits a byte; `-` for no bytes
+abbrev pub bytes_text : List ℕ → List ℕ
+bytes_text [] = codes "-"
+bytes_text (byte ∷ bytes) = encode_lower (byte ∷ bytes)
+
+abbrev pub phase_text : Phase → List ℕ
+phase_text Run = codes "run"
+phase_text Ended = codes "ended"
+
+abbrev pub entry_state_text : EntryState → List ℕ
+entry_state_text Idle = codes "idle"
+entry_state_text Waiting = codes "waiting"
+entry_state_text Received = codes "received"
+
+-- a notification entry
+abbrev pub entry_text : Entry → List ℕ
+entry_text entry = decimal entry.value ++ codes ":" ++ entry_state_text entry.state
+
+abbrev pub is_task : ℕ → Option ℕ → Bool
+is_task task None = false
+is_task task (Some running) = running == task
+
+-- the core's number; `-` for none
+abbrev pub core_text : Option ℕ → List ℕ
+core_text None = codes "-"
+core_text (Some core) = decimal core
+
+-- ---- views
+
+-- how many items there are, and how many there is room for
+abbrev pub counts_text : QueueSnapshot → List ℕ
+counts_text queue = decimal (length queue.items) ++ codes "/" ++ decimal queue.capacity
+
+-- what a queue has, from its amounts on
+abbrev pub amounts_text : QueueSnapshot → List ℕ
+amounts_text queue = counts_text queue ++ codes " items " ++ list_text bytes_text queue.items ++ codes " recv - send - set -"
+
+abbrev pub queue_text : List ℕ → QueueSnapshot → List ℕ
+queue_text name queue = codes "queue " ++ name ++ codes " " ++ amounts_text queue
+
+-- what a task has, from its registers on
+abbrev pub state_text : TaskSnapshot → List ℕ
+state_text task =
+    codes " regs " ++ list_text decimal task.registers ++ codes " data " ++ bytes_text task.bytes
+    ++ codes " notes " ++ list_text entry_text task.entries
+
+-- a task that runs on that core, if on any
+abbrev pub task_text : List ℕ → Option ℕ → TaskSnapshot → List ℕ
+task_text name core task =
+    codes "task " ++ name ++ codes " core " ++ core_text core ++ codes " pc " ++ decimal task.pc
+    ++ codes " phase " ++ phase_text task.phase ++ state_text task

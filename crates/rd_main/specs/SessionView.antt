@@ -1,0 +1,7 @@
+-- What a contract sees of a session.
+use Rattle.std.specs.Prelude.{ℕ, List}
+
+-- the bytes that were read and not answered yet, and the answers that weren't written yet
+pub record SessionView : Type 0 where
+  pub held : List ℕ
+  pub pending : List ℕ

@@ -1,0 +1,116 @@
+//! The answer to each command.
+
+ghost use Rattle.std.specs.Prelude.{◌≡◌, OnOk};
+ghost use Rattle.rd_script.specs.Words.{words_of};
+ghost use Rattle.rd_main.specs.Commands.{command_of};
+ghost use Rattle.rd_main.specs.Answers.{StepReply, BackReply, QueueLine, TaskLine, IsAnswer, Adds, PutsPage};
+
+use crate::command::{Command, parse_line};
+use crate::reply::{Refusal, Reply, core_of, put_reply, show_queue, show_task};
+use rd_calls::moves::Move;
+use rd_script::app::Kind;
+use rd_timeline::timeline;
+use rd_timeline::timeline::Timeline;
+use std::alloc::AllocError;
+
+// Makes the move of a core.
+fn step(timeline: &mut Timeline, core: usize) -> Reply
+    ensures { StepReply timeline.old core timeline.new result }
+{
+    if core >= timeline.app().cores() {
+        return refused(Refusal::NoSuch);
+    }
+    match timeline.go(Move::Core { core }) {
+        Ok(at) => Reply::Done { at },
+        Err(timeline::Refusal::MovesFull) => refused(Refusal::MovesFull),
+        Err(timeline::Refusal::NoTask) => refused(Refusal::NoTask),
+        Err(timeline::Refusal::NoMemory) => refused(Refusal::NoMemory),
+    }
+}
+
+// Takes the last moves back.
+fn back(timeline: &mut Timeline, count: usize) -> Reply
+    ensures { BackReply timeline.old count timeline.new result }
+{
+    match timeline.back(count) {
+        Ok(at) => Reply::Done { at },
+        Err(timeline::TooFar { done }) => refused(Refusal::TooFar { done }),
+    }
+}
+
+fn refused(refusal: Refusal) -> Reply
+    ensures { result ≡ Reply.Refused refusal }
+{
+    Reply::Refused { refusal }
+}
+
+// Appends what stands on the page, or that there was no memory for it.
+fn put_page(
+    answers: &mut Vec<u8>,
+    page: &[u8],
+    shown: Result<(), AllocError>,
+) -> Result<(), AllocError>
+    ensures { OnOk result (PutsPage answers.old.items shown page.now answers.new.items) }
+{
+    if shown.is_ok() && answers.extend_from_slice(page).is_ok() {
+        return Ok(());
+    }
+    put_reply(answers, refused(Refusal::NoMemory))
+}
+
+// Appends the view of the queue of that name.
+fn put_queue(
+    timeline: &Timeline,
+    page: &mut Vec<u8>,
+    answers: &mut Vec<u8>,
+    name: &str,
+) -> Result<(), AllocError>
+    ensures { OnOk result (Adds answers.old.items answers.new.items (QueueLine timeline.now name.now)) }
+{
+    let Some(queue) = timeline.app().find(Kind::Queue, name) else {
+        return put_reply(answers, refused(Refusal::NoSuch));
+    };
+    timeline.app().limits();
+    timeline.keeps();
+    let shown = show_queue(page, name, timeline.target().queue(queue));
+    put_page(answers, page.as_slice(), shown)
+}
+
+// Appends the view of the task of that name.
+fn put_task(
+    timeline: &Timeline,
+    page: &mut Vec<u8>,
+    answers: &mut Vec<u8>,
+    name: &str,
+) -> Result<(), AllocError>
+    ensures { OnOk result (Adds answers.old.items answers.new.items (TaskLine timeline.now name.now)) }
+{
+    let Some(task) = timeline.app().find(Kind::Task, name) else {
+        return put_reply(answers, refused(Refusal::NoSuch));
+    };
+    timeline.app().limits();
+    timeline.keeps();
+    let target = timeline.target();
+    let core = core_of(target.cores(), task);
+    let shown = show_task(page, name, core, target.task(task));
+    put_page(answers, page.as_slice(), shown)
+}
+
+/// Appends the answer to a line.
+pub fn put_answer(
+    timeline: &mut Timeline,
+    page: &mut Vec<u8>,
+    answers: &mut Vec<u8>,
+    line: &[u8],
+) -> Result<(), AllocError>
+    ensures { OnOk result (Adds answers.old.items answers.new.items
+        (IsAnswer timeline.old (command_of (words_of line.now)) timeline.new)) }
+{
+    match parse_line(line) {
+        Ok(Command::Step { core }) => put_reply(answers, step(timeline, core as usize)),
+        Ok(Command::Back { count }) => put_reply(answers, back(timeline, count as usize)),
+        Ok(Command::ShowQueue { name }) => put_queue(timeline, page, answers, name),
+        Ok(Command::ShowTask { name }) => put_task(timeline, page, answers, name),
+        Err(_) => put_reply(answers, refused(Refusal::Syntax)),
+    }
+}

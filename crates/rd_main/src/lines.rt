@@ -1,0 +1,155 @@
+//! Lines from a reader, without memory for each.
+
+ghost use Rattle.std.specs.Prelude.{◌≡◌, ◌+◌, ◌-◌, ◌<◌, ◌≤◌, ◌++◌, ℕ, List, [], length, take, drop, IfOk, OnErr};
+ghost use Rattle.std.specs.List.{position_or_len};
+ghost use Rattle.std.specs.Io.KnownBytes.{Consumes, IsAtEnd, Keeps};
+ghost use Rattle.rd_main.specs.Lines.{is_feed, front_of, without_return};
+
+use std::alloc::{AllocError, Global};
+use std::io;
+use std::io::Read;
+use std::marker::Model;
+
+/// How many bytes a line has at the most. A CR counts, the LF doesn't.
+pub const MAX_LINE: usize = 1024;
+
+// How many bytes are read at a time, at the most.
+const ROOM: usize = 65_536;
+
+/// What stands at the front of the bytes that were read.
+#[derive(Clone, Copy, Debug, PartialEq, Eq)]
+pub enum Front {
+    /// A whole line, with so many bytes before its LF.
+    Line { len: usize },
+    /// A line that is too long, whole or not.
+    TooLong,
+    /// The beginning of a line, or nothing.
+    Part,
+}
+
+/// The bytes that were read and not answered yet.
+#[derive(Drop)]
+pub struct Lines {
+    buffer: Vec<u8>,
+    start: usize,
+    end: usize,
+}
+
+impl Model for Lines {
+    ghost use Rattle.std.specs.Prelude.{◌≡◌, ◌≤◌, ℕ, List, take, drop, vec_len};
+
+    ghost Value = { List ℕ };
+
+    ghost view = { λ l. drop l.start (take l.end l.buffer.items) };
+
+    ghost invariant = { λ l. (l.start ≤ l.end) × (l.end ≤ 65536) × (vec_len l.buffer ≡ 65536) };
+}
+
+impl Lines {
+    /// No bytes yet. All memory is taken here.
+    pub fn new(alloc: Global) -> Result<Lines, AllocError>
+        ensures { IfOk result (λ lines. lines ≡ []) }
+    {
+        Ok(Lines {
+            buffer: vec![in alloc; 0; ROOM]?,
+            start: 0,
+            end: 0,
+        })
+    }
+
+    /// All bytes that were read and not dropped yet.
+    pub fn rest(&self) -> &[u8]
+        ensures { result.now ≡ self.now }
+    {
+        let all = self.buffer.as_slice();
+        &all[self.start..self.end]
+    }
+
+    /// What stands at the front.
+    pub fn front(&self) -> Front
+        ensures { result ≡ front_of self.now }
+    {
+        let rest = self.rest();
+        let len = line_len(rest);
+        if len > MAX_LINE {
+            Front::TooLong
+        } else if len < rest.len() {
+            Front::Line { len }
+        } else {
+            Front::Part
+        }
+    }
+
+    /// The first `len` bytes, without one CR at their end.
+    pub fn line(&self, len: usize) -> &[u8]
+        requires { len ≤ length self.now }
+        ensures { result.now ≡ without_return (take len self.now) }
+    {
+        without_return(&self.rest()[..len])
+    }
+
+    /// Drops the first `count` bytes.
+    pub fn advance(&mut self, count: usize)
+        requires { count ≤ length self.old }
+        ensures { self.new ≡ drop count self.old }
+    {
+        self.start += count;
+    }
+
+    /// Reads once, behind the bytes that are there. Nothing comes only at the end of the input.
+    pub fn read_from<R: Read>(&mut self, reader: &mut R) -> io::Result<usize>
+        requires { length self.old ≤ 1024 }
+        ensures ok { IfOk result (λ count. (more : List ℕ) × (length more ≡ count) × (self.new ≡ self.old ++ more)
+            × Consumes (R.remaining reader.old) (R.remaining reader.new) more) }
+        ensures end { IfOk result (λ count. count ≡ 0 → IsAtEnd (R.remaining reader.new)) }
+        ensures err { OnErr result ((self.new ≡ self.old) × Keeps (R.remaining reader.old) (R.remaining reader.new)) }
+    {
+        move_to_front(&mut self.buffer, self.start, self.end);
+        self.end -= self.start;
+        self.start = 0;
+        let count = read_behind(reader, &mut self.buffer, self.end)?;
+        self.end += count;
+        Ok(count)
+    }
+}
+
+// How many bytes stand before the first LF, or all where there is none.
+fn line_len(bytes: &[u8]) -> usize
+    ensures len { result ≡ position_or_len is_feed bytes.now }
+    ensures within { result ≤ length bytes.now }
+{
+    bytes.iter().take_while(|byte| **byte != b'\n').count()
+}
+
+// Moves the bytes between two places to the front.
+fn move_to_front(buffer: &mut [u8], start: usize, end: usize)
+    requires start { start ≤ end }
+    requires end { end ≤ length buffer.old }
+    ensures { take (end - start) buffer.new ≡ drop start (take end buffer.old) }
+{
+    buffer.copy_within(start..end, 0);
+}
+
+// Reads once, behind the first `end` bytes, which stay.
+fn read_behind<R: Read>(reader: &mut R, buffer: &mut [u8], end: usize) -> io::Result<usize>
+    requires { end < length buffer.old }
+    ensures ok { IfOk result (λ count. (more : List ℕ) × (length more ≡ count)
+        × (take (end + count) buffer.new ≡ take end buffer.old ++ more)
+        × Consumes (R.remaining reader.old) (R.remaining reader.new) more) }
+    ensures within { IfOk result (λ count. end + count ≤ length buffer.old) }
+    ensures end { IfOk result (λ count. count ≡ 0 → IsAtEnd (R.remaining reader.new)) }
+    ensures err { OnErr result (Keeps (R.remaining reader.old) (R.remaining reader.new)) }
+    ensures kept { take end buffer.new ≡ take end buffer.old }
+{
+    let (_, room) = buffer.split_at_mut(end);
+    reader.read(room)
+}
+
+fn without_return(line: &[u8]) -> &[u8]
+    ensures { result.now ≡ without_return line.now }
+{
+    match line {
+        [front @ .., b'\r'] => front,
+        _ => line,
+    }
+}

@@ -1,0 +1,249 @@
+//! The text of replies.
+
+ghost use Rattle.std.specs.Prelude.{◌≡◌, ◌++◌, ◌≤◌, ◌∷◌, [], decimal, length, position, OnOk};
+ghost use Rattle.rd_main.specs.Replies.{line_of, refusal_text, reply_text, list_text, bytes_text, phase_text, entry_text, core_text, counts_text, amounts_text, queue_text, task_text, state_text, is_task};
+
+use itoa::{Buffer, Integer};
+use rd_notify::notes::{Entry, EntryState};
+use rd_queue::queue::Queue;
+use rd_script::phase::Phase;
+use rd_state::task::Task;
+use std::alloc::AllocError;
+
+/// Why a command was refused.
+#[derive(Clone, Copy, Debug, PartialEq, Eq)]
+pub enum Refusal {
+    /// The core is idle.
+    NoTask,
+    /// There are only so many moves to go back.
+    TooFar { done: usize },
+    /// The moves done are at their limit.
+    MovesFull,
+    /// There is no such core, queue or task.
+    NoSuch,
+    /// A growth was refused.
+    NoMemory,
+    /// The line is no command.
+    Syntax,
+    /// The line has more than 1,024 bytes.
+    LineTooLong,
+}
+
+/// What is answered to a command that makes moves or takes them back, or to one that is refused.
+#[derive(Clone, Copy, Debug, PartialEq, Eq)]
+pub enum Reply {
+    /// So many moves are done now.
+    Done { at: usize },
+    /// Nothing has changed.
+    Refused { refusal: Refusal },
+}
+
+// The text of what is appended to a page.
+type Put = Result<(), AllocError>;
+
+fn put(page: &mut Vec<u8>, text: &[u8]) -> Put
+    ensures { OnOk result (page.new.items ≡ page.old.items ++ text.now) }
+{
+    page.extend_from_slice(text)
+}
+
+fn put_number<I: Integer>(page: &mut Vec<u8>, number: I) -> Put
+    ensures { OnOk result (page.new.items ≡ page.old.items ++ I.text number) }
+{
+    put(page, Buffer::new().format(number).as_bytes())
+}
+
+fn put_refusal(page: &mut Vec<u8>, refusal: Refusal) -> Put
+    ensures { OnOk result (page.new.items ≡ page.old.items ++ refusal_text refusal) }
+{
+    match refusal {
+        Refusal::NoTask => put(page, b"NoTask"),
+        Refusal::TooFar { done } => {
+            put(page, b"TooFar ")?;
+            put_number(page, done)
+        }
+        Refusal::MovesFull => put(page, b"MovesFull"),
+        Refusal::NoSuch => put(page, b"NoSuch"),
+        Refusal::NoMemory => put(page, b"NoMemory"),
+        Refusal::Syntax => put(page, b"Syntax"),
+        Refusal::LineTooLong => put(page, b"LineTooLong"),
+    }
+}
+
+/// Appends the line of a reply.
+pub fn put_reply(page: &mut Vec<u8>, reply: Reply) -> Put
+    ensures { OnOk result (page.new.items ≡ page.old.items ++ line_of (reply_text reply)) }
+{
+    match reply {
+        Reply::Done { at } => {
+            put(page, b"ok at ")?;
+            put_number(page, at)?;
+        }
+        Reply::Refused { refusal } => {
+            put(page, b"no ")?;
+            put_refusal(page, refusal)?;
+        }
+    }
+    put(page, b"\n")
+}
+
+fn put_bytes(page: &mut Vec<u8>, bytes: &[u8]) -> Put
+    requires { length bytes.now ≤ 256 }
+    ensures { OnOk result (page.new.items ≡ page.old.items ++ bytes_text bytes.now) }
+{
+    if bytes.is_empty() {
+        return put(page, b"-");
+    }
+    let mut digits = [0; 512];
+    let digits = &mut digits[..2 * bytes.len()];
+    hex::encode_to_slice(bytes, digits).unwrap();
+    put(page, digits)
+}
+
+// A `,` before each member but the first.
+fn put_comma(page: &mut Vec<u8>, place: usize) -> Put
+    ensures first { place ≡ 0 → OnOk result (page.new.items ≡ page.old.items) }
+    ensures later { 1 ≤ place → OnOk result (page.new.items ≡ page.old.items ++ 44 ∷ []) }
+{
+    if place > 0 {
+        put(page, b",")?;
+    }
+    Ok(())
+}
+
+fn put_items(page: &mut Vec<u8>, queue: &Queue) -> Put
+    ensures { OnOk result (page.new.items ≡ page.old.items ++ list_text bytes_text queue.now.items) }
+{
+    if queue.count() == 0 {
+        return put(page, b"-");
+    }
+    for place in 0..queue.count() {
+        put_comma(page, place)?;
+        put_bytes(page, queue.item(place))?;
+    }
+    Ok(())
+}
+
+fn put_numbers(page: &mut Vec<u8>, numbers: &[u32]) -> Put
+    ensures { OnOk result (page.new.items ≡ page.old.items ++ list_text decimal numbers.now) }
+{
+    if numbers.is_empty() {
+        return put(page, b"-");
+    }
+    for (place, number) in numbers.iter().enumerate() {
+        put_comma(page, place)?;
+        put_number(page, *number)?;
+    }
+    Ok(())
+}
+
+fn put_entry(page: &mut Vec<u8>, entry: Entry) -> Put
+    ensures { OnOk result (page.new.items ≡ page.old.items ++ entry_text entry) }
+{
+    put_number(page, entry.value)?;
+    match entry.state {
+        EntryState::Idle => put(page, b":idle"),
+        EntryState::Waiting => put(page, b":waiting"),
+        EntryState::Received => put(page, b":received"),
+    }
+}
+
+fn put_entries(page: &mut Vec<u8>, entries: &[Entry]) -> Put
+    ensures { OnOk result (page.new.items ≡ page.old.items ++ list_text entry_text entries.now) }
+{
+    if entries.is_empty() {
+        return put(page, b"-");
+    }
+    for (place, entry) in entries.iter().enumerate() {
+        put_comma(page, place)?;
+        put_entry(page, *entry)?;
+    }
+    Ok(())
+}
+
+fn put_phase(page: &mut Vec<u8>, phase: Phase) -> Put
+    ensures { OnOk result (page.new.items ≡ page.old.items ++ phase_text phase) }
+{
+    match phase {
+        Phase::Run => put(page, b"run"),
+        Phase::Ended => put(page, b"ended"),
+    }
+}
+
+fn put_core(page: &mut Vec<u8>, core: Option<usize>) -> Put
+    ensures { OnOk result (page.new.items ≡ page.old.items ++ core_text core) }
+{
+    match core {
+        Some(core) => put_number(page, core),
+        None => put(page, b"-"),
+    }
+}
+
+/// Writes the view of a queue onto the page, in the place of what was there.
+pub fn show_queue(page: &mut Vec<u8>, name: &str, queue: &Queue) -> Put
+    ensures { OnOk result (page.new.items ≡ line_of (queue_text name.now queue.now)) }
+{
+    page.clear();
+    put(page, b"queue ")?;
+    put(page, name.as_bytes())?;
+    put(page, b" ")?;
+    put_amounts(page, queue)
+}
+
+// How many items there are, and how many there is room for.
+fn put_counts(page: &mut Vec<u8>, queue: &Queue) -> Put
+    ensures { OnOk result (page.new.items ≡ page.old.items ++ counts_text queue.now) }
+{
+    put_number(page, queue.count())?;
+    put(page, b"/")?;
+    put_number(page, queue.capacity())
+}
+
+// The rest of a queue's view, from its amounts on.
+fn put_amounts(page: &mut Vec<u8>, queue: &Queue) -> Put
+    ensures { OnOk result (page.new.items ≡ page.old.items ++ line_of (amounts_text queue.now)) }
+{
+    put_counts(page, queue)?;
+    put(page, b" items ")?;
+    put_items(page, queue)?;
+    put(page, b" recv - send - set -")?;
+    put(page, b"\n")
+}
+
+/// Writes the view of a task onto the page, in the place of what was there.
+pub fn show_task(page: &mut Vec<u8>, name: &str, core: Option<usize>, task: &Task) -> Put
+    ensures { OnOk result (page.new.items ≡ line_of (task_text name.now core task.now)) }
+{
+    page.clear();
+    put(page, b"task ")?;
+    put(page, name.as_bytes())?;
+    put(page, b" core ")?;
+    put_core(page, core)?;
+    put(page, b" pc ")?;
+    put_number(page, task.pc())?;
+    put(page, b" phase ")?;
+    put_phase(page, task.phase())?;
+    put_state(page, task)
+}
+
+// The rest of a task's view, from its registers on.
+fn put_state(page: &mut Vec<u8>, task: &Task) -> Put
+    ensures { OnOk result (page.new.items ≡ page.old.items ++ line_of (state_text task.now)) }
+{
+    put(page, b" regs ")?;
+    put_numbers(page, task.registers())?;
+    put(page, b" data ")?;
+    put_bytes(page, task.bytes())?;
+    put(page, b" notes ")?;
+    put_entries(page, task.notes().as_slice())?;
+    put(page, b"\n")
+}
+
+/// The core that the task runs on, if it runs.
+pub fn core_of(cores: &[Option<usize>], task: usize) -> Option<usize>
+    ensures { result ≡ position (is_task task) cores.now }
+{
+    cores
+        .iter()
+        .position(|running| matches!(running, Some(running) if *running == task))
+}

@@ -1,0 +1,9 @@
+//! Tests that cross crates: whole runs of the program, and runs of its parts together.
+#![tactic(auto)]
+
+#[cfg(test)]
+mod memory;
+#[cfg(test)]
+mod parts;
+#[cfg(test)]
+mod rows;

@@ -1,0 +1,82 @@
+//! A reader and a writer over memory, which can fail.
+
+use std::io;
+use std::io::{ErrorKind, Read, Write};
+
+/// Gives `step` bytes a read. After so many reads it fails.
+#[derive(Drop)]
+pub struct Source<'a> {
+    pub rest: &'a [u8],
+    pub step: usize,
+    pub reads: usize,
+}
+
+impl<'a> Source<'a> {
+    /// A source that gives all at once, and doesn't fail.
+    pub fn new(bytes: &'a [u8]) -> Source<'a> {
+        Source {
+            rest: bytes,
+            step: usize::MAX,
+            reads: usize::MAX,
+        }
+    }
+}
+
+impl Read for Source<'_> {
+    fn read(&mut self, buffer: &mut [u8]) -> io::Result<usize> {
+        let Some(reads) = self.reads.checked_sub(1) else {
+            return Err(io::Error::from(ErrorKind::ConnectionReset));
+        };
+        self.reads = reads;
+        let count = buffer.len().min(self.rest.len()).min(self.step);
+        let (now, later) = self.rest.split_at(count);
+        buffer[..count].copy_from_slice(now);
+        self.rest = later;
+        Ok(count)
+    }
+}
+
+/// Keeps what is written, and counts the writes. After so many writes it fails.
+#[derive(Drop)]
+pub struct Target {
+    pub bytes: Vec<u8>,
+    pub writes: usize,
+    pub left: usize,
+}
+
+impl Target {
+    /// A target that doesn't fail.
+    pub fn new(bytes: Vec<u8>) -> Target {
+        Target {
+            bytes,
+            writes: 0,
+            left: usize::MAX,
+        }
+    }
+
+    /// What was written.
+    pub fn into_bytes(self) -> Vec<u8> {
+        let Target {
+            bytes,
+            writes: _,
+            left: _,
+        } = self;
+        bytes
+    }
+}
+
+impl Write for Target {
+    fn write(&mut self, buffer: &[u8]) -> io::Result<usize> {
+        let Some(left) = self.left.checked_sub(1) else {
+            return Err(io::Error::from(ErrorKind::BrokenPipe));
+        };
+        self.left = left;
+        self.writes = self.writes.saturating_add(1);
+        self.bytes.extend_from_slice(buffer)?;
+        Ok(buffer.len())
+    }
+
+    fn flush(&mut self) -> io::Result<()> {
+        Ok(())
+    }
+}

@@ -1,0 +1,100 @@
+//! Runs of the parts: moves, the way back, and their limit.
+
+use rd_calls::moves::Move;
+use rd_calls::play::play;
+use rd_script::app::App;
+use rd_state::state::State;
+use rd_timeline::log::Log;
+use rd_timeline::timeline::{Refusal, Timeline, TooFar};
+use std::alloc::Global;
+use std::process::Abort;
+use std::test::Fail;
+
+fn step(rt: &impl Abort, timeline: &mut Timeline) -> Result<usize, Refusal> {
+    assert!(rt; timeline.app().cores() > 0);
+    timeline.go(Move::Core { core: 0 })
+}
+
+// The state at boot comes back whole, and the moves can be redone.
+fn goes_back_to_boot(
+    rt: &impl Abort,
+    alloc: Global,
+    timeline: &mut Timeline,
+) -> Result<(), Fail> {
+    let boot = timeline.target().copy(alloc)?;
+    for at in 1..=4 {
+        assert_eq!(rt; step(rt, timeline), Ok(at));
+    }
+    assert!(rt; !timeline.target().same(&boot));
+    assert_eq!(rt; timeline.back(4), Ok(0));
+    assert!(rt; timeline.target().same(&boot));
+    assert_eq!(rt; timeline.left(), 4);
+    assert_eq!(rt; timeline.back(1), Err(TooFar { done: 0 }));
+    assert_eq!(rt; timeline.left(), 4);
+    Ok(())
+}
+
+#[test]
+fn undo_to_boot(rt: HostRuntime) -> Result<(), Fail> {
+    let alloc = rt.alloc();
+    let fresh = State::boot(alloc, &App::builtin(alloc)?)?;
+    let mut timeline = Timeline::new(alloc, App::builtin(alloc)?, 100)?;
+    let result = goes_back_to_boot(&rt, alloc, &mut timeline);
+    let is_fresh = timeline.target().same(&fresh);
+    timeline.close();
+    assert!(rt; is_fresh);
+    result
+}
+
+// A refused move leaves the target, the moves done and the moves undone.
+fn stops_at_the_limit(
+    rt: &impl Abort,
+    alloc: Global,
+    timeline: &mut Timeline,
+) -> Result<(), Fail> {
+    for at in 1..=3 {
+        assert_eq!(rt; step(rt, timeline), Ok(at));
+    }
+    let last = timeline.target().copy(alloc)?;
+    assert_eq!(rt; step(rt, timeline), Err(Refusal::MovesFull));
+    assert!(rt; timeline.target().same(&last));
+    assert_eq!(rt; timeline.at(), 3);
+    assert_eq!(rt; timeline.left(), 0);
+    assert_eq!(rt; timeline.back(1), Ok(2));
+    assert_eq!(rt; step(rt, timeline), Ok(3));
+    assert_eq!(rt; timeline.left(), 0);
+    Ok(())
+}
+
+#[test]
+fn moves_full(rt: HostRuntime) -> Result<(), Fail> {
+    let alloc = rt.alloc();
+    let mut timeline = Timeline::new(alloc, App::builtin(alloc)?, 3)?;
+    let result = stops_at_the_limit(&rt, alloc, &mut timeline);
+    timeline.close();
+    result
+}
+
+// With ample memory a move is played and its record is kept.
+#[test]
+fn always_out_of_memory(rt: HostRuntime) -> Result<(), Fail> {
+    let alloc = rt.alloc();
+    let app = App::builtin(alloc)?;
+    let mut state = State::boot(alloc, &app)?;
+    let mut log = Log::new(alloc);
+    let kept = match play(alloc, &mut state, &app, Move::Core { core: 0 }) {
+        Ok(undo) => match Timeline::keep(&mut log, undo) {
+            Ok(()) => true,
+            Err(undo) => {
+                undo.retire();
+                false
+            }
+        },
+        Err(_) => false,
+    };
+    let records = log.len();
+    log.retire();
+    assert!(rt; kept);
+    assert_eq!(rt; records, 1);
+    Ok(())
+}

@@ -1,0 +1,196 @@
+//! Runs of the program: what it is asked, and what it answers.
+
+use crate::memory::{Source, Target};
+use rd_main::run_main;
+use std::alloc::{AllocError, Global};
+use std::process::Abort;
+use std::test::Fail;
+
+const EMPTY_QUEUE: &str = "queue q0 0/2 items - recv - send - set -\n";
+
+// Runs the program with no words, and fails unless the status is 0 and nothing went to the errors.
+fn run(
+    rt: &impl Abort,
+    alloc: Global,
+    source: &mut Source<'_>,
+    target: &mut Target,
+) {
+    let words: Vec<String> = Vec::new(alloc);
+    let mut errors = Vec::new(alloc);
+    let status = run_main(alloc, words.as_slice(), source, target, &mut errors);
+    assert_eq!(rt; status, 0);
+    assert!(rt; errors.is_empty());
+}
+
+// What the program answers to these bytes.
+fn answers(rt: &impl Abort, alloc: Global, mut source: Source<'_>) -> Vec<u8> {
+    let mut target = Target::new(Vec::new(alloc));
+    run(rt, alloc, &mut source, &mut target);
+    target.into_bytes()
+}
+
+// So many `x`, and then these bytes.
+fn long(alloc: Global, len: usize, end: &[u8]) -> Result<Vec<u8>, AllocError> {
+    let mut bytes = vec![in alloc; b'x'; len]?;
+    bytes.extend_from_slice(end)?;
+    Ok(bytes)
+}
+
+#[test]
+fn rows(rt: HostRuntime) -> Result<(), Fail> {
+    let alloc = rt.alloc();
+    let rows = [
+        ("fresh_queue", "show queue q0\n", EMPTY_QUEUE),
+        (
+            "queue_fills",
+            "step 0\nstep 0\nstep 0\nshow task t0\nstep 0\nshow task t0\nshow queue q0\n",
+            "ok at 1\nok at 2\nok at 3\n\
+             task t0 core 0 pc 3 phase run regs 1,0,0,0,0,0,0,0 data 41 notes 0:idle\n\
+             ok at 4\n\
+             task t0 core 0 pc 4 phase run regs 0,0,0,0,0,0,0,0 data 41 notes 0:idle\n\
+             queue q0 2/2 items 41,41 recv - send - set -\n",
+        ),
+        (
+            "undo_to_boot",
+            "step 0\nstep 0\nstep 0\nstep 0\nshow queue q0\nback 4\nshow queue q0\nback 1\n",
+            "ok at 1\nok at 2\nok at 3\nok at 4\n\
+             queue q0 2/2 items 41,41 recv - send - set -\n\
+             ok at 0\n\
+             queue q0 0/2 items - recv - send - set -\n\
+             no TooFar 0\n",
+        ),
+        (
+            "an idle core",
+            "step 0\nstep 0\nstep 0\nstep 0\nstep 0\nstep 0\nshow task t0\nback 5\nback 1\n",
+            "ok at 1\nok at 2\nok at 3\nok at 4\nok at 5\nno NoTask\n\
+             task t0 core - pc 4 phase ended regs 0,0,0,0,0,0,0,0 data 41 notes 0:idle\n\
+             ok at 0\nno TooFar 0\n",
+        ),
+        (
+            "a refusal changes nothing",
+            "step 0\nback 2\nstep 1\nshow task t0\nback 1\nshow task t0\n",
+            "ok at 1\nno TooFar 1\nno NoSuch\n\
+             task t0 core 0 pc 1 phase run regs 0,0,0,0,0,0,0,0 data 41 notes 0:idle\n\
+             ok at 0\n\
+             task t0 core 0 pc 0 phase run regs 0,0,0,0,0,0,0,0 data - notes 0:idle\n",
+        ),
+        (
+            "unknown names",
+            "step 4294967295\nshow queue q1\nshow queue t0\nshow task q0\nshow task r0\n",
+            "no NoSuch\nno NoSuch\nno NoSuch\nno NoSuch\nno NoSuch\n",
+        ),
+        (
+            "numbers at their ends",
+            "back 1000000\nback 1000001\nback 0\nstep 4294967296\nstep 00000000000\nstep 0000000000\n",
+            "no TooFar 0\nno Syntax\nno Syntax\nno Syntax\nno Syntax\nok at 1\n",
+        ),
+        (
+            "no commands",
+            "step\nstep 0 0\nSTEP 0\nstep -1\nstep\t0\nback\nshow\nshow queue\nshow queue Q0\nshow queue q0 q0\nshow core q0\nshow task 0t\n",
+            "no Syntax\nno Syntax\nno Syntax\nno Syntax\nno Syntax\nno Syntax\nno Syntax\nno Syntax\nno Syntax\nno Syntax\nno Syntax\nno Syntax\n",
+        ),
+        ("spaces", "  step   0  \n \n show  queue  q0\n", "ok at 1\nno Syntax\nqueue q0 0/2 items - recv - send - set -\n"),
+        ("ends of lines", "step 0\r\nstep 0\r\r\n\n\r\nstep 0", "ok at 1\nno Syntax\nno Syntax\nno Syntax\nok at 2\n"),
+        ("a CR at the very end", "step 0\r", "no Syntax\n"),
+        ("no lines", "", ""),
+    ];
+    for (name, lines, expected) in rows {
+        let whole = answers(&rt, alloc, Source::new(lines.as_bytes()));
+        assert_eq!(rt; whole.as_slice(), expected.as_bytes(), "in {name}");
+        let mut slow = Source::new(lines.as_bytes());
+        slow.step = 1;
+        let single = answers(&rt, alloc, slow);
+        assert_eq!(rt; single.as_slice(), expected.as_bytes(), "in {name}, byte by byte");
+    }
+    Ok(())
+}
+
+#[test]
+fn long_lines(rt: HostRuntime) -> Result<(), Fail> {
+    let alloc = rt.alloc();
+    let cases = [
+        (1024, "\nstep 0\n", "no Syntax\nok at 1\n"),
+        (1024, "", "no Syntax\n"),
+        (1023, "\r\nstep 0\n", "no Syntax\nok at 1\n"),
+        (1025, "\nstep 0\n", "no LineTooLong\n"),
+        (1025, "", "no LineTooLong\n"),
+        (1024, "\r\nstep 0\n", "no LineTooLong\n"),
+        (100_000, "\nstep 0\n", "no LineTooLong\n"),
+    ];
+    for (len, end, expected) in cases {
+        for step in [1, 1000, usize::MAX] {
+            let bytes = long(alloc, len, end.as_bytes())?;
+            let mut source = Source::new(bytes.as_slice());
+            source.step = step;
+            let written = answers(&rt, alloc, source);
+            assert_eq!(rt; written.as_slice(), expected.as_bytes(), "at {len}, {step} a read");
+        }
+    }
+    Ok(())
+}
+
+// More lines than one buffer holds.
+#[test]
+fn many_lines(rt: HostRuntime) -> Result<(), Fail> {
+    let alloc = rt.alloc();
+    let mut lines = Vec::new(alloc);
+    let mut expected = Vec::new(alloc);
+    for _ in 0..10_000 {
+        lines.extend_from_slice(b"step 0\r\nback 1\nshow queue q0\n")?;
+        expected.extend_from_slice(b"ok at 1\nok at 0\n")?;
+        expected.extend_from_slice(EMPTY_QUEUE.as_bytes())?;
+    }
+    for step in [7, 4096, usize::MAX] {
+        let mut source = Source::new(lines.as_slice());
+        source.step = step;
+        let written = answers(&rt, alloc, source);
+        assert!(rt; written.as_slice() == expected.as_slice(), "{step} a read");
+    }
+    Ok(())
+}
+
+#[test]
+fn one_write_for_a_read(rt: HostRuntime) -> Result<(), Fail> {
+    let alloc = rt.alloc();
+    let mut source = Source::new(b"step 0\nstep 0\nback 1\nshow queue q0\n");
+    let mut target = Target::new(Vec::new(alloc));
+    run(&rt, alloc, &mut source, &mut target);
+    assert_eq!(rt; target.writes, 1);
+    Ok(())
+}
+
+// What was read as whole lines before a fault is answered. The beginning of a line isn't.
+#[test]
+fn faults(rt: HostRuntime) -> Result<(), Fail> {
+    let alloc = rt.alloc();
+    let mut source = Source::new(b"step 0\nstep 0\nstep 0\n");
+    source.step = 10;
+    source.reads = 1;
+    let written = answers(&rt, alloc, source);
+    assert_eq!(rt; written.as_slice(), b"ok at 1\n".as_slice());
+
+    let mut source = Source::new(b"step 0\nshow queue q0\nstep 0\n");
+    source.step = 7;
+    let mut target = Target::new(Vec::new(alloc));
+    target.left = 1;
+    run(&rt, alloc, &mut source, &mut target);
+    assert_eq!(rt; target.bytes.as_slice(), b"ok at 1\n".as_slice());
+    assert_eq!(rt; target.writes, 1);
+    Ok(())
+}
+
+#[test]
+fn bad_command_line(rt: HostRuntime) -> Result<(), Fail> {
+    let alloc = rt.alloc();
+    for word in ["run", "--help", ""] {
+        let words = vec![in alloc; String::from_str(alloc, word)?]?;
+        let mut source = Source::new(b"step 0\n");
+        let mut target = Target::new(Vec::new(alloc));
+        let mut errors = Vec::new(alloc);
+        let status = run_main(alloc, words.as_slice(), &mut source, &mut target, &mut errors);
+        assert_eq!(rt; status, 2);
+        assert_eq!(rt; errors.as_slice(), b"rdbg: bad command line\n".as_slice());
+        assert!(rt; target.bytes.is_empty());
+    }
+    Ok(())
+}
