@@ -126,8 +126,8 @@ sets_bytes s task bytes there =
 sends : (s : Snapshot) (core task queue : ℕ) → task < length s.tasks → (task_at s task).phase ≡ Run → GoesOn s (performed s core task (Send queue)) task ((task_at s task).pc + 1)
 sends s core task queue there runs =
     elim (is_full (queue_at s queue)) as (λ b. GoesOn s (concluded (cond b (fails s) (passes (with_queue s queue (with_items (queue_at s queue) (items_at s queue ++ sent_item s task queue ∷ []))))) task) task ((task_at s task).pc + 1)) [
-      true ↦ answers s s task 0 (task_at s task) there runs (nothing_yet s task) refl refl
-    | false ↦ answers s _ task 1 (task_at s task) there runs (and_items s s task queue (task_at s task) (items_at s queue ++ sent_item s task queue ∷ []) (nothing_yet s task)) refl refl
+      | true ↦ answers s s task 0 (task_at s task) there runs (nothing_yet s task) refl refl
+      | false ↦ answers s _ task 1 (task_at s task) there runs (and_items s s task queue (task_at s task) (items_at s queue ++ sent_item s task queue ∷ []) (nothing_yet s task)) refl refl
     ]
 
 receives : (s : Snapshot) (core task queue : ℕ) → task < length s.tasks → (task_at s task).phase ≡ Run → GoesOn s (performed s core task (Receive queue)) task ((task_at s task).pc + 1)
@@ -135,9 +135,9 @@ receives s core task queue there runs =
     let first = get_or (items_at s queue) 0 [] in
     let taken = with_queue s queue (with_items (queue_at s queue) (drop 1 (items_at s queue))) in
     elim (nat_eq (length (items_at s queue)) 0) as (λ b. GoesOn s (concluded (cond b (fails s) (passes (with_bytes taken task first))) task) task ((task_at s task).pc + 1)) [
-      true ↦ answers s s task 0 (task_at s task) there runs (nothing_yet s task) refl refl
-    | false ↦ answers s (with_bytes taken task first) task 1 (record (task_at s task) { bytes = first }) there runs
-        (and_then s taken task (task_at s task) (λ t. record t { bytes = first }) there (and_items s s task queue (task_at s task) (drop 1 (items_at s queue)) (nothing_yet s task))) refl refl
+      | true ↦ answers s s task 0 (task_at s task) there runs (nothing_yet s task) refl refl
+      | false ↦ answers s (with_bytes taken task first) task 1 (record (task_at s task) { bytes = first }) there runs
+          (and_then s taken task (task_at s task) (λ t. record t { bytes = first }) there (and_items s s task queue (task_at s task) (drop 1 (items_at s queue)) (nothing_yet s task))) refl refl
     ]
 
 -- Is it the instruction that ends the task?
@@ -177,8 +177,8 @@ task_or_other : (s p : Snapshot) (task : ℕ) (now : TaskSnapshot) (P : ℕ → 
 task_or_other s p task now P there e here other t h =
     subst (λ (ts : List TaskSnapshot). P t (get_or ts t no_task)) (sym e)
     (elim (cases_eq t task) [
-      inl same ↦ subst (λ n. P n (get_or (set s.tasks task now) n no_task)) (sym same) (subst (P task) (sym (get_or-set_same s.tasks task now no_task there)) here)
-    | inr differs ↦ subst (P t) (sym (get_or-set_other s.tasks task t now no_task differs)) (other t differs h)
+      | inl same ↦ subst (λ n. P n (get_or (set s.tasks task now) n no_task)) (sym same) (subst (P task) (sym (get_or-set_same s.tasks task now no_task there)) here)
+      | inr differs ↦ subst (P t) (sym (get_or-set_other s.tasks task t now no_task differs)) (other t differs h)
     ])
 
 stands_on : (app : Application) (s p : Snapshot) (task pc : ℕ) → IsValid app s → task < length s.tasks → GoesOn s p task pc → pc < length (code_of app task) → Stands app s p
@@ -190,8 +190,8 @@ stands_on app s p task pc valid there goes within = record {
   queues = goes.rewrites.queues;
   ready = goes.rewrites.ready;
   placed = λ t h.
-    ap (λ (seats : List ℕ). times t seats + times_on t p.cores) goes.rewrites.ready ∙ ap (λ (seats : List (Option ℕ)). times t s.ready + times_on t seats) goes.rewrites.cores ∙ valid.placed_once t h
-    ∙ sym (task_or_other s p task goes.now (λ t x. places_to_run x.phase ≡ places_to_run (task_at s t).phase) there goes.rewrites.tasks (ap places_to_run goes.runs) (λ t differs h. refl) t h);
+      ap (λ (seats : List ℕ). times t seats + times_on t p.cores) goes.rewrites.ready ∙ ap (λ (seats : List (Option ℕ)). times t s.ready + times_on t seats) goes.rewrites.cores ∙ valid.placed_once t h
+      ∙ sym (task_or_other s p task goes.now (λ t x. places_to_run x.phase ≡ places_to_run (task_at s t).phase) there goes.rewrites.tasks (ap places_to_run goes.runs) (λ t differs h. refl) t h);
 }
 
 nat_eq_self : (n : ℕ) → nat_eq n n ≡ true
@@ -221,7 +221,7 @@ stands_ended app s core task valid there is_task e =
     let now : TaskSnapshot = record (task_at s task) { phase = Ended } in
     let run = runs app s core task valid there is_task e in
     let left : (t : ℕ) → times_on t (set s.cores core None) + one_if (nat_eq t task) ≡ times_on t s.cores =
-        λ t. omega (arith, times_on-set t core s.cores None there, ap (λ r. one_if (is_on t r)) e) in
+    λ t. omega (arith, times_on-set t core s.cores None there, ap (λ r. one_if (is_on t r)) e) in
     record {
       cores = length-set s.cores core None;
       tasks = length-set s.tasks task now;
@@ -230,8 +230,8 @@ stands_ended app s core task valid there is_task e =
       queues = refl;
       ready = refl;
       placed = task_or_other s (performed s core task End) task now (λ t x. times t s.ready + times_on t (set s.cores core None) ≡ places_to_run x.phase) is_task refl
-        (omega (arith, left task, ap one_if (nat_eq_self task), valid.placed_once task is_task, ap places_to_run run))
-        (λ t differs h. omega (arith, left t, ap one_if (nat_eq_other t task differs), valid.placed_once t h));
+          (omega (arith, left task, ap one_if (nat_eq_self task), valid.placed_once task is_task, ap places_to_run run))
+          (λ t differs h. omega (arith, left t, ap one_if (nat_eq_other t task differs), valid.placed_once t h));
     }
 
 is_end : (instr : Instr) → ends instr ≡ true → instr ≡ End
@@ -242,9 +242,9 @@ is_end _ e = absurd (false≢true e)
 not_last : (app : Application) (script : TaskScript) (pc : ℕ) → IsScript app script → pc < length script.code → is_final (get_or script.code pc End) ≡ false → pc + 1 < length script.code
 not_last app script pc ok within e =
     elim (cases_lt (pc + 1) (length script.code)) [
-      inl lt ↦ lt
-    | inr ge ↦ let last : pc ≡ length script.code - 1 = omega (arith, ge, within) in
-        absurd (false≢true (sym e ∙ ap (λ k. is_final (get_or script.code k End)) last ∙ ok.ends))
+      | inl lt ↦ lt
+      | inr ge ↦ let last : pc ≡ length script.code - 1 = omega (arith, ge, within) in
+          absurd (false≢true (sym e ∙ ap (λ k. is_final (get_or script.code k End)) last ∙ ok.ends))
     ]
 
 -- What a move's instruction leaves stands.
@@ -258,9 +258,9 @@ stands app s core task limits valid there is_task e =
     let within = valid.in_limits.places task is_task in
     let fits = All-get_or (IsWithin app (length script.code)) script.code pc End within ok.within in
     let by_end : (b : Bool) → ends instr ≡ b → Stands app s (performed s core task instr) = λ b. elim b as (λ b. ends instr ≡ b → Stands app s (performed s core task instr)) [
-      true ↦ λ last. subst (λ i. Stands app s (performed s core task i)) (sym (is_end instr last)) (stands_ended app s core task valid there is_task e)
-    | false ↦ λ goes. let on = goes_on app (length script.code) s core task instr is_task (runs app s core task valid there is_task e) fits (not_last app script pc ok within) goes in
-        stands_on app s (performed s core task instr) task on.0 valid is_task on.1 on.2
+      | true ↦ λ last. subst (λ i. Stands app s (performed s core task i)) (sym (is_end instr last)) (stands_ended app s core task valid there is_task e)
+      | false ↦ λ goes. let on = goes_on app (length script.code) s core task instr is_task (runs app s core task valid there is_task e) fits (not_last app script pc ok within) goes in
+          stands_on app s (performed s core task instr) task on.0 valid is_task on.1 on.2
     ] in
     by_end (ends instr) refl
 

@@ -50,12 +50,7 @@ fn play_task(
 
 /// Makes a move and answers its record, which undoes it exactly. A refusal leaves the state as it was:
 /// `NoTask` where the core is idle, `NoMemory` where a growth was refused.
-pub fn play(
-    alloc: Global,
-    state: &mut State,
-    app: &App,
-    action: Move,
-) -> Result<Undo, PlayError>
+pub fn play(alloc: Global, state: &mut State, app: &App, action: Move) -> Result<Undo, PlayError>
     requires valid { IsValid app.now state.old }
     requires named { IsMoveOf app.now action }
     ensures step { OnOk result (step app.now state.old action ≡ Ok state.new) }

@@ -23,7 +23,9 @@ pub const MOVES: usize = 100_000;
 
 // The exit statuses.
 const DONE: u8 = 0;
+
 const FAULT: u8 = 1;
+
 const BAD_LINE: u8 = 2;
 
 /// Runs the program on the words of its command line, without its own name, and answers its exit status: 0 at
@@ -69,11 +71,7 @@ fn fault<E: Write>(errors: &mut E, message: &[u8], status: u8) -> u8
 }
 
 // A session with the built-in application.
-fn debug<R: Read, W: Write>(
-    alloc: Global,
-    reader: &mut R,
-    writer: &mut W,
-) -> Result<(), NoMemory> {
+fn debug<R: Read, W: Write>(alloc: Global, reader: &mut R, writer: &mut W) -> Result<(), NoMemory> {
     let mut session = Session::new(alloc)?;
     let app = App::builtin(alloc)?;
     let mut timeline = Timeline::new(alloc, app, MOVES)?;

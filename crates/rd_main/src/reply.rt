@@ -243,7 +243,5 @@ fn put_state(page: &mut Vec<u8>, task: &Task) -> Put
 pub fn core_of(cores: &[Option<usize>], task: usize) -> Option<usize>
     ensures { result ≡ position (is_task task) cores.now }
 {
-    cores
-        .iter()
-        .position(|running| matches!(running, Some(running) if *running == task))
+    cores.iter().position(|running| matches!(running, Some(running) if *running == task))
 }

@@ -16,11 +16,7 @@ fn step(rt: &impl Abort, timeline: &mut Timeline) -> Result<usize, Refusal> {
 }
 
 // The state at boot comes back whole, and the moves can be redone.
-fn goes_back_to_boot(
-    rt: &impl Abort,
-    alloc: Global,
-    timeline: &mut Timeline,
-) -> Result<(), Fail> {
+fn goes_back_to_boot(rt: &impl Abort, alloc: Global, timeline: &mut Timeline) -> Result<(), Fail> {
     let boot = timeline.target().copy(alloc)?;
     for at in 1..=4 {
         assert_eq!(rt; step(rt, timeline), Ok(at));
@@ -47,11 +43,7 @@ fn undo_to_boot(rt: HostRuntime) -> Result<(), Fail> {
 }
 
 // A refused move leaves the target, the moves done and the moves undone.
-fn stops_at_the_limit(
-    rt: &impl Abort,
-    alloc: Global,
-    timeline: &mut Timeline,
-) -> Result<(), Fail> {
+fn stops_at_the_limit(rt: &impl Abort, alloc: Global, timeline: &mut Timeline) -> Result<(), Fail> {
     for at in 1..=3 {
         assert_eq!(rt; step(rt, timeline), Ok(at));
     }

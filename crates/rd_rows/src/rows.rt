@@ -9,12 +9,7 @@ use std::test::Fail;
 const EMPTY_QUEUE: &str = "queue q0 0/2 items - recv - send - set -\n";
 
 // Runs the program with no words, and fails unless the status is 0 and nothing went to the errors.
-fn run(
-    rt: &impl Abort,
-    alloc: Global,
-    source: &mut Source<'_>,
-    target: &mut Target,
-) {
+fn run(rt: &impl Abort, alloc: Global, source: &mut Source<'_>, target: &mut Target) {
     let words: Vec<String> = Vec::new(alloc);
     let mut errors = Vec::new(alloc);
     let status = run_main(alloc, words.as_slice(), source, target, &mut errors);
@@ -89,8 +84,16 @@ fn rows(rt: HostRuntime) -> Result<(), Fail> {
             "step\nstep 0 0\nSTEP 0\nstep -1\nstep\t0\nback\nshow\nshow queue\nshow queue Q0\nshow queue q0 q0\nshow core q0\nshow task 0t\n",
             "no Syntax\nno Syntax\nno Syntax\nno Syntax\nno Syntax\nno Syntax\nno Syntax\nno Syntax\nno Syntax\nno Syntax\nno Syntax\nno Syntax\n",
         ),
-        ("spaces", "  step   0  \n \n show  queue  q0\n", "ok at 1\nno Syntax\nqueue q0 0/2 items - recv - send - set -\n"),
-        ("ends of lines", "step 0\r\nstep 0\r\r\n\n\r\nstep 0", "ok at 1\nno Syntax\nno Syntax\nno Syntax\nok at 2\n"),
+        (
+            "spaces",
+            "  step   0  \n \n show  queue  q0\n",
+            "ok at 1\nno Syntax\nqueue q0 0/2 items - recv - send - set -\n",
+        ),
+        (
+            "ends of lines",
+            "step 0\r\nstep 0\r\r\n\n\r\nstep 0",
+            "ok at 1\nno Syntax\nno Syntax\nno Syntax\nok at 2\n",
+        ),
         ("a CR at the very end", "step 0\r", "no Syntax\n"),
         ("no lines", "", ""),
     ];
@@ -100,7 +103,11 @@ fn rows(rt: HostRuntime) -> Result<(), Fail> {
         let mut slow = Source::new(lines.as_bytes());
         slow.step = 1;
         let single = answers(&rt, alloc, slow);
-        assert_eq!(rt; single.as_slice(), expected.as_bytes(), "in {name}, byte by byte");
+        assert_eq!(rt;
+            single.as_slice(),
+            expected.as_bytes(),
+            "in {name}, byte by byte"
+        );
     }
     Ok(())
 }
@@ -123,7 +130,11 @@ fn long_lines(rt: HostRuntime) -> Result<(), Fail> {
             let mut source = Source::new(bytes.as_slice());
             source.step = step;
             let written = answers(&rt, alloc, source);
-            assert_eq!(rt; written.as_slice(), expected.as_bytes(), "at {len}, {step} a read");
+            assert_eq!(rt;
+                written.as_slice(),
+                expected.as_bytes(),
+                "at {len}, {step} a read"
+            );
         }
     }
     Ok(())
@@ -187,7 +198,13 @@ fn bad_command_line(rt: HostRuntime) -> Result<(), Fail> {
         let mut source = Source::new(b"step 0\n");
         let mut target = Target::new(Vec::new(alloc));
         let mut errors = Vec::new(alloc);
-        let status = run_main(alloc, words.as_slice(), &mut source, &mut target, &mut errors);
+        let status = run_main(
+            alloc,
+            words.as_slice(),
+            &mut source,
+            &mut target,
+            &mut errors,
+        );
         assert_eq!(rt; status, 2);
         assert_eq!(rt; errors.as_slice(), b"rdbg: bad command line\n".as_slice());
         assert!(rt; target.bytes.is_empty());

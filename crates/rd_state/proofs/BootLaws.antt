@@ -57,13 +57,13 @@ IsValid-boot app s limits sized e =
         cores = kept.cores ∙ cores;
         tasks = tasks;
         places = λ task h.
-          let script : IsScript app (get_or app.scripts task (record { priority = 0; code = [] })) = All-get_or (IsScript app) app.scripts task (record { priority = 0; code = [] }) (omega (arith, h, tasks)) limits.scripts in
-          omega (arith, ap (λ (t : TaskSnapshot). t.pc) (there task h), script.some);
+            let script : IsScript app (get_or app.scripts task (record { priority = 0; code = [] })) = All-get_or (IsScript app) app.scripts task (record { priority = 0; code = [] }) (omega (arith, h, tasks)) limits.scripts in
+            omega (arith, ap (λ (t : TaskSnapshot). t.pc) (there task h), script.some);
         entries = All-replicate (λ (task : TaskSnapshot). length task.entries ≡ app.notes) n (fresh_task app.notes) (length-replicate app.notes idle_entry);
         queues = same_shapes app.queues;
       };
       placed_once = λ task h.
-        omega (arith, kept.seats task, (times-all_joined priorities n task).0 (omega (arith, h, tasks)), times_on-idle task app.cores, ap (λ (t : TaskSnapshot). places_to_run t.phase) (there task h));
+          omega (arith, kept.seats task, (times-all_joined priorities n task).0 (omega (arith, h, tasks)), times_on-idle task app.cores, ap (λ (t : TaskSnapshot). places_to_run t.phase) (there task h));
       waiting_lists = kept.order (in_order priorities n);
       entries = All-replicate (λ (task : TaskSnapshot). All IsNotWaiting task.entries) n (fresh_task app.notes) (All-replicate IsNotWaiting app.notes idle_entry idle_is_not_waiting);
     } in

@@ -54,9 +54,9 @@ pub Comes-from_act : {T E : Type 0} (r : Result T E) (old : Edit) (s s' : Snapsh
     → OnOk r (Comes old (edit s' changes') (applied old.now change) (cost_of (inverse_of old.now change)))
 Comes-from_act r old s s' changes changes' change e sized =
     let P : Edit → Type 0 = λ f. Fits f.now change → OnOk r (s' ≡ applied s change) → OnOk r (changes' ≡ changes ++ inverse_of s change ∷ [])
-      → OnOk r (Comes f (edit s' changes') (applied f.now change) (cost_of (inverse_of f.now change))) in
+    → OnOk r (Comes f (edit s' changes') (applied f.now change) (cost_of (inverse_of f.now change))) in
     subst P e (λ fits. elim r as (λ q. OnOk q (s' ≡ applied s change) → OnOk q (changes' ≡ changes ++ inverse_of s change ∷ []) → OnOk q (Comes (edit s changes) (edit s' changes') (applied s change) (cost_of (inverse_of s change))))
-      [ Ok x ↦ λ f g. Comes-act s s' changes changes' change sized fits f g | Err y ↦ λ f g. tt ])
+    [ Ok x ↦ λ f g. Comes-act s s' changes changes' change sized fits f g | Err y ↦ λ f g. tt ])
 
 pub CanUndo-from_act : {T E : Type 0} (r : Result T E) (old : Edit) (s s' : Snapshot) (changes changes' : List Change) (change : Change) → edit s changes ≡ old → IsSized s → Fits old.now change → CanUndo s changes
     → OnOk r (s' ≡ applied s change) → OnOk r (changes' ≡ changes ++ inverse_of s change ∷ []) → OnErr r ((s' ≡ s) × (changes' ≡ changes))
@@ -64,4 +64,4 @@ pub CanUndo-from_act : {T E : Type 0} (r : Result T E) (old : Edit) (s s' : Snap
 CanUndo-from_act r old s s' changes changes' change e sized fits can =
     let fits_here = subst (λ (f : Edit). Fits f.now change) (sym e) fits in
     elim r as (λ q. OnOk q (s' ≡ applied s change) → OnOk q (changes' ≡ changes ++ inverse_of s change ∷ []) → OnErr q ((s' ≡ s) × (changes' ≡ changes)) → CanUndo s' changes')
-      [ Ok x ↦ λ f g h. CanUndo-act s s' changes changes' change sized fits_here f g can | Err y ↦ λ f g h. rw (h.0, h.1) can ]
+    [ Ok x ↦ λ f g h. CanUndo-act s s' changes changes' change sized fits_here f g can | Err y ↦ λ f g h. rw (h.0, h.1) can ]

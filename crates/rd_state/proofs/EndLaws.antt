@@ -34,16 +34,16 @@ weakest_to-least priorities cores (suc n) core h =
     let rank : ℕ → ℕ = λ k. rank_of priorities (running_on cores k) in
     let best = weakest_to priorities cores n in
     elim (leb_tells (suc (rank (suc n))) (rank best)) [
-      inl w ↦ subst (λ (b : Bool). rank (cond b (suc n) best) ≤ rank core) (sym w.0)
-        (elim (cases_lt core (suc n)) [
-          inl lt ↦ omega (arith, w.1, weakest_to-least priorities cores n core (omega (arith, lt)))
-        | inr ge ↦ let same : core ≡ suc n = omega (arith, h, ge) in rw same (omega arith)
-        ])
-    | inr w ↦ subst (λ (b : Bool). rank (cond b (suc n) best) ≤ rank core) (sym w.0)
-        (elim (cases_lt core (suc n)) [
-          inl lt ↦ weakest_to-least priorities cores n core (omega (arith, lt))
-        | inr ge ↦ let same : core ≡ suc n = omega (arith, h, ge) in rw same (omega (arith, w.1))
-        ])
+      | inl w ↦ subst (λ (b : Bool). rank (cond b (suc n) best) ≤ rank core) (sym w.0)
+          (elim (cases_lt core (suc n)) [
+            | inl lt ↦ omega (arith, w.1, weakest_to-least priorities cores n core (omega (arith, lt)))
+            | inr ge ↦ let same : core ≡ suc n = omega (arith, h, ge) in rw same (omega arith)
+          ])
+      | inr w ↦ subst (λ (b : Bool). rank (cond b (suc n) best) ≤ rank core) (sym w.0)
+          (elim (cases_lt core (suc n)) [
+            | inl lt ↦ weakest_to-least priorities cores n core (omega (arith, lt))
+            | inr ge ↦ let same : core ≡ suc n = omega (arith, h, ge) in rw same (omega (arith, w.1))
+          ])
     ]
 
 -- Where no member is above a priority, the level isn't either.
@@ -63,7 +63,7 @@ fewer_weak : (priorities : List ℕ) (seats : Seating) (core : ℕ) → core < l
 fewer_weak priorities seats core there order weak = fewer seats.cores seats.ready there order weak
   where
     fewer : (cores : List (Option ℕ)) (ready : List ℕ) → core < length cores → IsInOrder priorities ready → rank_of priorities (running_on cores core) < level_of priorities ready
-      → weak_cores priorities (seated_on priorities (record { cores = cores; ready = ready }) core) + 1 ≤ weak_cores priorities (record { cores = cores; ready = ready })
+        → weak_cores priorities (seated_on priorities (record { cores = cores; ready = ready }) core) + 1 ≤ weak_cores priorities (record { cores = cores; ready = ready })
     fewer cores [] there order weak = absurd (omega (arith, weak))
     fewer cores (first ∷ rest) there order weak =
         let priority = slice_index priorities first in
@@ -95,8 +95,8 @@ round_cases priorities cores (first ∷ rest) =
     let some : leb 1 (length (first ∷ rest)) ≡ true = le-leb 1 (length (first ∷ rest)) (omega arith) in
     let choose : Bool → Bool → Seating = λ b c. cond (b && c) (seated_on priorities seats core) seats in
     elim (leb_tells rank (slice_index priorities first)) [
-      inl w ↦ inr (ap (λ b. choose b (leb rank (slice_index priorities first))) some ∙ ap (choose true) w.0, omega (arith, w.1))
-    | inr w ↦ inl (ap (λ b. choose b (leb rank (slice_index priorities first))) some ∙ ap (choose true) w.0, omega (arith, w.1))
+      | inl w ↦ inr (ap (λ b. choose b (leb rank (slice_index priorities first))) some ∙ ap (choose true) w.0, omega (arith, w.1))
+      | inr w ↦ inl (ap (λ b. choose b (leb rank (slice_index priorities first))) some ∙ ap (choose true) w.0, omega (arith, w.1))
     ]
 
 -- the weakest core counts, if it is weak
@@ -112,18 +112,18 @@ last_round : (priorities : List ℕ) (rounds : ℕ) (seats : Seating) → 0 < le
     → seated_once priorities (seated_rounds priorities rounds seats) ≡ seated_rounds priorities rounds seats
 last_round priorities zero seats some order few =
     elim (round_cases priorities seats.cores seats.ready) [
-      inl leaves ↦ leaves.0
-    | inr takes ↦ absurd (omega (arith, few, some_weak priorities seats some takes.1))
+      | inl leaves ↦ leaves.0
+      | inr takes ↦ absurd (omega (arith, few, some_weak priorities seats some takes.1))
     ]
 last_round priorities (suc rounds) seats some order few =
     let next = seated_once priorities seats in
     elim (round_cases priorities seats.cores seats.ready) [
-      inl leaves ↦ let still = seated_rounds-still priorities (suc rounds) seats leaves.0 in
-        ap (seated_once priorities) still ∙ leaves.0 ∙ sym still
-    | inr takes ↦ let kept = kept_once priorities seats some in
-        let fewer = fewer_weak priorities seats (weakest_of priorities seats.cores) (weakest_of-lt priorities seats.cores some) order takes.1 in
-        let same : weak_cores priorities next ≡ weak_cores priorities (seated_on priorities seats (weakest_of priorities seats.cores)) = ap (weak_cores priorities) takes.0 in
-        last_round priorities rounds next (omega (arith, kept.cores, some)) (kept.order order) (omega (arith, few, fewer, same))
+      | inl leaves ↦ let still = seated_rounds-still priorities (suc rounds) seats leaves.0 in
+          ap (seated_once priorities) still ∙ leaves.0 ∙ sym still
+      | inr takes ↦ let kept = kept_once priorities seats some in
+          let fewer = fewer_weak priorities seats (weakest_of priorities seats.cores) (weakest_of-lt priorities seats.cores some) order takes.1 in
+          let same : weak_cores priorities next ≡ weak_cores priorities (seated_on priorities seats (weakest_of priorities seats.cores)) = ap (weak_cores priorities) takes.0 in
+          last_round priorities rounds next (omega (arith, kept.cores, some)) (kept.order order) (omega (arith, few, fewer, same))
     ]
 
 -- Where a round leaves everything, the weakest core outranks all who are ready.
@@ -131,11 +131,11 @@ outranks : (priorities : List ℕ) (seats : Seating) → 0 < length seats.cores 
     → level_of priorities seats.ready ≤ rank_of priorities (running_on seats.cores (weakest_of priorities seats.cores))
 outranks priorities seats some order still =
     elim (round_cases priorities seats.cores seats.ready) [
-      inl leaves ↦ leaves.1
-    | inr takes ↦
-        let fewer = fewer_weak priorities seats (weakest_of priorities seats.cores) (weakest_of-lt priorities seats.cores some) order takes.1 in
-        let same : weak_cores priorities seats ≡ weak_cores priorities (seated_on priorities seats (weakest_of priorities seats.cores)) = ap (weak_cores priorities) (sym still ∙ takes.0) in
-        absurd (omega (arith, fewer, same))
+      | inl leaves ↦ leaves.1
+      | inr takes ↦
+          let fewer = fewer_weak priorities seats (weakest_of priorities seats.cores) (weakest_of-lt priorities seats.cores some) order takes.1 in
+          let same : weak_cores priorities seats ≡ weak_cores priorities (seated_on priorities seats (weakest_of priorities seats.cores)) = ap (weak_cores priorities) (sym still ∙ takes.0) in
+          absurd (omega (arith, fewer, same))
     ]
 
 all_outranked : (priorities : List ℕ) (cores : List (Option ℕ)) (ready : List ℕ) → 0 < length cores → IsInOrder priorities ready
@@ -147,7 +147,7 @@ all_outranked priorities cores (first ∷ rest) some order low =
     let at_most : All (λ task. slice_index priorities task ≤ top) (first ∷ rest) = All-from_recursion (λ task. slice_index priorities task ≤ top) (first ∷ rest) (omega arith, order.0) in
     All-weaker (λ task. slice_index priorities task ≤ top) (λ task. All (λ running. slice_index priorities task < rank_of priorities running) cores)
     (λ task below. All-from_get_or (λ running. slice_index priorities task < rank_of priorities running) cores None
-      (λ core there. omega (arith, below, low, weakest_to-least priorities cores (length cores - 1) core (omega (arith, there)))))
+    (λ core there. omega (arith, below, low, weakest_to-least priorities cores (length cores - 1) core (omega (arith, there)))))
     (first ∷ rest) at_most
 
 pub settles : SchedulingSettles

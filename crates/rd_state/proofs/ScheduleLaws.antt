@@ -40,7 +40,7 @@ weakest_to-le priorities cores (suc n) =
     let best = weakest_to priorities cores n in
     let tells = weakest_to-le priorities cores n in
     elim (nat_lt (rank_of priorities (running_on cores (suc n))) (rank_of priorities (running_on cores best))) as (λ b. cond b (suc n) best ≤ suc n)
-      [ true ↦ omega arith | false ↦ omega (arith, tells) ]
+    [ true ↦ omega arith | false ↦ omega (arith, tells) ]
 
 pub weakest_of-lt : (priorities : List ℕ) (cores : List (Option ℕ)) → 0 < length cores → weakest_of priorities cores < length cores
 weakest_of-lt priorities cores some = omega (arith, weakest_to-le priorities cores (length cores - 1), some)
@@ -78,10 +78,10 @@ kept_once priorities seats some =
     let core = weakest_of priorities seats.cores in
     let outranks = nat_le (rank_of priorities (running_on seats.cores core)) (slice_index priorities (head_of seats.ready)) in
     elim (leb_tells 1 (length seats.ready)) [
-      inl w ↦ subst (λ (b : Bool). SeatsKept priorities seats (cond (b && outranks) (seated_on priorities seats core) seats)) (sym w.0)
-        (elim outranks as (λ b. SeatsKept priorities seats (cond (true && b) (seated_on priorities seats core) seats))
+      | inl w ↦ subst (λ (b : Bool). SeatsKept priorities seats (cond (b && outranks) (seated_on priorities seats core) seats)) (sym w.0)
+          (elim outranks as (λ b. SeatsKept priorities seats (cond (true && b) (seated_on priorities seats core) seats))
           [ true ↦ kept_on priorities seats core (weakest_of-lt priorities seats.cores some) w.1 | false ↦ kept_same priorities seats ])
-    | inr w ↦ subst (λ (b : Bool). SeatsKept priorities seats (cond (b && outranks) (seated_on priorities seats core) seats)) (sym w.0) (kept_same priorities seats)
+      | inr w ↦ subst (λ (b : Bool). SeatsKept priorities seats (cond (b && outranks) (seated_on priorities seats core) seats)) (sym w.0) (kept_same priorities seats)
     ]
 
 pub kept_rounds : (priorities : List ℕ) (rounds : ℕ) (seats : Seating) → 0 < length seats.cores → SeatsKept priorities seats (seated_rounds priorities rounds seats)

@@ -59,7 +59,7 @@ IsKept-new app s n limits turn cores ready tasks queues =
         room = omega (arith, ap length listed, length-all_joined (priorities_of app) n, count);
         tasks = All-same IsSizedTask s.tasks.items (replicate n (fresh_task app.notes)) tasks (All-replicate IsSizedTask n (fresh_task app.notes) (refl, omega arith));
         queues = All-same IsSizedQueue s.queues.items (map new_queue app.queues) queues
-          (All-map IsSizedQueue new_queue app.queues (All-weaker IsQueueShape (λ q. IsSizedQueue (new_queue q)) (λ q h. (omega arith, All-nil (λ (item : List ℕ). length item ≡ q.item_size), omega (arith, h.3))) app.queues limits.queues));
+            (All-map IsSizedQueue new_queue app.queues (All-weaker IsQueueShape (λ q. IsSizedQueue (new_queue q)) (λ q h. (omega arith, All-nil (λ (item : List ℕ). length item ≡ q.item_size), omega (arith, h.3))) app.queues limits.queues));
       };
       room = ap (λ (l : TaskList). l.room) ready ∙ sym count;
     }

@@ -24,7 +24,7 @@ task_back : (s : Snapshot) (task : ℕ) (now : TaskSnapshot) (g : TaskSnapshot �
 task_back s task now g there undoes =
     let at_task : get_or (set s.tasks task now) task no_task ≡ now = changed_at s.tasks task no_task now there in
     let same : set (set s.tasks task now) task (g (get_or (set s.tasks task now) task no_task)) ≡ s.tasks =
-        ap (λ t. set (set s.tasks task now) task (g t)) at_task ∙ ap (λ t. set (set s.tasks task now) task t) undoes ∙ set_back s.tasks task no_task now in
+    ap (λ t. set (set s.tasks task now) task (g t)) at_task ∙ ap (λ t. set (set s.tasks task now) task t) undoes ∙ set_back s.tasks task no_task now in
     ap (λ (tasks : List TaskSnapshot). record s { tasks = tasks }) same
 
 -- the same of a queue
@@ -33,7 +33,7 @@ queue_back : (s : Snapshot) (queue : ℕ) (now : QueueSnapshot) (g : QueueSnapsh
 queue_back s queue now g there undoes =
     let at_queue : get_or (set s.queues queue now) queue no_queue ≡ now = changed_at s.queues queue no_queue now there in
     let same : set (set s.queues queue now) queue (g (get_or (set s.queues queue now) queue no_queue)) ≡ s.queues =
-        ap (λ q. set (set s.queues queue now) queue (g q)) at_queue ∙ ap (λ q. set (set s.queues queue now) queue q) undoes ∙ set_back s.queues queue no_queue now in
+    ap (λ q. set (set s.queues queue now) queue (g q)) at_queue ∙ ap (λ q. set (set s.queues queue now) queue q) undoes ∙ set_back s.queues queue no_queue now in
     ap (λ (queues : List QueueSnapshot). record s { queues = queues }) same
 
 -- the last item taken, once one was put at the back

@@ -28,8 +28,8 @@ pub(crate) fn new_tasks(alloc: Global, count: usize, notes: usize) -> Result<Vec
 // The ready list of all tasks, joined by rising number.
 pub(crate) fn all_ready(alloc: Global, priorities: &[u8]) -> Result<PrioList, NoMemory>
     ensures { IfOk result (λ list. list ≡ record {
-        tasks = all_joined priorities.now (length priorities.now);
-        room = length priorities.now;
+      tasks = all_joined priorities.now (length priorities.now);
+      room = length priorities.now;
     }) }
 {
     let mut ready = PrioList::new(alloc, priorities.len())?;

@@ -9,11 +9,19 @@ use rd_script::phase::Phase;
 #[derive(Drop)]
 pub enum Change {
     /// The turn becomes this core's.
-    SetTurn { turn: usize },
+    SetTurn {
+        turn: usize,
+    },
     /// The core has this task, or none.
-    SetCore { core: usize, task: Option<usize> },
+    SetCore {
+        core: usize,
+        task: Option<usize>,
+    },
     /// The task stands at this instruction.
-    SetPc { task: usize, pc: usize },
+    SetPc {
+        task: usize,
+        pc: usize,
+    },
     /// The task's register becomes the value.
     SetReg {
         task: usize,
@@ -21,23 +29,43 @@ pub enum Change {
         value: u32,
     },
     /// The task is in this phase.
-    SetPhase { task: usize, phase: Phase },
+    SetPhase {
+        task: usize,
+        phase: Phase,
+    },
     /// The task's data becomes these bytes.
-    SetData { task: usize, bytes: SavedBytes },
+    SetData {
+        task: usize,
+        bytes: SavedBytes,
+    },
     /// The task is put into the ready list at the place.
-    InsReady { place: usize, task: usize },
+    InsReady {
+        place: usize,
+        task: usize,
+    },
     /// The task at the place leaves the ready list.
-    DelReady { place: usize },
+    DelReady {
+        place: usize,
+    },
     /// The item goes to the queue's back.
-    PutBack { queue: usize, item: SavedBytes },
+    PutBack {
+        queue: usize,
+        item: SavedBytes,
+    },
     /// The item at the queue's back leaves it.
-    TakeBack { queue: usize },
+    TakeBack {
+        queue: usize,
+    },
     /// The item goes to the queue's front.
-    PutFront { queue: usize, item: SavedBytes },
+    PutFront {
+        queue: usize,
+        item: SavedBytes,
+    },
     /// The item at the queue's front leaves it.
-    TakeFront { queue: usize },
+    TakeFront {
+        queue: usize,
+    },
 }
-
 
 impl Change {
     /// How much it takes in a record: one, and the bytes that it carries.

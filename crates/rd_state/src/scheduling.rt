@@ -117,5 +117,4 @@ impl Editing {
 /// that is scheduled isn't changed by scheduling it again.
 pub fn scheduling_settles()
     ensures { SchedulingSettles }
-{
-}
+{}

@@ -90,5 +90,4 @@ impl State {
 /// Each change is undone by its inverse, to the last field of the state.
 pub fn each_change_is_undone()
     ensures { EachIsUndone }
-{
-}
+{}

@@ -61,18 +61,18 @@ pub Retraces-push : (app : Application) (moves : List Move) (records : List (Lis
     → Retraces app moves records s → step app s move ≡ Ok s' → undone s' last ≡ s → IsValid app s' → Retraces app (moves ++ move ∷ []) (records ++ last ∷ []) s'
 Retraces-push app moves records move last s s' same h steps back valid place within =
     elim (cases_lt place (length moves + 1)) [
-      inl earlier ↦ let here : place ≤ length moves = omega (arith, earlier) in
-        let was = h place here in
-        let before : rewound s' (drop place (records ++ last ∷ [])) ≡ rewound s (drop place records) =
+      | inl earlier ↦ let here : place ≤ length moves = omega (arith, earlier) in
+          let was = h place here in
+          let before : rewound s' (drop place (records ++ last ∷ [])) ≡ rewound s (drop place records) =
           rewound-before place records last s' (omega (arith, here, same)) ∙ ap (λ (t : Snapshot). rewound t (drop place records)) back in
-        subst (λ (t : Snapshot). IsStateAfter app (take place (moves ++ move ∷ [])) t) (sym before)
-        (subst (λ (ms : List Move). IsStateAfter app ms (rewound s (drop place records))) (sym (before_last place moves move here)) was)
-    | inr last_place ↦
-        let all = take_all place (moves ++ move ∷ []) (omega (arith, last_place, length_push moves move)) in
-        let none = drop_all place (records ++ last ∷ []) (omega (arith, last_place, length_push records last, same)) in
-        subst (λ (ms : List Move). IsStateAfter app ms (rewound s' (drop place (records ++ last ∷ [])))) (sym all)
-        (subst (λ (rs : List (List Change)). IsStateAfter app (moves ++ move ∷ []) (rewound s' rs)) (sym none)
-        (record { state = state_after-push app moves move s (Retraces-now app moves records s same h).state ∙ steps; valid = valid }))
+          subst (λ (t : Snapshot). IsStateAfter app (take place (moves ++ move ∷ [])) t) (sym before)
+          (subst (λ (ms : List Move). IsStateAfter app ms (rewound s (drop place records))) (sym (before_last place moves move here)) was)
+      | inr last_place ↦
+          let all = take_all place (moves ++ move ∷ []) (omega (arith, last_place, length_push moves move)) in
+          let none = drop_all place (records ++ last ∷ []) (omega (arith, last_place, length_push records last, same)) in
+          subst (λ (ms : List Move). IsStateAfter app ms (rewound s' (drop place (records ++ last ∷ [])))) (sym all)
+          (subst (λ (rs : List (List Change)). IsStateAfter app (moves ++ move ∷ []) (rewound s' rs)) (sym none)
+          (record { state = state_after-push app moves move s (Retraces-now app moves records s same h).state ∙ steps; valid = valid }))
     ]
 
 pub Retraces-pop : (app : Application) (moves : List Move) (records : List (List Change)) (move : Move) (last : List Change) (s : Snapshot) → length records ≡ length moves
@@ -97,5 +97,5 @@ back_more done undone_ done₁ undone₁ done₂ undone₂ i more d u dd uu =
     let count : length done₁ - 1 ≡ k = omega (arith, ap length front, length-take-le (k + 1) done (omega (arith, more)), more) in
     let last : done₂ ≡ take k (take (k + 1) done) = dd ∙ ap (λ n. take n done₁) count ∙ ap (take k) front in
     let moved : undone₂ ≡ drop k (take (k + 1) done) ++ (drop (k + 1) done ++ undone_) =
-      uu ∙ ap (λ n. drop n done₁ ++ undone₁) count ∙ ap (λ xs. drop k xs ++ undone₁) front ∙ ap (λ ys. drop k (take (k + 1) done) ++ ys) (u ∙ ap (λ n. drop n done ++ undone_) next) in
+    uu ∙ ap (λ n. drop n done₁ ++ undone₁) count ∙ ap (λ xs. drop k xs ++ undone₁) front ∙ ap (λ ys. drop k (take (k + 1) done) ++ ys) (u ∙ ap (λ n. drop n done ++ undone_) next) in
     (last ∙ take-take k (k + 1) done (omega arith), moved ∙ sym (append_assoc (drop k (take (k + 1) done)) (drop (k + 1) done) undone_) ∙ ap (λ ys. ys ++ undone_) (one_moved done k))

@@ -54,6 +54,6 @@ abbrev onward : Change
 onward = SetPc 0 2
 
 undo_to_boot : undone (applied (applied (applied before put) answer) onward)
-      (inverse_of before put ∷ inverse_of (applied before put) answer ∷ inverse_of (applied (applied before put) answer) onward ∷ [])
+    (inverse_of before put ∷ inverse_of (applied before put) answer ∷ inverse_of (applied (applied before put) answer) onward ∷ [])
     ≡ before
 undo_to_boot = refl

@@ -43,14 +43,16 @@ pub IsKept-pop : (c : Course) (moves rest : List Move) (records : List (List Cha
 IsKept-pop c moves rest records move last kept done log =
     let count : length records ≡ length moves = omega (arith, ap length done, ap length log, length_push records last, length_push moves move, kept.records) in
     let was : Retraces c.app (moves ++ move ∷ []) (records ++ last ∷ []) c.target =
-      subst (λ (ms : List Move). Retraces c.app ms (records ++ last ∷ []) c.target) done (subst (λ (rs : List (List Change)). Retraces c.app c.done rs c.target) log kept.retraces) in
-    let popped = CanRewind-pop c.target records last (subst (CanRewind c.target) log kept.rewinds) in
-    (record {
-      records = count;
-      retraces = Retraces-pop c.app moves records move last c.target count was;
-      rewinds = popped.1;
-      within = omega (arith, ap length done, length_push moves move, kept.within);
-    }, popped.0)
+    subst (λ (ms : List Move). Retraces c.app ms (records ++ last ∷ []) c.target) done (subst (λ (rs : List (List Change)). Retraces c.app c.done rs c.target) log kept.retraces) in
+    let popped = CanRewind-pop c.target records last (subst (CanRewind c.target) log kept.rewinds) in (
+      record {
+        records = count;
+        retraces = Retraces-pop c.app moves records move last c.target count was;
+        rewinds = popped.1;
+        within = omega (arith, ap length done, length_push moves move, kept.within);
+      },
+      popped.0,
+    )
 
 -- the fields after one move more
 pub IsWhole-push : (t : Inside) (s : Snapshot) (done left : Vec Move Global) (log : List (List Change)) (move : Move) (last : List Change) → IsWhole t → length t.done.items ≢ t.limit
@@ -63,8 +65,8 @@ IsWhole-push t s done left log move last whole more steps back can valid e f g r
     let nothing_left : [] ≡ reverse left.items = sym (ap (λ (moves : List Move). reverse moves) g) in
     record {
       kept = subst (λ (moves : List Move). P moves log (reverse left.items)) (sym e)
-        (subst (λ (records : List (List Change)). P (t.done.items ++ move ∷ []) records (reverse left.items)) (sym f)
-        (subst (P (t.done.items ++ move ∷ []) (t.log ++ last ∷ [])) nothing_left pushed));
+          (subst (λ (records : List (List Change)). P (t.done.items ++ move ∷ []) records (reverse left.items)) (sym f)
+          (subst (P (t.done.items ++ move ∷ []) (t.log ++ last ∷ [])) nothing_left pushed));
       limits = whole.limits;
       room = omega (arith, ap length e, length_push t.done.items move, ap length g, room);
     }

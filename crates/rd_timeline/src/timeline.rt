@@ -90,12 +90,12 @@ impl Timeline {
     /// A timeline at boot, for at most `limit` moves. A refusal drops the application.
     pub fn new(alloc: Global, app: App, limit: usize) -> Result<Timeline, NoMemory>
         ensures { IfOk result (λ timeline. timeline ≡ record {
-            app = app;
-            limit = limit;
-            target = boot_of app;
-            done = [];
-            log = [];
-            undone = [];
+          app = app;
+          limit = limit;
+          target = boot_of app;
+          done = [];
+          log = [];
+          undone = [];
         }) }
     {
         app.limits();

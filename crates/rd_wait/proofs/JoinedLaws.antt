@@ -28,10 +28,10 @@ IsInOrder-joined priorities (first ∷ rest) task h =
     let P : List ℕ → Type 0 = IsInOrder priorities in
     subst P (sym (joined-cons priorities first rest task))
     (elim (leb_tells (at task) (at first)) [
-      inl w ↦ subst (λ (b : Bool). P (cond b (first ∷ joined priorities rest task) (task ∷ first ∷ rest))) (sym w.0)
-        (AllByRecursion-insert (λ later. at later ≤ at first) rest (prefix_len test rest) task h.0 w.1, IsInOrder-joined priorities rest task h.1)
-    | inr w ↦ subst (λ (b : Bool). P (cond b (first ∷ joined priorities rest task) (task ∷ first ∷ rest))) (sym w.0)
-        ((omega (arith, w.1), AllByRecursion-weaker (λ later. at later ≤ at first) (λ later. at later ≤ at task) (λ later k. omega (arith, k, w.1)) rest h.0), (h.0, h.1))
+      | inl w ↦ subst (λ (b : Bool). P (cond b (first ∷ joined priorities rest task) (task ∷ first ∷ rest))) (sym w.0)
+          (AllByRecursion-insert (λ later. at later ≤ at first) rest (prefix_len test rest) task h.0 w.1, IsInOrder-joined priorities rest task h.1)
+      | inr w ↦ subst (λ (b : Bool). P (cond b (first ∷ joined priorities rest task) (task ∷ first ∷ rest))) (sym w.0)
+          ((omega (arith, w.1), AllByRecursion-weaker (λ later. at later ≤ at first) (λ later. at later ≤ at task) (λ later k. omega (arith, k, w.1)) rest h.0), (h.0, h.1))
     ])
 
 -- The rest of a list in order is in order.
@@ -47,9 +47,10 @@ none_at_least priorities (first ∷ rest) priority h =
     let later = none_at_least priorities rest priority h.1 in
     let at = slice_index priorities first in
     let low : leb priority at ≡ false = grind (arith, nat_tests, h.0) in
-    let lower : leb (suc at) priority ≡ true = le-leb (suc at) priority h.0 in
-    (ap (λ b. cond b (first ∷ filter (λ member. is_at_least priorities priority member) rest) (filter (λ member. is_at_least priorities priority member) rest)) low ∙ later.0,
-     ap (λ b. cond b (first ∷ filter (λ member. nat_lt (slice_index priorities member) priority) rest) (filter (λ member. nat_lt (slice_index priorities member) priority) rest)) lower ∙ ap (λ r. first ∷ r) later.1)
+    let lower : leb (suc at) priority ≡ true = le-leb (suc at) priority h.0 in (
+      ap (λ b. cond b (first ∷ filter (λ member. is_at_least priorities priority member) rest) (filter (λ member. is_at_least priorities priority member) rest)) low ∙ later.0,
+      ap (λ b. cond b (first ∷ filter (λ member. nat_lt (slice_index priorities member) priority) rest) (filter (λ member. nat_lt (slice_index priorities member) priority) rest)) lower ∙ ap (λ r. first ∷ r) later.1,
+    )
 
 pub joined-among : (priorities tasks : List ℕ) (task : ℕ) → IsInOrder priorities tasks → joined priorities tasks task ≡ among priorities tasks task
 joined-among priorities [] task h = refl
@@ -59,16 +60,16 @@ joined-among priorities (first ∷ rest) task h =
     let low = λ (member : ℕ). nat_lt (at member) (at task) in
     joined-cons priorities first rest task ∙
     elim (leb_tells (at task) (at first)) [
-      inl w ↦
-        let not_low : leb (suc (at first)) (at task) ≡ false = grind (arith, nat_tests, w.1) in
-        ap (λ b. cond b (first ∷ joined priorities rest task) (task ∷ first ∷ rest)) w.0
-        ∙ ap (λ r. first ∷ r) (joined-among priorities rest task h.1)
-        ∙ ap (λ b. cond b (first ∷ filter high rest) (filter high rest) ++ task ∷ filter low rest) (sym w.0)
-        ∙ ap (λ b. filter high (first ∷ rest) ++ task ∷ cond b (first ∷ filter low rest) (filter low rest)) (sym not_low)
-    | inr w ↦
-        let none = none_at_least priorities (first ∷ rest) (at task) (w.1, AllByRecursion-weaker (λ later. at later ≤ at first) (λ later. at later < at task) (λ later k. omega (arith, k, w.1)) rest h.0) in
-        ap (λ b. cond b (first ∷ joined priorities rest task) (task ∷ first ∷ rest)) w.0
-        ∙ ap (λ r. task ∷ r) (sym none.1) ∙ ap (λ r. r ++ task ∷ filter low (first ∷ rest)) (sym none.0)
+      | inl w ↦
+          let not_low : leb (suc (at first)) (at task) ≡ false = grind (arith, nat_tests, w.1) in
+          ap (λ b. cond b (first ∷ joined priorities rest task) (task ∷ first ∷ rest)) w.0
+          ∙ ap (λ r. first ∷ r) (joined-among priorities rest task h.1)
+          ∙ ap (λ b. cond b (first ∷ filter high rest) (filter high rest) ++ task ∷ filter low rest) (sym w.0)
+          ∙ ap (λ b. filter high (first ∷ rest) ++ task ∷ cond b (first ∷ filter low rest) (filter low rest)) (sym not_low)
+      | inr w ↦
+          let none = none_at_least priorities (first ∷ rest) (at task) (w.1, AllByRecursion-weaker (λ later. at later ≤ at first) (λ later. at later < at task) (λ later k. omega (arith, k, w.1)) rest h.0) in
+          ap (λ b. cond b (first ∷ joined priorities rest task) (task ∷ first ∷ rest)) w.0
+          ∙ ap (λ r. task ∷ r) (sym none.1) ∙ ap (λ r. r ++ task ∷ filter low (first ∷ rest)) (sym none.0)
     ]
 
 pub joins_among : JoinsAmong

@@ -122,5 +122,4 @@ impl PrioList {
 /// list stays in order.
 pub fn joining_keeps_the_order()
     ensures { JoinsAmong }
-{
-}
+{}

@@ -19,7 +19,7 @@ returns c =
     let found : number_named name course.app.queue_names ≡ Some c.in-Some.queue = sym (rw c.app.ensures at c.in-Some.ensures) in
     on_ok_weaker c.put_page.result
     (page_view c.show_queue-shown.result _ (λ (queue : ℕ). queue_text name (queue_at course.target queue)) c.in-Some.queue _ _ _ found
-      (on_ok_weaker c.show_queue-shown.result
-        (λ text. c.as_slice.ensures.value ∙ text ∙ ap (λ (queue : QueueSnapshot). line_of (queue_text name queue)) (c.queue.ensures ∙ ap (λ (s : Snapshot). queue_at s c.in-Some.queue) c.target.ensures))
-        c.show_queue-shown.ensures))
+    (on_ok_weaker c.show_queue-shown.result
+    (λ text. c.as_slice.ensures.value ∙ text ∙ ap (λ (queue : QueueSnapshot). line_of (queue_text name queue)) (c.queue.ensures ∙ ap (λ (s : Snapshot). queue_at s c.in-Some.queue) c.target.ensures))
+    c.show_queue-shown.ensures))
     c.put_page.ensures

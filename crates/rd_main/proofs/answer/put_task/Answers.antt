@@ -18,11 +18,11 @@ returns c =
     let task = c.in-Some.task in
     let found : number_named name course.app.task_names ≡ Some task = sym (rw c.app.ensures at c.in-Some.ensures) in
     let on_core : c.core_of-core.result ≡ position (is_task task) course.target.cores =
-      c.core_of-core.ensures ∙ ap (λ (cores : List (Option ℕ)). position (is_task task) cores) (c.cores.ensures ∙ ap (λ (s : Snapshot). s.cores) c.target-target.ensures) in
+    c.core_of-core.ensures ∙ ap (λ (cores : List (Option ℕ)). position (is_task task) cores) (c.cores.ensures ∙ ap (λ (s : Snapshot). s.cores) c.target-target.ensures) in
     on_ok_weaker c.put_page.result
     (page_view c.show_task-shown.result _ (λ (t : ℕ). task_text name (position (is_task t) course.target.cores) (task_at course.target t)) task _ _ _ found
-      (on_ok_weaker c.show_task-shown.result
-        (λ text. c.as_slice.ensures.value ∙ text ∙ ap (λ (core : Option ℕ). line_of (task_text name core c.task.result.now)) on_core
-          ∙ ap (λ (t : TaskSnapshot). line_of (task_text name (position (is_task task) course.target.cores) t)) (c.task.ensures ∙ ap (λ (s : Snapshot). task_at s task) c.target-target.ensures))
-        c.show_task-shown.ensures))
+    (on_ok_weaker c.show_task-shown.result
+    (λ text. c.as_slice.ensures.value ∙ text ∙ ap (λ (core : Option ℕ). line_of (task_text name core c.task.result.now)) on_core
+    ∙ ap (λ (t : TaskSnapshot). line_of (task_text name (position (is_task task) course.target.cores) t)) (c.task.ensures ∙ ap (λ (s : Snapshot). task_at s task) c.target-target.ensures))
+    c.show_task-shown.ensures))
     c.put_page.ensures

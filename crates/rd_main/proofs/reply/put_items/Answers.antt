@@ -7,8 +7,8 @@ pub loop-place-preserved : goal.loop-place-preserved
 loop-place-preserved c =
     let before = c.put_comma.new.page.items in
     one_more bytes_text c.args.queue.now.items c.loop-place.place [] c.args.page.now.items c.loop-place.page.items before c.put_bytes.new.page.items
-      (omega arith) c.loop-place.invariant c.in_ok-put_comma.ensures.first c.in_ok-put_comma.ensures.later
-      (c.in_ok-put_bytes.ensures ∙ ap (λ (item : List ℕ). before ++ bytes_text item) c.item.ensures.item)
+    (omega arith) c.loop-place.invariant c.in_ok-put_comma.ensures.first c.in_ok-put_comma.ensures.later
+    (c.in_ok-put_bytes.ensures ∙ ap (λ (item : List ℕ). before ++ bytes_text item) c.item.ensures.item)
 
 pub returns : goal.returns
 returns c = all_joined bytes_text c.args.queue.now.items c.loop-place.place c.args.page.now.items c.loop-place.page.items (omega arith) (omega arith) c.loop-place.invariant
