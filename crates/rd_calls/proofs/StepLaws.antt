@@ -1,32 +1,30 @@
 -- A valid state stays valid through a move.
-use Rattle.std.proofs.Common.{◌≡◌, ◌∙◌, ◌≢◌, ℕ, zero, suc, ◌+◌, ◌-◌, ◌<◌, ◌≤◌, Bool, true, false, cond, List, [], ◌∷◌, ◌++◌, length, get_or, set, drop, map, Option, Some, None, refl, ap, subst, sym, arith, ◌⊎◌, inl, inr}
-use Rattle.std.specs.Prelude.{All, nat_eq, nat_lt, Result, Ok, Err}
+use Rattle.std.proofs.Common.{◌≡◌, ◌∙◌, ◌≢◌, ℕ, zero, suc, ◌+◌, ◌-◌, ◌<◌, ◌≤◌, Bool, true, false, cond, List, [], ◌∷◌, ◌++◌, length, get_or, set, drop, map, Option, Some, None, refl, ap, subst, sym, arith, inl, inr}
+use Rattle.std.specs.Prelude.{All, nat_eq}
 use Rattle.std.proofs.lemmas.Bool.{cases_eq, cases_lt, false≢true}
 use Rattle.std.proofs.lemmas.List.Sums.{get_or-le-sum_by}
-use Rattle.std.proofs.lemmas.Bool.Decides.{nat_tests, leb_tells}
+use Rattle.std.proofs.lemmas.Bool.Decides.{nat_tests}
 use Rattle.std.proofs.lemmas.List.{length-set, get_or-set_same, get_or-set_other, set-set, set-get_or, map-set}
 use Rattle.std.proofs.lemmas.List.Elements.{All-get_or, All-from_get_or}
 use Rattle.rd_notify.specs.declared.notes.Entry.{Entry}
 use Rattle.rd_queue.specs.QueueSnapshot.{QueueSnapshot}
 use Rattle.rd_queue.specs.Queues.{with_items}
-use Rattle.rd_script.specs.declared.app.QueueShape.{QueueShape}
 use Rattle.rd_script.specs.declared.instr.Instr.{Instr}
 use Rattle.rd_script.specs.declared.instr.Instr.TheVariants.{Set, Add, Move, Data, Pack, Unpack, Jump, JumpZero, End, Send, Receive}
 use Rattle.rd_script.specs.declared.phase.Phase.{Phase}
 use Rattle.rd_script.specs.declared.phase.Phase.TheVariants.{Run, Ended}
-use Rattle.rd_script.specs.Application.{Application, IsApplication, IsScript, IsWithin, code_of, instr_at, is_final, priorities_of}
+use Rattle.rd_script.specs.Application.{Application, IsApplication, IsScript, IsWithin, code_of, is_final, priorities_of}
 use Rattle.rd_script.specs.TaskScript.{TaskScript}
 use Rattle.rd_wait.specs.Joined.{IsInOrder}
 use Rattle.rd_state.specs.Change.{with_task, with_queue, items_at}
-use Rattle.rd_state.specs.Settled.{seating_of, settled}
+use Rattle.rd_state.specs.Settled.{seating_of}
 use Rattle.rd_state.specs.Sizes.{IsSized, IsTaskOrIdle}
 use Rattle.rd_state.specs.Snapshot.{Snapshot, TaskSnapshot, no_task, no_queue, task_at, queue_at, core_at}
-use Rattle.rd_state.specs.Valid.{InLimits, IsNotWaiting, IsValid, is_on, places_to_run, shape_of, times, times_on}
+use Rattle.rd_state.specs.Valid.{IsNotWaiting, IsValid, is_on, places_to_run, shape_of, times, times_on}
 use Rattle.rd_state.proofs.ScheduleLaws.{SeatsKept, kept_settled, one_if, times_on-set}
-use Rattle.rd_calls.specs.Local.{local_step, off_core}
 use Rattle.rd_calls.specs.Outcomes.{concluded, fails, passes, returned, is_full, sent_item}
 use Rattle.rd_calls.specs.Step.{performed, next_instr, core_step}
-use Rattle.rd_calls.specs.Tasks.{register_at, with_register, with_pc, with_bytes, with_phase, advanced}
+use Rattle.rd_calls.specs.Tasks.{register_at, with_register, with_pc, with_bytes, advanced}
 
 -- The new state is the old one but for this task, which is now this, and for the queues' items.
 pub record Rewrites (s p : Snapshot) (task : ℕ) (now : TaskSnapshot) : Type 0 where

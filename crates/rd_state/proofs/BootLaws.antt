@@ -1,22 +1,20 @@
 -- The state at boot is valid.
-use Rattle.std.proofs.Common.{◌≡◌, ◌∙◌, ℕ, zero, suc, ◌+◌, ◌<◌, ◌≤◌, Bool, cond, List, [], ◌∷◌, length, get_or, map, replicate, Option, None, refl, ap, subst, sym, arith}
-use Rattle.std.specs.Prelude.{All, nat_eq}
+use Rattle.std.proofs.Common.{◌≡◌, ◌∙◌, ℕ, zero, suc, ◌<◌, ◌≤◌, List, [], ◌∷◌, length, get_or, map, replicate, None, refl, ap, subst, sym, arith}
+use Rattle.std.specs.Prelude.{All}
 use Rattle.std.proofs.lemmas.List.{length-replicate, get_or-replicate}
 use Rattle.std.proofs.lemmas.List.Elements.{All-replicate, All-get_or}
 use Rattle.std.proofs.lemmas.List.Sums.{sum_by-cons}
 use Rattle.std.proofs.lemmas.Bool.Decides.{nat_tests}
-use Rattle.rd_notify.specs.declared.notes.Entry.{Entry}
 use Rattle.rd_notify.specs.Entries.{idle_entry}
 use Rattle.rd_script.specs.declared.app.QueueShape.{QueueShape}
-use Rattle.rd_script.specs.Application.{Application, IsApplication, IsScript, code_of, priorities_of}
-use Rattle.rd_script.specs.TaskScript.{TaskScript}
-use Rattle.rd_wait.specs.Joined.{joined, IsInOrder}
+use Rattle.rd_script.specs.Application.{Application, IsApplication, IsScript, priorities_of}
+use Rattle.rd_wait.specs.Joined.{IsInOrder}
 use Rattle.rd_wait.proofs.JoinedLaws.{IsInOrder-joined}
 use Rattle.rd_state.specs.Boot.{all_joined, before_scheduling, boot_of, fresh_task, new_queue}
-use Rattle.rd_state.specs.Settled.{seating_of, settled}
+use Rattle.rd_state.specs.Settled.{seating_of}
 use Rattle.rd_state.specs.Sizes.{IsSized}
 use Rattle.rd_state.specs.Snapshot.{Snapshot, TaskSnapshot, no_task, task_at}
-use Rattle.rd_state.specs.Valid.{InLimits, IsNotWaiting, IsValid, is_on, places_to_run, shape_of, times, times_on}
+use Rattle.rd_state.specs.Valid.{IsNotWaiting, IsValid, is_on, places_to_run, shape_of, times, times_on}
 use Rattle.rd_state.proofs.ScheduleLaws.{SeatsKept, kept_settled, one_if, times-joined}
 
 -- Each of the tasks so far stands once in the list of all that joined, and no other does.

@@ -1,12 +1,12 @@
 -- Steps in the middle.
-use Rattle.std.proofs.Common.{◌≡◌, ◌∙◌, ℕ, ◌+◌, ◌≤◌, List, [], ◌∷◌, ◌++◌, length, refl, subst, sym, ap, arith, rules}
+use Rattle.std.proofs.Common.{◌≡◌, ◌∙◌, List, [], ◌∷◌, ◌++◌, refl, subst, sym, ap, arith}
 use Rattle.std.proofs.lemmas.List.{length-set}
 use Rattle.std.proofs.lemmas.List.Sums.{sum_by_push}
 use Rattle.std.specs.Prelude.{Result, Ok, Err, OnOk, OnErr}
 use Rattle.rd_state.specs.declared.change.Change.{Change}
 use Rattle.rd_state.specs.declared.change.Change.TheVariants.{SetTurn, SetCore, SetPc, SetReg, SetPhase, SetData, InsReady, DelReady, PutBack, TakeBack, PutFront, TakeFront}
-use Rattle.rd_state.specs.Snapshot.{Snapshot, TaskSnapshot, task_at, queue_at}
-use Rattle.rd_state.specs.Change.{applied, inverse_of, cost_of, weight_of, Fits, items_at}
+use Rattle.rd_state.specs.Snapshot.{Snapshot}
+use Rattle.rd_state.specs.Change.{applied, inverse_of, cost_of, weight_of, Fits}
 use Rattle.rd_state.specs.Edit.{Edit, SameShape, Comes}
 use Rattle.rd_state.specs.Sizes.{IsSized}
 use Rattle.rd_state.specs.Undoing.{undone, CanUndo}

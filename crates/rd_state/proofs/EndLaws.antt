@@ -1,17 +1,15 @@
 -- Scheduling ends: each round that changes something leaves one core less that a ready task could take.
-use Rattle.std.proofs.Common.{◌≡◌, ◌∙◌, ℕ, zero, suc, ◌+◌, ◌-◌, ◌<◌, ◌≤◌, Bool, true, false, cond, List, [], ◌∷◌, length, get_or, set, drop, Option, Some, None, refl, ap, subst, sym, arith, ◌⊎◌, inl, inr}
-use Rattle.std.specs.Prelude.{All, count_by, insert, slice_index, nat_lt, nat_le, ◌&&◌}
+use Rattle.std.proofs.Common.{◌≡◌, ◌∙◌, ℕ, zero, suc, ◌+◌, ◌-◌, ◌<◌, ◌≤◌, Bool, true, cond, List, [], ◌∷◌, length, set, Option, Some, None, refl, ap, subst, sym, arith, ◌⊎◌, inl, inr}
+use Rattle.std.specs.Prelude.{All, count_by, slice_index, nat_lt, ◌&&◌}
 use Rattle.std.specs.List.{prefix_len, AllByRecursion}
 use Rattle.std.proofs.Math.Dec.{leb}
-use Rattle.std.proofs.lemmas.List.{length-set}
 use Rattle.std.proofs.lemmas.List.Elements.{All-from_recursion, All-from_get_or, All-weaker}
 use Rattle.std.proofs.lemmas.List.Sums.{sum_by-set, sum_by-le-sum_by, get_or-le-sum_by, count_by-le-length}
 use Rattle.std.proofs.lemmas.Bool.{cases_lt, le-leb}
 use Rattle.std.proofs.lemmas.Bool.Decides.{leb_tells, nat_tests}
-use Rattle.rd_wait.specs.Joined.{joined, is_at_least, IsInOrder}
+use Rattle.rd_wait.specs.Joined.{is_at_least, IsInOrder}
 use Rattle.rd_wait.proofs.ListLaws.{AllByRecursion-insert}
-use Rattle.rd_state.specs.Settled.{Seating, running_on, rank_of, weakest_to, weakest_of, takes_core, head_of, with_displaced, seated_on, seated_once, seated_rounds, seating_of, settled, IsSettled, Settles, SchedulingSettles}
-use Rattle.rd_state.specs.Snapshot.{Snapshot}
+use Rattle.rd_state.specs.Settled.{Seating, running_on, rank_of, weakest_to, weakest_of, with_displaced, seated_on, seated_once, seated_rounds, seating_of, settled, SchedulingSettles}
 use Rattle.rd_state.proofs.ScheduleLaws.{kept_once, kept_rounds, one_if, weakest_of-lt}
 use Rattle.rd_state.proofs.SettleLaws.{seated_rounds-still, settled_in-still}
 

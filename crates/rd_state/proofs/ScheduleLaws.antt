@@ -1,14 +1,14 @@
 -- What scheduling keeps: how often each task stands somewhere, the number of cores, and the order of the
 -- ready list.
-use Rattle.std.proofs.Common.{◌≡◌, ◌∙◌, ℕ, zero, suc, ◌+◌, ◌-◌, ◌<◌, ◌≤◌, Bool, true, false, cond, List, [], ◌∷◌, length, get_or, set, drop, Option, Some, None, refl, ap, subst, sym, arith, ◌⊎◌, inl, inr}
-use Rattle.std.specs.Prelude.{insert, slice_index, nat_eq, nat_lt, nat_le, ◌&&◌}
+use Rattle.std.proofs.Common.{◌≡◌, ◌∙◌, ℕ, zero, suc, ◌+◌, ◌-◌, ◌<◌, ◌≤◌, Bool, true, false, cond, List, [], ◌∷◌, length, set, drop, Option, Some, None, refl, subst, sym, arith, inl, inr}
+use Rattle.std.specs.Prelude.{slice_index, nat_eq, nat_lt, nat_le, ◌&&◌}
 use Rattle.std.specs.List.{prefix_len}
 use Rattle.std.proofs.lemmas.List.{length-set}
 use Rattle.std.proofs.lemmas.List.Sums.{sum_by-cons, sum_by-insert, sum_by-set}
 use Rattle.std.proofs.lemmas.Bool.Decides.{leb_tells}
 use Rattle.rd_wait.specs.Joined.{joined, is_at_least, IsInOrder}
 use Rattle.rd_wait.proofs.JoinedLaws.{IsInOrder-joined, IsInOrder-rest}
-use Rattle.rd_state.specs.Settled.{Seating, running_on, rank_of, weakest_to, weakest_of, takes_core, head_of, with_displaced, seated_on, seated_once, seated_rounds, seating_of, settled_in, settled}
+use Rattle.rd_state.specs.Settled.{Seating, running_on, rank_of, weakest_to, weakest_of, head_of, with_displaced, seated_on, seated_once, seated_rounds, seating_of, settled}
 use Rattle.rd_state.specs.Snapshot.{Snapshot}
 use Rattle.rd_state.specs.Valid.{times, times_on, is_on}
 

@@ -1,6 +1,6 @@
 -- The sizes of a state, kept by a change.
-use Rattle.std.proofs.Common.{◌≡◌, ◌∙◌, ℕ, zero, suc, ◌+◌, ◌<◌, ◌≤◌, List, [], length, map, replicate, None, refl, ap, sym, arith}
-use Rattle.std.specs.Prelude.{All, remove, insert, slice_index}
+use Rattle.std.proofs.Common.{◌≡◌, ◌∙◌, ℕ, zero, suc, ◌+◌, ◌<◌, ◌≤◌, List, length, map, replicate, None, refl, ap, sym, arith}
+use Rattle.std.specs.Prelude.{All, remove, slice_index}
 use Rattle.std.specs.List.{prefix_len}
 use Rattle.std.proofs.lemmas.List.{length-replicate}
 use Rattle.std.proofs.lemmas.List.Edits.{length-insert, length-remove}

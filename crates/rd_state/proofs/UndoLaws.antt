@@ -1,7 +1,6 @@
 -- Changes undone: each by its inverse, and records from their end.
-use Rattle.std.proofs.Common.{◌≡◌, ◌∙◌, ℕ, suc, ◌+◌, ◌-◌, ◌<◌, ◌≤◌, List, [], ◌∷◌, ◌++◌, Option, None, length, get_or, set, take, drop, refl, ap, sym, subst, arith, rules}
-use Rattle.std.specs.Prelude.{All, IfSome, insert, remove}
-use Rattle.std.proofs.lemmas.List.{get_or-set_same, set-set, set-get_or, length-set, length_push, take_at, take_all, take_more, drop_more, length-take-le, length-drop}
+use Rattle.std.proofs.Common.{◌≡◌, ◌∙◌, ℕ, ◌+◌, ◌-◌, ◌<◌, List, [], ◌∷◌, ◌++◌, Option, None, length, get_or, set, take, drop, refl, ap, sym, subst, arith}
+use Rattle.std.proofs.lemmas.List.{get_or-set_same, length-set, length_push, take_at, take_all, take_more, drop_more, length-take-le, length-drop}
 use Rattle.std.proofs.lemmas.List.Edits.{length-remove, length-insert}
 use Rattle.std.proofs.lemmas.List.Elements.{All-get_or}
 use Rattle.rd_queue.specs.QueueSnapshot.{QueueSnapshot}
@@ -11,7 +10,7 @@ use Rattle.rd_state.specs.declared.change.Change.TheVariants.{SetTurn, SetCore, 
 use Rattle.rd_state.specs.Snapshot.{Snapshot, TaskSnapshot, no_task, no_queue, task_at, queue_at}
 use Rattle.rd_state.specs.Change.{applied, inverse_of, Fits, Takes, HasItem, items_at, with_task, with_queue}
 use Rattle.rd_state.specs.Sizes.{IsSized, IsSizedTask, IsSizedQueue, IsTaskOrIdle}
-use Rattle.rd_state.specs.Undoing.{undone, CanUndo, IsUndone, EachIsUndone}
+use Rattle.rd_state.specs.Undoing.{undone, CanUndo, EachIsUndone}
 use Rattle.rd_wait.proofs.ListLaws.{remove-insert, insert-remove, set_back}
 
 -- what is read at the place of a member that was changed is the changed one

@@ -1,6 +1,6 @@
 -- What holds of a state at any time, also in the middle of a step: members of lists are tasks, and
 -- lengths are within what there is room for.
-use Rattle.std.specs.Prelude.{ℕ, ◌≡◌, ◌<◌, ◌≤◌, List, length, All, Option, IfSome}
+use Rattle.std.specs.Prelude.{ℕ, ◌≡◌, ◌<◌, ◌≤◌, length, All, Option, IfSome}
 use Rattle.rd_queue.specs.QueueSnapshot.{QueueSnapshot}
 use Rattle.rd_state.specs.Snapshot.{Snapshot, TaskSnapshot}
 

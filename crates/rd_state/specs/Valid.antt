@@ -8,7 +8,7 @@ use Rattle.rd_script.specs.declared.phase.Phase.{Phase}
 use Rattle.rd_script.specs.declared.phase.Phase.TheVariants.{Run, Ended}
 use Rattle.rd_script.specs.Application.{Application, code_of, priorities_of}
 use Rattle.rd_wait.specs.Joined.{IsInOrder}
-use Rattle.rd_state.specs.Snapshot.{Snapshot, TaskSnapshot, task_at}
+use Rattle.rd_state.specs.Snapshot.{Snapshot, task_at}
 use Rattle.rd_state.specs.Sizes.{IsSized}
 
 abbrev pub shape_of : QueueSnapshot → QueueShape

@@ -1,5 +1,5 @@
 -- The definitions computed on the built-in application, with nothing of the code between.
-use Rattle.std.specs.Prelude.{ℕ, ◌≡◌, List, [], ◌∷◌, Option, Some, None, Ok, Result, refl}
+use Rattle.std.specs.Prelude.{ℕ, ◌≡◌, List, [], ◌∷◌, Some, Ok, refl}
 use Rattle.rd_notify.specs.Entries.{idle_entry}
 use Rattle.rd_queue.specs.QueueSnapshot.{QueueSnapshot}
 use Rattle.rd_script.specs.Builtin.{builtin}
@@ -12,7 +12,6 @@ use Rattle.rd_state.specs.Snapshot.{Snapshot, TaskSnapshot}
 use Rattle.rd_state.specs.Undoing.{undone}
 use Rattle.rd_calls.specs.declared.moves.Move.{Move}
 use Rattle.rd_calls.specs.declared.moves.Move.TheVariants.{Core}
-use Rattle.rd_calls.specs.declared.moves.PlayError.{PlayError}
 use Rattle.rd_timeline.specs.History.{state_after}
 
 abbrev queue_of : List (List ℕ) → QueueSnapshot

@@ -1,5 +1,5 @@
 -- What a timeline keeps of its fields.
-use Rattle.std.proofs.Common.{◌≡◌, ◌∙◌, ◌≢◌, ℕ, ◌+◌, ◌<◌, ◌≤◌, List, [], ◌∷◌, ◌++◌, length, refl, ap, subst, sym, arith}
+use Rattle.std.proofs.Common.{◌≡◌, ◌≢◌, ◌+◌, ◌≤◌, List, [], ◌∷◌, ◌++◌, length, refl, ap, subst, sym, arith}
 use Rattle.std.specs.Prelude.{Ok, reverse, vec_capacity}
 use Rattle.std.proofs.Common.{Global, Vec}
 use Rattle.std.proofs.lemmas.List.{length_push}

@@ -1,7 +1,6 @@
 -- The course that the fields of a `Timeline` stand for.
-use Rattle.std.specs.Prelude.{◌+◌, ◌≤◌, All, length, reverse, vec_capacity}
+use Rattle.std.specs.Prelude.{◌+◌, ◌≤◌, length, reverse, vec_capacity}
 use Rattle.rd_script.specs.Application.{IsApplication}
-use Rattle.rd_calls.specs.Step.{IsMoveOf}
 use Rattle.rd_timeline.specs.declared.timeline.Timeline.TheInside.{Inside}
 use Rattle.rd_timeline.specs.Course.{Course, IsKept}
 

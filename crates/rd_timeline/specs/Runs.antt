@@ -1,5 +1,5 @@
 -- Whole runs: what a list of requests leaves of the moves done and undone. A refused request leaves them.
-use Rattle.std.specs.Prelude.{ℕ, ◌-◌, ◌<◌, Bool, List, [], ◌∷◌, ◌++◌, length, take, drop, fold, nat_eq, nat_le, Result, Ok, Err, is_ok, if◌then◌else◌, ◌&&◌, not}
+use Rattle.std.specs.Prelude.{ℕ, ◌-◌, List, [], ◌∷◌, ◌++◌, length, take, drop, fold, nat_eq, nat_le, is_ok, if◌then◌else◌, ◌&&◌, not}
 use Rattle.rd_script.specs.Application.{Application}
 use Rattle.rd_calls.specs.declared.moves.Move.{Move}
 use Rattle.rd_calls.specs.Step.{IsMoveOf}

@@ -1,5 +1,4 @@
-use Rattle.std.proofs.Common.{arith, rules}
-use Rattle.std.proofs.lemmas.Grind.{common_steps}
+use Rattle.std.proofs.Common.{rules}
 use Rattle.rd_state.proofs.BootLaws.{IsValid-boot}
 use Rattle.rd_state.proofs.state.State.boot.Goals as goal
 

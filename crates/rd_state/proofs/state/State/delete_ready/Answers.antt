@@ -1,4 +1,4 @@
-use Rattle.std.proofs.Common.{ℕ, ◌<◌, length, ap, arith}
+use Rattle.std.proofs.Common.{◌<◌, length, ap, arith}
 use Rattle.rd_state.specs.Snapshot.{Snapshot}
 use Rattle.rd_state.proofs.SizeLaws.{IsKept-remove}
 use Rattle.rd_state.proofs.state.State.delete_ready.Goals as goal
