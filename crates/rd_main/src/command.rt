@@ -35,13 +35,20 @@ pub struct Syntax;
 pub fn parse_line(line: &[u8]) -> Result<Command<'_>, Syntax>
     ensures { option_map asked (result_ok result) ≡ command_of (words_of line.now) }
 {
-    let mut words = Words::new(line);
+    let mut words = words_in(line);
     let command = match (words.next(), words.next(), words.next(), words.next()) {
         (Some(verb), Some(word), None, _) => numbered(verb, word),
         (Some(b"show"), Some(kind), Some(name), None) => view_of(kind, name),
         _ => None,
     };
     command.ok_or(Syntax)
+}
+
+// The words of a line, of which only that matters here.
+fn words_in(line: &[u8]) -> Words<'_>
+    ensures { result ≡ words_of line.now }
+{
+    Words::new(line)
 }
 
 fn numbered<'a>(verb: &[u8], word: &'a [u8]) -> Option<Command<'a>>
