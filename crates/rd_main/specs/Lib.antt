@@ -2,4 +2,5 @@ pub mod Answers
 pub mod Commands
 pub mod Lines
 pub mod Replies
+pub mod Requests
 pub mod SessionView

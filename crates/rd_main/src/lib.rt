@@ -1,51 +1,48 @@
 //! The program: its words, and a session that answers commands line by line.
 #![tactic(auto)]
 
-ghost use Rattle.std.specs.Prelude.{◌≡◌, ◌≢◌, ◌<◌, ◌⊎◌, length};
+ghost use Rattle.std.specs.Prelude.{◌≡◌, ◌≢◌, ◌≤◌, length, IfErr};
 ghost use Rattle.std.specs.IoError.{error_kind};
+ghost use Rattle.rd_main.specs.declared.fault.Fault.TheVariants.{BadLine};
 
 mod answer;
 mod command;
+mod fault;
+mod file;
 mod lines;
+mod options;
 mod reply;
 mod session;
 
+use crate::fault::Fault;
+use crate::file::load;
+use crate::options::{Request, Settings, options};
 use crate::session::Session;
-use rd_script::app::App;
-use rd_state::no_memory::NoMemory;
 use rd_timeline::timeline::Timeline;
-use std::alloc::Global;
+use std::alloc::AllocGlobal;
 use std::io;
 use std::io::{ErrorKind, Read, Write};
+use std::rt::Files;
 
-/// How many moves may be done at a time.
-pub const MOVES: usize = 100_000;
-
-// The exit statuses.
+// The exit status at the end of a session, and after help.
 const DONE: u8 = 0;
 
-const FAULT: u8 = 1;
-
-const BAD_LINE: u8 = 2;
-
-/// Runs the program on the words of its command line, without its own name, and answers its exit status: 0 at
-/// the end of the session, 1 where there is no memory to begin, 2 for a bad command line.
-pub fn run_main<R: Read, W: Write, E: Write>(
-    alloc: Global,
+/// Runs the program on the words of its command line, without its own name, and answers its exit status: 0 at the
+/// end of the session and after help, 2 for a bad command line, 1 where no session begins for another cause. It is
+/// said in one line on `errors`.
+pub fn run_main<H: Files + AllocGlobal, R: Read, W: Write, E: Write>(
+    handle: &H,
     words: &[String],
     reader: &mut R,
     writer: &mut W,
     errors: &mut E,
 ) -> u8
-    ensures bad_line { 0 < length words.now → result ≡ 2 }
-    ensures others { length words.now ≡ 0 → (result ≡ 0) ⊎ (result ≡ 1) }
+    ensures statuses { result ≤ 2 }
+    ensures no_words { length words.now ≡ 0 → result ≤ 1 }
 {
-    if !words.is_empty() {
-        return fault(errors, b"rdbg: bad command line\n", BAD_LINE);
-    }
-    match debug(alloc, reader, writer) {
+    match run(handle, words, reader, writer) {
         Ok(()) => DONE,
-        Err(_) => fault(errors, b"rdbg: no memory\n", FAULT),
+        Err(fault) => report(errors, &fault),
     }
 }
 
@@ -56,25 +53,51 @@ pub fn refuse_words<E: Write>(errors: &mut E, error: &io::Error) -> u8
     ensures others { error_kind error.now ≢ ErrorKind.InvalidData → result ≡ 1 }
 {
     if error.kind() == ErrorKind::InvalidData {
-        fault(errors, b"rdbg: bad command line\n", BAD_LINE)
+        report(errors, &Fault::BadLine)
     } else {
-        fault(errors, b"rdbg: no memory\n", FAULT)
+        report(errors, &Fault::NoMemory)
     }
 }
 
-// Says what is wrong. There is nobody left to be told that this failed.
-fn fault<E: Write>(errors: &mut E, message: &[u8], status: u8) -> u8
-    ensures { result ≡ status }
+// Says what is wrong, and answers the exit status. There is nobody left to be told that the saying failed.
+fn report<E: Write>(errors: &mut E, fault: &Fault) -> u8
+    ensures bad_line { fault.now ≡ BadLine → result ≡ 2 }
+    ensures others { fault.now ≢ BadLine → result ≡ 1 }
 {
-    let _ = errors.write_all(message);
-    status
+    let _ = writeln!(errors, "rdbg: {fault}");
+    fault.status()
 }
 
-// A session with the built-in application.
-fn debug<R: Read, W: Write>(alloc: Global, reader: &mut R, writer: &mut W) -> Result<(), NoMemory> {
-    let mut session = Session::new(alloc)?;
-    let app = App::builtin(alloc)?;
-    let mut timeline = Timeline::new(alloc, app, MOVES)?;
+// Does what the words ask for.
+fn run<H: Files + AllocGlobal, R: Read, W: Write>(
+    handle: &H,
+    words: &[String],
+    reader: &mut R,
+    writer: &mut W,
+) -> Result<(), Fault>
+    ensures { length words.now ≡ 0 → IfErr result (λ fault. fault ≢ BadLine) }
+{
+    match options(handle.alloc(), words)? {
+        Request::Run { settings } => debug(handle, settings, reader, writer),
+        Request::Help { text } => {
+            let _ = writer.write_all(text.as_bytes());
+            Ok(())
+        }
+    }
+}
+
+// A session with these settings.
+fn debug<H: Files + AllocGlobal, R: Read, W: Write>(
+    handle: &H,
+    settings: Settings<'_>,
+    reader: &mut R,
+    writer: &mut W,
+) -> Result<(), Fault>
+    ensures { IfErr result (λ fault. fault ≢ BadLine) }
+{
+    let app = load(handle, settings.app)?;
+    let mut session = Session::new(handle.alloc())?;
+    let mut timeline = Timeline::new(handle.alloc(), app, settings.moves)?;
     session.serve(&mut timeline, reader, writer);
     timeline.close();
     Ok(())

@@ -6,4 +6,6 @@ mod memory;
 #[cfg(test)]
 mod parts;
 #[cfg(test)]
+mod programs;
+#[cfg(test)]
 mod rows;

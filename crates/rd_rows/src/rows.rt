@@ -2,25 +2,26 @@
 
 use crate::memory::{Source, Target};
 use rd_main::run_main;
-use std::alloc::{AllocError, Global};
+use std::alloc::{AllocError, AllocGlobal, Global};
 use std::process::Abort;
+use std::rt::Files;
 use std::test::Fail;
 
 const EMPTY_QUEUE: &str = "queue q0 0/2 items - recv - send - set -\n";
 
 // Runs the program with no words, and fails unless the status is 0 and nothing went to the errors.
-fn run(rt: &impl Abort, alloc: Global, source: &mut Source<'_>, target: &mut Target) {
-    let words: Vec<String> = Vec::new(alloc);
-    let mut errors = Vec::new(alloc);
-    let status = run_main(alloc, words.as_slice(), source, target, &mut errors);
+fn run<H: Files + AllocGlobal + Abort>(rt: &H, source: &mut Source<'_>, target: &mut Target) {
+    let words: Vec<String> = Vec::new(rt.alloc());
+    let mut errors = Vec::new(rt.alloc());
+    let status = run_main(rt, words.as_slice(), source, target, &mut errors);
     assert_eq!(rt; status, 0);
     assert!(rt; errors.is_empty());
 }
 
 // What the program answers to these bytes.
-fn answers(rt: &impl Abort, alloc: Global, mut source: Source<'_>) -> Vec<u8> {
-    let mut target = Target::new(Vec::new(alloc));
-    run(rt, alloc, &mut source, &mut target);
+fn answers<H: Files + AllocGlobal + Abort>(rt: &H, mut source: Source<'_>) -> Vec<u8> {
+    let mut target = Target::new(Vec::new(rt.alloc()));
+    run(rt, &mut source, &mut target);
     target.into_bytes()
 }
 
@@ -98,11 +99,11 @@ fn rows(rt: HostRuntime) -> Result<(), Fail> {
         ("no lines", "", ""),
     ];
     for (name, lines, expected) in rows {
-        let whole = answers(&rt, alloc, Source::new(lines.as_bytes()));
+        let whole = answers(&rt, Source::new(lines.as_bytes()));
         assert_eq!(rt; whole.as_slice(), expected.as_bytes(), "in {name}");
         let mut slow = Source::new(lines.as_bytes());
         slow.step = 1;
-        let single = answers(&rt, alloc, slow);
+        let single = answers(&rt, slow);
         assert_eq!(rt;
             single.as_slice(),
             expected.as_bytes(),
@@ -129,7 +130,7 @@ fn long_lines(rt: HostRuntime) -> Result<(), Fail> {
             let bytes = long(alloc, len, end.as_bytes())?;
             let mut source = Source::new(bytes.as_slice());
             source.step = step;
-            let written = answers(&rt, alloc, source);
+            let written = answers(&rt, source);
             assert_eq!(rt;
                 written.as_slice(),
                 expected.as_bytes(),
@@ -154,7 +155,7 @@ fn many_lines(rt: HostRuntime) -> Result<(), Fail> {
     for step in [7, 4096, usize::MAX] {
         let mut source = Source::new(lines.as_slice());
         source.step = step;
-        let written = answers(&rt, alloc, source);
+        let written = answers(&rt, source);
         assert!(rt; written.as_slice() == expected.as_slice(), "{step} a read");
     }
     Ok(())
@@ -165,7 +166,7 @@ fn one_write_for_a_read(rt: HostRuntime) -> Result<(), Fail> {
     let alloc = rt.alloc();
     let mut source = Source::new(b"step 0\nstep 0\nback 1\nshow queue q0\n");
     let mut target = Target::new(Vec::new(alloc));
-    run(&rt, alloc, &mut source, &mut target);
+    run(&rt, &mut source, &mut target);
     assert_eq!(rt; target.writes, 1);
     Ok(())
 }
@@ -177,37 +178,15 @@ fn faults(rt: HostRuntime) -> Result<(), Fail> {
     let mut source = Source::new(b"step 0\nstep 0\nstep 0\n");
     source.step = 10;
     source.reads = 1;
-    let written = answers(&rt, alloc, source);
+    let written = answers(&rt, source);
     assert_eq!(rt; written.as_slice(), b"ok at 1\n".as_slice());
 
     let mut source = Source::new(b"step 0\nshow queue q0\nstep 0\n");
     source.step = 7;
     let mut target = Target::new(Vec::new(alloc));
     target.left = 1;
-    run(&rt, alloc, &mut source, &mut target);
+    run(&rt, &mut source, &mut target);
     assert_eq!(rt; target.bytes.as_slice(), b"ok at 1\n".as_slice());
     assert_eq!(rt; target.writes, 1);
-    Ok(())
-}
-
-#[test]
-fn bad_command_line(rt: HostRuntime) -> Result<(), Fail> {
-    let alloc = rt.alloc();
-    for word in ["run", "--help", ""] {
-        let words = vec![in alloc; String::from_str(alloc, word)?]?;
-        let mut source = Source::new(b"step 0\n");
-        let mut target = Target::new(Vec::new(alloc));
-        let mut errors = Vec::new(alloc);
-        let status = run_main(
-            alloc,
-            words.as_slice(),
-            &mut source,
-            &mut target,
-            &mut errors,
-        );
-        assert_eq!(rt; status, 2);
-        assert_eq!(rt; errors.as_slice(), b"rdbg: bad command line\n".as_slice());
-        assert!(rt; target.bytes.is_empty());
-    }
     Ok(())
 }

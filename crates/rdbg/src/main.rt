@@ -14,7 +14,7 @@ fn main(rt: HostRuntime) -> ExitCode {
     let mut errors = rt.stderr();
     let status = match command_words(&rt) {
         Ok(words) => run_main(
-            rt.alloc(),
+            &rt,
             words.as_slice(),
             &mut rt.stdin(),
             &mut rt.stdout(),

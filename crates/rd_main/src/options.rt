@@ -1,0 +1,107 @@
+//! The command line.
+
+ghost use Rattle.std.specs.Prelude.{◌≡◌, None, Ok, length, IfOk, IfSome};
+ghost use Rattle.rd_main.specs.Requests.{IsWithinLimits, IsRequestWithinLimits};
+ghost use Rattle.rd_main.specs.declared.options.Request.TheVariants.{Run};
+
+use crate::fault::Fault;
+use clap::error::ErrorKind;
+use clap::{Arg, ArgMatches, Command, value_parser};
+use std::alloc::{AllocError, Global};
+
+/// How many moves may be done at a time, where nothing else is asked.
+pub const MOVES: usize = 100_000;
+
+/// How many moves may be asked for at the most.
+pub const MOST_MOVES: usize = 1_000_000;
+
+/// The settings of a session.
+#[derive(Clone, Copy, Debug, PartialEq, Eq)]
+pub struct Settings<'a> {
+    /// The path of the application file; none: the built-in application.
+    pub app: Option<&'a str>,
+    /// How many moves may be done at a time: 1 to 1,000,000.
+    pub moves: usize,
+}
+
+/// What a command line asks for.
+#[derive(Debug, Drop)]
+pub enum Request<'a> {
+    /// A session over standard input and output.
+    Run { settings: Settings<'a> },
+    /// Help, with its text.
+    Help { text: String },
+}
+
+// What the words are parsed by.
+fn command<'a>(alloc: Global) -> Result<Command<'a>, AllocError> {
+    let app = Arg::new(alloc, "app")
+        .long("app")
+        .value_name("FILE")
+        .help("The application file [default: the built-in application]");
+    let moves = Arg::new(alloc, "moves")
+        .long("moves")
+        .value_name("COUNT")
+        .value_parser(value_parser!(usize).range(1..=1_000_000))
+        .default_value("100000")
+        .help("How many moves may be done at a time, 1 to 1000000");
+    let run = Command::new(alloc, "run")
+        .about("Answers commands from standard input")
+        .arg(app)?
+        .arg(moves)?;
+    Command::new(alloc, "rdbg")
+        .about("A reverse debugger for models of FreeRTOS applications")
+        .bin_name("rdbg")?
+        .no_binary_name(true)
+        .subcommand_required(true)
+        .subcommand(run)
+}
+
+// The settings that were found behind `run`.
+fn settings_of<'a>(matches: &ArgMatches<'a>) -> Option<Settings<'a>>
+    ensures { IfSome result IsWithinLimits }
+{
+    let (_, run) = matches.subcommand()?;
+    let app = run.get_str("app");
+    let moves = run.get_one::<usize>("moves")?;
+    if (1..=MOST_MOVES).contains(&moves) {
+        Some(Settings { app, moves })
+    } else {
+        None
+    }
+}
+
+// What becomes of words that gave no settings: help is one of clap's errors.
+fn without_settings<'a>(alloc: Global, error: &clap::Error) -> Result<Request<'a>, Fault>
+    ensures { IfOk result IsRequestWithinLimits }
+{
+    match error.kind() {
+        ErrorKind::DisplayHelp => Ok(Request::Help {
+            text: format!(in alloc; "{error}")?,
+        }),
+        ErrorKind::OutOfMemory => Err(Fault::NoMemory),
+        _ => Err(Fault::BadLine),
+    }
+}
+
+/// What the words of the command line ask for, without the program's own name. No words at all are `run`. `BadLine`
+/// where `clap` doesn't take them, `NoMemory` where there is none for it.
+pub fn options<'a>(alloc: Global, words: &'a [String]) -> Result<Request<'a>, Fault>
+    ensures limits { IfOk result IsRequestWithinLimits }
+    ensures no_words { length words.entry.now ≡ 0 → result ≡ Ok (Run (record { app = None; moves = 100000 })) }
+{
+    if words.is_empty() {
+        let settings = Settings {
+            app: None,
+            moves: MOVES,
+        };
+        return Ok(Request::Run { settings });
+    }
+    match command(alloc)?.try_get_matches_from(words) {
+        Ok(matches) => {
+            let settings = settings_of(&matches).ok_or(Fault::BadLine)?;
+            Ok(Request::Run { settings })
+        }
+        Err(error) => without_settings(alloc, &error),
+    }
+}

@@ -1,0 +1,206 @@
+//! Runs of the program with words: its exit status, and what it writes to its reader and to its errors.
+
+use crate::memory::Target;
+use rd_main::run_main;
+use std::alloc::{AllocError, AllocGlobal};
+use std::process::Abort;
+use std::rt::Files;
+use std::test::Fail;
+use std::{fs, io};
+
+/// What a run left.
+#[derive(Drop)]
+struct Ending {
+    status: u8,
+    output: Vec<u8>,
+    errors: Vec<u8>,
+}
+
+// Runs the program on these words and commands.
+fn run<H: Files + AllocGlobal>(
+    rt: &H,
+    words: &[&str],
+    commands: &str,
+) -> Result<Ending, AllocError> {
+    let mut texts = Vec::new(rt.alloc());
+    for word in words {
+        let word: &str = *word;
+        texts.push(String::from_str(rt.alloc(), word)?)?;
+    }
+    let mut target = Target::new(Vec::new(rt.alloc()));
+    let mut errors = Vec::new(rt.alloc());
+    let status = run_main(
+        rt,
+        texts.as_slice(),
+        &mut commands.as_bytes(),
+        &mut target,
+        &mut errors,
+    );
+    Ok(Ending {
+        status,
+        output: target.into_bytes(),
+        errors,
+    })
+}
+
+// Runs the program on an application file of this text, with more words and commands.
+fn run_file<H: Files + AllocGlobal>(
+    rt: &H,
+    path: &str,
+    app: &[u8],
+    words: &[&str],
+    commands: &str,
+) -> io::Result<Ending> {
+    fs::write(rt, path, app)?;
+    let mut all = Vec::new(rt.alloc());
+    all.extend_from_slice(&["run", "--app", path])?;
+    all.extend_from_slice(words)?;
+    let ending = run(rt, all.as_slice(), commands);
+    fs::remove_file(rt, path)?;
+    Ok(ending?)
+}
+
+// Fails unless the run ended so, and wrote nothing else.
+fn ends(rt: &impl Abort, ending: &Ending, status: u8, output: &str, errors: &str) {
+    assert_eq!(rt; ending.status, status);
+    assert_eq!(rt; ending.output.as_slice(), output.as_bytes());
+    assert_eq!(rt; ending.errors.as_slice(), errors.as_bytes());
+}
+
+#[test]
+fn bad_command_line(rt: HostRuntime) -> Result<(), Fail> {
+    let lines = [
+        ["", "", ""].as_slice(),
+        &["fly"],
+        &["--moves", "3"],
+        &["--"],
+        &["run", "--moves", "0"],
+        &["run", "--moves", "1000001"],
+        &["run", "--moves", "many"],
+        &["run", "--moves"],
+        &["run", "--moves", "3", "--moves", "3"],
+        &["run", "--app"],
+        &["run", "--fast"],
+        &["run", "file.json"],
+    ];
+    for words in lines {
+        let words: &[&str] = words;
+        let ending = run(&rt, words, "step 0\n")?;
+        ends(&rt, &ending, 2, "", "rdbg: bad command line\n");
+    }
+    Ok(())
+}
+
+#[test]
+fn run_is_the_default(rt: HostRuntime) -> Result<(), Fail> {
+    for words in [[].as_slice(), &["run"], &["run", "--moves", "1000000"]] {
+        let words: &[&str] = words;
+        let ending = run(&rt, words, "step 0\nback 1\n")?;
+        ends(&rt, &ending, 0, "ok at 1\nok at 0\n", "");
+    }
+    Ok(())
+}
+
+#[test]
+fn moves_are_limited(rt: HostRuntime) -> Result<(), Fail> {
+    let commands = "step 0\nstep 0\nback 1\nstep 0\n";
+    for moves in ["--moves=1", "--moves=+1", "--moves=01"] {
+        let ending = run(&rt, &["run", moves], commands)?;
+        ends(
+            &rt,
+            &ending,
+            0,
+            "ok at 1\nno MovesFull\nok at 0\nok at 1\n",
+            "",
+        );
+    }
+    Ok(())
+}
+
+const HELP: &str = "A reverse debugger for models of FreeRTOS applications
+
+Usage: rdbg <COMMAND>
+
+Commands:
+  run   Answers commands from standard input
+  help  Print this message or the help of the given subcommand(s)
+
+Options:
+  -h, --help  Print help
+";
+
+const HELP_OF_RUN: &str = "Answers commands from standard input
+
+Usage: rdbg run [OPTIONS]
+
+Options:
+      --app <FILE>     The application file [default: the built-in application]
+      --moves <COUNT>  How many moves may be done at a time, 1 to 1000000 [default: 100000]
+  -h, --help           Print help
+";
+
+#[test]
+fn help(rt: HostRuntime) -> Result<(), Fail> {
+    for words in [["--help"].as_slice(), &["-h"], &["help"]] {
+        let words: &[&str] = words;
+        let ending = run(&rt, words, "step 0\n")?;
+        ends(&rt, &ending, 0, HELP, "");
+    }
+    for words in [["run", "--help"].as_slice(), &["help", "run"]] {
+        let words: &[&str] = words;
+        let ending = run(&rt, words, "step 0\n")?;
+        ends(&rt, &ending, 0, HELP_OF_RUN, "");
+    }
+    Ok(())
+}
+
+#[test]
+fn missing_file(rt: HostRuntime) -> Result<(), Fail> {
+    for path in ["nowhere.json", "", "."] {
+        let ending = run(&rt, &["run", "--app", path], "step 0\n")?;
+        ends(&rt, &ending, 1, "", "rdbg: cannot read the file\n");
+    }
+    Ok(())
+}
+
+// A file of 1,048,576 bytes is read, one with a byte more isn't.
+#[test]
+fn long_files(rt: HostRuntime) -> Result<(), Fail> {
+    let mut text = vec![in rt.alloc(); b' '; 1_048_576]?;
+    let read = run_file(&rt, "long.json", text.as_slice(), &[], "")?;
+    ends(&rt, &read, 1, "", "rdbg: application refused: L1 NotJson\n");
+    text.push(b' ')?;
+    let unread = run_file(&rt, "long.json", text.as_slice(), &[], "")?;
+    ends(&rt, &unread, 1, "", "rdbg: cannot read the file\n");
+    Ok(())
+}
+
+// Faults are found in the order command line, file, application.
+#[test]
+fn refused_files(rt: HostRuntime) -> Result<(), Fail> {
+    let no_room =
+        br#"{"profile":1,"cores":1,"queues":[{"name":"q0","length":0,"item":1}],"tasks":[{"name":"t0","priority":1,"code":["end"]}]}"#;
+    let refused = run_file(&rt, "refused.json", no_room, &[], "step 0\n")?;
+    ends(
+        &rt,
+        &refused,
+        1,
+        "",
+        "rdbg: application refused: L3 Limit\n",
+    );
+    let bad = run_file(&rt, "refused.json", no_room, &["--moves", "0"], "")?;
+    ends(&rt, &bad, 2, "", "rdbg: bad command line\n");
+    Ok(())
+}
+
+#[test]
+fn pack_and_unpack(rt: HostRuntime) -> Result<(), Fail> {
+    let app =
+        br#"{"profile":1,"cores":1,"tasks":[{"name":"t0","priority":1,"code":["set r1 258","pack r1","unpack r2","end"]}]}"#;
+    let commands = "step 0\nstep 0\nstep 0\nshow task t0\n";
+    let ending = run_file(&rt, "pack.json", app, &[], commands)?;
+    let expected = "ok at 1\nok at 2\nok at 3\n\
+         task t0 core 0 pc 3 phase run regs 0,258,258,0,0,0,0,0 data 02010000 notes 0:idle\n";
+    ends(&rt, &ending, 0, expected, "");
+    Ok(())
+}
