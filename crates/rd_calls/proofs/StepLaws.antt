@@ -13,6 +13,8 @@ use Rattle.rd_script.specs.declared.instr.Instr.{Instr}
 use Rattle.rd_script.specs.declared.instr.Instr.TheVariants.{Set, Add, Move, Data, Pack, Unpack, Jump, JumpZero, End, Send, Receive}
 use Rattle.rd_script.specs.declared.phase.Phase.{Phase}
 use Rattle.rd_script.specs.declared.phase.Phase.TheVariants.{Run, Ended}
+use Rattle.rd_script.specs.declared.phase.Place.{Place}
+use Rattle.rd_script.specs.declared.phase.Place.TheVariants as at_queue
 use Rattle.rd_script.specs.Application.{Application, IsApplication, IsScript, IsWithin, code_of, is_final, priorities_of}
 use Rattle.rd_script.specs.TaskScript.{TaskScript}
 use Rattle.rd_wait.specs.Joined.{IsInOrder}
@@ -20,18 +22,41 @@ use Rattle.rd_state.specs.Change.{with_task, with_queue, items_at}
 use Rattle.rd_state.specs.Settled.{seating_of}
 use Rattle.rd_state.specs.Sizes.{IsSized, IsTaskOrIdle}
 use Rattle.rd_state.specs.Snapshot.{Snapshot, TaskSnapshot, no_task, no_queue, task_at, queue_at, core_at}
-use Rattle.rd_state.specs.Valid.{IsNotWaiting, IsValid, is_on, places_to_run, shape_of, times, times_on}
+use Rattle.rd_state.specs.Valid.{IsNotWaiting, IsValid, is_on, places_to_run, shape_of, times, times_on, waits_at}
+use Rattle.rd_state.specs.Waiting.{waiting_at}
 use Rattle.rd_state.proofs.ScheduleLaws.{SeatsKept, kept_settled, one_if, times_on-set}
 use Rattle.rd_calls.specs.Outcomes.{concluded, fails, passes, returned, is_full, sent_item}
 use Rattle.rd_calls.specs.Step.{performed, next_instr, core_step}
 use Rattle.rd_calls.specs.Tasks.{register_at, with_register, with_pc, with_bytes, advanced}
+
+-- a queue but for its items
+abbrev bare : QueueSnapshot → QueueSnapshot
+bare queue = with_items queue []
+
+bare_shapes : (queues : List QueueSnapshot) → map shape_of queues ≡ map shape_of (map bare queues)
+bare_shapes [] = refl
+bare_shapes (q ∷ queues) = ap (λ rest. shape_of q ∷ rest) (bare_shapes queues)
+
+bare_at : (queues : List QueueSnapshot) (queue : ℕ) → get_or (map bare queues) queue no_queue ≡ bare (get_or queues queue no_queue)
+bare_at [] queue = refl
+bare_at (q ∷ queues) zero = refl
+bare_at (q ∷ queues) (suc queue) = bare_at queues queue
+
+-- Where nothing but items differs, the same tasks wait.
+same_waiting : (s p : Snapshot) (place : Place) → map bare p.queues ≡ map bare s.queues → waiting_at p place ≡ waiting_at s place
+same_waiting s p (at_queue.Receive queue) e =
+    sym (ap (λ (q : QueueSnapshot). q.receiving) (bare_at p.queues queue)) ∙ ap (λ (queues : List QueueSnapshot). (get_or queues queue no_queue).receiving) e
+    ∙ ap (λ (q : QueueSnapshot). q.receiving) (bare_at s.queues queue)
+same_waiting s p (at_queue.Send queue) e =
+    sym (ap (λ (q : QueueSnapshot). q.sending) (bare_at p.queues queue)) ∙ ap (λ (queues : List QueueSnapshot). (get_or queues queue no_queue).sending) e
+    ∙ ap (λ (q : QueueSnapshot). q.sending) (bare_at s.queues queue)
 
 -- The new state is the old one but for this task, which is now this, and for the queues' items.
 pub record Rewrites (s p : Snapshot) (task : ℕ) (now : TaskSnapshot) : Type 0 where
   pub tasks : p.tasks ≡ set s.tasks task now
   pub cores : p.cores ≡ s.cores
   pub ready : p.ready ≡ s.ready
-  pub queues : map shape_of p.queues ≡ map shape_of s.queues
+  pub queues : map bare p.queues ≡ map bare s.queues
 
 nothing_yet : (s : Snapshot) (task : ℕ) → Rewrites s s task (task_at s task)
 nothing_yet s task = record { tasks = sym (set-get_or s.tasks task no_task); cores = refl; ready = refl; queues = refl }
@@ -55,13 +80,13 @@ and_items s p task queue now items r = record {
   tasks = r.tasks;
   cores = r.cores;
   ready = r.ready;
-  queues = map-set shape_of p.queues queue (with_items (queue_at p queue) items) ∙ same_shape p.queues queue ∙ r.queues;
+  queues = map-set bare p.queues queue (with_items (queue_at p queue) items) ∙ same_bare p.queues queue ∙ r.queues;
 }
   where
-    same_shape : (queues : List QueueSnapshot) (queue : ℕ) → set (map shape_of queues) queue (shape_of (get_or queues queue no_queue)) ≡ map shape_of queues
-    same_shape [] queue = refl
-    same_shape (q ∷ queues) zero = refl
-    same_shape (q ∷ queues) (suc queue) = ap (λ rest. shape_of q ∷ rest) (same_shape queues queue)
+    same_bare : (queues : List QueueSnapshot) (queue : ℕ) → set (map bare queues) queue (bare (get_or queues queue no_queue)) ≡ map bare queues
+    same_bare [] queue = refl
+    same_bare (q ∷ queues) zero = refl
+    same_bare (q ∷ queues) (suc queue) = ap (λ rest. bare q ∷ rest) (same_bare queues queue)
 
 -- The task goes on in its script at that place: it runs, and its entries are as they were.
 pub record GoesOn (s p : Snapshot) (task pc : ℕ) : Type 0 where
@@ -165,8 +190,9 @@ record Stands (app : Application) (s p : Snapshot) : Type 0 where
   tasks : length p.tasks ≡ length s.tasks
   places : (t : ℕ) → t < length s.tasks → (task_at p t).pc < length (code_of app t)
   entries : (t : ℕ) → t < length s.tasks → (task_at p t).entries ≡ (task_at s t).entries
-  queues : map shape_of p.queues ≡ map shape_of s.queues
+  queues : map bare p.queues ≡ map bare s.queues
   ready : p.ready ≡ s.ready
+  waits : (place : Place) (t : ℕ) → t < length s.tasks → times t (waiting_at s place) ≡ waits_at place (task_at p t).phase
   placed : (t : ℕ) → t < length s.tasks → times t p.ready + times_on t p.cores ≡ places_to_run (task_at p t).phase
 
 -- the task that was changed, and each other one
@@ -187,6 +213,9 @@ stands_on app s p task pc valid there goes within = record {
   entries = task_or_other s p task goes.now (λ t x. x.entries ≡ (task_at s t).entries) there goes.rewrites.tasks goes.entries (λ t differs h. refl);
   queues = goes.rewrites.queues;
   ready = goes.rewrites.ready;
+  waits = λ place t h.
+      valid.places place t h
+      ∙ sym (task_or_other s p task goes.now (λ t x. waits_at place x.phase ≡ waits_at place (task_at s t).phase) there goes.rewrites.tasks (ap (waits_at place) goes.runs) (λ t differs h. refl) t h);
   placed = λ t h.
       ap (λ (seats : List ℕ). times t seats + times_on t p.cores) goes.rewrites.ready ∙ ap (λ (seats : List (Option ℕ)). times t s.ready + times_on t seats) goes.rewrites.cores ∙ valid.placed_once t h
       ∙ sym (task_or_other s p task goes.now (λ t x. places_to_run x.phase ≡ places_to_run (task_at s t).phase) there goes.rewrites.tasks (ap places_to_run goes.runs) (λ t differs h. refl) t h);
@@ -227,6 +256,8 @@ stands_ended app s core task valid there is_task e =
       entries = task_or_other s (performed s core task End) task now (λ t x. x.entries ≡ (task_at s t).entries) is_task refl refl (λ t differs h. refl);
       queues = refl;
       ready = refl;
+      waits = λ place. task_or_other s (performed s core task End) task now (λ t x. times t (waiting_at s place) ≡ waits_at place x.phase) is_task refl
+          (valid.places place task is_task ∙ ap (waits_at place) run) (λ t differs h. valid.places place t h);
       placed = task_or_other s (performed s core task End) task now (λ t x. times t s.ready + times_on t (set s.cores core None) ≡ places_to_run x.phase) is_task refl
           (omega (arith, left task, ap one_if (nat_eq_self task), valid.placed_once task is_task, ap places_to_run run))
           (λ t differs h. omega (arith, left t, ap one_if (nat_eq_other t task differs), valid.placed_once t h));
@@ -283,10 +314,14 @@ IsValid-step app s s' core task limits valid there e same sized =
         tasks = at.tasks ∙ valid.in_limits.tasks;
         places = λ t h. at.places t (omega (arith, h, at.tasks));
         entries = entries_kept s p (λ entries. length entries ≡ app.notes) at.tasks at.entries valid.in_limits.entries;
-        queues = at.queues ∙ valid.in_limits.queues;
+        queues = bare_shapes p.queues ∙ ap (map shape_of) at.queues ∙ sym (bare_shapes s.queues) ∙ valid.in_limits.queues;
       };
       placed_once = λ t h. kept.seats t ∙ at.placed t (omega (arith, h, at.tasks));
-      waiting_lists = kept.order (subst (IsInOrder priorities) (sym at.ready) valid.waiting_lists);
+      waiting_lists = record {
+        ready = kept.order (subst (IsInOrder priorities) (sym at.ready) valid.waiting_lists.ready);
+        waiting = λ place. subst (IsInOrder priorities) (sym (same_waiting s (core_step app s core task) place at.queues)) (valid.waiting_lists.waiting place);
+      };
+      places = λ place t h. ap (times t) (same_waiting s (core_step app s core task) place at.queues) ∙ at.waits place t (omega (arith, h, at.tasks));
       entries = entries_kept s p (All IsNotWaiting) at.tasks at.entries valid.entries;
     } in
     subst (λ (t : Snapshot). IsSized t → IsValid app t) (sym same) valid_then sized

@@ -3,6 +3,7 @@ pub mod Outcomes
 pub mod Local
 pub mod Step
 pub use Rattle.rd_state.specs.Snapshot
+pub use Rattle.rd_state.specs.Waiting
 pub use Rattle.rd_state.specs.Change
 pub use Rattle.rd_state.specs.Undoing
 pub use Rattle.rd_state.specs.Edit

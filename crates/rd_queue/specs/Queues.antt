@@ -1,14 +1,34 @@
--- Queues as lists of items.
+-- Queues as lists of items and of waiting tasks.
 use Rattle.std.specs.Prelude.{ℕ, ◌++◌, List, [], take, replicate}
+use Rattle.rd_queue.specs.declared.waiting_list.WaitingList.{WaitingList}
+use Rattle.rd_queue.specs.declared.waiting_list.WaitingList.TheVariants.{Receiving, Sending}
 use Rattle.rd_queue.specs.QueueSnapshot.{QueueSnapshot}
 
--- a new queue
-abbrev pub empty_queue : ℕ → ℕ → QueueSnapshot
-empty_queue capacity item_size = record { items = []; capacity = capacity; item_size = item_size }
+-- a new queue, at which so many tasks could wait in each list
+abbrev pub empty_queue : ℕ → ℕ → ℕ → QueueSnapshot
+empty_queue capacity item_size tasks = record { items = []; capacity = capacity; item_size = item_size; receiving = []; sending = []; tasks = tasks }
 
 -- the queue with these items in place of its own
 abbrev pub with_items : QueueSnapshot → List (List ℕ) → QueueSnapshot
 with_items queue items = record queue { items = items }
+
+-- the tasks of a list
+abbrev pub waiting_in : WaitingList → QueueSnapshot → List ℕ
+waiting_in Receiving queue = queue.receiving
+waiting_in Sending queue = queue.sending
+
+-- who waits to receive, and to send, once these tasks have taken the place of a list's own
+abbrev receiving_then : WaitingList → List ℕ → QueueSnapshot → List ℕ
+receiving_then Receiving tasks queue = tasks
+receiving_then Sending tasks queue = queue.receiving
+
+abbrev sending_then : WaitingList → List ℕ → QueueSnapshot → List ℕ
+sending_then Receiving tasks queue = queue.sending
+sending_then Sending tasks queue = tasks
+
+-- the queue with these tasks in a list, in place of its own
+abbrev pub with_waiting : WaitingList → List ℕ → QueueSnapshot → QueueSnapshot
+with_waiting list tasks queue = record queue { receiving = receiving_then list tasks queue; sending = sending_then list tasks queue }
 
 -- the bytes cut, or filled up with zero bytes, to that many: what a send makes of the sender's bytes
 abbrev pub fitted : ℕ → List ℕ → List ℕ

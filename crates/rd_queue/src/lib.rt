@@ -1,5 +1,6 @@
-//! Queues of items of one size.
+//! Queues of items of one size, with the tasks that wait at them.
 #![tactic(auto)]
 
 pub mod item;
 pub mod queue;
+pub mod waiting_list;

@@ -1,7 +1,9 @@
-ghost use Rattle.std.specs.Prelude.{◌≡◌, ◌+◌, ◌-◌, ◌<◌, ◌≤◌, ◌↔◌, [], ◌∷◌, ◌++◌, length, take, drop, slice_get, slice_index_or, Some, IsTrue, IsErr, IfOk, OnOk, OnErr};
-ghost use Rattle.rd_queue.specs.Queues.{empty_queue, with_items};
+ghost use Rattle.std.specs.Prelude.{◌≡◌, ◌+◌, ◌-◌, ◌<◌, ◌≤◌, ◌↔◌, [], ◌∷◌, ◌++◌, length, take, drop, insert, remove, slice_get, slice_index_or, Some, IsTrue, IsErr, IfOk, OnOk, OnErr};
+ghost use Rattle.rd_queue.specs.Queues.{empty_queue, with_items, waiting_in, with_waiting};
 
 use crate::item::Item;
+use crate::waiting_list::WaitingList;
+use rd_wait::prio_list::PrioList;
 use std::alloc::{AllocError, Global};
 use std::collections::VecDeque;
 use std::marker::Model;
@@ -17,12 +19,15 @@ pub struct Full;
 #[error("the queue is empty")]
 pub struct Empty;
 
-/// A queue with room for `capacity` items of `item_size` bytes each. All its memory is taken by `new`.
+/// A queue with room for `capacity` items of `item_size` bytes each, and the tasks that wait at it. All its
+/// memory is taken by `new`.
 #[derive(Drop)]
 pub struct Queue {
     items: VecDeque<Item>,
     capacity: usize,
     item_size: usize,
+    receiving: PrioList,
+    sending: PrioList,
 }
 
 impl Model for Queue {
@@ -32,11 +37,18 @@ impl Model for Queue {
 
     ghost Value = { QueueSnapshot };
 
-    ghost view = { λ q. record { items = q.items.items; capacity = q.capacity; item_size = q.item_size } };
+    ghost view = { λ q. record {
+      items = q.items.items;
+      capacity = q.capacity;
+      item_size = q.item_size;
+      receiving = q.receiving.tasks;
+      sending = q.sending.tasks;
+      tasks = q.receiving.room;
+    } };
 
-    // The items fit in the room, each has the size, and the room is reserved.
+    // The items fit in the room, each has the size, and the room is reserved. Both lists have the same room.
     ghost invariant = { λ q. (length q.items.items ≤ q.capacity) × All (λ item. length item ≡ q.item_size) q.items.items
-        × (q.capacity ≤ deque_capacity q.items) × (q.item_size ≤ 64) };
+        × (q.capacity ≤ deque_capacity q.items) × (q.item_size ≤ 64) × (q.sending.room ≡ q.receiving.room) };
 }
 
 // Whether the items are equal, one by one.
@@ -55,16 +67,24 @@ fn same_items(items: &VecDeque<Item>, others: &VecDeque<Item>) -> bool
 }
 
 impl Queue {
-    /// An empty queue with room for `capacity` items of `item_size` bytes, at most 64 (`xQueueCreate`).
-    pub fn new(alloc: Global, capacity: usize, item_size: usize) -> Result<Queue, AllocError>
+    /// An empty queue with room for `capacity` items of `item_size` bytes, at most 64 (`xQueueCreate`), at
+    /// which `tasks` tasks can wait in each list.
+    pub fn new(
+        alloc: Global,
+        capacity: usize,
+        item_size: usize,
+        tasks: usize,
+    ) -> Result<Queue, AllocError>
         requires { item_size ≤ 64 }
-        ensures { IfOk result (λ queue. queue ≡ empty_queue capacity item_size) }
+        ensures { IfOk result (λ queue. queue ≡ empty_queue capacity item_size tasks) }
     {
         let items = VecDeque::with_capacity(alloc, capacity)?;
         Ok(Queue {
             items,
             capacity,
             item_size,
+            receiving: PrioList::new(alloc, tasks)?,
+            sending: PrioList::new(alloc, tasks)?,
         })
     }
 
@@ -80,16 +100,21 @@ impl Queue {
             items,
             capacity: self.capacity,
             item_size: self.item_size,
+            receiving: self.receiving.copy(alloc)?,
+            sending: self.sending.copy(alloc)?,
         })
     }
 
-    /// Whether the other queue has the same items, the same room and the same item size.
+    /// Whether the other queue has the same items, the same room and the same item size, and the same tasks
+    /// wait at it.
     pub fn same(&self, other: &Queue) -> bool
         ensures { IsTrue result ↔ (self.now ≡ other.now) }
     {
         self.capacity == other.capacity
             && self.item_size == other.item_size
             && same_items(&self.items, &other.items)
+            && self.receiving.same(&other.receiving)
+            && self.sending.same(&other.sending)
     }
 
     /// How many items there are (`uxQueueMessagesWaiting`).
@@ -190,5 +215,40 @@ impl Queue {
         ensures rest { self.new ≡ with_items self.old (take (length self.old.items - 1) self.old.items) }
     {
         self.items.pop_back().unwrap()
+    }
+
+    /// The tasks that wait to receive, or to send.
+    pub fn waiting(&self, list: WaitingList) -> &PrioList
+        ensures tasks { result.now.tasks ≡ waiting_in list self.now }
+        ensures room { result.now.room ≡ self.now.tasks }
+    {
+        match list {
+            WaitingList::Receiving => &self.receiving,
+            WaitingList::Sending => &self.sending,
+        }
+    }
+
+    /// Puts a task into a waiting list at `place`.
+    pub fn insert(&mut self, list: WaitingList, place: usize, task: usize)
+        requires within { place ≤ length (waiting_in list self.old) }
+        requires room { length (waiting_in list self.old) < self.old.tasks }
+        ensures { self.new ≡ with_waiting list (insert (waiting_in list self.old) place task) self.old }
+    {
+        match list {
+            WaitingList::Receiving => self.receiving.insert_at(place, task),
+            WaitingList::Sending => self.sending.insert_at(place, task),
+        }
+    }
+
+    /// Takes the task at `place` out of a waiting list.
+    pub fn remove(&mut self, list: WaitingList, place: usize) -> usize
+        requires { place < length (waiting_in list self.old) }
+        ensures task { slice_get (waiting_in list self.old) place ≡ Some result }
+        ensures rest { self.new ≡ with_waiting list (remove (waiting_in list self.old) place) self.old }
+    {
+        match list {
+            WaitingList::Receiving => self.receiving.remove_at(place),
+            WaitingList::Sending => self.sending.remove_at(place),
+        }
     }
 }

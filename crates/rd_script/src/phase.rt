@@ -6,3 +6,12 @@ pub enum Phase {
     /// It has done `end`.
     Ended,
 }
+
+/// Where a task can wait. Each such place has its list of tasks.
+#[derive(Clone, Copy, Debug, PartialEq, Eq)]
+pub enum Place {
+    /// For an item of the queue.
+    Receive { queue: usize },
+    /// For a free place in the queue.
+    Send { queue: usize },
+}

@@ -6,15 +6,21 @@ use Rattle.std.proofs.lemmas.List.Elements.{All-replicate, All-get_or}
 use Rattle.std.proofs.lemmas.List.Sums.{sum_by-cons}
 use Rattle.std.proofs.lemmas.Bool.Decides.{nat_tests}
 use Rattle.rd_notify.specs.Entries.{idle_entry}
+use Rattle.rd_queue.specs.declared.waiting_list.WaitingList.{WaitingList}
+use Rattle.rd_queue.specs.declared.waiting_list.WaitingList.TheVariants.{Receiving, Sending}
+use Rattle.rd_queue.specs.Queues.{waiting_in}
 use Rattle.rd_script.specs.declared.app.QueueShape.{QueueShape}
+use Rattle.rd_script.specs.declared.phase.Place.{Place}
+use Rattle.rd_script.specs.declared.phase.Place.TheVariants.{Receive, Send}
 use Rattle.rd_script.specs.Application.{Application, IsApplication, IsScript, priorities_of}
 use Rattle.rd_wait.specs.Joined.{IsInOrder}
 use Rattle.rd_wait.proofs.JoinedLaws.{IsInOrder-joined}
 use Rattle.rd_state.specs.Boot.{all_joined, before_scheduling, boot_of, fresh_task, new_queue}
 use Rattle.rd_state.specs.Settled.{seating_of}
 use Rattle.rd_state.specs.Sizes.{IsSized}
-use Rattle.rd_state.specs.Snapshot.{Snapshot, TaskSnapshot, no_task, task_at}
-use Rattle.rd_state.specs.Valid.{IsNotWaiting, IsValid, is_on, places_to_run, shape_of, times, times_on}
+use Rattle.rd_state.specs.Snapshot.{Snapshot, TaskSnapshot, no_queue, no_task, task_at}
+use Rattle.rd_state.specs.Valid.{IsNotWaiting, IsValid, is_on, places_to_run, shape_of, times, times_on, waits_at}
+use Rattle.rd_state.specs.Waiting.{waiting_at}
 use Rattle.rd_state.proofs.ScheduleLaws.{SeatsKept, kept_settled, one_if, times-joined}
 
 -- Each of the tasks so far stands once in the list of all that joined, and no other does.
@@ -33,9 +39,21 @@ in_order : (priorities : List ℕ) (n : ℕ) → IsInOrder priorities (all_joine
 in_order priorities zero = tt
 in_order priorities (suc n) = IsInOrder-joined priorities (all_joined priorities n) n (in_order priorities n)
 
-same_shapes : (shapes : List QueueShape) → map shape_of (map new_queue shapes) ≡ shapes
-same_shapes [] = refl
-same_shapes (shape ∷ shapes) = ap (λ rest. shape ∷ rest) (same_shapes shapes)
+same_shapes : (n : ℕ) (shapes : List QueueShape) → map shape_of (map (new_queue n) shapes) ≡ shapes
+same_shapes n [] = refl
+same_shapes n (shape ∷ shapes) = ap (λ rest. shape ∷ rest) (same_shapes n shapes)
+
+-- nobody waits in either list of a new queue
+none_waiting : (n : ℕ) (shapes : List QueueShape) (queue : ℕ) (list : WaitingList) → waiting_in list (get_or (map (new_queue n) shapes) queue no_queue) ≡ []
+none_waiting n [] queue Receiving = refl
+none_waiting n [] queue Sending = refl
+none_waiting n (shape ∷ shapes) zero Receiving = refl
+none_waiting n (shape ∷ shapes) zero Sending = refl
+none_waiting n (shape ∷ shapes) (suc queue) list = none_waiting n shapes queue list
+
+nobody_waits : (app : Application) (place : Place) → waiting_at (before_scheduling app) place ≡ []
+nobody_waits app (Receive queue) = none_waiting (length app.scripts) app.queues queue Receiving
+nobody_waits app (Send queue) = none_waiting (length app.scripts) app.queues queue Sending
 
 idle_is_not_waiting : IsNotWaiting idle_entry
 idle_is_not_waiting h = cc
@@ -58,11 +76,16 @@ IsValid-boot app s limits sized e =
             let script : IsScript app (get_or app.scripts task (record { priority = 0; code = [] })) = All-get_or (IsScript app) app.scripts task (record { priority = 0; code = [] }) (omega (arith, h, tasks)) limits.scripts in
             omega (arith, ap (λ (t : TaskSnapshot). t.pc) (there task h), script.some);
         entries = All-replicate (λ (task : TaskSnapshot). length task.entries ≡ app.notes) n (fresh_task app.notes) (length-replicate app.notes idle_entry);
-        queues = same_shapes app.queues;
+        queues = same_shapes n app.queues;
       };
       placed_once = λ task h.
           omega (arith, kept.seats task, (times-all_joined priorities n task).0 (omega (arith, h, tasks)), times_on-idle task app.cores, ap (λ (t : TaskSnapshot). places_to_run t.phase) (there task h));
-      waiting_lists = kept.order (in_order priorities n);
+      waiting_lists = record {
+        ready = kept.order (in_order priorities n);
+        waiting = λ place. subst (IsInOrder priorities) (sym (nobody_waits app place)) tt;
+      };
+      places = λ place task h.
+          ap (times task) (nobody_waits app place) ∙ sym (ap (λ (t : TaskSnapshot). waits_at place t.phase) (there task h));
       entries = All-replicate (λ (task : TaskSnapshot). All IsNotWaiting task.entries) n (fresh_task app.notes) (All-replicate IsNotWaiting app.notes idle_entry idle_is_not_waiting);
     } in
     subst (λ (t : Snapshot). IsSized t → IsValid app t) (sym e) valid sized

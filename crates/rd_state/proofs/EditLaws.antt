@@ -1,16 +1,23 @@
 -- Steps in the middle.
-use Rattle.std.proofs.Common.{◌≡◌, ◌∙◌, List, [], ◌∷◌, ◌++◌, refl, subst, sym, ap, arith}
+use Rattle.std.proofs.Common.{◌≡◌, ◌∙◌, ℕ, List, [], ◌∷◌, ◌++◌, length, refl, subst, sym, ap, arith}
 use Rattle.std.proofs.lemmas.List.{length-set}
 use Rattle.std.proofs.lemmas.List.Sums.{sum_by_push}
 use Rattle.std.specs.Prelude.{Result, Ok, Err, OnOk, OnErr}
 use Rattle.rd_state.specs.declared.change.Change.{Change}
-use Rattle.rd_state.specs.declared.change.Change.TheVariants.{SetTurn, SetCore, SetPc, SetReg, SetPhase, SetData, InsReady, DelReady, PutBack, TakeBack, PutFront, TakeFront}
+use Rattle.rd_state.specs.declared.change.Change.TheVariants.{SetTurn, SetCore, SetPc, SetReg, SetPhase, SetData, InsReady, DelReady, InsWait, DelWait, PutBack, TakeBack, PutFront, TakeFront}
+use Rattle.rd_script.specs.declared.phase.Place.{Place}
+use Rattle.rd_script.specs.declared.phase.Place.TheVariants.{Receive, Send}
 use Rattle.rd_state.specs.Snapshot.{Snapshot}
+use Rattle.rd_state.specs.Waiting.{queues_then}
 use Rattle.rd_state.specs.Change.{applied, inverse_of, cost_of, weight_of, Fits}
 use Rattle.rd_state.specs.Edit.{Edit, SameShape, Comes}
 use Rattle.rd_state.specs.Sizes.{IsSized}
 use Rattle.rd_state.specs.Undoing.{undone, CanUndo}
 use Rattle.rd_state.proofs.UndoLaws.{each_is_undone, undone-push, CanUndo-push}
+
+length-queues_then : (s : Snapshot) (place : Place) (tasks : List ℕ) → length (queues_then s place tasks) ≡ length s.queues
+length-queues_then s (Receive queue) tasks = length-set s.queues queue _
+length-queues_then s (Send queue) tasks = length-set s.queues queue _
 
 -- A change keeps the numbers of cores, tasks and queues.
 pub shape-applied : (s : Snapshot) (change : Change) → SameShape s (applied s change)
@@ -22,6 +29,8 @@ shape-applied s (SetPhase task phase) = record { cores = refl; tasks = length-se
 shape-applied s (SetData task bytes) = record { cores = refl; tasks = length-set s.tasks task _; queues = refl }
 shape-applied s (InsReady place task) = record { cores = refl; tasks = refl; queues = refl }
 shape-applied s (DelReady place) = record { cores = refl; tasks = refl; queues = refl }
+shape-applied s (InsWait place at task) = record { cores = refl; tasks = refl; queues = length-queues_then s place _ }
+shape-applied s (DelWait place at) = record { cores = refl; tasks = refl; queues = length-queues_then s place _ }
 shape-applied s (PutBack queue item) = record { cores = refl; tasks = refl; queues = length-set s.queues queue _ }
 shape-applied s (TakeBack queue) = record { cores = refl; tasks = refl; queues = length-set s.queues queue _ }
 shape-applied s (PutFront queue item) = record { cores = refl; tasks = refl; queues = length-set s.queues queue _ }

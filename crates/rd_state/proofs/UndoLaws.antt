@@ -3,13 +3,18 @@ use Rattle.std.proofs.Common.{◌≡◌, ◌∙◌, ℕ, ◌+◌, ◌-◌, ◌<�
 use Rattle.std.proofs.lemmas.List.{get_or-set_same, length-set, length_push, take_at, take_all, take_more, drop_more, length-take-le, length-drop}
 use Rattle.std.proofs.lemmas.List.Edits.{length-remove, length-insert}
 use Rattle.std.proofs.lemmas.List.Elements.{All-get_or}
+use Rattle.std.specs.Prelude.{insert, remove}
+use Rattle.rd_queue.specs.declared.waiting_list.WaitingList.TheVariants.{Receiving, Sending}
 use Rattle.rd_queue.specs.QueueSnapshot.{QueueSnapshot}
-use Rattle.rd_queue.specs.Queues.{with_items}
+use Rattle.rd_queue.specs.Queues.{with_items, with_waiting}
+use Rattle.rd_script.specs.declared.phase.Place.{Place}
+use Rattle.rd_script.specs.declared.phase.Place.TheVariants.{Receive, Send}
 use Rattle.rd_state.specs.declared.change.Change.{Change}
-use Rattle.rd_state.specs.declared.change.Change.TheVariants.{SetTurn, SetCore, SetPc, SetReg, SetPhase, SetData, InsReady, DelReady, PutBack, TakeBack, PutFront, TakeFront}
+use Rattle.rd_state.specs.declared.change.Change.TheVariants.{SetTurn, SetCore, SetPc, SetReg, SetPhase, SetData, InsReady, DelReady, InsWait, DelWait, PutBack, TakeBack, PutFront, TakeFront}
 use Rattle.rd_state.specs.Snapshot.{Snapshot, TaskSnapshot, no_task, no_queue, task_at, queue_at}
 use Rattle.rd_state.specs.Change.{applied, inverse_of, Fits, Takes, HasItem, items_at, with_task, with_queue}
-use Rattle.rd_state.specs.Sizes.{IsSized, IsSizedTask, IsSizedQueue, IsTaskOrIdle}
+use Rattle.rd_state.specs.Waiting.{HasPlace, waiting_at, with_waiting_at}
+use Rattle.rd_state.specs.Sizes.{HasSizedLists, IsSized, IsSizedList, IsSizedTask, IsSizedQueue, IsTaskOrIdle}
 use Rattle.rd_state.specs.Undoing.{undone, CanUndo, EachIsUndone}
 use Rattle.rd_wait.proofs.ListLaws.{remove-insert, insert-remove, set_back}
 
@@ -35,6 +40,32 @@ queue_back s queue now g there undoes =
     ap (λ q. set (set s.queues queue now) queue (g q)) at_queue ∙ ap (λ q. set (set s.queues queue now) queue q) undoes ∙ set_back s.queues queue no_queue now in
     ap (λ (queues : List QueueSnapshot). record s { queues = queues }) same
 
+-- a queue that was changed is what it was changed to
+queue_now : (s : Snapshot) (queue : ℕ) (now : QueueSnapshot) → queue < length s.queues → queue_at (with_queue s queue now) queue ≡ now
+queue_now s queue now h = changed_at s.queues queue no_queue now h
+
+-- who waits at a place, once the list there was changed
+waiting_now : (s : Snapshot) (place : Place) (tasks : List ℕ) → HasPlace s place → waiting_at (with_waiting_at s place tasks) place ≡ tasks
+waiting_now s (Receive queue) tasks there = ap (λ (q : QueueSnapshot). q.receiving) (queue_now s queue (with_waiting Receiving tasks (queue_at s queue)) there)
+waiting_now s (Send queue) tasks there = ap (λ (q : QueueSnapshot). q.sending) (queue_now s queue (with_waiting Sending tasks (queue_at s queue)) there)
+
+-- the list of a place that is changed, and then is what it was
+waiting_back : (s : Snapshot) (place : Place) (tasks : List ℕ) → HasPlace s place → with_waiting_at (with_waiting_at s place tasks) place (waiting_at s place) ≡ s
+waiting_back s (Receive queue) tasks there =
+    let was = (queue_at s queue).receiving in
+    queue_back s queue (with_waiting Receiving tasks (queue_at s queue)) (λ q. with_waiting Receiving was q) there refl
+waiting_back s (Send queue) tasks there =
+    let was = (queue_at s queue).sending in
+    queue_back s queue (with_waiting Sending tasks (queue_at s queue)) (λ q. with_waiting Sending was q) there refl
+
+-- the list of a place that is changed, and then changed by f, which undoes that
+list_back : (s : Snapshot) (place : Place) (tasks : List ℕ) (f : List ℕ → List ℕ) → HasPlace s place → f tasks ≡ waiting_at s place
+    → with_waiting_at (with_waiting_at s place tasks) place (f (waiting_at (with_waiting_at s place tasks) place)) ≡ s
+list_back s place tasks f there undoes =
+    let now = with_waiting_at s place tasks in
+    ap (λ (ts : List ℕ). with_waiting_at now place (f ts)) (waiting_now s place tasks there)
+    ∙ ap (λ (ts : List ℕ). with_waiting_at now place ts) undoes ∙ waiting_back s place tasks there
+
 -- the last item taken, once one was put at the back
 take_put : (items : List (List ℕ)) (item : List ℕ) → take (length (items ++ item ∷ []) - 1) (items ++ item ∷ []) ≡ items
 take_put items item = take_at items (item ∷ []) (length (items ++ item ∷ []) - 1) (omega (arith, length_push items item))
@@ -57,6 +88,11 @@ back s (SetPhase task phase) sized fits = task_back s task (record (task_at s ta
 back s (SetData task bytes) sized fits = task_back s task (record (task_at s task) { bytes = bytes }) (λ t. record t { bytes = (task_at s task).bytes }) fits.0 refl
 back s (InsReady place task) sized fits = ap (λ (ready : List ℕ). record s { ready = ready }) (remove-insert s.ready place task fits.0)
 back s (DelReady place) sized fits = ap (λ (ready : List ℕ). record s { ready = ready }) (insert-remove s.ready place 0 fits)
+back s (InsWait place at task) sized fits =
+    list_back s place (insert (waiting_at s place) at task) (λ ts. remove ts at) fits.0 (remove-insert (waiting_at s place) at task fits.1)
+back s (DelWait place at) sized fits =
+    let waiting = waiting_at s place in
+    list_back s place (remove waiting at) (λ ts. insert ts at (get_or waiting at 0)) fits.0 (insert-remove waiting at 0 fits.1)
 back s (PutBack queue item) sized fits =
     queue_back s queue (with_items (queue_at s queue) (items_at s queue ++ item ∷ [])) (λ q. with_items q (take (length q.items - 1) q.items)) fits.0
     (ap (λ items. with_items (queue_at s queue) items) (take_put (items_at s queue) item))
@@ -71,15 +107,17 @@ back s (TakeFront queue) sized fits =
     queue_back s queue (with_items (queue_at s queue) (drop 1 items)) (λ q. with_items q (get_or items 0 [] ∷ q.items)) fits.0
     (ap (λ items. with_items (queue_at s queue) items) (sym (drop_more items 0 [] fits.1)))
 
--- a queue that was changed is there, and is what it was changed to
+-- a queue that was changed is there
 queue_there : (s : Snapshot) (queue : ℕ) (now : QueueSnapshot) → queue < length s.queues → queue < length (with_queue s queue now).queues
 queue_there s queue now h = omega (arith, length-set s.queues queue now)
 
 task_there : (s : Snapshot) (task : ℕ) (now : TaskSnapshot) → task < length s.tasks → task < length (with_task s task now).tasks
 task_there s task now h = omega (arith, length-set s.tasks task now)
 
-queue_now : (s : Snapshot) (queue : ℕ) (now : QueueSnapshot) → queue < length s.queues → queue_at (with_queue s queue now) queue ≡ now
-queue_now s queue now h = changed_at s.queues queue no_queue now h
+-- a place stays there
+place_there : (s : Snapshot) (place : Place) (tasks : List ℕ) → HasPlace s place → HasPlace (with_waiting_at s place tasks) place
+place_there s (Receive queue) tasks h = queue_there s queue (with_waiting Receiving tasks (queue_at s queue)) h
+place_there s (Send queue) tasks h = queue_there s queue (with_waiting Sending tasks (queue_at s queue)) h
 
 -- the queue takes an item where it had room before and has lost one
 takes_back : (s : Snapshot) (queue : ℕ) (items : List (List ℕ)) (item : List ℕ) → queue < length s.queues → length items < (queue_at s queue).capacity
@@ -103,6 +141,10 @@ item_sized : (s : Snapshot) (queue place : ℕ) → IsSized s → queue < length
 item_sized s queue place sized h there =
     All-get_or (λ (item : List ℕ). length item ≡ (queue_at s queue).item_size) (items_at s queue) place [] there (queue_sized s queue sized h).1
 
+list_sized : (s : Snapshot) (place : Place) → IsSized s → HasPlace s place → IsSizedList (length s.tasks) (waiting_at s place)
+list_sized s (Receive queue) sized h = (All-get_or (HasSizedLists (length s.tasks)) s.queues queue no_queue h sized.lists).receiving
+list_sized s (Send queue) sized h = (All-get_or (HasSizedLists (length s.tasks)) s.queues queue no_queue h sized.lists).sending
+
 fits_back : (s : Snapshot) (change : Change) → IsSized s → Fits s change → Fits (applied s change) (inverse_of s change)
 fits_back s (SetTurn turn) sized fits = sized.turn
 fits_back s (SetCore core task) sized fits = (omega (arith, length-set s.cores core task, fits.0), All-get_or (IsTaskOrIdle (length s.tasks)) s.cores core None fits.0 sized.cores)
@@ -113,6 +155,16 @@ fits_back s (SetData task bytes) sized fits = (task_there s task (record (task_a
 fits_back s (InsReady place task) sized fits = omega (arith, length-insert s.ready place task fits.0)
 fits_back s (DelReady place) sized fits =
     (omega (arith, length-remove s.ready place fits), omega (arith, length-remove s.ready place fits, sized.room), All-get_or (λ task. task < length s.tasks) s.ready place 0 fits sized.ready)
+fits_back s (InsWait place at task) sized fits =
+    let now = insert (waiting_at s place) at task in
+    (place_there s place now fits.0, omega (arith, ap length (waiting_now s place now fits.0), length-insert (waiting_at s place) at task fits.1, fits.1))
+fits_back s (DelWait place at) sized fits =
+    let waiting = waiting_at s place in
+    let now = remove waiting at in
+    let same = ap length (waiting_now s place now fits.0) in
+    let shorter = length-remove waiting at fits.1 in
+    let few = list_sized s place sized fits.0 in
+    (place_there s place now fits.0, omega (arith, same, shorter, fits.1), omega (arith, same, shorter, few.1, fits.1), All-get_or (λ task. task < length s.tasks) waiting at 0 fits.1 few.0)
 fits_back s (PutBack queue item) sized fits = has_item s queue (items_at s queue ++ item ∷ []) fits.0 (omega (arith, length_push (items_at s queue) item))
 fits_back s (TakeBack queue) sized fits =
     let items = items_at s queue in

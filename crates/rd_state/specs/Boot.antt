@@ -15,8 +15,9 @@ use Rattle.rd_state.specs.Settled.{settled}
 abbrev pub fresh_task : ℕ → TaskSnapshot
 fresh_task notes = record { pc = 0; registers = replicate 8 0; bytes = []; phase = Run; entries = replicate notes idle_entry }
 
-abbrev pub new_queue : QueueShape → QueueSnapshot
-new_queue shape = empty_queue shape.capacity shape.item_size
+-- a queue with nothing in it, at which so many tasks could wait
+abbrev pub new_queue : ℕ → QueueShape → QueueSnapshot
+new_queue tasks shape = empty_queue shape.capacity shape.item_size tasks
 
 -- the first n tasks, joined by rising number
 abbrev pub all_joined : List ℕ → ℕ → List ℕ
@@ -30,7 +31,7 @@ before_scheduling app = record {
   cores = replicate app.cores None;
   ready = all_joined (priorities_of app) (length app.scripts);
   tasks = replicate (length app.scripts) (fresh_task app.notes);
-  queues = map new_queue app.queues;
+  queues = map (new_queue (length app.scripts)) app.queues;
 }
 
 abbrev pub boot_of : Application → Snapshot

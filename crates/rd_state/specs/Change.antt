@@ -2,9 +2,11 @@
 use Rattle.std.specs.Prelude.{ℕ, ◌≡◌, ◌+◌, ◌-◌, ◌<◌, ◌≤◌, List, [], ◌∷◌, ◌++◌, length, slice_index, slice_index_or, slice_set, insert, remove, take, drop, sum_by, IfSome}
 use Rattle.rd_queue.specs.Queues.{with_items}
 use Rattle.rd_queue.specs.QueueSnapshot.{QueueSnapshot}
+use Rattle.rd_script.specs.declared.phase.Place.{Place}
 use Rattle.rd_state.specs.declared.change.Change.{Change}
-use Rattle.rd_state.specs.declared.change.Change.TheVariants.{SetTurn, SetCore, SetPc, SetReg, SetPhase, SetData, InsReady, DelReady, PutBack, TakeBack, PutFront, TakeFront}
+use Rattle.rd_state.specs.declared.change.Change.TheVariants.{SetTurn, SetCore, SetPc, SetReg, SetPhase, SetData, InsReady, DelReady, InsWait, DelWait, PutBack, TakeBack, PutFront, TakeFront}
 use Rattle.rd_state.specs.Snapshot.{Snapshot, TaskSnapshot, task_at, queue_at, core_at}
+use Rattle.rd_state.specs.Waiting.{HasPlace, waiting_at, with_waiting_at}
 
 -- the state with this in place of the task, and of the queue
 abbrev pub with_task : Snapshot → ℕ → TaskSnapshot → Snapshot
@@ -27,6 +29,8 @@ applied s (SetPhase task phase) = with_task s task (record (task_at s task) { ph
 applied s (SetData task bytes) = with_task s task (record (task_at s task) { bytes = bytes })
 applied s (InsReady place task) = record s { ready = insert s.ready place task }
 applied s (DelReady place) = record s { ready = remove s.ready place }
+applied s (InsWait place at task) = with_waiting_at s place (insert (waiting_at s place) at task)
+applied s (DelWait place at) = with_waiting_at s place (remove (waiting_at s place) at)
 applied s (PutBack queue item) = with_queue s queue (with_items (queue_at s queue) (items_at s queue ++ item ∷ []))
 applied s (TakeBack queue) = with_queue s queue (with_items (queue_at s queue) (take (length (items_at s queue) - 1) (items_at s queue)))
 applied s (PutFront queue item) = with_queue s queue (with_items (queue_at s queue) (item ∷ items_at s queue))
@@ -42,6 +46,8 @@ inverse_of s (SetPhase task phase) = SetPhase task (task_at s task).phase
 inverse_of s (SetData task bytes) = SetData task (task_at s task).bytes
 inverse_of s (InsReady place task) = DelReady place
 inverse_of s (DelReady place) = InsReady place (slice_index s.ready place)
+inverse_of s (InsWait place at task) = DelWait place at
+inverse_of s (DelWait place at) = InsWait place at (slice_index (waiting_at s place) at)
 inverse_of s (PutBack queue item) = TakeBack queue
 inverse_of s (TakeBack queue) = PutBack queue (slice_index_or (items_at s queue) (length (items_at s queue) - 1) [])
 inverse_of s (PutFront queue item) = TakeFront queue
@@ -55,6 +61,10 @@ Takes s queue item = (queue < length s.queues) × (length (items_at s queue) < (
 abbrev pub HasItem : Snapshot → ℕ → Type 0
 HasItem s queue = (queue < length s.queues) × (0 < length (items_at s queue))
 
+-- The place is there, and one more task finds room in its list, this one at that place of it.
+abbrev pub Admits : Snapshot → Place → ℕ → ℕ → Type 0
+Admits s place at task = HasPlace s place × (at ≤ length (waiting_at s place)) × (length (waiting_at s place) < length s.tasks) × (task < length s.tasks)
+
 -- The change names what is there, and there is room.
 abbrev pub Fits : Snapshot → Change → Type 0
 Fits s (SetTurn turn) = turn ≤ length s.cores
@@ -65,6 +75,8 @@ Fits s (SetPhase task phase) = task < length s.tasks
 Fits s (SetData task bytes) = (task < length s.tasks) × (length bytes ≤ 256)
 Fits s (InsReady place task) = (place ≤ length s.ready) × (length s.ready < length s.tasks) × (task < length s.tasks)
 Fits s (DelReady place) = place < length s.ready
+Fits s (InsWait place at task) = Admits s place at task
+Fits s (DelWait place at) = HasPlace s place × (at < length (waiting_at s place))
 Fits s (PutBack queue item) = Takes s queue item
 Fits s (TakeBack queue) = HasItem s queue
 Fits s (PutFront queue item) = Takes s queue item

@@ -1,4 +1,5 @@
 pub mod Snapshot
+pub mod Waiting
 pub mod Change
 pub mod Sizes
 pub mod Inside

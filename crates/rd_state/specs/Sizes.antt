@@ -1,6 +1,6 @@
 -- What holds of a state at any time, also in the middle of a step: members of lists are tasks, and
 -- lengths are within what there is room for.
-use Rattle.std.specs.Prelude.{ℕ, ◌≡◌, ◌<◌, ◌≤◌, length, All, Option, IfSome}
+use Rattle.std.specs.Prelude.{ℕ, ◌≡◌, ◌<◌, ◌≤◌, List, length, All, Option, IfSome}
 use Rattle.rd_queue.specs.QueueSnapshot.{QueueSnapshot}
 use Rattle.rd_state.specs.Snapshot.{Snapshot, TaskSnapshot}
 
@@ -14,6 +14,16 @@ IsSizedTask task = (length task.registers ≡ 8) × (length task.bytes ≤ 256)
 abbrev pub IsSizedQueue : QueueSnapshot → Type 0
 IsSizedQueue queue = (length queue.items ≤ queue.capacity) × All (λ item. length item ≡ queue.item_size) queue.items × (queue.item_size ≤ 64)
 
+-- Those who wait are tasks, and no more than there are.
+abbrev pub IsSizedList : ℕ → List ℕ → Type 0
+IsSizedList tasks waiting = All (λ task. task < tasks) waiting × (length waiting ≤ tasks)
+
+-- Each list of a queue has room for all tasks.
+pub record HasSizedLists (tasks : ℕ) (queue : QueueSnapshot) : Type 0 where
+  pub receiving : IsSizedList tasks queue.receiving
+  pub sending : IsSizedList tasks queue.sending
+  pub room : queue.tasks ≡ tasks
+
 pub record IsSized (s : Snapshot) : Type 0 where
   pub turn : s.turn ≤ length s.cores
   pub cores : All (IsTaskOrIdle (length s.tasks)) s.cores
@@ -21,3 +31,4 @@ pub record IsSized (s : Snapshot) : Type 0 where
   pub room : length s.ready ≤ length s.tasks
   pub tasks : All IsSizedTask s.tasks
   pub queues : All IsSizedQueue s.queues
+  pub lists : All (HasSizedLists (length s.tasks)) s.queues

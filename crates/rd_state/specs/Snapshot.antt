@@ -32,7 +32,7 @@ abbrev pub no_task : TaskSnapshot
 no_task = record { pc = 0; registers = []; bytes = []; phase = Run; entries = [] }
 
 abbrev pub no_queue : QueueSnapshot
-no_queue = record { items = []; capacity = 0; item_size = 0 }
+no_queue = record { items = []; capacity = 0; item_size = 0; receiving = []; sending = []; tasks = 0 }
 
 abbrev pub task_at : Snapshot → ℕ → TaskSnapshot
 task_at s task = slice_index_or s.tasks task no_task

@@ -40,14 +40,19 @@ pub(crate) fn all_ready(alloc: Global, priorities: &[u8]) -> Result<PrioList, No
     Ok(ready)
 }
 
-// The queues, empty.
-pub(crate) fn new_queues(alloc: Global, shapes: &[QueueShape]) -> Result<Vec<Queue>, NoMemory>
+// The queues, empty, each with room for as many tasks that wait.
+pub(crate) fn new_queues(
+    alloc: Global,
+    shapes: &[QueueShape],
+    tasks: usize,
+) -> Result<Vec<Queue>, NoMemory>
     requires { All IsQueueShape shapes.now }
-    ensures { IfOk result (λ queues. queues.items ≡ map new_queue shapes.now) }
+    ensures { IfOk result (λ queues. queues.items ≡ map (new_queue tasks) shapes.now) }
 {
     let mut queues = Vec::with_capacity(alloc, shapes.len())?;
     for shape in shapes {
-        queues.push(Queue::new(alloc, shape.capacity, shape.item_size)?)?;
+        let queue = Queue::new(alloc, shape.capacity, shape.item_size, tasks)?;
+        queues.push(queue)?;
     }
     Ok(queues)
 }

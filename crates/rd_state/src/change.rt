@@ -2,7 +2,7 @@ ghost use Rattle.std.specs.Prelude.{◌≡◌};
 ghost use Rattle.rd_state.specs.Change.{cost_of};
 
 use crate::saved::SavedBytes;
-use rd_script::phase::Phase;
+use rd_script::phase::{Phase, Place};
 
 /// A primitive change of the state: all that a move does is made of these, and each has an inverse
 /// among them. Tasks, cores, queues and registers go by number, places count from the front.
@@ -46,6 +46,17 @@ pub enum Change {
     /// The task at the place leaves the ready list.
     DelReady {
         place: usize,
+    },
+    /// The task is put into the list of those that wait at the place.
+    InsWait {
+        place: Place,
+        at: usize,
+        task: usize,
+    },
+    /// The task that stands there leaves the list of those that wait at the place.
+    DelWait {
+        place: Place,
+        at: usize,
     },
     /// The item goes to the queue's back.
     PutBack {

@@ -1,9 +1,11 @@
-ghost use Rattle.std.specs.Prelude.{◌≡◌, ◌-◌, ◌<◌, ◌≤◌, ◌↔◌, length, slice_get, Some, IfOk, IsTrue};
+ghost use Rattle.std.specs.Prelude.{◌≡◌, ◌-◌, ◌<◌, ◌≤◌, ◌↔◌, length, insert, remove, slice_get, Some, IfOk, IsTrue};
 ghost use Rattle.rd_state.specs.Boot.{before_scheduling};
-ghost use Rattle.rd_state.specs.Change.{applied, inverse_of, Fits};
+ghost use Rattle.rd_queue.specs.Queues.{waiting_in, with_waiting};
+ghost use Rattle.rd_state.specs.Change.{applied, inverse_of, with_queue, Fits};
 ghost use Rattle.rd_state.specs.Settled.{weakest_of, rank_of};
 ghost use Rattle.rd_state.specs.Sizes.{IsSized};
 ghost use Rattle.rd_state.specs.Snapshot.{hollow_state, task_at, queue_at, core_at, SameScheduling, SameObjects};
+ghost use Rattle.rd_state.specs.Waiting.{HasPlace, waiting_at};
 
 use crate::boot::{all_ready, new_queues, new_tasks};
 use crate::change::Change;
@@ -11,8 +13,9 @@ use crate::no_memory::NoMemory;
 use crate::saved::SavedBytes;
 use crate::task::Task;
 use rd_queue::queue::Queue;
+use rd_queue::waiting_list::WaitingList;
 use rd_script::app::App;
-use rd_script::phase::Phase;
+use rd_script::phase::{Phase, Place};
 use rd_wait::prio_list::PrioList;
 use std::alloc::Global;
 use std::marker::Model;
@@ -134,7 +137,7 @@ impl State {
             cores: vec![in alloc; None; app.cores()]?,
             ready: all_ready(alloc, priorities)?,
             tasks: new_tasks(alloc, priorities.len(), app.notes())?,
-            queues: new_queues(alloc, app.queues())?,
+            queues: new_queues(alloc, app.queues(), priorities.len())?,
         })
     }
 
@@ -251,6 +254,18 @@ impl State {
         &self.queues[queue]
     }
 
+    /// The tasks that wait at a place, the first to be served first.
+    pub fn waiting(&self, place: Place) -> &PrioList
+        requires { HasPlace self.now place }
+        ensures tasks { result.now.tasks ≡ waiting_at self.now place }
+        ensures room { result.now.room ≡ length self.now.tasks }
+    {
+        match place {
+            Place::Receive { queue } => self.queues[queue].waiting(WaitingList::Receiving),
+            Place::Send { queue } => self.queues[queue].waiting(WaitingList::Sending),
+        }
+    }
+
     fn set_turn(&mut self, turn: usize)
         requires { Fits self.old (Change.SetTurn turn) }
         ensures { self.new ≡ applied self.old (Change.SetTurn turn) }
@@ -311,6 +326,54 @@ impl State {
         self.ready.remove_at(place);
     }
 
+    // Puts a task into a list of a queue.
+    fn insert_in_queue(&mut self, queue: usize, list: WaitingList, at: usize, task: usize)
+        requires queue { queue < length self.old.queues }
+        requires within { at ≤ length (waiting_in list (queue_at self.old queue)) }
+        requires room { length (waiting_in list (queue_at self.old queue)) < length self.old.tasks }
+        requires task { task < length self.old.tasks }
+        ensures { self.new ≡ with_queue self.old queue
+            (with_waiting list (insert (waiting_in list (queue_at self.old queue)) at task) (queue_at self.old queue)) }
+    {
+        let target = &mut self.queues[queue];
+        target.insert(list, at, task);
+    }
+
+    // Takes a task out of a list of a queue.
+    fn delete_in_queue(&mut self, queue: usize, list: WaitingList, at: usize)
+        requires queue { queue < length self.old.queues }
+        requires within { at < length (waiting_in list (queue_at self.old queue)) }
+        ensures { self.new ≡ with_queue self.old queue
+            (with_waiting list (remove (waiting_in list (queue_at self.old queue)) at) (queue_at self.old queue)) }
+    {
+        let target = &mut self.queues[queue];
+        target.remove(list, at);
+    }
+
+    fn insert_waiting(&mut self, place: Place, at: usize, task: usize)
+        requires { Fits self.old (Change.InsWait place at task) }
+        ensures { self.new ≡ applied self.old (Change.InsWait place at task) }
+    {
+        match place {
+            Place::Receive { queue } => {
+                self.insert_in_queue(queue, WaitingList::Receiving, at, task);
+            }
+            Place::Send { queue } => {
+                self.insert_in_queue(queue, WaitingList::Sending, at, task);
+            }
+        }
+    }
+
+    fn delete_waiting(&mut self, place: Place, at: usize)
+        requires { Fits self.old (Change.DelWait place at) }
+        ensures { self.new ≡ applied self.old (Change.DelWait place at) }
+    {
+        match place {
+            Place::Receive { queue } => self.delete_in_queue(queue, WaitingList::Receiving, at),
+            Place::Send { queue } => self.delete_in_queue(queue, WaitingList::Sending, at),
+        }
+    }
+
     fn put_back(&mut self, queue: usize, item: &[u8])
         requires { Fits self.old (Change.PutBack queue item.now) }
         ensures { self.new ≡ applied self.old (Change.PutBack queue item.now) }
@@ -361,6 +424,8 @@ impl State {
             Change::SetData { task, bytes } => self.set_data(task, bytes.as_slice()),
             Change::InsReady { place, task } => self.insert_ready(place, task),
             Change::DelReady { place } => self.delete_ready(place),
+            Change::InsWait { place, at, task } => self.insert_waiting(place, at, task),
+            Change::DelWait { place, at } => self.delete_waiting(place, at),
             Change::PutBack { queue, item } => self.put_back(queue, item.as_slice()),
             Change::TakeBack { queue } => self.take_back(queue),
             Change::PutFront { queue, item } => self.put_front(queue, item.as_slice()),
@@ -400,6 +465,15 @@ impl State {
             Change::DelReady { place } => Ok(Change::InsReady {
                 place: *place,
                 task: self.ready.as_slice()[*place],
+            }),
+            Change::InsWait { place, at, .. } => Ok(Change::DelWait {
+                place: *place,
+                at: *at,
+            }),
+            Change::DelWait { place, at } => Ok(Change::InsWait {
+                place: *place,
+                at: *at,
+                task: self.waiting(*place).as_slice()[*at],
             }),
             Change::PutBack { queue, .. } => Ok(Change::TakeBack { queue: *queue }),
             Change::TakeBack { queue } => Ok(Change::PutBack {

@@ -15,7 +15,7 @@ use Rattle.rd_calls.specs.declared.moves.Move.TheVariants.{Core}
 use Rattle.rd_timeline.specs.History.{state_after}
 
 abbrev queue_of : List (List ℕ) → QueueSnapshot
-queue_of items = record { items = items; capacity = 2; item_size = 1 }
+queue_of items = record { items = items; capacity = 2; item_size = 1; receiving = []; sending = []; tasks = 1 }
 
 -- t0 at a place of its script, with r0 and its data
 abbrev task_of : ℕ → ℕ → List ℕ → TaskSnapshot

@@ -1,5 +1,5 @@
 -- The items before this place are copied, and the room is there.
-use Rattle.std.proofs.Common.{◌≡◌, ◌≤◌, take}
+use Rattle.std.proofs.Common.{◌≡◌, take}
 use Rattle.std.specs.VecDeque.{deque_capacity}
 use Rattle.rd_queue.proofs.queue.Queue.copy.Given as goal
 

@@ -9,4 +9,4 @@ invariant_of-result c =
     IsKept-new app _ (length (priorities_of app)) c.limits.ensures refl (search rules)
     (rw c.priorities-priorities.ensures at c.in_ok-all_ready.ensures)
     (rw (c.priorities-priorities.ensures, c.notes.ensures) at c.in_ok-new_tasks.ensures)
-    (rw c.queues.ensures at c.in_ok-new_queues.ensures)
+    (rw (c.priorities-priorities.ensures, c.queues.ensures) at c.in_ok-new_queues.ensures)

@@ -1,0 +1,8 @@
+/// The two lists of tasks that wait at a queue.
+#[derive(Clone, Copy, Debug, PartialEq, Eq)]
+pub enum WaitingList {
+    /// The tasks that wait to receive (`xTasksWaitingToReceive`).
+    Receiving,
+    /// The tasks that wait to send (`xTasksWaitingToSend`).
+    Sending,
+}
