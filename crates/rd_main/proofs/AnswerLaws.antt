@@ -1,9 +1,13 @@
 -- Answers to lines, by the command that the line spells.
 use Rattle.std.proofs.Common.{◌≡◌, ℕ, ◌<◌, List, [], ◌++◌, length, Option, Some, None, Result, Ok, Err, OnOk, refl, ap, subst, sym, arith, inl, inr}
 use Rattle.std.specs.Str.{bytes_eq}
+use Rattle.std.specs.Prelude.{All}
 use Rattle.std.proofs.lemmas.List.{length-map}
+use Rattle.std.proofs.lemmas.List.Elements.{All-get_or}
 use Rattle.std.proofs.lemmas.List.Quantifiers.{position-Some}
 use Rattle.rd_script.specs.Application.{IsApplication}
+use Rattle.rd_state.specs.Sizes.{HasSizedLists}
+use Rattle.rd_state.specs.Snapshot.{no_queue, queue_at}
 use Rattle.rd_state.specs.Valid.{IsValid, shape_of}
 use Rattle.rd_timeline.specs.Course.{Course}
 use Rattle.rd_main.specs.declared.reply.Reply.{Reply}
@@ -11,7 +15,7 @@ use Rattle.rd_main.specs.declared.reply.Reply.TheVariants.{Refused}
 use Rattle.rd_main.specs.declared.reply.Refusal.TheVariants.{Syntax}
 use Rattle.rd_main.specs.Answers.{Adds, IsAnswer, IsView, PutsPage, StepReply, BackReply, QueueLine, TaskLine, no_memory, number_named}
 use Rattle.rd_main.specs.Commands.{Asked, Step, Back, ShowQueue, ShowTask}
-use Rattle.rd_main.specs.Replies.{line_of, reply_text}
+use Rattle.rd_main.specs.Replies.{line_of, reply_text, WaitersAreNamed}
 
 pub on_ok : {T E P Q : Type 0} (r : Result T E) → (P → Q) → OnOk r P → OnOk r Q
 on_ok (Ok x) f held = f held
@@ -43,6 +47,16 @@ queue_there course queue name limits valid found =
 pub task_there : (course : Course) (task : ℕ) (name : List ℕ) → IsApplication course.app → IsValid course.app course.target → number_named name course.app.task_names ≡ Some task → task < length course.target.tasks
 task_there course task name limits valid found =
     omega (arith, (position-Some (bytes_eq name) course.app.task_names task [] found).0, limits.task_names, valid.in_limits.tasks)
+
+-- Who waits at a queue has a name.
+pub waiters_named : (course : Course) (queue : ℕ) → IsApplication course.app → IsValid course.app course.target → queue < length course.target.queues → WaitersAreNamed course.app.task_names (queue_at course.target queue)
+waiters_named course queue limits valid there =
+    let tasks : length course.target.tasks ≡ length course.app.task_names = omega (arith, limits.task_names, valid.in_limits.tasks) in
+    let lists = All-get_or (HasSizedLists (length course.target.tasks)) course.target.queues queue no_queue there valid.in_limits.sized.lists in
+    record {
+      receiving = subst (λ n. All (λ task. task < n) (queue_at course.target queue).receiving) tasks lists.receiving.0;
+      sending = subst (λ n. All (λ task. task < n) (queue_at course.target queue).sending) tasks lists.sending.0;
+    }
 
 -- the page of a view, or that there was no memory for it
 pub page_view : {T E : Type 0} (shown : Result T E) (number : Option ℕ) (view : ℕ → List ℕ) (n : ℕ) (before after page : List ℕ) → number ≡ Some n → OnOk shown (page ≡ line_of (view n)) → PutsPage before shown page after

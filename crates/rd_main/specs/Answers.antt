@@ -70,7 +70,7 @@ abbrev pub number_named : List ℕ → List (List ℕ) → Option ℕ
 number_named name names = position (bytes_eq name) names
 
 abbrev pub QueueLine : Course → List ℕ → List ℕ → Type 0
-QueueLine course name line = IsView (number_named name course.app.queue_names) (λ queue. queue_text name (queue_at course.target queue)) line
+QueueLine course name line = IsView (number_named name course.app.queue_names) (λ queue. queue_text course.app.task_names name (queue_at course.target queue)) line
 
 abbrev pub TaskLine : Course → List ℕ → List ℕ → Type 0
 TaskLine course name line = IsView (number_named name course.app.task_names) (λ task. task_text name (position (is_task task) course.target.cores) (task_at course.target task)) line

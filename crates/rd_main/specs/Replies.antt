@@ -1,5 +1,5 @@
 -- The text of replies.
-use Rattle.std.specs.Prelude.{ℕ, ◌==◌, Bool, false, codes, decimal, List, [], ◌∷◌, ◌++◌, length, Option, Some, None, position}
+use Rattle.std.specs.Prelude.{ℕ, ◌==◌, ◌<◌, Bool, false, codes, decimal, List, [], ◌∷◌, ◌++◌, length, slice_index_or, All, Option, Some, None}
 use Rattle.std.specs.List.{flat_map}
 use Rattle.hex.specs.Hex.{encode_lower}
 use Rattle.rd_notify.specs.declared.notes.Entry.{Entry}
@@ -8,7 +8,7 @@ use Rattle.rd_notify.specs.declared.notes.EntryState.TheVariants.{Idle, Waiting,
 use Rattle.rd_queue.specs.QueueSnapshot.{QueueSnapshot}
 use Rattle.rd_script.specs.declared.phase.Phase.{Phase}
 use Rattle.rd_script.specs.declared.phase.Phase.TheVariants.{Run, Ended}
-use Rattle.rd_state.specs.Snapshot.{Snapshot, TaskSnapshot, task_at}
+use Rattle.rd_state.specs.Snapshot.{TaskSnapshot}
 use Rattle.rd_main.specs.declared.reply.Refusal.{Refusal}
 use Rattle.rd_main.specs.declared.reply.Refusal.TheVariants.{NoTask, TooFar, MovesFull, NoSuch, NoMemory, Syntax, LineTooLong}
 use Rattle.rd_main.specs.declared.reply.Reply.{Reply}
@@ -78,12 +78,28 @@ core_text (Some core) = decimal core
 abbrev pub counts_text : QueueSnapshot → List ℕ
 counts_text queue = decimal (length queue.items) ++ codes "/" ++ decimal queue.capacity
 
--- what a queue has, from its amounts on
-abbrev pub amounts_text : QueueSnapshot → List ℕ
-amounts_text queue = counts_text queue ++ codes " items " ++ list_text bytes_text queue.items ++ codes " recv - send - set -"
+-- a task's name, by the tasks' names
+abbrev pub task_name : List (List ℕ) → ℕ → List ℕ
+task_name names task = slice_index_or names task []
 
-abbrev pub queue_text : List ℕ → QueueSnapshot → List ℕ
-queue_text name queue = codes "queue " ++ name ++ codes " " ++ amounts_text queue
+-- who waits to receive and to send, by the tasks' names; the queue is in no set
+abbrev pub waiting_text : List (List ℕ) → QueueSnapshot → List ℕ
+waiting_text names queue =
+    codes " recv " ++ list_text (task_name names) queue.receiving ++ codes " send " ++ list_text (task_name names) queue.sending
+    ++ codes " set -"
+
+-- what a queue has, from its amounts on
+abbrev pub amounts_text : List (List ℕ) → QueueSnapshot → List ℕ
+amounts_text names queue = counts_text queue ++ codes " items " ++ list_text bytes_text queue.items ++ waiting_text names queue
+
+-- a queue, by the tasks' names and its own
+abbrev pub queue_text : List (List ℕ) → List ℕ → QueueSnapshot → List ℕ
+queue_text names name queue = codes "queue " ++ name ++ codes " " ++ amounts_text names queue
+
+-- Those who wait at the queue have a name.
+pub record WaitersAreNamed (names : List (List ℕ)) (queue : QueueSnapshot) : Type 0 where
+  pub receiving : All (λ task. task < length names) queue.receiving
+  pub sending : All (λ task. task < length names) queue.sending
 
 -- what a task has, from its registers on
 abbrev pub state_text : TaskSnapshot → List ℕ

@@ -72,7 +72,7 @@ fn put_queue(
     };
     timeline.app().limits();
     timeline.keeps();
-    let shown = show_queue(page, name, timeline.target().queue(queue));
+    let shown = show_queue(page, timeline.app(), name, timeline.target().queue(queue));
     put_page(answers, page.as_slice(), shown)
 }
 

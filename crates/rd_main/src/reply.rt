@@ -1,11 +1,13 @@
 //! The text of replies.
 
-ghost use Rattle.std.specs.Prelude.{◌≡◌, ◌++◌, ◌≤◌, ◌∷◌, [], decimal, length, position, OnOk};
-ghost use Rattle.rd_main.specs.Replies.{line_of, refusal_text, reply_text, list_text, bytes_text, phase_text, entry_text, core_text, counts_text, amounts_text, queue_text, task_text, state_text, is_task};
+ghost use Rattle.std.specs.Prelude.{◌≡◌, ◌++◌, ◌<◌, ◌≤◌, ◌∷◌, [], decimal, length, position, All, OnOk};
+ghost use Rattle.rd_main.specs.Replies.{line_of, refusal_text, reply_text, list_text, bytes_text, phase_text, entry_text, core_text, counts_text, amounts_text, waiting_text, queue_text, task_name, task_text, state_text, is_task, WaitersAreNamed};
 
 use itoa::{Buffer, Integer};
 use rd_notify::notes::{Entry, EntryState};
 use rd_queue::queue::Queue;
+use rd_queue::waiting_list::WaitingList;
+use rd_script::app::{App, Kind};
 use rd_script::phase::Phase;
 use rd_state::task::Task;
 use std::alloc::AllocError;
@@ -137,6 +139,21 @@ fn put_numbers(page: &mut Vec<u8>, numbers: &[u32]) -> Put
     Ok(())
 }
 
+// The names of tasks.
+fn put_tasks(page: &mut Vec<u8>, app: &App, tasks: &[usize]) -> Put
+    requires { All (λ task. task < length app.now.task_names) tasks.now }
+    ensures { OnOk result (page.new.items ≡ page.old.items ++ list_text (task_name app.now.task_names) tasks.now) }
+{
+    if tasks.is_empty() {
+        return put(page, b"-");
+    }
+    for (place, task) in tasks.iter().enumerate() {
+        put_comma(page, place)?;
+        put(page, app.name(Kind::Task, *task).as_bytes())?;
+    }
+    Ok(())
+}
+
 fn put_entry(page: &mut Vec<u8>, entry: Entry) -> Put
     ensures { OnOk result (page.new.items ≡ page.old.items ++ entry_text entry) }
 {
@@ -180,14 +197,15 @@ fn put_core(page: &mut Vec<u8>, core: Option<usize>) -> Put
 }
 
 /// Writes the view of a queue onto the page, in the place of what was there.
-pub fn show_queue(page: &mut Vec<u8>, name: &str, queue: &Queue) -> Put
-    ensures { OnOk result (page.new.items ≡ line_of (queue_text name.now queue.now)) }
+pub fn show_queue(page: &mut Vec<u8>, app: &App, name: &str, queue: &Queue) -> Put
+    requires { WaitersAreNamed app.now.task_names queue.now }
+    ensures { OnOk result (page.new.items ≡ line_of (queue_text app.now.task_names name.now queue.now)) }
 {
     page.clear();
     put(page, b"queue ")?;
     put(page, name.as_bytes())?;
     put(page, b" ")?;
-    put_amounts(page, queue)
+    put_amounts(page, app, queue)
 }
 
 // How many items there are, and how many there is room for.
@@ -200,14 +218,27 @@ fn put_counts(page: &mut Vec<u8>, queue: &Queue) -> Put
 }
 
 // The rest of a queue's view, from its amounts on.
-fn put_amounts(page: &mut Vec<u8>, queue: &Queue) -> Put
-    ensures { OnOk result (page.new.items ≡ page.old.items ++ line_of (amounts_text queue.now)) }
+fn put_amounts(page: &mut Vec<u8>, app: &App, queue: &Queue) -> Put
+    requires { WaitersAreNamed app.now.task_names queue.now }
+    ensures { OnOk result (page.new.items ≡ page.old.items ++ line_of (amounts_text app.now.task_names queue.now)) }
 {
     put_counts(page, queue)?;
     put(page, b" items ")?;
     put_items(page, queue)?;
-    put(page, b" recv - send - set -")?;
+    put_waiting(page, app, queue)?;
     put(page, b"\n")
+}
+
+// Who waits at a queue.
+fn put_waiting(page: &mut Vec<u8>, app: &App, queue: &Queue) -> Put
+    requires { WaitersAreNamed app.now.task_names queue.now }
+    ensures { OnOk result (page.new.items ≡ page.old.items ++ waiting_text app.now.task_names queue.now) }
+{
+    put(page, b" recv ")?;
+    put_tasks(page, app, queue.waiting(WaitingList::Receiving).as_slice())?;
+    put(page, b" send ")?;
+    put_tasks(page, app, queue.waiting(WaitingList::Sending).as_slice())?;
+    put(page, b" set -")
 }
 
 /// Writes the view of a task onto the page, in the place of what was there.

@@ -4,6 +4,6 @@ use Rattle.rd_main.proofs.reply.put_amounts.Goals as goal
 
 pub returns : goal.returns
 returns c =
-    on_ok_weaker c.put-3.result
-    (λ h. five_puts _ _ _ _ _ _ _ _ _ _ _ c.in_ok-put_counts.ensures c.in_ok-put.ensures c.in_ok-put_items.ensures c.in_ok-put-2.ensures h)
-    c.put-3.ensures
+    on_ok_weaker c.put-2.result
+    (λ h. five_puts _ _ _ _ _ _ _ _ _ _ _ c.in_ok-put_counts.ensures c.in_ok-put.ensures c.in_ok-put_items.ensures c.in_ok-put_waiting.ensures h)
+    c.put-2.ensures
