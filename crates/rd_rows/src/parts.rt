@@ -1,8 +1,13 @@
-//! Runs of the parts: moves, the way back, and their limit.
+//! Runs of the parts: moves, the way back, and their limit; waiting lists.
 
 use rd_calls::moves::Move;
 use rd_calls::play::play;
+use rd_queue::queue::Queue;
+use rd_queue::waiting_list::WaitingList;
 use rd_script::app::App;
+use rd_script::phase::Place;
+use rd_state::change::Change;
+use rd_state::editing::Editing;
 use rd_state::state::State;
 use rd_timeline::log::Log;
 use rd_timeline::timeline::{Refusal, Timeline, TooFar};
@@ -88,5 +93,51 @@ fn always_out_of_memory(rt: HostRuntime) -> Result<(), Fail> {
     log.retire();
     assert!(rt; kept);
     assert_eq!(rt; records, 1);
+    Ok(())
+}
+
+#[test]
+fn waiting_lists(rt: HostRuntime) -> Result<(), Fail> {
+    let alloc = rt.alloc();
+    let mut queue = Queue::new(alloc, 1, 1, 2)?;
+    queue.insert(WaitingList::Receiving, 0, 4);
+    queue.insert(WaitingList::Receiving, 0, 7);
+    let receiving = queue.waiting(WaitingList::Receiving).as_slice();
+    assert_eq!(rt; receiving, [7, 4].as_slice());
+    assert!(rt; queue.waiting(WaitingList::Sending).as_slice().is_empty());
+    assert_eq!(rt; queue.remove(WaitingList::Receiving, 1), 4);
+    let receiving = queue.waiting(WaitingList::Receiving).as_slice();
+    assert_eq!(rt; receiving, [7].as_slice());
+    Ok(())
+}
+
+// A task is put to wait at a queue. Only that list changes.
+fn waits(rt: &impl Abort, editing: &mut Editing) -> Result<(), Fail> {
+    let place = Place::Send { queue: 0 };
+    assert!(rt; editing.state().queue_count() > 0);
+    assert!(rt; editing.state().task_count() > 0);
+    assert!(rt; editing.state().waiting(place).as_slice().is_empty());
+    let (at, task) = (0, 0);
+    editing.change(Change::InsWait { place, at, task })?;
+    assert!(rt; editing.state().queue_count() > 0);
+    let sending = editing.state().waiting(place).as_slice();
+    assert_eq!(rt; sending, [0].as_slice());
+    let receiving = editing.state().waiting(Place::Receive { queue: 0 });
+    assert!(rt; receiving.as_slice().is_empty());
+    Ok(())
+}
+
+#[test]
+fn waiting_is_undone(rt: HostRuntime) -> Result<(), Fail> {
+    let alloc = rt.alloc();
+    let boot = State::boot(alloc, &App::builtin(alloc)?)?;
+    let mut editing = Editing::begin(alloc, boot.copy(alloc)?);
+    let result = waits(&rt, &mut editing);
+    let differs = !editing.state().same(&boot);
+    let mut state = State::hollow(alloc);
+    editing.roll_back(&mut state);
+    result?;
+    assert!(rt; differs);
+    assert!(rt; state.same(&boot));
     Ok(())
 }
