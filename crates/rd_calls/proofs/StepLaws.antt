@@ -1,8 +1,9 @@
 -- A valid state stays valid through a move.
-use Rattle.std.proofs.Common.{◌≡◌, ◌∙◌, ◌≢◌, ℕ, zero, suc, ◌+◌, ◌-◌, ◌<◌, ◌≤◌, Bool, true, false, cond, List, [], ◌∷◌, ◌++◌, length, get_or, set, drop, map, Option, Some, None, refl, ap, subst, sym, arith, inl, inr}
+use Rattle.std.proofs.Common.{◌≡◌, ◌∙◌, ◌≢◌, ℕ, zero, suc, ◌+◌, ◌-◌, ◌%◌, ◌<◌, ◌≤◌, Bool, true, false, cond, List, [], ◌∷◌, ◌++◌, length, get_or, set, drop, map, Option, Some, None, refl, ap, subst, sym, arith, inl, inr}
 use Rattle.std.specs.Prelude.{All, nat_eq}
 use Rattle.std.proofs.lemmas.Bool.{cases_eq, cases_lt, false≢true}
 use Rattle.std.proofs.lemmas.List.Sums.{get_or-le-sum_by}
+use Rattle.std.proofs.Math.Nat.{mod-lt}
 use Rattle.std.proofs.lemmas.Bool.Decides.{nat_tests}
 use Rattle.std.proofs.lemmas.List.{length-set, get_or-set_same, get_or-set_other, set-set, set-get_or, map-set}
 use Rattle.std.proofs.lemmas.List.Elements.{All-get_or, All-from_get_or}
@@ -19,14 +20,15 @@ use Rattle.rd_script.specs.Application.{Application, IsApplication, IsScript, Is
 use Rattle.rd_script.specs.TaskScript.{TaskScript}
 use Rattle.rd_wait.specs.Joined.{IsInOrder}
 use Rattle.rd_state.specs.Change.{with_task, with_queue, items_at}
-use Rattle.rd_state.specs.Settled.{seating_of}
+use Rattle.rd_state.specs.Settled.{seating_of, settled, IsSettled}
 use Rattle.rd_state.specs.Sizes.{IsSized, IsTaskOrIdle}
 use Rattle.rd_state.specs.Snapshot.{Snapshot, TaskSnapshot, no_task, no_queue, task_at, queue_at, core_at}
 use Rattle.rd_state.specs.Valid.{IsNotWaiting, IsValid, is_on, places_to_run, shape_of, times, times_on, waits_at}
 use Rattle.rd_state.specs.Waiting.{waiting_at}
-use Rattle.rd_state.proofs.ScheduleLaws.{SeatsKept, kept_settled, one_if, times_on-set}
+use Rattle.rd_state.proofs.EndLaws.{settles, stays_settled}
+use Rattle.rd_state.proofs.ScheduleLaws.{SeatsKept, kept_settled, kept_rotated, kept_then, one_if, times_on-set}
 use Rattle.rd_calls.specs.Outcomes.{concluded, fails, passes, returned, is_full, sent_item}
-use Rattle.rd_calls.specs.Step.{performed, next_instr, core_step}
+use Rattle.rd_calls.specs.Step.{performed, next_instr, core_step, ticked, tick_step}
 use Rattle.rd_calls.specs.Tasks.{register_at, with_register, with_pc, with_bytes, advanced}
 
 -- a queue but for its items
@@ -299,29 +301,79 @@ entries_kept : (s p : Snapshot) (P : List Entry → Type 0) → length p.tasks �
 entries_kept s p P tasks same all = All-from_get_or (λ (task : TaskSnapshot). P task.entries) p.tasks no_task
     (λ t h. let there : t < length s.tasks = omega (arith, h, tasks) in subst P (sym (same t there)) (All-get_or (λ (task : TaskSnapshot). P task.entries) s.tasks t no_task there all))
 
+-- What stands stays valid, whoever is seated then.
+valid_seated : (app : Application) (s p z : Snapshot) → 0 < length p.cores → IsValid app s → Stands app s p → SeatsKept (priorities_of app) (seating_of p) (seating_of z) → z.tasks ≡ p.tasks → z.queues ≡ p.queues → IsSized z → IsValid app z
+valid_seated app s p z some valid at kept tasks queues sized =
+    let same : length z.tasks ≡ length s.tasks = ap length tasks ∙ at.tasks in
+    let is : (t : ℕ) → task_at z t ≡ task_at p t = λ t. ap (λ (ts : List TaskSnapshot). get_or ts t no_task) tasks in
+    let entries : (t : ℕ) → t < length s.tasks → (task_at z t).entries ≡ (task_at s t).entries = λ t h. ap (λ (x : TaskSnapshot). x.entries) (is t) ∙ at.entries t h in
+    let waiting : (place : Place) → waiting_at z place ≡ waiting_at s place = λ place. same_waiting s z place (ap (map bare) queues ∙ at.queues) in
+    record {
+      in_limits = record {
+        sized = sized;
+        cores = kept.cores ∙ at.cores ∙ valid.in_limits.cores;
+        tasks = same ∙ valid.in_limits.tasks;
+        places = λ t h. subst (λ (x : TaskSnapshot). x.pc < length (code_of app t)) (sym (is t)) (at.places t (omega (arith, h, same)));
+        entries = entries_kept s z (λ entries. length entries ≡ app.notes) same entries valid.in_limits.entries;
+        queues = ap (map shape_of) queues ∙ bare_shapes p.queues ∙ ap (map shape_of) at.queues ∙ sym (bare_shapes s.queues) ∙ valid.in_limits.queues;
+      };
+      placed_once = λ t h. kept.seats t ∙ at.placed t (omega (arith, h, same)) ∙ ap (λ (x : TaskSnapshot). places_to_run x.phase) (sym (is t));
+      waiting_lists = record {
+        ready = kept.order (subst (IsInOrder (priorities_of app)) (sym at.ready) valid.waiting_lists.ready);
+        waiting = λ place. subst (IsInOrder (priorities_of app)) (sym (waiting place)) (valid.waiting_lists.waiting place);
+      };
+      places = λ place t h. ap (times t) (waiting place) ∙ at.waits place t (omega (arith, h, same)) ∙ ap (λ (x : TaskSnapshot). waits_at place x.phase) (sym (is t));
+      entries = entries_kept s z (All IsNotWaiting) same entries valid.entries;
+    }
+
 pub IsValid-step : (app : Application) (s s' : Snapshot) (core task : ℕ) → IsApplication app → IsValid app s → core < length s.cores → core_at s core ≡ Some task
     → s' ≡ core_step app s core task → IsSized s' → IsValid app s'
 IsValid-step app s s' core task limits valid there e same sized =
     let is_task = subst (IsTaskOrIdle (length s.tasks)) e (All-get_or (IsTaskOrIdle (length s.tasks)) s.cores core None there valid.in_limits.sized.cores) in
     let p = performed s core task (next_instr app s task) in
     let at = stands app s core task limits valid there is_task e in
+    let some : 0 < length p.cores = omega (arith, there, at.cores) in
+    let kept : SeatsKept (priorities_of app) (seating_of p) (seating_of (core_step app s core task)) = kept_settled (priorities_of app) (record p { turn = core + 1 }) some in
+    subst (λ (t : Snapshot). IsSized t → IsValid app t) (sym same) (valid_seated app s p (core_step app s core task) some valid at kept refl refl) sized
+
+-- A tick changes no task.
+stands_ticked : (app : Application) (s : Snapshot) → IsValid app s → Stands app s (ticked s)
+stands_ticked app s valid = record {
+  cores = refl;
+  tasks = refl;
+  places = valid.in_limits.places;
+  entries = λ t h. refl;
+  queues = refl;
+  ready = refl;
+  waits = valid.places;
+  placed = valid.placed_once;
+}
+
+pub IsValid-tick : (app : Application) (s s' : Snapshot) → IsApplication app → IsValid app s → s' ≡ tick_step app s → IsSized s' → IsValid app s'
+IsValid-tick app s s' limits valid same sized =
     let priorities = priorities_of app in
-    let kept : SeatsKept priorities (seating_of p) (seating_of (core_step app s core task)) = kept_settled priorities (record p { turn = core + 1 }) (omega (arith, there, at.cores)) in
-    let valid_then : IsSized (core_step app s core task) → IsValid app (core_step app s core task) = λ z. record {
-      in_limits = record {
-        sized = z;
-        cores = kept.cores ∙ at.cores ∙ valid.in_limits.cores;
-        tasks = at.tasks ∙ valid.in_limits.tasks;
-        places = λ t h. at.places t (omega (arith, h, at.tasks));
-        entries = entries_kept s p (λ entries. length entries ≡ app.notes) at.tasks at.entries valid.in_limits.entries;
-        queues = bare_shapes p.queues ∙ ap (map shape_of) at.queues ∙ sym (bare_shapes s.queues) ∙ valid.in_limits.queues;
-      };
-      placed_once = λ t h. kept.seats t ∙ at.placed t (omega (arith, h, at.tasks));
-      waiting_lists = record {
-        ready = kept.order (subst (IsInOrder priorities) (sym at.ready) valid.waiting_lists.ready);
-        waiting = λ place. subst (IsInOrder priorities) (sym (same_waiting s (core_step app s core task) place at.queues)) (valid.waiting_lists.waiting place);
-      };
-      places = λ place t h. ap (times t) (same_waiting s (core_step app s core task) place at.queues) ∙ at.waits place t (omega (arith, h, at.tasks));
-      entries = entries_kept s p (All IsNotWaiting) at.tasks at.entries valid.entries;
-    } in
-    subst (λ (t : Snapshot). IsSized t → IsValid app t) (sym same) valid_then sized
+    let some : 0 < length s.cores = omega (arith, limits.some_cores, valid.in_limits.cores) in
+    let core = (s.tick + 1) % length s.cores in
+    let settles : SeatsKept priorities (seating_of (ticked s)) (seating_of (settled priorities (ticked s))) = kept_settled priorities (ticked s) some in
+    let there : core < length (settled priorities (ticked s)).cores = omega (arith, settles.cores, mod-lt (s.tick + 1) some) in
+    let rotates : SeatsKept priorities (seating_of (settled priorities (ticked s))) (seating_of (tick_step app s)) = kept_rotated priorities core (settled priorities (ticked s)) there in
+    let kept = kept_then priorities (seating_of (ticked s)) (seating_of (settled priorities (ticked s))) (seating_of (tick_step app s)) settles rotates in
+    subst (λ (t : Snapshot). IsSized t → IsValid app t) (sym same) (valid_seated app s (ticked s) (tick_step app s) some valid (stands_ticked app s valid) kept refl refl) sized
+
+-- A move ends in a settled state.
+pub IsSettled-step : (app : Application) (s s' : Snapshot) (core task : ℕ) → IsApplication app → IsValid app s → core < length s.cores → core_at s core ≡ Some task → s' ≡ core_step app s core task → IsSettled (priorities_of app) s'
+IsSettled-step app s s' core task limits valid there e same =
+    let priorities = priorities_of app in
+    let is_task = subst (IsTaskOrIdle (length s.tasks)) e (All-get_or (IsTaskOrIdle (length s.tasks)) s.cores core None there valid.in_limits.sized.cores) in
+    let p = performed s core task (next_instr app s task) in
+    let at = stands app s core task limits valid there is_task e in
+    let order : IsInOrder priorities p.ready = subst (IsInOrder priorities) (sym at.ready) valid.waiting_lists.ready in
+    subst (IsSettled priorities) (sym same) (settles priorities (record p { turn = core + 1 }) (omega (arith, there, at.cores)) order).settled_now
+
+pub IsSettled-tick : (app : Application) (s s' : Snapshot) → IsApplication app → IsValid app s → s' ≡ tick_step app s → IsSettled (priorities_of app) s'
+IsSettled-tick app s s' limits valid same =
+    let priorities = priorities_of app in
+    let some : 0 < length s.cores = omega (arith, limits.some_cores, valid.in_limits.cores) in
+    let kept : SeatsKept priorities (seating_of (ticked s)) (seating_of (settled priorities (ticked s))) = kept_settled priorities (ticked s) some in
+    let there : (s.tick + 1) % length s.cores < length (settled priorities (ticked s)).cores = omega (arith, kept.cores, mod-lt (s.tick + 1) some) in
+    subst (IsSettled priorities) (sym same) (stays_settled priorities ((s.tick + 1) % length s.cores) (settled priorities (ticked s)) there (settles priorities (ticked s) some valid.waiting_lists.ready).settled_now)

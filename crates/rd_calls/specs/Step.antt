@@ -1,18 +1,18 @@
--- A move: one instruction of the task on a core, and then scheduling.
-use Rattle.std.specs.Prelude.{ℕ, ◌+◌, ◌*◌, ◌<◌, ◌≤◌, List, length, Option, None, Some, Result, Ok, Err}
+-- A move: one instruction of the task on a core, or a tick, and then scheduling.
+use Rattle.std.specs.Prelude.{ℕ, ◌+◌, ◌*◌, ◌%◌, ◌<◌, ◌≤◌, List, length, drop, position, nat_lt, if◌then◌else◌, Option, None, Some, is_some, Result, Ok, Err}
 use Rattle.rd_script.specs.declared.instr.Instr.{Instr}
 use Rattle.rd_script.specs.declared.instr.Instr.TheVariants.{Send, Receive}
 use Rattle.rd_script.specs.Application.{Application, instr_at, priorities_of}
 use Rattle.rd_state.specs.declared.change.Change.{Change}
 use Rattle.rd_state.specs.Change.{weight_of}
-use Rattle.rd_state.specs.Settled.{settled}
+use Rattle.rd_state.specs.Settled.{settled, rotated}
 use Rattle.rd_state.specs.Snapshot.{Snapshot, task_at, core_at}
 use Rattle.rd_calls.specs.Local.{local_step, NamesRegisters}
 use Rattle.rd_calls.specs.Outcomes.{concluded, send_outcome, receive_outcome}
 use Rattle.rd_calls.specs.declared.moves.Move.{Move}
-use Rattle.rd_calls.specs.declared.moves.Move.TheVariants.{Core}
+use Rattle.rd_calls.specs.declared.moves.Move.TheVariants.{Core, Tick}
 use Rattle.rd_calls.specs.declared.moves.PlayError.{PlayError}
-use Rattle.rd_calls.specs.declared.moves.PlayError.TheVariants.{NoTask}
+use Rattle.rd_calls.specs.declared.moves.PlayError.TheVariants.{NoTask, TickLimit}
 
 -- the state after an instruction of the task on a core
 abbrev pub performed : Snapshot → ℕ → ℕ → Instr → Snapshot
@@ -33,13 +33,38 @@ abbrev pub step_of_core : Application → Snapshot → ℕ → Option ℕ → Re
 step_of_core app s core None = Err NoTask
 step_of_core app s core (Some task) = Ok (core_step app s core task)
 
+-- A tick passes, the scheduler runs, and then tasks of one priority take turns on one of the cores, each core in its
+-- turn. The turn goes to core 0.
+abbrev pub ticked : Snapshot → Snapshot
+ticked s = record s { tick = s.tick + 1 }
+
+abbrev pub tick_step : Application → Snapshot → Snapshot
+tick_step app s = record (rotated (priorities_of app) ((s.tick + 1) % length s.cores) (settled (priorities_of app) (ticked s))) { turn = 0 }
+
+-- the last tick that there is
+abbrev pub last_tick : ℕ
+last_tick = 4294967295
+
+abbrev pub step_of_tick : Application → Snapshot → Result Snapshot PlayError
+step_of_tick app s = if nat_lt s.tick last_tick then Ok (tick_step app s) else Err TickLimit
+
 -- the state after a move, or why there is none
 abbrev pub step : Application → Snapshot → Move → Result Snapshot PlayError
 step app s (Core core) = step_of_core app s core (core_at s core)
+step app s Tick = step_of_tick app s
 
 -- The move names what the application has.
 abbrev pub IsMoveOf : Application → Move → Type 0
 IsMoveOf app (Core core) = core < app.cores
+IsMoveOf app Tick = Unit {0}
+
+-- The move that a run makes next: of the first busy core from the turn on, or a tick where there is none.
+abbrev pub move_from : ℕ → Option ℕ → Move
+move_from turn None = Tick
+move_from turn (Some ahead) = Core (turn + ahead)
+
+abbrev pub policy_of : Snapshot → Move
+policy_of s = move_from s.turn (position is_some (drop s.turn s.cores))
 
 -- The record of a move is small: its weight has a bound that only the numbers of tasks and cores enter,
 -- beside the bytes of one task's data and one item.

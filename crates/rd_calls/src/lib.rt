@@ -6,5 +6,7 @@ pub mod moves;
 pub mod outcome;
 mod perform;
 pub mod play;
+pub mod policy;
 mod queues;
 mod steps;
+mod tick;

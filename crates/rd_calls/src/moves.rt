@@ -7,6 +7,8 @@ use thiserror::Error;
 pub enum Move {
     /// The task on this core does one instruction.
     Core { core: usize },
+    /// A tick passes.
+    Tick,
 }
 
 impl Move {
@@ -16,6 +18,7 @@ impl Move {
     {
         match self {
             Move::Core { core } => Move::Core { core: *core },
+            Move::Tick => Move::Tick,
         }
     }
 }
@@ -26,6 +29,9 @@ pub enum PlayError {
     /// The core is idle.
     #[error("no task on this core")]
     NoTask,
+    /// The tick is 4,294,967,295, and there is none after it.
+    #[error("no tick after the last one")]
+    TickLimit,
     /// A growth was refused.
     #[error("no memory")]
     NoMemory,

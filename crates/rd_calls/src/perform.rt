@@ -1,4 +1,4 @@
-//! One move in the middle: the instruction, the turn, the scheduler.
+//! The move of a core in the middle: the instruction, the turn, the scheduler.
 ghost use Rattle.std.specs.Prelude.{◌≡◌, ◌+◌, ◌*◌, ◌<◌, ◌≤◌, length, Some, OnOk, OnErr};
 ghost use Rattle.rd_state.specs.Edit.{Comes};
 ghost use Rattle.rd_state.specs.Snapshot.{task_at, core_at};
@@ -9,10 +9,9 @@ ghost use Rattle.rd_calls.specs.Step.{performed, core_step, NamesParts};
 use crate::local::do_local;
 use crate::outcome::Outcome;
 use crate::queues::{receive, send};
-use crate::steps::return_from;
+use crate::steps::{return_from, set_turn};
 use rd_script::app::App;
 use rd_script::instr::Instr;
-use rd_state::change::Change;
 use rd_state::editing::Editing;
 use rd_state::no_memory::NoMemory;
 use std::alloc::Global;
@@ -56,18 +55,6 @@ fn perform(
         }
         _ => do_local(alloc, editing, core, task, instr),
     }
-}
-
-// Gives the turn to this core, if it hasn't it.
-fn set_turn(editing: &mut Editing, turn: usize) -> Result<(), NoMemory>
-    requires { turn ≤ length editing.old.now.cores }
-    ensures ok { OnOk result (Comes editing.old editing.new (record editing.old.now { turn = turn }) 1) }
-    ensures err { OnErr result (editing.new.base ≡ editing.old.base) }
-{
-    if editing.state().turn() == turn {
-        return Ok(());
-    }
-    editing.change(Change::SetTurn { turn })
 }
 
 /// The move of a core whose task is known: its instruction, the turn, the scheduler.

@@ -1,12 +1,15 @@
-ghost use Rattle.std.specs.Prelude.{◌≡◌, ◌↔◌, ◌+◌, ◌*◌, ◌<◌, ◌≤◌, length, Ok, Err, Some, IfOk, OnOk, OnErr, IsErrOf};
+ghost use Rattle.std.specs.Prelude.{◌≡◌, ◌↔◌, ◌+◌, ◌*◌, ◌<◌, ◌≤◌, length, Ok, Err, Some, IfOk, OnOk, OnErr, IsOk, IsErrOf};
 ghost use Rattle.rd_state.specs.Change.{weight_of};
+ghost use Rattle.rd_script.specs.Application.{priorities_of};
+ghost use Rattle.rd_state.specs.Settled.{IsSettled};
 ghost use Rattle.rd_state.specs.Snapshot.{core_at};
 ghost use Rattle.rd_state.specs.Undoing.{undone, CanUndo};
 ghost use Rattle.rd_state.specs.Valid.{IsValid};
-ghost use Rattle.rd_calls.specs.Step.{step, core_step, IsMoveOf, IsSmall};
+ghost use Rattle.rd_calls.specs.Step.{step, core_step, tick_step, last_tick, IsMoveOf, IsSmall};
 
 use crate::moves::{Move, PlayError};
 use crate::perform::move_core;
+use crate::tick::move_tick;
 use rd_script::app::App;
 use rd_state::editing::Editing;
 use rd_state::no_memory::NoMemory;
@@ -15,7 +18,25 @@ use rd_state::undo::Undo;
 use std::alloc::Global;
 use std::mem;
 
-// The move of a core whose task is known. Where memory runs out half-way, what was done of it is undone.
+// Ends a move. Where memory ran out half-way, what was done of it is undone.
+fn finish(editing: Editing, made: Result<(), NoMemory>, state: &mut State) -> Result<Undo, NoMemory>
+    ensures made { IsOk result ↔ IsOk made }
+    ensures state { OnOk result (state.new ≡ editing.now) }
+    ensures undone { IfOk result (λ undo. undone state.new undo ≡ editing.base) }
+    ensures can_undo { IfOk result (λ undo. CanUndo state.new undo) }
+    ensures weight { IfOk result (λ undo. weight_of undo ≡ editing.weight) }
+    ensures err { OnErr result (state.new ≡ editing.base) }
+{
+    match made {
+        Ok(()) => Ok(editing.commit(state)),
+        Err(NoMemory) => {
+            editing.roll_back(state);
+            Err(NoMemory)
+        }
+    }
+}
+
+// The move of a core whose task is known.
 fn play_task(
     alloc: Global,
     state: &mut State,
@@ -32,29 +53,44 @@ fn play_task(
     ensures small { IfOk result (λ undo. weight_of undo ≤ 326 + 3 * length state.old.cores) }
     ensures err { OnErr result (state.new ≡ state.old) }
     ensures valid { OnOk result (IsValid app.now state.new) }
+    ensures settled { OnOk result (IsSettled (priorities_of app.now) state.new) }
 {
     app.limits();
     let mut editing = Editing::begin(alloc, mem::replace(state, State::hollow(alloc)));
-    match move_core(alloc, app, &mut editing, core, task) {
-        Ok(()) => {
-            let undo = editing.commit(state);
-            state.sizes();
-            Ok(undo)
-        }
-        Err(NoMemory) => {
-            editing.roll_back(state);
-            Err(NoMemory)
-        }
-    }
+    let made = move_core(alloc, app, &mut editing, core, task);
+    let undo = finish(editing, made, state)?;
+    state.sizes();
+    Ok(undo)
+}
+
+// A tick that isn't the last one.
+fn play_tick(alloc: Global, state: &mut State, app: &App) -> Result<Undo, NoMemory>
+    requires valid { IsValid app.now state.old }
+    requires later { state.old.tick < last_tick }
+    ensures state { OnOk result (state.new ≡ tick_step app.now state.old) }
+    ensures undone { IfOk result (λ undo. undone state.new undo ≡ state.old) }
+    ensures can_undo { IfOk result (λ undo. CanUndo state.new undo) }
+    ensures small { IfOk result (λ undo. weight_of undo ≤ 5 + 3 * length state.old.cores) }
+    ensures err { OnErr result (state.new ≡ state.old) }
+    ensures valid { OnOk result (IsValid app.now state.new) }
+    ensures settled { OnOk result (IsSettled (priorities_of app.now) state.new) }
+{
+    app.limits();
+    let mut editing = Editing::begin(alloc, mem::replace(state, State::hollow(alloc)));
+    let made = move_tick(app, &mut editing);
+    let undo = finish(editing, made, state)?;
+    state.sizes();
+    Ok(undo)
 }
 
 /// Makes a move and answers its record, which undoes it exactly. A refusal leaves the state as it was:
-/// `NoTask` where the core is idle, `NoMemory` where a growth was refused.
+/// `NoTask` where the core is idle, `TickLimit` where the tick is 4,294,967,295, `NoMemory` where a growth was refused.
 pub fn play(alloc: Global, state: &mut State, app: &App, action: Move) -> Result<Undo, PlayError>
     requires valid { IsValid app.now state.old }
     requires named { IsMoveOf app.now action }
     ensures step { OnOk result (step app.now state.old action ≡ Ok state.new) }
     ensures no_task { IsErrOf result PlayError.NoTask ↔ (step app.now state.old action ≡ Err PlayError.NoTask) }
+    ensures tick_limit { IsErrOf result PlayError.TickLimit ↔ (step app.now state.old action ≡ Err PlayError.TickLimit) }
     ensures err { OnErr result (state.new ≡ state.old) }
 
     // The record leads back, and is small.
@@ -62,8 +98,9 @@ pub fn play(alloc: Global, state: &mut State, app: &App, action: Move) -> Result
     ensures can_undo { IfOk result (λ undo. CanUndo state.new undo) }
     ensures small { IfOk result (λ undo. IsSmall state.old action undo) }
 
-    // A valid state stays valid.
+    // A valid state stays valid, and nothing is left to schedule between moves.
     ensures valid { OnOk result (IsValid app.now state.new) }
+    ensures settled { OnOk result (IsSettled (priorities_of app.now) state.new) }
 {
     match action {
         Move::Core { core } => {
@@ -72,5 +109,7 @@ pub fn play(alloc: Global, state: &mut State, app: &App, action: Move) -> Result
             };
             play_task(alloc, state, app, core, task).map_err(|_| PlayError::NoMemory)
         }
+        Move::Tick if state.tick() == u32::MAX => Err(PlayError::TickLimit),
+        Move::Tick => play_tick(alloc, state, app).map_err(|_| PlayError::NoMemory),
     }
 }

@@ -1,4 +1,4 @@
-//! Single changes of a task in the middle of a step.
+//! Single changes in the middle of a step.
 ghost use Rattle.std.specs.Prelude.{◌≡◌, ◌+◌, ◌<◌, ◌≤◌, length, OnOk, OnErr};
 ghost use Rattle.rd_script.specs.declared.phase.Phase.TheVariants.{Run};
 ghost use Rattle.rd_state.specs.Edit.{Comes};
@@ -89,4 +89,16 @@ pub fn return_from(editing: &mut Editing, task: usize, answer: u32) -> Result<()
     set_register(editing, task, 0, answer)?;
     set_pc(editing, task, pc + 1)?;
     set_phase(editing, task, Phase::Run)
+}
+
+/// Gives the turn to this core, if it hasn't it.
+pub fn set_turn(editing: &mut Editing, turn: usize) -> Result<(), NoMemory>
+    requires { turn ≤ length editing.old.now.cores }
+    ensures ok { OnOk result (Comes editing.old editing.new (record editing.old.now { turn = turn }) 1) }
+    ensures err { OnErr result (editing.new.base ≡ editing.old.base) }
+{
+    if editing.state().turn() == turn {
+        return Ok(());
+    }
+    editing.change(Change::SetTurn { turn })
 }

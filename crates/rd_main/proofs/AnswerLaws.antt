@@ -5,39 +5,18 @@ use Rattle.std.specs.Prelude.{All}
 use Rattle.std.proofs.lemmas.List.{length-map}
 use Rattle.std.proofs.lemmas.List.Elements.{All-get_or}
 use Rattle.std.proofs.lemmas.List.Quantifiers.{position-Some}
+use Rattle.rd_calls.specs.declared.moves.Move.TheVariants as move
 use Rattle.rd_script.specs.Application.{IsApplication}
-use Rattle.rd_state.specs.Sizes.{HasSizedLists}
+use Rattle.rd_state.specs.Sizes.{HasSizedLists, IsTaskOrIdle}
 use Rattle.rd_state.specs.Snapshot.{no_queue, queue_at}
 use Rattle.rd_state.specs.Valid.{IsValid, shape_of}
 use Rattle.rd_timeline.specs.Course.{Course}
 use Rattle.rd_main.specs.declared.reply.Reply.{Reply}
 use Rattle.rd_main.specs.declared.reply.Reply.TheVariants.{Refused}
 use Rattle.rd_main.specs.declared.reply.Refusal.TheVariants.{Syntax}
-use Rattle.rd_main.specs.Answers.{Adds, IsAnswer, IsView, PutsPage, StepReply, BackReply, QueueLine, TaskLine, no_memory, number_named}
-use Rattle.rd_main.specs.Commands.{Asked, Step, Back, ShowQueue, ShowTask}
-use Rattle.rd_main.specs.Replies.{line_of, reply_text, WaitersAreNamed}
-
-pub on_ok : {T E P Q : Type 0} (r : Result T E) → (P → Q) → OnOk r P → OnOk r Q
-on_ok (Ok x) f held = f held
-on_ok (Err e) f held = tt
-
-answered : (old new : Course) (asked said : Option Asked) (before after line : List ℕ) → asked ≡ said → after ≡ before ++ line → IsAnswer old said new line → Adds before after (IsAnswer old asked new)
-answered old new asked said before after line is added answer = (line, added, rw is answer)
-
-pub step_answered : (old new : Course) (asked : Option Asked) (core : ℕ) (reply : Reply) (before after : List ℕ) → asked ≡ Some (Step core) → StepReply old core new reply → after ≡ before ++ line_of (reply_text reply) → Adds before after (IsAnswer old asked new)
-step_answered old new asked core reply before after is answer added = answered old new asked (Some (Step core)) before after _ is added (reply, refl, answer)
-
-pub back_answered : (old new : Course) (asked : Option Asked) (count : ℕ) (reply : Reply) (before after : List ℕ) → asked ≡ Some (Back count) → BackReply old count new reply → after ≡ before ++ line_of (reply_text reply) → Adds before after (IsAnswer old asked new)
-back_answered old new asked count reply before after is answer added = answered old new asked (Some (Back count)) before after _ is added (reply, refl, answer)
-
-pub queue_answered : (old : Course) (asked : Option Asked) (name before after : List ℕ) → asked ≡ Some (ShowQueue name) → Adds before after (QueueLine old name) → Adds before after (IsAnswer old asked old)
-queue_answered old asked name before after is view = answered old old asked (Some (ShowQueue name)) before after view.0 is view.1 (view.2, refl)
-
-pub task_answered : (old : Course) (asked : Option Asked) (name before after : List ℕ) → asked ≡ Some (ShowTask name) → Adds before after (TaskLine old name) → Adds before after (IsAnswer old asked old)
-task_answered old asked name before after is view = answered old old asked (Some (ShowTask name)) before after view.0 is view.1 (view.2, refl)
-
-pub refused_line : (old : Course) (asked : Option Asked) (before after : List ℕ) → asked ≡ None → after ≡ before ++ line_of (reply_text (Refused Syntax)) → Adds before after (IsAnswer old asked old)
-refused_line old asked before after is added = answered old old asked None before after _ is added (refl, refl)
+use Rattle.rd_main.specs.Answers.{Adds, IsAnswer, IsView, PutsPage, MoveReply, StepReply, BackReply, QueueLine, TaskLine, no_memory, number_named}
+use Rattle.rd_main.specs.Commands.{Asked, Step, Tick, Back, ShowQueue, ShowTask}
+use Rattle.rd_main.specs.Replies.{line_of, reply_text, WaitersAreNamed, SeatedAreNamed}
 
 -- What has a name is there.
 pub queue_there : (course : Course) (queue : ℕ) (name : List ℕ) → IsApplication course.app → IsValid course.app course.target → number_named name course.app.queue_names ≡ Some queue → queue < length course.target.queues
@@ -56,6 +35,15 @@ waiters_named course queue limits valid there =
     record {
       receiving = subst (λ n. All (λ task. task < n) (queue_at course.target queue).receiving) tasks lists.receiving.0;
       sending = subst (λ n. All (λ task. task < n) (queue_at course.target queue).sending) tasks lists.sending.0;
+    }
+
+-- Who runs and who is ready has a name.
+pub seated_named : (course : Course) → IsApplication course.app → IsValid course.app course.target → SeatedAreNamed course.app.task_names course.target
+seated_named course limits valid =
+    let tasks : length course.target.tasks ≡ length course.app.task_names = omega (arith, limits.task_names, valid.in_limits.tasks) in
+    record {
+      cores = subst (λ n. All (IsTaskOrIdle n) course.target.cores) tasks valid.in_limits.sized.cores;
+      ready = subst (λ n. All (λ task. task < n) course.target.ready) tasks valid.in_limits.sized.ready;
     }
 
 -- the page of a view, or that there was no memory for it

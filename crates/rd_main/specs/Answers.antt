@@ -2,33 +2,38 @@
 use Rattle.std.specs.Prelude.{ℕ, ◌≡◌, ◌-◌, ◌<◌, ◌≤◌, ◌⊎◌, List, [], ◌∷◌, ◌++◌, length, take, drop, Option, Some, None, Result, Ok, Err, position}
 use Rattle.std.specs.Str.{bytes_eq}
 use Rattle.rd_calls.specs.Step.{step}
-use Rattle.rd_calls.specs.declared.moves.Move.TheVariants.{Core}
+use Rattle.rd_calls.specs.declared.moves.Move.{Move}
+use Rattle.rd_calls.specs.declared.moves.Move.TheVariants as move
 use Rattle.rd_calls.specs.declared.moves.PlayError.TheVariants as play
 use Rattle.rd_state.specs.Snapshot.{queue_at, task_at}
 use Rattle.rd_timeline.specs.Course.{Course}
-use Rattle.rd_main.specs.Commands.{Asked, Step, Back, ShowQueue, ShowTask}
-use Rattle.rd_main.specs.Replies.{line_of, reply_text, queue_text, task_text, is_task}
-use Rattle.rd_main.specs.declared.reply.Refusal.TheVariants.{NoTask, TooFar, MovesFull, NoSuch, NoMemory, Syntax}
+use Rattle.rd_main.specs.Commands.{Asked, Step, Tick, Back, ShowQueue, ShowTask, ShowCores}
+use Rattle.rd_main.specs.Replies.{line_of, reply_text, queue_text, task_text, cores_text, is_task}
+use Rattle.rd_main.specs.declared.reply.Refusal.TheVariants.{NoTask, TickLimit, TooFar, MovesFull, NoSuch, NoMemory, Syntax}
 use Rattle.rd_main.specs.declared.reply.Reply.{Reply}
 use Rattle.rd_main.specs.declared.reply.Reply.TheVariants.{Done, Refused}
 
 -- The move is laid on the moves done, and the moves undone are forgotten.
-pub record Goes (old : Course) (core : ℕ) (new : Course) : Type 0 where
-  pub there : core < old.app.cores
-  pub step : step old.app old.target (Core core) ≡ Ok new.target
-  pub done : new.done ≡ old.done ++ Core core ∷ []
+pub record Goes (old : Course) (move : Move) (new : Course) : Type 0 where
+  pub step : step old.app old.target move ≡ Ok new.target
+  pub done : new.done ≡ old.done ++ move ∷ []
   pub undone : new.undone ≡ []
   pub app : new.app ≡ old.app
   pub limit : new.limit ≡ old.limit
 
--- the answers to `step`; a refusal leaves the timeline
+-- the answers to a move; a refusal leaves the timeline
+abbrev pub MoveReply : Course → Move → Course → Reply → Type 0
+MoveReply old move new (Done at) = (at ≡ length new.done) × Goes old move new
+MoveReply old move new (Refused MovesFull) = (length old.done ≡ old.limit) × (new ≡ old)
+MoveReply old move new (Refused NoTask) = (step old.app old.target move ≡ Err play.NoTask) × (new ≡ old)
+MoveReply old move new (Refused TickLimit) = (step old.app old.target move ≡ Err play.TickLimit) × (new ≡ old)
+MoveReply old move new (Refused NoMemory) = new ≡ old
+MoveReply old move new reply = ⊥
+
+-- the answers to `step`: there is no such core, or its move is made or refused
 abbrev pub StepReply : Course → ℕ → Course → Reply → Type 0
-StepReply old core new (Done at) = (at ≡ length new.done) × Goes old core new
 StepReply old core new (Refused NoSuch) = (old.app.cores ≤ core) × (new ≡ old)
-StepReply old core new (Refused MovesFull) = (core < old.app.cores) × (length old.done ≡ old.limit) × (new ≡ old)
-StepReply old core new (Refused NoTask) = (core < old.app.cores) × (step old.app old.target (Core core) ≡ Err play.NoTask) × (new ≡ old)
-StepReply old core new (Refused NoMemory) = (core < old.app.cores) × (new ≡ old)
-StepReply old core new reply = ⊥
+StepReply old core new reply = (core < old.app.cores) × MoveReply old (move.Core core) new reply
 
 -- The last moves done are undone, and can be redone.
 pub record GoesBack (old : Course) (count : ℕ) (new : Course) : Type 0 where
@@ -60,10 +65,14 @@ abbrev pub PutsPage : {T E : Type 0} → List ℕ → Result T E → List ℕ �
 PutsPage old (Ok done) page new = (new ≡ old ++ page) ⊎ (new ≡ old ++ no_memory)
 PutsPage old (Err error) page new = new ≡ old ++ no_memory
 
+-- A view, or `no NoMemory`.
+abbrev pub IsShown : List ℕ → List ℕ → Type 0
+IsShown view line = (line ≡ line_of view) ⊎ (line ≡ no_memory)
+
 -- A view of what has a name, or `no NoSuch` where nothing has it, or `no NoMemory`.
 abbrev pub IsView : Option ℕ → (ℕ → List ℕ) → List ℕ → Type 0
 IsView None view line = line ≡ no_such
-IsView (Some number) view line = (line ≡ line_of (view number)) ⊎ (line ≡ no_memory)
+IsView (Some number) view line = IsShown (view number) line
 
 -- the number of what has the name
 abbrev pub number_named : List ℕ → List (List ℕ) → Option ℕ
@@ -75,10 +84,15 @@ QueueLine course name line = IsView (number_named name course.app.queue_names) (
 abbrev pub TaskLine : Course → List ℕ → List ℕ → Type 0
 TaskLine course name line = IsView (number_named name course.app.task_names) (λ task. task_text name (position (is_task task) course.target.cores) (task_at course.target task)) line
 
+abbrev pub CoresLine : Course → List ℕ → Type 0
+CoresLine course line = IsShown (cores_text course.app.task_names course.target) line
+
 -- the answer to a line, by the command that it spells
 abbrev pub IsAnswer : Course → Option Asked → Course → List ℕ → Type 0
 IsAnswer old None new line = (line ≡ line_of (reply_text (Refused Syntax))) × (new ≡ old)
 IsAnswer old (Some (Step core)) new line = (reply : Reply) × (line ≡ line_of (reply_text reply)) × StepReply old core new reply
+IsAnswer old (Some Tick) new line = (reply : Reply) × (line ≡ line_of (reply_text reply)) × MoveReply old move.Tick new reply
 IsAnswer old (Some (Back count)) new line = (reply : Reply) × (line ≡ line_of (reply_text reply)) × BackReply old count new reply
 IsAnswer old (Some (ShowQueue name)) new line = QueueLine old name line × (new ≡ old)
 IsAnswer old (Some (ShowTask name)) new line = TaskLine old name line × (new ≡ old)
+IsAnswer old (Some ShowCores) new line = CoresLine old line × (new ≡ old)

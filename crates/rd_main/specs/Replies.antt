@@ -8,9 +8,10 @@ use Rattle.rd_notify.specs.declared.notes.EntryState.TheVariants.{Idle, Waiting,
 use Rattle.rd_queue.specs.QueueSnapshot.{QueueSnapshot}
 use Rattle.rd_script.specs.declared.phase.Phase.{Phase}
 use Rattle.rd_script.specs.declared.phase.Phase.TheVariants.{Run, Ended}
-use Rattle.rd_state.specs.Snapshot.{TaskSnapshot}
+use Rattle.rd_state.specs.Sizes.{IsTaskOrIdle}
+use Rattle.rd_state.specs.Snapshot.{Snapshot, TaskSnapshot}
 use Rattle.rd_main.specs.declared.reply.Refusal.{Refusal}
-use Rattle.rd_main.specs.declared.reply.Refusal.TheVariants.{NoTask, TooFar, MovesFull, NoSuch, NoMemory, Syntax, LineTooLong}
+use Rattle.rd_main.specs.declared.reply.Refusal.TheVariants.{NoTask, TickLimit, TooFar, MovesFull, NoSuch, NoMemory, Syntax, LineTooLong}
 use Rattle.rd_main.specs.declared.reply.Reply.{Reply}
 use Rattle.rd_main.specs.declared.reply.Reply.TheVariants.{Done, Refused}
 
@@ -22,6 +23,7 @@ line_of text = text ++ 10 ∷ []
 
 abbrev pub refusal_text : Refusal → List ℕ
 refusal_text NoTask = codes "NoTask"
+refusal_text TickLimit = codes "TickLimit"
 refusal_text (TooFar done) = codes "TooFar " ++ decimal done
 refusal_text MovesFull = codes "MovesFull"
 refusal_text NoSuch = codes "NoSuch"
@@ -100,6 +102,23 @@ queue_text names name queue = codes "queue " ++ name ++ codes " " ++ amounts_tex
 pub record WaitersAreNamed (names : List (List ℕ)) (queue : QueueSnapshot) : Type 0 where
   pub receiving : All (λ task. task < length names) queue.receiving
   pub sending : All (λ task. task < length names) queue.sending
+
+-- who runs on a core, by the tasks' names; `-` for nobody
+abbrev pub seat_text : List (List ℕ) → Option ℕ → List ℕ
+seat_text names None = codes "-"
+seat_text names (Some task) = task_name names task
+
+abbrev pub ticks_text : Snapshot → List ℕ
+ticks_text s = codes " tick " ++ decimal s.tick ++ codes " turn " ++ decimal s.turn
+
+-- who runs and who is ready, by the tasks' names, with the tick and the turn
+abbrev pub cores_text : List (List ℕ) → Snapshot → List ℕ
+cores_text names s = codes "cores " ++ list_text (seat_text names) s.cores ++ codes " ready " ++ list_text (task_name names) s.ready ++ ticks_text s
+
+-- Those who run and those who are ready have a name.
+pub record SeatedAreNamed (names : List (List ℕ)) (s : Snapshot) : Type 0 where
+  pub cores : All (IsTaskOrIdle (length names)) s.cores
+  pub ready : All (λ task. task < length names) s.ready
 
 -- what a task has, from its registers on
 abbrev pub state_text : TaskSnapshot → List ℕ

@@ -1,17 +1,32 @@
 //! The answer to each command.
 
 ghost use Rattle.std.specs.Prelude.{◌≡◌, OnOk};
+ghost use Rattle.rd_calls.specs.Step.{IsMoveOf};
 ghost use Rattle.rd_script.specs.Words.{words_of};
 ghost use Rattle.rd_main.specs.Commands.{command_of};
-ghost use Rattle.rd_main.specs.Answers.{StepReply, BackReply, QueueLine, TaskLine, IsAnswer, Adds, PutsPage};
+ghost use Rattle.rd_main.specs.Answers.{MoveReply, StepReply, BackReply, QueueLine, TaskLine, CoresLine, IsAnswer, Adds, PutsPage};
 
 use crate::command::{Command, parse_line};
-use crate::reply::{Refusal, Reply, core_of, put_reply, show_queue, show_task};
+use crate::reply::{Refusal, Reply, core_of, put_reply, show_cores, show_queue, show_task};
 use rd_calls::moves::Move;
 use rd_script::app::Kind;
 use rd_timeline::timeline;
 use rd_timeline::timeline::Timeline;
 use std::alloc::AllocError;
+
+// Makes a move.
+fn make(timeline: &mut Timeline, action: Move) -> Reply
+    requires { IsMoveOf timeline.old.app action }
+    ensures { MoveReply timeline.old action timeline.new result }
+{
+    match timeline.go(action) {
+        Ok(at) => Reply::Done { at },
+        Err(timeline::Refusal::MovesFull) => refused(Refusal::MovesFull),
+        Err(timeline::Refusal::NoTask) => refused(Refusal::NoTask),
+        Err(timeline::Refusal::TickLimit) => refused(Refusal::TickLimit),
+        Err(timeline::Refusal::NoMemory) => refused(Refusal::NoMemory),
+    }
+}
 
 // Makes the move of a core.
 fn step(timeline: &mut Timeline, core: usize) -> Reply
@@ -20,12 +35,7 @@ fn step(timeline: &mut Timeline, core: usize) -> Reply
     if core >= timeline.app().cores() {
         return refused(Refusal::NoSuch);
     }
-    match timeline.go(Move::Core { core }) {
-        Ok(at) => Reply::Done { at },
-        Err(timeline::Refusal::MovesFull) => refused(Refusal::MovesFull),
-        Err(timeline::Refusal::NoTask) => refused(Refusal::NoTask),
-        Err(timeline::Refusal::NoMemory) => refused(Refusal::NoMemory),
-    }
+    make(timeline, Move::Core { core })
 }
 
 // Takes the last moves back.
@@ -96,6 +106,20 @@ fn put_task(
     put_page(answers, page.as_slice(), shown)
 }
 
+// Appends the view of the cores.
+fn put_cores(
+    timeline: &Timeline,
+    page: &mut Vec<u8>,
+    answers: &mut Vec<u8>,
+) -> Result<(), AllocError>
+    ensures { OnOk result (Adds answers.old.items answers.new.items (CoresLine timeline.now)) }
+{
+    timeline.app().limits();
+    timeline.keeps();
+    let shown = show_cores(page, timeline.app(), timeline.target());
+    put_page(answers, page.as_slice(), shown)
+}
+
 /// Appends the answer to a line.
 pub fn put_answer(
     timeline: &mut Timeline,
@@ -108,9 +132,11 @@ pub fn put_answer(
 {
     match parse_line(line) {
         Ok(Command::Step { core }) => put_reply(answers, step(timeline, core as usize)),
+        Ok(Command::Tick) => put_reply(answers, make(timeline, Move::Tick)),
         Ok(Command::Back { count }) => put_reply(answers, back(timeline, count as usize)),
         Ok(Command::ShowQueue { name }) => put_queue(timeline, page, answers, name),
         Ok(Command::ShowTask { name }) => put_task(timeline, page, answers, name),
+        Ok(Command::ShowCores) => put_cores(timeline, page, answers),
         Err(_) => put_reply(answers, refused(Refusal::Syntax)),
     }
 }

@@ -4,7 +4,7 @@ ghost use Rattle.std.specs.Prelude.{◌≡◌, option_map};
 ghost use Rattle.std.specs.Result.{result_ok};
 ghost use Rattle.std.specs.Option.{option_copied};
 ghost use Rattle.rd_script.specs.Words.{words_of};
-ghost use Rattle.rd_main.specs.Commands.{asked, count_of, name_of, numbered, view_of, command_of};
+ghost use Rattle.rd_main.specs.Commands.{asked, count_of, name_of, lone, lone_view, numbered, pair_of, view_of, command_of};
 
 use rd_script::words::{Words, is_name, number};
 use std::str;
@@ -18,12 +18,16 @@ pub const MAX_COUNT: u32 = 1_000_000;
 pub enum Command<'a> {
     /// `step N`: the move of this core.
     Step { core: u32 },
+    /// `tick`: a tick passes.
+    Tick,
     /// `back COUNT`: the last moves are undone, 1 to 1,000,000 of them.
     Back { count: u32 },
     /// `show queue Q`: the queue of this name.
     ShowQueue { name: &'a str },
     /// `show task K`: the task of this name.
     ShowTask { name: &'a str },
+    /// `show cores`: who runs, who is ready, the tick and the turn.
+    ShowCores,
 }
 
 /// The line is no command.
@@ -37,7 +41,8 @@ pub fn parse_line(line: &[u8]) -> Result<Command<'_>, Syntax>
 {
     let mut words = words_in(line);
     let command = match (words.next(), words.next(), words.next(), words.next()) {
-        (Some(verb), Some(word), None, _) => numbered(verb, word),
+        (Some(verb), None, _, _) => lone(verb),
+        (Some(verb), Some(word), None, _) => pair_of(verb, word),
         (Some(b"show"), Some(kind), Some(name), None) => view_of(kind, name),
         _ => None,
     };
@@ -49,6 +54,33 @@ fn words_in(line: &[u8]) -> Words<'_>
     ensures { result ≡ words_of line.now }
 {
     Words::new(line)
+}
+
+fn pair_of<'a>(verb: &[u8], word: &'a [u8]) -> Option<Command<'a>>
+    ensures { option_map asked result ≡ pair_of verb.now word.now }
+{
+    match verb {
+        b"show" => lone_view(word),
+        _ => numbered(verb, word),
+    }
+}
+
+fn lone_view<'a>(kind: &[u8]) -> Option<Command<'a>>
+    ensures { option_map asked result ≡ lone_view kind.now }
+{
+    match kind {
+        b"cores" => Some(Command::ShowCores),
+        _ => None,
+    }
+}
+
+fn lone<'a>(verb: &[u8]) -> Option<Command<'a>>
+    ensures { option_map asked result ≡ lone verb.now }
+{
+    match verb {
+        b"tick" => Some(Command::Tick),
+        _ => None,
+    }
 }
 
 fn numbered<'a>(verb: &[u8], word: &'a [u8]) -> Option<Command<'a>>

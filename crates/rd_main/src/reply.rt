@@ -1,7 +1,8 @@
 //! The text of replies.
 
 ghost use Rattle.std.specs.Prelude.{◌≡◌, ◌++◌, ◌<◌, ◌≤◌, ◌∷◌, [], decimal, length, position, All, OnOk};
-ghost use Rattle.rd_main.specs.Replies.{line_of, refusal_text, reply_text, list_text, bytes_text, phase_text, entry_text, core_text, counts_text, amounts_text, waiting_text, queue_text, task_name, task_text, state_text, is_task, WaitersAreNamed};
+ghost use Rattle.rd_state.specs.Sizes.{IsTaskOrIdle};
+ghost use Rattle.rd_main.specs.Replies.{line_of, refusal_text, reply_text, list_text, bytes_text, phase_text, entry_text, core_text, counts_text, amounts_text, waiting_text, queue_text, task_name, task_text, state_text, seat_text, cores_text, ticks_text, is_task, WaitersAreNamed, SeatedAreNamed};
 
 use itoa::{Buffer, Integer};
 use rd_notify::notes::{Entry, EntryState};
@@ -9,6 +10,7 @@ use rd_queue::queue::Queue;
 use rd_queue::waiting_list::WaitingList;
 use rd_script::app::{App, Kind};
 use rd_script::phase::Phase;
+use rd_state::state::State;
 use rd_state::task::Task;
 use std::alloc::AllocError;
 
@@ -17,6 +19,8 @@ use std::alloc::AllocError;
 pub enum Refusal {
     /// The core is idle.
     NoTask,
+    /// There is no tick after this one.
+    TickLimit,
     /// There are only so many moves to go back.
     TooFar { done: usize },
     /// The moves done are at their limit.
@@ -60,6 +64,7 @@ fn put_refusal(page: &mut Vec<u8>, refusal: Refusal) -> Put
 {
     match refusal {
         Refusal::NoTask => put(page, b"NoTask"),
+        Refusal::TickLimit => put(page, b"TickLimit"),
         Refusal::TooFar { done } => {
             put(page, b"TooFar ")?;
             put_number(page, done)
@@ -150,6 +155,30 @@ fn put_tasks(page: &mut Vec<u8>, app: &App, tasks: &[usize]) -> Put
     for (place, task) in tasks.iter().enumerate() {
         put_comma(page, place)?;
         put(page, app.name(Kind::Task, *task).as_bytes())?;
+    }
+    Ok(())
+}
+
+fn put_seat(page: &mut Vec<u8>, app: &App, running: Option<usize>) -> Put
+    requires { IsTaskOrIdle (length app.now.task_names) running }
+    ensures { OnOk result (page.new.items ≡ page.old.items ++ seat_text app.now.task_names running) }
+{
+    match running {
+        Some(task) => put(page, app.name(Kind::Task, task).as_bytes()),
+        None => put(page, b"-"),
+    }
+}
+
+fn put_seats(page: &mut Vec<u8>, app: &App, cores: &[Option<usize>]) -> Put
+    requires { All (IsTaskOrIdle (length app.now.task_names)) cores.now }
+    ensures { OnOk result (page.new.items ≡ page.old.items ++ list_text (seat_text app.now.task_names) cores.now) }
+{
+    if cores.is_empty() {
+        return put(page, b"-");
+    }
+    for (place, running) in cores.iter().enumerate() {
+        put_comma(page, place)?;
+        put_seat(page, app, *running)?;
     }
     Ok(())
 }
@@ -267,6 +296,30 @@ fn put_state(page: &mut Vec<u8>, task: &Task) -> Put
     put_bytes(page, task.bytes())?;
     put(page, b" notes ")?;
     put_entries(page, task.notes().as_slice())?;
+    put(page, b"\n")
+}
+
+/// Writes the view of the cores onto the page, in the place of what was there.
+pub fn show_cores(page: &mut Vec<u8>, app: &App, state: &State) -> Put
+    requires { SeatedAreNamed app.now.task_names state.now }
+    ensures { OnOk result (page.new.items ≡ line_of (cores_text app.now.task_names state.now)) }
+{
+    page.clear();
+    put(page, b"cores ")?;
+    put_seats(page, app, state.cores())?;
+    put(page, b" ready ")?;
+    put_tasks(page, app, state.ready().as_slice())?;
+    put_ticks(page, state)
+}
+
+// The rest of the cores' view, from the tick on.
+fn put_ticks(page: &mut Vec<u8>, state: &State) -> Put
+    ensures { OnOk result (page.new.items ≡ page.old.items ++ line_of (ticks_text state.now)) }
+{
+    put(page, b" tick ")?;
+    put_number(page, state.tick())?;
+    put(page, b" turn ")?;
+    put_number(page, state.turn())?;
     put(page, b"\n")
 }
 

@@ -9,3 +9,5 @@ mod parts;
 mod programs;
 #[cfg(test)]
 mod rows;
+#[cfg(test)]
+mod tasks;

@@ -10,7 +10,7 @@ use std::{fs, io};
 
 /// What a run left.
 #[derive(Drop)]
-struct Ending {
+pub struct Ending {
     status: u8,
     output: Vec<u8>,
     errors: Vec<u8>,
@@ -43,8 +43,8 @@ fn run<H: Files + AllocGlobal>(
     })
 }
 
-// Runs the program on an application file of this text, with more words and commands.
-fn run_file<H: Files + AllocGlobal>(
+/// Runs the program on an application file of this text, with more words and commands.
+pub fn run_file<H: Files + AllocGlobal>(
     rt: &H,
     path: &str,
     app: &[u8],
@@ -60,8 +60,8 @@ fn run_file<H: Files + AllocGlobal>(
     Ok(ending?)
 }
 
-// Fails unless the run ended so, and wrote nothing else.
-fn ends(rt: &impl Abort, ending: &Ending, status: u8, output: &str, errors: &str) {
+/// Fails unless the run ended so, and wrote nothing else.
+pub fn ends(rt: &impl Abort, ending: &Ending, status: u8, output: &str, errors: &str) {
     assert_eq!(rt; ending.status, status);
     assert_eq!(rt; ending.output.as_slice(), output.as_bytes());
     assert_eq!(rt; ending.errors.as_slice(), errors.as_bytes());

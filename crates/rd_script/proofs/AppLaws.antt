@@ -14,7 +14,7 @@ use Rattle.rd_script.specs.declared.error.AppError.TheVariants as fault
 use Rattle.rd_script.specs.Spelling.{◌>>=◌}
 use Rattle.rd_script.specs.Application.{Application, IsApplication, IsQueueShape, IsScript, AreNames}
 use Rattle.rd_script.specs.File.{Draft, object_with, field, number_in, number_or, array_in, array_or_empty, queues_after, tasks_after, scripts_after, file_keys, app_of, file_of, GivesOrNoMemory}
-use Rattle.rd_script.specs.Says.{IsNumberOr, IsArrayOrEmpty, AreQueues, Says, IsSupported, FileSays}
+use Rattle.rd_script.specs.Says.{IsNumberOr, IsArrayOrEmpty, AreQueues, Says, FileSays}
 use Rattle.rd_script.proofs.Steps.{bind_ok, ok_or_ok, then_is, chosen}
 use Rattle.rd_script.proofs.Values.{object_ok, field_ok, number_ok, array_ok, object_again, field_again, number_again, array_again, limits_again}
 use Rattle.rd_script.proofs.QueueLaws as queue
@@ -64,7 +64,7 @@ pub record IsRead (d : Data) (app : Application) (profile cores tasks : Data) (q
 no_names : AreNames []
 no_names = record { named = refl; distinct = refl }
 
-pub read_takes : (d : Data) (app : Application) (profile cores tasks : Data) (queue_items task_items : Items) (drafts : List Draft) → IsRead d app profile cores tasks queue_items task_items drafts → Says d app queue_items task_items × IsApplication app × IsSupported app
+pub read_takes : (d : Data) (app : Application) (profile cores tasks : Data) (queue_items task_items : Items) (drafts : List Draft) → IsRead d app profile cores tasks queue_items task_items drafts → Says d app queue_items task_items × IsApplication app
 read_takes d app profile cores tasks queue_items task_items drafts read =
     let one = number_ok 1 1 profile 1 read.one in
     let core_count = number_ok 1 limit.MAX_CORES cores app.cores read.core_count in
@@ -110,7 +110,6 @@ read_takes d app profile cores tasks queue_items task_items drafts read =
         task_names = tasks_said.1;
         named_tasks = taken.2.kept.are_names;
       },
-      record { cores = omega (arith, core_count); tasks = omega (arith, task_array, count, tasks_said.1) },
     )
 
 pub is_one : (d : Data) (n : ℕ) → number_in 1 1 d ≡ Ok n → number_in 1 1 d ≡ Ok 1
@@ -125,7 +124,7 @@ done x = Ok x
 ok_is : {A : Type 0} (x y : A) → done x ≡ done y → x ≡ y
 ok_is x y e = cc
 
-pub app_takes : (d : Data) (app : Application) → app_of d ≡ Ok app → (queue_items : Items) × (task_items : Items) × Says d app queue_items task_items × IsApplication app × IsSupported app
+pub app_takes : (d : Data) (app : Application) → app_of d ≡ Ok app → (queue_items : Items) × (task_items : Items) × Says d app queue_items task_items × IsApplication app
 unfolding app_of
 app_takes d app e =
     let keys = bind_ok (object_with file_keys d) _ app e in
@@ -158,7 +157,7 @@ app_takes d app e =
       drafts_are = drafts.1;
       scripts = scripts.1;
     }) in
-    (queue_items.0, task_items.0, subst (λ (app : Application). Says d app queue_items.0 task_items.0) is all.0, subst IsApplication is all.1, subst IsSupported is all.2)
+    (queue_items.0, task_items.0, subst (λ (app : Application). Says d app queue_items.0 task_items.0) is all.0, subst IsApplication is all.1)
 
 -- ---- what a file says is read
 
@@ -189,8 +188,8 @@ app_read d app profile cores tasks queue_items task_items drafts read =
     (then_is (scripts_after app.queue_names [] drafts) _ app.scripts _ read.scripts
     refl))))))))))))
 
-pub app_again : (d : Data) (app : Application) (queue_items task_items : Items) → Says d app queue_items task_items → IsApplication app → IsSupported app → app_of d ≡ Ok app
-app_again d app queue_items task_items says limits supported =
+pub app_again : (d : Data) (app : Application) (queue_items task_items : Items) → Says d app queue_items task_items → IsApplication app → app_of d ≡ Ok app
+app_again d app queue_items task_items says limits =
     let sizes = length_queues queue_items app.queue_names app.queues says.queues in
     let shapes = recursion_from_All IsQueueShape app.queues limits.queues in
     let scripts = recursion_from_All (IsScript app) app.scripts limits.scripts in
@@ -202,24 +201,24 @@ app_again d app queue_items task_items says limits supported =
       cores_at = field_again (codes "cores") d _ says.cores_at;
       tasks_at = field_again (codes "tasks") d _ says.tasks_at;
       one = refl;
-      core_count = limits_again 1 limit.MAX_CORES app.cores (omega (arith, limits.some_cores)) supported.cores;
+      core_count = limits_again 1 limit.MAX_CORES app.cores (omega (arith, limits.some_cores)) limits.few_cores;
       notes = number_or_again 1 1 4 (get (codes "notes") d) app.notes says.notes_at (omega (arith, limits.some_notes)) limits.few_notes;
       tick = number_or_again 0 0 (2 ^ 32 - 1) (get (codes "tick") d) app.tick says.tick_at (omega arith) (omega (arith, limits.tick));
       queue_array = array_or_again 32 (get (codes "queues") d) queue_items says.queues_at (omega (arith, sizes, limits.few_queues));
       queues = queue.queues_again queue_items [] [] app.queue_names app.queues says.queues limits.named_queues shapes;
-      task_array = array_again 1 limit.MAX_TASKS (array task_items) task_items refl (omega (arith, count, limits.some_tasks, limits.task_names)) (omega (arith, count, supported.tasks, limits.task_names));
+      task_array = array_again 1 limit.MAX_TASKS (array task_items) task_items refl (omega (arith, count, limits.some_tasks, limits.task_names)) (omega (arith, count, limits.few_tasks, limits.task_names));
       drafts_are = task.tasks_again task_items [] [] app.task_names split.0 split.1 limits.named_tasks split.2;
       scripts = scripts_again app.queue_names split.0 [] app.scripts split.3;
     })
 
 -- ---- the bytes of a file
 
-pub file_takes : (bytes : List ℕ) (app : Application) → file_of bytes ≡ Ok app → FileSays bytes app × IsApplication app × IsSupported app
+pub file_takes : (bytes : List ℕ) (app : Application) → file_of bytes ≡ Ok app → FileSays bytes app × IsApplication app
 file_takes bytes app e =
     let text = chosen (is_utf8 bytes) _ _ app e in
     let d = bind_ok (ok_or (read bytes) _) _ app text.1 in
     let taken = app_takes d.0 app d.2 in
-    ((d.0, IsUtf8-from_is_utf8 bytes text.0, ok_or_ok (read bytes) d.0 _ d.1, taken.0, taken.1, taken.2), taken.3, taken.4)
+    ((d.0, IsUtf8-from_is_utf8 bytes text.0, ok_or_ok (read bytes) d.0 _ d.1, taken.0, taken.1, taken.2), taken.3)
 
 pub file_of_read : (bytes : List ℕ) (d : Data) → IsUtf8 bytes → read bytes ≡ Some d → file_of bytes ≡ app_of d
 file_of_read bytes d text is = rw (is_utf8-from_IsUtf8 bytes text) (then_is (ok_or (read bytes) fault.NotJson) app_of d _ (ap (λ o. ok_or o fault.NotJson) is) refl)
@@ -231,9 +230,9 @@ file_of_none bytes none =
       | false ↦ λ e. refl
     ] refl
 
-pub file_again : (bytes : List ℕ) (app : Application) → FileSays bytes app → IsApplication app → IsSupported app → file_of bytes ≡ Ok app
-file_again bytes app says limits supported = file_of_read bytes says.0 says.1 says.2 ∙ app_again says.0 app says.3 says.4 says.5 limits supported
+pub file_again : (bytes : List ℕ) (app : Application) → FileSays bytes app → IsApplication app → file_of bytes ≡ Ok app
+file_again bytes app says limits = file_of_read bytes says.0 says.1 says.2 ∙ app_again says.0 app says.3 says.4 says.5 limits
 
-pub is_accepted : (bytes : List ℕ) (r : Result Application AppError) → GivesOrNoMemory (λ app. app) r (file_of bytes) → IfOk r (λ app. FileSays bytes app × IsApplication app × IsSupported app)
+pub is_accepted : (bytes : List ℕ) (r : Result Application AppError) → GivesOrNoMemory (λ app. app) r (file_of bytes) → IfOk r (λ app. FileSays bytes app × IsApplication app)
 is_accepted bytes (Ok app) e = file_takes bytes app e
 is_accepted bytes (Err d) e = tt

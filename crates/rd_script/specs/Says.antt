@@ -73,8 +73,3 @@ pub record Says (d : Data) (app : Application) (queue_items task_items : Items) 
 -- the bytes are JSON whose value says the application
 abbrev pub FileSays : List ℕ → Application → Type 0
 FileSays bytes app = (d : Data) × IsUtf8 bytes × (read bytes ≡ Some d) × (queue_items : Items) × (task_items : Items) × Says d app queue_items task_items
-
--- what this version runs
-pub record IsSupported (app : Application) : Type 0 where
-  pub cores : app.cores ≤ limit.MAX_CORES
-  pub tasks : length app.scripts ≤ limit.MAX_TASKS

@@ -16,11 +16,12 @@ use Rattle.rd_script.specs.Application.{Application, IsApplication, IsScript, pr
 use Rattle.rd_wait.specs.Joined.{IsInOrder}
 use Rattle.rd_wait.proofs.JoinedLaws.{IsInOrder-joined}
 use Rattle.rd_state.specs.Boot.{all_joined, before_scheduling, boot_of, fresh_task, new_queue}
-use Rattle.rd_state.specs.Settled.{seating_of}
+use Rattle.rd_state.specs.Settled.{seating_of, IsSettled}
 use Rattle.rd_state.specs.Sizes.{IsSized}
 use Rattle.rd_state.specs.Snapshot.{Snapshot, TaskSnapshot, no_queue, no_task, task_at}
 use Rattle.rd_state.specs.Valid.{IsNotWaiting, IsValid, is_on, places_to_run, shape_of, times, times_on, waits_at}
 use Rattle.rd_state.specs.Waiting.{waiting_at}
+use Rattle.rd_state.proofs.EndLaws.{settles}
 use Rattle.rd_state.proofs.ScheduleLaws.{SeatsKept, kept_settled, one_if, times-joined}
 
 -- Each of the tasks so far stands once in the list of all that joined, and no other does.
@@ -89,3 +90,10 @@ IsValid-boot app s limits sized e =
       entries = All-replicate (λ (task : TaskSnapshot). All IsNotWaiting task.entries) n (fresh_task app.notes) (All-replicate IsNotWaiting app.notes idle_entry idle_is_not_waiting);
     } in
     subst (λ (t : Snapshot). IsSized t → IsValid app t) (sym e) valid sized
+
+pub IsSettled-boot : (app : Application) (s : Snapshot) → IsApplication app → s ≡ boot_of app → IsSettled (priorities_of app) s
+IsSettled-boot app s limits e =
+    let priorities = priorities_of app in
+    let cores : length (before_scheduling app).cores ≡ app.cores = length-replicate app.cores None in
+    let settled_now = (settles priorities (before_scheduling app) (omega (arith, cores, limits.some_cores)) (in_order priorities (length app.scripts))).settled_now in
+    subst (IsSettled priorities) (sym e) settled_now

@@ -4,7 +4,7 @@ use Rattle.std.proofs.lemmas.List.{length-set}
 use Rattle.std.proofs.lemmas.List.Sums.{sum_by_push}
 use Rattle.std.specs.Prelude.{Result, Ok, Err, OnOk, OnErr}
 use Rattle.rd_state.specs.declared.change.Change.{Change}
-use Rattle.rd_state.specs.declared.change.Change.TheVariants.{SetTurn, SetCore, SetPc, SetReg, SetPhase, SetData, InsReady, DelReady, InsWait, DelWait, PutBack, TakeBack, PutFront, TakeFront}
+use Rattle.rd_state.specs.declared.change.Change.TheVariants.{SetTick, SetTurn, SetCore, SetPc, SetReg, SetPhase, SetData, InsReady, DelReady, InsWait, DelWait, PutBack, TakeBack, PutFront, TakeFront}
 use Rattle.rd_script.specs.declared.phase.Place.{Place}
 use Rattle.rd_script.specs.declared.phase.Place.TheVariants.{Receive, Send}
 use Rattle.rd_state.specs.Snapshot.{Snapshot}
@@ -21,6 +21,7 @@ length-queues_then s (Send queue) tasks = length-set s.queues queue _
 
 -- A change keeps the numbers of cores, tasks and queues.
 pub shape-applied : (s : Snapshot) (change : Change) → SameShape s (applied s change)
+shape-applied s (SetTick tick) = record { cores = refl; tasks = refl; queues = refl }
 shape-applied s (SetTurn turn) = record { cores = refl; tasks = refl; queues = refl }
 shape-applied s (SetCore core task) = record { cores = length-set s.cores core task; tasks = refl; queues = refl }
 shape-applied s (SetPc task pc) = record { cores = refl; tasks = length-set s.tasks task _; queues = refl }

@@ -1,15 +1,16 @@
 -- Scheduling ends: each round that changes something leaves one core less that a ready task could take.
-use Rattle.std.proofs.Common.{◌≡◌, ◌∙◌, ℕ, zero, suc, ◌+◌, ◌-◌, ◌<◌, ◌≤◌, Bool, true, cond, List, [], ◌∷◌, length, set, Option, Some, None, refl, ap, subst, sym, arith, ◌⊎◌, inl, inr}
-use Rattle.std.specs.Prelude.{All, count_by, slice_index, nat_lt, ◌&&◌}
+use Rattle.std.proofs.Common.{◌≡◌, ◌∙◌, ℕ, zero, suc, ◌+◌, ◌-◌, ◌<◌, ◌≤◌, Bool, true, cond, List, [], ◌∷◌, length, set, drop, Option, Some, None, refl, ap, subst, sym, arith, ◌⊎◌, inl, inr}
+use Rattle.std.specs.Prelude.{All, count_by, slice_index, nat_eq, nat_lt, ◌&&◌}
 use Rattle.std.specs.List.{prefix_len, AllByRecursion}
 use Rattle.std.proofs.Math.Dec.{leb}
-use Rattle.std.proofs.lemmas.List.Elements.{All-from_recursion, All-from_get_or, All-weaker}
+use Rattle.std.proofs.lemmas.List.Elements.{All-drop, All-from_recursion, All-from_get_or, All-get_or, All-set, All-weaker}
 use Rattle.std.proofs.lemmas.List.Sums.{sum_by-set, sum_by-le-sum_by, get_or-le-sum_by, count_by-le-length}
 use Rattle.std.proofs.lemmas.Bool.{cases_lt, le-leb}
-use Rattle.std.proofs.lemmas.Bool.Decides.{leb_tells, nat_tests}
+use Rattle.std.proofs.lemmas.Bool.Decides.{eqb_tells, leb_tells, nat_tests}
 use Rattle.rd_wait.specs.Joined.{is_at_least, IsInOrder}
-use Rattle.rd_wait.proofs.ListLaws.{AllByRecursion-insert}
-use Rattle.rd_state.specs.Settled.{Seating, running_on, rank_of, weakest_to, weakest_of, with_displaced, seated_on, seated_once, seated_rounds, seating_of, settled, SchedulingSettles}
+use Rattle.rd_wait.proofs.ListLaws.{All-insert, AllByRecursion-insert}
+use Rattle.rd_state.specs.Settled.{Seating, running_on, rank_of, weakest_to, weakest_of, head_of, with_displaced, with_seats, seated_on, seated_once, seated_rounds, seating_of, settled, rotated, IsSettled, SchedulingSettles}
+use Rattle.rd_state.specs.Snapshot.{Snapshot}
 use Rattle.rd_state.proofs.ScheduleLaws.{kept_once, kept_rounds, one_if, weakest_of-lt}
 use Rattle.rd_state.proofs.SettleLaws.{seated_rounds-still, settled_in-still}
 
@@ -158,3 +159,44 @@ settles priorities s some order =
       settled_now = all_outranked priorities end.cores end.ready (omega (arith, kept.cores, some)) (kept.order order) (outranks priorities end (omega (arith, kept.cores, some)) (kept.order order) still);
       stays = settled_in-still priorities (length end.cores) (settled priorities s) still;
     }
+
+-- a task that no running one is outranked by, once the head of the ready list runs in the place of its equal
+below_all : (priorities : List ℕ) (seats : Seating) (core task : ℕ) → slice_index priorities task ≤ slice_index priorities (head_of seats.ready) → All (λ running. slice_index priorities task < rank_of priorities running) seats.cores
+    → All (λ running. slice_index priorities task < rank_of priorities running) (set seats.cores core (Some (head_of seats.ready)))
+below_all priorities seats core task low all =
+    All-set (λ running. slice_index priorities task < rank_of priorities running) seats.cores core (Some (head_of seats.ready)) (omega (arith, low)) all
+
+displaced_below : (priorities : List ℕ) (cores : List (Option ℕ)) (ready : List ℕ) (running : Option ℕ) (P : ℕ → Type 0) → All P ready
+    → ((task : ℕ) → running ≡ Some task → P task) → All P (with_displaced priorities ready running)
+displaced_below priorities cores ready None P all one = all
+displaced_below priorities cores ready (Some task) P all one = All-insert P ready _ task all (one task refl)
+
+-- Taking turns among equals leaves a settled state settled.
+rotated_settled : (priorities : List ℕ) (cores : List (Option ℕ)) (ready : List ℕ) (core : ℕ) → core < length cores → 0 < length ready → rank_of priorities (running_on cores core) ≡ slice_index priorities (head_of ready) + 1
+    → All (λ task. All (λ running. slice_index priorities task < rank_of priorities running) cores) ready
+    → All (λ task. All (λ running. slice_index priorities task < rank_of priorities running) (set cores core (Some (head_of ready)))) (with_displaced priorities (drop 1 ready) (running_on cores core))
+rotated_settled priorities cores [] core there some equal all = absurd (omega (arith, some))
+rotated_settled priorities cores (head ∷ rest) core there some equal all =
+    let seats : Seating = record { cores = cores; ready = head ∷ rest } in
+    let Outranked : ℕ → Type 0 = λ task. All (λ running. slice_index priorities task < rank_of priorities running) cores in
+    let Below : ℕ → Type 0 = λ task. All (λ running. slice_index priorities task < rank_of priorities running) (set cores core (Some head)) in
+    let top : Outranked head = All-get_or Outranked (head ∷ rest) 0 0 (omega arith) all in
+    let behind : All Outranked rest = All-drop Outranked 1 (head ∷ rest) all in
+    let others : All Below rest = All-weaker Outranked Below (λ task above. below_all priorities seats core task (omega (arith, All-get_or (λ running. slice_index priorities task < rank_of priorities running) cores core None there above, equal)) above) rest behind in
+    displaced_below priorities cores rest (running_on cores core) Below others
+    (λ task e. let same : slice_index priorities task + 1 ≡ slice_index priorities head + 1 = sym (ap (rank_of priorities) e) ∙ equal in
+    below_all priorities seats core task (omega (arith, same)) (All-weaker (λ running. slice_index priorities head < rank_of priorities running) (λ running. slice_index priorities task < rank_of priorities running) (λ running above. omega (arith, same, above)) cores top))
+
+pub stays_settled : (priorities : List ℕ) (core : ℕ) (s : Snapshot) → core < length s.cores → IsSettled priorities s → IsSettled priorities (rotated priorities core s)
+stays_settled priorities core s there settled_now =
+    let seats = seating_of s in
+    let shares = nat_eq (rank_of priorities (running_on seats.cores core)) (slice_index priorities (head_of seats.ready) + 1) in
+    let Goal : Bool → Type 0 = λ b. IsSettled priorities (with_seats s (cond b (seated_on priorities seats core) seats)) in
+    elim (leb_tells 1 (length seats.ready)) [
+      | inl w ↦ subst (λ (b : Bool). Goal (b && shares)) (sym w.0)
+          (elim (eqb_tells (rank_of priorities (running_on seats.cores core)) (slice_index priorities (head_of seats.ready) + 1)) [
+            | inl equal ↦ subst Goal (sym equal.0) (rotated_settled priorities s.cores s.ready core there w.1 equal.1 settled_now)
+            | inr differs ↦ subst Goal (sym differs.0) settled_now
+          ])
+      | inr w ↦ subst (λ (b : Bool). Goal (b && shares)) (sym w.0) settled_now
+    ]

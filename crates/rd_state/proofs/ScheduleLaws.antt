@@ -8,7 +8,7 @@ use Rattle.std.proofs.lemmas.List.Sums.{sum_by-cons, sum_by-insert, sum_by-set}
 use Rattle.std.proofs.lemmas.Bool.Decides.{leb_tells}
 use Rattle.rd_wait.specs.Joined.{joined, is_at_least, IsInOrder}
 use Rattle.rd_wait.proofs.JoinedLaws.{IsInOrder-joined, IsInOrder-rest}
-use Rattle.rd_state.specs.Settled.{Seating, running_on, rank_of, weakest_to, weakest_of, head_of, with_displaced, seated_on, seated_once, seated_rounds, seating_of, settled}
+use Rattle.rd_state.specs.Settled.{Seating, running_on, rank_of, weakest_to, weakest_of, head_of, with_displaced, seated_on, seated_once, seated_rounds, seating_of, settled, rotated}
 use Rattle.rd_state.specs.Snapshot.{Snapshot}
 use Rattle.rd_state.specs.Valid.{times, times_on, is_on}
 
@@ -54,7 +54,7 @@ pub record SeatsKept (priorities : List ℕ) (old new : Seating) : Type 0 where
 kept_same : (priorities : List ℕ) (seats : Seating) → SeatsKept priorities seats seats
 kept_same priorities seats = record { cores = refl; seats = λ task. refl; order = λ h. h }
 
-kept_then : (priorities : List ℕ) (a b c : Seating) → SeatsKept priorities a b → SeatsKept priorities b c → SeatsKept priorities a c
+pub kept_then : (priorities : List ℕ) (a b c : Seating) → SeatsKept priorities a b → SeatsKept priorities b c → SeatsKept priorities a c
 kept_then priorities a b c h k = record { cores = k.cores ∙ h.cores; seats = λ task. k.seats task ∙ h.seats task; order = λ o. k.order (h.order o) }
 
 order_displaced : (priorities tasks : List ℕ) (running : Option ℕ) → IsInOrder priorities tasks → IsInOrder priorities (with_displaced priorities tasks running)
@@ -93,3 +93,15 @@ kept_rounds priorities (suc rounds) seats some =
 -- what scheduling keeps of a state
 pub kept_settled : (priorities : List ℕ) (s : Snapshot) → 0 < length s.cores → SeatsKept priorities (seating_of s) (seating_of (settled priorities s))
 kept_settled priorities s some = kept_rounds priorities (length s.cores) (seating_of s) some
+
+-- and what turns of equals keep
+pub kept_rotated : (priorities : List ℕ) (core : ℕ) (s : Snapshot) → core < length s.cores → SeatsKept priorities (seating_of s) (seating_of (rotated priorities core s))
+kept_rotated priorities core s there =
+    let seats = seating_of s in
+    let shares = nat_eq (rank_of priorities (running_on seats.cores core)) (slice_index priorities (head_of seats.ready) + 1) in
+    elim (leb_tells 1 (length seats.ready)) [
+      | inl w ↦ subst (λ (b : Bool). SeatsKept priorities seats (cond (b && shares) (seated_on priorities seats core) seats)) (sym w.0)
+          (elim shares as (λ b. SeatsKept priorities seats (cond (true && b) (seated_on priorities seats core) seats))
+          [ true ↦ kept_on priorities seats core there w.1 | false ↦ kept_same priorities seats ])
+      | inr w ↦ subst (λ (b : Bool). SeatsKept priorities seats (cond (b && shares) (seated_on priorities seats core) seats)) (sym w.0) (kept_same priorities seats)
+    ]

@@ -10,7 +10,7 @@ use Rattle.rd_queue.specs.Queues.{with_items, with_waiting}
 use Rattle.rd_script.specs.declared.phase.Place.{Place}
 use Rattle.rd_script.specs.declared.phase.Place.TheVariants.{Receive, Send}
 use Rattle.rd_state.specs.declared.change.Change.{Change}
-use Rattle.rd_state.specs.declared.change.Change.TheVariants.{SetTurn, SetCore, SetPc, SetReg, SetPhase, SetData, InsReady, DelReady, InsWait, DelWait, PutBack, TakeBack, PutFront, TakeFront}
+use Rattle.rd_state.specs.declared.change.Change.TheVariants.{SetTick, SetTurn, SetCore, SetPc, SetReg, SetPhase, SetData, InsReady, DelReady, InsWait, DelWait, PutBack, TakeBack, PutFront, TakeFront}
 use Rattle.rd_state.specs.Snapshot.{Snapshot, TaskSnapshot, no_task, no_queue, task_at, queue_at}
 use Rattle.rd_state.specs.Change.{applied, inverse_of, Fits, Takes, HasItem, items_at, with_task, with_queue}
 use Rattle.rd_state.specs.Waiting.{HasPlace, waiting_at, with_waiting_at}
@@ -77,6 +77,7 @@ put_take items some =
     sym (take_more items last [] (omega arith)) ∙ take_all (last + 1) items (omega arith)
 
 back : (s : Snapshot) (change : Change) → IsSized s → Fits s change → applied (applied s change) (inverse_of s change) ≡ s
+back s (SetTick tick) sized fits = refl
 back s (SetTurn turn) sized fits = refl
 back s (SetCore core task) sized fits = ap (λ (cores : List (Option ℕ)). record s { cores = cores }) (set_back s.cores core None task)
 back s (SetPc task pc) sized fits = task_back s task (record (task_at s task) { pc = pc }) (λ t. record t { pc = (task_at s task).pc }) fits refl
@@ -146,6 +147,7 @@ list_sized s (Receive queue) sized h = (All-get_or (HasSizedLists (length s.task
 list_sized s (Send queue) sized h = (All-get_or (HasSizedLists (length s.tasks)) s.queues queue no_queue h sized.lists).sending
 
 fits_back : (s : Snapshot) (change : Change) → IsSized s → Fits s change → Fits (applied s change) (inverse_of s change)
+fits_back s (SetTick tick) sized fits = tt
 fits_back s (SetTurn turn) sized fits = sized.turn
 fits_back s (SetCore core task) sized fits = (omega (arith, length-set s.cores core task, fits.0), All-get_or (IsTaskOrIdle (length s.tasks)) s.cores core None fits.0 sized.cores)
 fits_back s (SetPc task pc) sized fits = task_there s task (record (task_at s task) { pc = pc }) fits

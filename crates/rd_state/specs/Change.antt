@@ -4,7 +4,7 @@ use Rattle.rd_queue.specs.Queues.{with_items}
 use Rattle.rd_queue.specs.QueueSnapshot.{QueueSnapshot}
 use Rattle.rd_script.specs.declared.phase.Place.{Place}
 use Rattle.rd_state.specs.declared.change.Change.{Change}
-use Rattle.rd_state.specs.declared.change.Change.TheVariants.{SetTurn, SetCore, SetPc, SetReg, SetPhase, SetData, InsReady, DelReady, InsWait, DelWait, PutBack, TakeBack, PutFront, TakeFront}
+use Rattle.rd_state.specs.declared.change.Change.TheVariants.{SetTick, SetTurn, SetCore, SetPc, SetReg, SetPhase, SetData, InsReady, DelReady, InsWait, DelWait, PutBack, TakeBack, PutFront, TakeFront}
 use Rattle.rd_state.specs.Snapshot.{Snapshot, TaskSnapshot, task_at, queue_at, core_at}
 use Rattle.rd_state.specs.Waiting.{HasPlace, waiting_at, with_waiting_at}
 
@@ -21,6 +21,7 @@ items_at s queue = (queue_at s queue).items
 
 -- the state after a change
 abbrev pub applied : Snapshot → Change → Snapshot
+applied s (SetTick tick) = record s { tick = tick }
 applied s (SetTurn turn) = record s { turn = turn }
 applied s (SetCore core task) = record s { cores = slice_set s.cores core task }
 applied s (SetPc task pc) = with_task s task (record (task_at s task) { pc = pc })
@@ -38,6 +39,7 @@ applied s (TakeFront queue) = with_queue s queue (with_items (queue_at s queue) 
 
 -- the change that undoes a change made at this state
 abbrev pub inverse_of : Snapshot → Change → Change
+inverse_of s (SetTick tick) = SetTick s.tick
 inverse_of s (SetTurn turn) = SetTurn s.turn
 inverse_of s (SetCore core task) = SetCore core (core_at s core)
 inverse_of s (SetPc task pc) = SetPc task (task_at s task).pc
@@ -67,6 +69,7 @@ Admits s place at task = HasPlace s place × (at ≤ length (waiting_at s place)
 
 -- The change names what is there, and there is room.
 abbrev pub Fits : Snapshot → Change → Type 0
+Fits s (SetTick tick) = Unit {0}
 Fits s (SetTurn turn) = turn ≤ length s.cores
 Fits s (SetCore core task) = (core < length s.cores) × IfSome task (λ t. t < length s.tasks)
 Fits s (SetPc task pc) = task < length s.tasks

@@ -1,6 +1,6 @@
 -- Scheduling: who runs, once the ready list or a core has changed. A ready task takes an idle core, or
 -- displaces a running task of lower priority.
-use Rattle.std.specs.Prelude.{ℕ, ◌≡◌, zero, suc, ◌+◌, ◌-◌, ◌<◌, All, Bool, ◌&&◌, List, length, slice_index, slice_index_or, slice_set, drop, Option, Some, None, nat_lt, nat_le, if◌then◌else◌}
+use Rattle.std.specs.Prelude.{ℕ, ◌≡◌, zero, suc, ◌+◌, ◌-◌, ◌<◌, All, Bool, ◌&&◌, List, length, slice_index, slice_index_or, slice_set, drop, Option, Some, None, nat_eq, nat_lt, nat_le, if◌then◌else◌}
 use Rattle.rd_wait.specs.Joined.{joined, IsInOrder}
 use Rattle.rd_state.specs.Snapshot.{Snapshot}
 
@@ -61,13 +61,22 @@ seated_rounds priorities (suc rounds) seats = seated_rounds priorities rounds (s
 abbrev pub seating_of : Snapshot → Seating
 seating_of s = record { cores = s.cores; ready = s.ready }
 
+abbrev pub with_seats : Snapshot → Seating → Snapshot
+with_seats s seats = record s { cores = seats.cores; ready = seats.ready }
+
 abbrev pub settled_in : List ℕ → ℕ → Snapshot → Snapshot
-settled_in priorities rounds s =
-    let seats = seated_rounds priorities rounds (seating_of s) in
-    record s { cores = seats.cores; ready = seats.ready }
+settled_in priorities rounds s = with_seats s (seated_rounds priorities rounds (seating_of s))
 
 abbrev pub settled : List ℕ → Snapshot → Snapshot
 settled priorities s = settled_in priorities (length s.cores) s
+
+-- Does the head of the ready list have the priority of the task on the core?
+abbrev pub shares_core : List ℕ → Seating → ℕ → Bool
+shares_core priorities seats core = nat_lt 0 (length seats.ready) && nat_eq (rank_of priorities (running_on seats.cores core)) (slice_index priorities (head_of seats.ready) + 1)
+
+-- Tasks of one priority take turns: the head then takes the core, and who ran there joins the ready list.
+abbrev pub rotated : List ℕ → ℕ → Snapshot → Snapshot
+rotated priorities core s = with_seats s (if shares_core priorities (seating_of s) core then seated_on priorities (seating_of s) core else seating_of s)
 
 -- No ready task outranks a running one, and no core is idle while a task is ready.
 abbrev pub IsSettled : List ℕ → Snapshot → Type 0

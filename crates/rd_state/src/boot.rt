@@ -1,7 +1,8 @@
 ghost use Rattle.std.specs.Prelude.{◌≡◌, ◌<◌, ◌≤◌, length, map, replicate, All, IfOk};
 ghost use Rattle.rd_notify.specs.Entries.{idle_entry};
-ghost use Rattle.rd_script.specs.Application.{IsQueueShape};
+ghost use Rattle.rd_script.specs.Application.{IsQueueShape, priorities_of};
 ghost use Rattle.rd_state.specs.Boot.{all_joined, boot_of, fresh_task, new_queue};
+ghost use Rattle.rd_state.specs.Settled.{IsSettled};
 ghost use Rattle.rd_state.specs.Valid.{IsValid};
 
 use crate::editing::Editing;
@@ -63,6 +64,7 @@ impl State {
     pub fn boot(alloc: Global, app: &App) -> Result<State, NoMemory>
         ensures state { IfOk result (λ state. state ≡ boot_of app.now) }
         ensures valid { IfOk result (λ state. IsValid app.now state) }
+        ensures settled { IfOk result (IsSettled (priorities_of app.now)) }
     {
         let before = State::before_scheduling(alloc, app)?;
         app.limits();

@@ -8,6 +8,10 @@ use rd_script::phase::{Phase, Place};
 /// among them. Tasks, cores, queues and registers go by number, places count from the front.
 #[derive(Drop)]
 pub enum Change {
+    /// It is this tick.
+    SetTick {
+        tick: u32,
+    },
     /// The turn becomes this core's.
     SetTurn {
         turn: usize,

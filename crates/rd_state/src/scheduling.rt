@@ -1,7 +1,7 @@
 ghost use Rattle.std.specs.Prelude.{◌≡◌, ◌+◌, ◌*◌, ◌-◌, ◌<◌, ◌≤◌, length, slice_index, Ok, false, IfOk, OnOk, OnErr};
 ghost use Rattle.rd_wait.specs.Joined.{joined};
 ghost use Rattle.rd_state.specs.Edit.{Comes};
-ghost use Rattle.rd_state.specs.Settled.{settled, settled_in, weakest_of, rank_of, seated_once, seating_of, SchedulingSettles};
+ghost use Rattle.rd_state.specs.Settled.{settled, settled_in, rotated, weakest_of, rank_of, head_of, seated_on, seated_once, seating_of, with_seats, SchedulingSettles};
 ghost use Rattle.rd_state.specs.Sizes.{IsTaskOrIdle};
 
 use crate::change::Change;
@@ -56,6 +56,26 @@ impl Editing {
         self.change(Change::InsReady { place, task })
     }
 
+    // The head of the ready list takes the core, and who ran there joins the list.
+    fn seat_on(&mut self, priorities: &[u8], core: usize, head: usize) -> Result<(), NoMemory>
+        requires core { core < length self.old.now.cores }
+        requires some { 0 < length self.old.now.ready }
+        requires head { head ≡ head_of self.old.now.ready }
+        requires priorities { length priorities.now ≡ length self.old.now.tasks }
+        ensures ok { OnOk result (Comes self.old self.new
+            (with_seats self.old.now (seated_on priorities.now (seating_of self.old.now) core)) 3) }
+        ensures err { OnErr result (self.new.base ≡ self.old.base) }
+    {
+        self.state().sizes();
+        let running = self.state().core(core);
+        self.change(Change::DelReady { place: 0 })?;
+        if let Some(displaced) = running {
+            self.join_ready(priorities, displaced)?;
+        }
+        let task = Some(head);
+        self.change(Change::SetCore { core, task })
+    }
+
     /// The head of the ready list takes the weakest core, if it outranks who runs there. Answers whether it
     /// did.
     fn seat_head(&mut self, priorities: &[u8]) -> Result<bool, NoMemory>
@@ -74,12 +94,7 @@ impl Editing {
         if rank_of(priorities, running) > usize::from(priorities[head]) {
             return Ok(false);
         }
-        self.change(Change::DelReady { place: 0 })?;
-        if let Some(displaced) = running {
-            self.join_ready(priorities, displaced)?;
-        }
-        let task = Some(head);
-        self.change(Change::SetCore { core, task })?;
+        self.seat_on(priorities, core, head)?;
         Ok(true)
     }
 
@@ -110,6 +125,25 @@ impl Editing {
     {
         let rounds = self.state().cores().len();
         self.settle_in(priorities, rounds)
+    }
+
+    /// Lets tasks of one priority take turns: where the head of the ready list has the priority of the task on the
+    /// core, it takes the core (`configUSE_TIME_SLICING`).
+    pub fn rotate(&mut self, priorities: &[u8], core: usize) -> Result<(), NoMemory>
+        requires core { core < length self.old.now.cores }
+        requires priorities { length priorities.now ≡ length self.old.now.tasks }
+        ensures ok { OnOk result (Comes self.old self.new (rotated priorities.now core self.old.now) 3) }
+        ensures err { OnErr result (self.new.base ≡ self.old.base) }
+    {
+        self.state().sizes();
+        let Some(head) = self.state().ready().first() else {
+            return Ok(());
+        };
+        let running = self.state().core(core);
+        if rank_of(priorities, running) != usize::from(priorities[head]) + 1 {
+            return Ok(());
+        }
+        self.seat_on(priorities, core, head)
     }
 }
 

@@ -266,6 +266,13 @@ impl State {
         }
     }
 
+    fn set_tick(&mut self, tick: u32)
+        requires { Fits self.old (Change.SetTick tick) }
+        ensures { self.new ≡ applied self.old (Change.SetTick tick) }
+    {
+        self.tick = tick;
+    }
+
     fn set_turn(&mut self, turn: usize)
         requires { Fits self.old (Change.SetTurn turn) }
         ensures { self.new ≡ applied self.old (Change.SetTurn turn) }
@@ -412,6 +419,7 @@ impl State {
         ensures { self.new ≡ applied self.old change }
     {
         match change {
+            Change::SetTick { tick } => self.set_tick(tick),
             Change::SetTurn { turn } => self.set_turn(turn),
             Change::SetCore { core, task } => self.set_core(core, task),
             Change::SetPc { task, pc } => self.set_pc(task, pc),
@@ -439,6 +447,7 @@ impl State {
         ensures { IfOk result (λ inverse. inverse ≡ inverse_of self.now change.now) }
     {
         match change {
+            Change::SetTick { .. } => Ok(Change::SetTick { tick: self.tick }),
             Change::SetTurn { .. } => Ok(Change::SetTurn { turn: self.turn }),
             Change::SetCore { core, .. } => Ok(Change::SetCore {
                 core: *core,

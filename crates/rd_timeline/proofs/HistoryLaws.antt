@@ -4,11 +4,12 @@ use Rattle.std.specs.Prelude.{Ok}
 use Rattle.std.proofs.lemmas.Bool.{cases_lt}
 use Rattle.std.proofs.lemmas.List.{append_assoc, take_all, drop_all, take-append-le, drop-append-le, length_push, length-take-le, take-take, take-append-drop, drop-take, drop-drop}
 use Rattle.std.proofs.lemmas.List.Sums.{fold_push}
-use Rattle.rd_script.specs.Application.{Application}
+use Rattle.rd_script.specs.Application.{Application, priorities_of}
 use Rattle.rd_state.specs.declared.change.Change.{Change}
 use Rattle.rd_state.specs.Boot.{boot_of}
 use Rattle.rd_state.specs.Snapshot.{Snapshot}
 use Rattle.rd_state.specs.Undoing.{undone, CanUndo}
+use Rattle.rd_state.specs.Settled.{IsSettled}
 use Rattle.rd_state.specs.Valid.{IsValid}
 use Rattle.rd_calls.specs.declared.moves.Move.{Move}
 use Rattle.rd_calls.specs.Step.{step}
@@ -37,9 +38,9 @@ CanRewind-pop s (first ∷ later) last rewinds =
     (rest.0, (rest.1, subst P (rewound-push s later last) rewinds.1))
 
 -- at boot there is nothing to go back
-pub Retraces-boot : (app : Application) (s : Snapshot) → s ≡ boot_of app → IsValid app s → Retraces app [] [] s
-Retraces-boot app s e valid zero h = record { state = ap (λ (t : Snapshot). Ok t) (sym e); valid = valid }
-Retraces-boot app s e valid (suc place) h = absurd (omega (arith, h))
+pub Retraces-boot : (app : Application) (s : Snapshot) → s ≡ boot_of app → IsValid app s → IsSettled (priorities_of app) s → Retraces app [] [] s
+Retraces-boot app s e valid settled zero h = record { state = ap (λ (t : Snapshot). Ok t) (sym e); valid = valid; settled = settled }
+Retraces-boot app s e valid settled (suc place) h = absurd (omega (arith, h))
 
 -- the state now is that after all moves
 pub Retraces-now : (app : Application) (moves : List Move) (records : List (List Change)) (s : Snapshot) → length records ≡ length moves → Retraces app moves records s → IsStateAfter app moves s
@@ -57,8 +58,8 @@ rewound-before : (place : ℕ) (records : List (List Change)) (last : List Chang
 rewound-before place records last s h = ap (rewound s) (drop-append-le place records (last ∷ []) h) ∙ rewound-push s (drop place records) last
 
 pub Retraces-push : (app : Application) (moves : List Move) (records : List (List Change)) (move : Move) (last : List Change) (s s' : Snapshot) → length records ≡ length moves
-    → Retraces app moves records s → step app s move ≡ Ok s' → undone s' last ≡ s → IsValid app s' → Retraces app (moves ++ move ∷ []) (records ++ last ∷ []) s'
-Retraces-push app moves records move last s s' same h steps back valid place within =
+    → Retraces app moves records s → step app s move ≡ Ok s' → undone s' last ≡ s → IsValid app s' → IsSettled (priorities_of app) s' → Retraces app (moves ++ move ∷ []) (records ++ last ∷ []) s'
+Retraces-push app moves records move last s s' same h steps back valid settled place within =
     elim (cases_lt place (length moves + 1)) [
       | inl earlier ↦ let here : place ≤ length moves = omega (arith, earlier) in
           let was = h place here in
@@ -71,7 +72,7 @@ Retraces-push app moves records move last s s' same h steps back valid place wit
           let none = drop_all place (records ++ last ∷ []) (omega (arith, last_place, length_push records last, same)) in
           subst (λ (ms : List Move). IsStateAfter app ms (rewound s' (drop place (records ++ last ∷ [])))) (sym all)
           (subst (λ (rs : List (List Change)). IsStateAfter app (moves ++ move ∷ []) (rewound s' rs)) (sym none)
-          (record { state = state_after-push app moves move s (Retraces-now app moves records s same h).state ∙ steps; valid = valid }))
+          (record { state = state_after-push app moves move s (Retraces-now app moves records s same h).state ∙ steps; valid = valid; settled = settled }))
     ]
 
 pub Retraces-pop : (app : Application) (moves : List Move) (records : List (List Change)) (move : Move) (last : List Change) (s : Snapshot) → length records ≡ length moves

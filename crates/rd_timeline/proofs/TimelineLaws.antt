@@ -3,11 +3,12 @@ use Rattle.std.proofs.Common.{◌≡◌, ◌≢◌, ◌+◌, ◌≤◌, List, []
 use Rattle.std.specs.Prelude.{Ok, reverse, vec_capacity}
 use Rattle.std.proofs.Common.{Global, Vec}
 use Rattle.std.proofs.lemmas.List.{length_push}
-use Rattle.rd_script.specs.Application.{IsApplication}
+use Rattle.rd_script.specs.Application.{IsApplication, priorities_of}
 use Rattle.rd_state.specs.declared.change.Change.{Change}
 use Rattle.rd_state.specs.Boot.{boot_of}
 use Rattle.rd_state.specs.Snapshot.{Snapshot}
 use Rattle.rd_state.specs.Undoing.{undone, CanUndo}
+use Rattle.rd_state.specs.Settled.{IsSettled}
 use Rattle.rd_state.specs.Valid.{IsValid}
 use Rattle.rd_calls.specs.declared.moves.Move.{Move}
 use Rattle.rd_calls.specs.Step.{step}
@@ -17,10 +18,10 @@ use Rattle.rd_timeline.specs.History.{CanRewind, Retraces}
 use Rattle.rd_timeline.specs.Inside.{IsWhole, course_of}
 use Rattle.rd_timeline.proofs.HistoryLaws.{CanRewind-push, CanRewind-pop, Retraces-boot, Retraces-push, Retraces-pop}
 
-pub IsWhole-new : (t : Inside) → IsApplication t.app → t.target ≡ boot_of t.app → IsValid t.app t.target → t.done.items ≡ [] → t.log ≡ [] → t.undone.items ≡ [] → IsWhole t
-IsWhole-new t limits boot valid done log undone_ =
+pub IsWhole-new : (t : Inside) → IsApplication t.app → t.target ≡ boot_of t.app → IsValid t.app t.target → IsSettled (priorities_of t.app) t.target → t.done.items ≡ [] → t.log ≡ [] → t.undone.items ≡ [] → IsWhole t
+IsWhole-new t limits boot valid settled done log undone_ =
     let P : List Move → List (List Change) → Type 0 = λ moves records. IsKept (record { app = t.app; limit = t.limit; target = t.target; done = moves; log = records; undone = reverse t.undone.items }) in
-    let at_boot : P [] [] = record { records = refl; retraces = Retraces-boot t.app t.target boot valid; rewinds = tt; within = omega arith } in
+    let at_boot : P [] [] = record { records = refl; retraces = Retraces-boot t.app t.target boot valid settled; rewinds = tt; within = omega arith } in
     record {
       kept = subst (λ (moves : List Move). P moves t.log) (sym done) (subst (λ (records : List (List Change)). P [] records) (sym log) at_boot);
       limits = limits;
@@ -28,11 +29,11 @@ IsWhole-new t limits boot valid done log undone_ =
     }
 
 -- one move and its record more
-pub IsKept-push : (c : Course) (move : Move) (last : List Change) (s : Snapshot) → IsKept c → length c.done ≢ c.limit → step c.app c.target move ≡ Ok s → undone s last ≡ c.target → CanUndo s last → IsValid c.app s
+pub IsKept-push : (c : Course) (move : Move) (last : List Change) (s : Snapshot) → IsKept c → length c.done ≢ c.limit → step c.app c.target move ≡ Ok s → undone s last ≡ c.target → CanUndo s last → IsValid c.app s → IsSettled (priorities_of c.app) s
     → IsKept (record { app = c.app; limit = c.limit; target = s; done = c.done ++ move ∷ []; log = c.log ++ last ∷ []; undone = [] })
-IsKept-push c move last s kept more steps back can valid = record {
+IsKept-push c move last s kept more steps back can valid settled = record {
   records = omega (arith, length_push c.log last, length_push c.done move, kept.records);
-  retraces = Retraces-push c.app c.done c.log move last c.target s kept.records kept.retraces steps back valid;
+  retraces = Retraces-push c.app c.done c.log move last c.target s kept.records kept.retraces steps back valid settled;
   rewinds = CanRewind-push s c.log last can (subst (λ (t : Snapshot). CanRewind t c.log) (sym back) kept.rewinds);
   within = omega (arith, length_push c.done move, kept.within, more);
 }
@@ -56,12 +57,12 @@ IsKept-pop c moves rest records move last kept done log =
 
 -- the fields after one move more
 pub IsWhole-push : (t : Inside) (s : Snapshot) (done left : Vec Move Global) (log : List (List Change)) (move : Move) (last : List Change) → IsWhole t → length t.done.items ≢ t.limit
-    → step t.app t.target move ≡ Ok s → undone s last ≡ t.target → CanUndo s last → IsValid t.app s
+    → step t.app t.target move ≡ Ok s → undone s last ≡ t.target → CanUndo s last → IsValid t.app s → IsSettled (priorities_of t.app) s
     → done.items ≡ t.done.items ++ move ∷ [] → log ≡ t.log ++ last ∷ [] → left.items ≡ [] → length t.done.items + 1 ≤ vec_capacity left
     → IsWhole (record t { target = s; done = done; log = log; undone = left })
-IsWhole-push t s done left log move last whole more steps back can valid e f g room =
+IsWhole-push t s done left log move last whole more steps back can valid settled e f g room =
     let P : List Move → List (List Change) → List Move → Type 0 = λ moves records rest. IsKept (record { app = t.app; limit = t.limit; target = s; done = moves; log = records; undone = rest }) in
-    let pushed = IsKept-push (course_of t) move last s whole.kept more steps back can valid in
+    let pushed = IsKept-push (course_of t) move last s whole.kept more steps back can valid settled in
     let nothing_left : [] ≡ reverse left.items = sym (ap (λ (moves : List Move). reverse moves) g) in
     record {
       kept = subst (λ (moves : List Move). P moves log (reverse left.items)) (sym e)

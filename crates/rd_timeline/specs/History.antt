@@ -1,8 +1,9 @@
 -- Lists of moves: the state that they give from the start, and the way back through their records.
 use Rattle.std.specs.Prelude.{ℕ, ◌≡◌, ◌≤◌, List, [], ◌∷◌, length, take, drop, fold, Result, Ok, Err}
-use Rattle.rd_script.specs.Application.{Application}
+use Rattle.rd_script.specs.Application.{Application, priorities_of}
 use Rattle.rd_state.specs.declared.change.Change.{Change}
 use Rattle.rd_state.specs.Boot.{boot_of}
+use Rattle.rd_state.specs.Settled.{IsSettled}
 use Rattle.rd_state.specs.Snapshot.{Snapshot}
 use Rattle.rd_state.specs.Undoing.{undone, CanUndo}
 use Rattle.rd_state.specs.Valid.{IsValid}
@@ -29,10 +30,11 @@ abbrev pub CanRewind : Snapshot → List (List Change) → Type 0
 CanRewind s [] = Unit {0}
 CanRewind s (first ∷ later) = CanRewind s later × CanUndo (rewound s later) first
 
--- The state is valid, and the one that the moves give from boot.
+-- The state is the one that the moves give from boot, valid, and with nothing left to schedule.
 pub record IsStateAfter (app : Application) (moves : List Move) (s : Snapshot) : Type 0 where
   pub state : state_after app moves ≡ Ok s
   pub valid : IsValid app s
+  pub settled : IsSettled (priorities_of app) s
 
 -- Undoing the records from the end, down to any place, gives the state that the moves before it give.
 abbrev pub Retraces : Application → List Move → List (List Change) → Snapshot → Type 0

@@ -32,6 +32,7 @@ impl Timeline {
                 Ok(_) => Ok(()),
                 Err(Refusal::MovesFull) => Ok(()),
                 Err(Refusal::NoTask) => Ok(()),
+                Err(Refusal::TickLimit) => Ok(()),
                 Err(Refusal::NoMemory) => Err(NoMemory),
             },
             Request::Back { count } => {

@@ -1,5 +1,7 @@
 ghost use Rattle.std.specs.Prelude.{◌≡◌, ◌↔◌, ◌+◌, ◌-◌, ◌<◌, ◌≤◌, ◌∷◌, ◌++◌, [], length, take, drop, Ok, Err, IfOk, IfErr, OnOk, OnErr, IsOk, IsErrOf};
 ghost use Rattle.rd_state.specs.Boot.{boot_of};
+ghost use Rattle.rd_script.specs.Application.{priorities_of};
+ghost use Rattle.rd_state.specs.Settled.{IsSettled};
 ghost use Rattle.rd_state.specs.Valid.{IsValid};
 ghost use Rattle.rd_calls.specs.Step.{step, IsMoveOf};
 ghost use Rattle.rd_timeline.specs.Course.{IsKept};
@@ -25,6 +27,9 @@ pub enum Refusal {
     /// The core is idle.
     #[error("NoTask")]
     NoTask,
+    /// There is no tick after this one.
+    #[error("TickLimit")]
+    TickLimit,
     /// A growth was refused.
     #[error("NoMemory")]
     NoMemory,
@@ -39,6 +44,7 @@ impl From<PlayError> for Refusal {
     fn from(error: PlayError) -> Refusal {
         match error {
             PlayError::NoTask => Refusal::NoTask,
+            PlayError::TickLimit => Refusal::TickLimit,
             PlayError::NoMemory => Refusal::NoMemory,
         }
     }
@@ -110,11 +116,13 @@ impl Timeline {
         })
     }
 
-    /// The target is what the moves done give from boot, and the log leads back through them.
+    /// The target is what the moves done give from boot, with nothing left to schedule, and the log leads back through
+    /// them.
     pub fn keeps(&self)
         ensures kept { IsKept self.now }
         ensures leads { state_after self.now.app self.now.done ≡ Ok self.now.target }
         ensures valid { IsValid self.now.app self.now.target }
+        ensures settled { IsSettled (priorities_of self.now.app) self.now.target }
     {
         let _ = &self.limit;
     }
@@ -149,7 +157,8 @@ impl Timeline {
 
     /// Makes a move: it is laid on the moves done, and the moves undone are forgotten. Answers how many moves
     /// are done. A refusal leaves the timeline as it was: `MovesFull` where the moves done are at their
-    /// limit, `NoTask` where the core is idle, `NoMemory` where a growth was refused.
+    /// limit, `NoTask` where the core is idle, `TickLimit` where there is no further tick, `NoMemory` where a growth was
+    /// refused.
     pub fn go(&mut self, action: Move) -> Result<usize, Refusal>
         requires named { IsMoveOf self.old.app action }
         ensures at { IfOk result (λ at. at ≡ length self.new.done) }
@@ -163,6 +172,8 @@ impl Timeline {
         ensures moves_full { IsErrOf result Refusal.MovesFull ↔ (length self.old.done ≡ self.old.limit) }
         ensures no_task { IsErrOf result Refusal.NoTask
             → step self.old.app self.old.target action ≡ Err PlayError.NoTask }
+        ensures tick_limit { IsErrOf result Refusal.TickLimit
+            → step self.old.app self.old.target action ≡ Err PlayError.TickLimit }
         ensures err { OnErr result (self.new ≡ self.old) }
     {
         if self.done.len() == self.limit {

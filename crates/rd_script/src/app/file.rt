@@ -5,7 +5,7 @@ ghost use Rattle.std.specs.List.{list_any};
 ghost use Rattle.std.specs.Str.{bytes_eq};
 ghost use Rattle.serde_json.specs.Find.{get};
 ghost use Rattle.rd_script.specs.Application.{Application, IsApplication, is_final};
-ghost use Rattle.rd_script.specs.Says.{FileSays, IsSupported};
+ghost use Rattle.rd_script.specs.Says.{FileSays};
 ghost use Rattle.serde_json.specs.View.{view, items_view, members_view};
 ghost use Rattle.rd_script.specs.File.{file_of, app_of, ends, line_of, lines_after, code_of, scripts_after, are_texts, task_of, tasks_after, Gives, GivesOrNoMemory, queues_after, has_only, object_with, field, in_limits, number_in, number_or, array_in, array_or_empty, new_name, queue_of};
 ghost use Rattle.rd_script.specs.Draft.{draft_view};
@@ -20,10 +20,10 @@ use serde_json::{Map, Value};
 use std::alloc::{AllocError, Global};
 
 /// How many cores an application has at the most.
-pub const MAX_CORES: u64 = 1;
+pub const MAX_CORES: u64 = 8;
 
 /// How many tasks an application has at the most.
-pub const MAX_TASKS: u64 = 1;
+pub const MAX_TASKS: u64 = 32;
 
 fn is_known(name: &str, known: &[&str]) -> bool
     ensures { result ≡ list_any (λ other. bytes_eq other name.now) (map (λ other. other.now) known.now) }
@@ -367,9 +367,9 @@ fn read_bytes(alloc: Global, text: &[u8]) -> Result<App, AppError>
 /// `tasks`.
 pub fn read_app(alloc: Global, text: &[u8]) -> Result<App, AppError>
     // What is read is what the file says, within the limits.
-    ensures accepted { IfOk result (λ app. FileSays text.now app × IsApplication app × IsSupported app) }
+    ensures accepted { IfOk result (λ app. FileSays text.now app × IsApplication app) }
     // What the file says is read, if it is within the limits.
-    ensures only { (app : Application) → FileSays text.now app → IsApplication app → IsSupported app
+    ensures only { (app : Application) → FileSays text.now app → IsApplication app
         → GivesOrNoMemory (λ app. app) result (Ok app) }
     // Which fault it is.
     ensures exact { GivesOrNoMemory (λ app. app) result (file_of text.now) }

@@ -5,4 +5,4 @@ pub returns-clause-accepted : goal.returns-clause-accepted
 returns-clause-accepted c = is_accepted c.args.text.now c.read_bytes.result c.read_bytes.ensures
 
 pub returns-clause-only : goal.returns-clause-only
-returns-clause-only c = λ app. λ says. λ limits. λ supported. rw (← file_again c.args.text.now app says limits supported) c.read_bytes.ensures
+returns-clause-only c = λ app. λ says. λ limits. rw (← file_again c.args.text.now app says limits) c.read_bytes.ensures

@@ -15,7 +15,7 @@ pub invariant_of-self-in-Ok : goal.invariant_of-self-in-Ok
 invariant_of-self-in-Ok c =
     let t = c.self.inside in
     let done : c.push_reserved.new.self.items ≡ t.done.items ++ c.args.action ∷ [] = cc in
-    IsWhole-push t _ _ _ _ c.args.action c.in_ok-undo.undo c.self.invariant (search rules) c.in_ok-undo.ensures.step c.in_ok-undo.ensures.undone c.in_ok-undo.ensures.can_undo c.in_ok-undo.ensures.valid
+    IsWhole-push t _ _ _ _ c.args.action c.in_ok-undo.undo c.self.invariant (search rules) c.in_ok-undo.ensures.step c.in_ok-undo.ensures.undone c.in_ok-undo.ensures.can_undo c.in_ok-undo.ensures.valid c.in_ok-undo.ensures.settled
     done c.in-Ok.ensures.ok c.clear.ensures.items (grind (arith, common_steps))
 
 pub returns-in-Ok-clause-leads : goal.returns-in-Ok-clause-leads

@@ -12,3 +12,6 @@ returns-clause-leads c = (now c.args.self.now (subst IsKept c.self.view_is c.sel
 
 pub returns-clause-valid : goal.returns-clause-valid
 returns-clause-valid c = (now c.args.self.now (subst IsKept c.self.view_is c.self.invariant.kept)).valid
+
+pub returns-clause-settled : goal.returns-clause-settled
+returns-clause-settled c = (now c.args.self.now (subst IsKept c.self.view_is c.self.invariant.kept)).settled

@@ -2,4 +2,4 @@ use Rattle.rd_timeline.proofs.TimelineLaws.{IsWhole-new}
 use Rattle.rd_timeline.proofs.timeline.Timeline.new.Goals as goal
 
 pub invariant_of-result : goal.invariant_of-result
-invariant_of-result c = IsWhole-new _ c.limits.ensures c.in_ok-target.ensures.state c.in_ok-target.ensures.valid c.new.ensures.items c.new-2.ensures c.new-3.ensures.items
+invariant_of-result c = IsWhole-new _ c.limits.ensures c.in_ok-target.ensures.state c.in_ok-target.ensures.valid c.in_ok-target.ensures.settled c.new.ensures.items c.new-2.ensures c.new-3.ensures.items

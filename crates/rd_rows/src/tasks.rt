@@ -1,0 +1,92 @@
+//! Runs of applications with several tasks and cores: the file, what the program is asked, and what it answers.
+
+use crate::programs::{ends, run_file};
+use rd_calls::moves::Move;
+use rd_calls::policy::policy;
+use rd_script::app::file::read_app;
+use rd_timeline::timeline::Timeline;
+use std::process::Abort;
+use std::test::Fail;
+
+/// A run of an application file.
+#[derive(Drop)]
+struct Row {
+    name: &'static str,
+    app: &'static str,
+    commands: &'static str,
+    replies: &'static str,
+}
+
+const ROUND_ROBIN: &str =
+    r#"{"profile":1,"cores":1,"tasks":[{"name":"t0","priority":1,"code":["jump 0"]},{"name":"t1","priority":1,"code":["jump 0"]}]}"#;
+
+const ROWS: [Row; 4] = [
+    Row {
+        name: "round_robin",
+        app: ROUND_ROBIN,
+        commands: "step 0\ntick\nstep 0\nshow cores\nback 3\nshow cores\n",
+        replies: "ok at 1\nok at 2\nok at 3\ncores t1 ready t0 tick 1 turn 1\n\
+                  ok at 0\ncores t0 ready t1 tick 0 turn 0\n",
+    },
+    Row {
+        name: "full_history",
+        app: r#"{"profile":1,"cores":1,"tick":4294967295,"tasks":[{"name":"t0","priority":1,"code":["jump 0"]}]}"#,
+        commands: "tick\nshow cores\n",
+        replies: "no TickLimit\ncores t0 ready - tick 4294967295 turn 0\n",
+    },
+    Row {
+        name: "two cores",
+        app: r#"{"profile":1,"cores":2,"tasks":[{"name":"t0","priority":2,"code":["end"]},{"name":"t1","priority":3,"code":["end"]},{"name":"t2","priority":1,"code":["end"]}]}"#,
+        commands: "show cores\nstep 0\nshow cores\nstep 1\nshow cores\nstep 0\nshow cores\nstep 0\nstep 2\nback 3\nshow cores\n",
+        replies: "cores t1,t0 ready t2 tick 0 turn 0\n\
+                  ok at 1\ncores t2,t0 ready - tick 0 turn 1\n\
+                  ok at 2\ncores t2,- ready - tick 0 turn 2\n\
+                  ok at 3\ncores -,- ready - tick 0 turn 1\n\
+                  no NoTask\nno NoSuch\n\
+                  ok at 0\ncores t1,t0 ready t2 tick 0 turn 0\n",
+    },
+    Row {
+        name: "turns on the core of the new tick",
+        app: r#"{"profile":1,"cores":2,"tasks":[{"name":"t0","priority":1,"code":["jump 0"]},{"name":"t1","priority":1,"code":["jump 0"]},{"name":"t2","priority":1,"code":["jump 0"]}]}"#,
+        commands: "tick\nshow cores\ntick\nshow cores\nback 1\nshow cores\n",
+        replies: "ok at 1\ncores t0,t2 ready t1 tick 1 turn 0\n\
+                  ok at 2\ncores t1,t2 ready t0 tick 2 turn 0\n\
+                  ok at 1\ncores t0,t2 ready t1 tick 1 turn 0\n",
+    },
+];
+
+#[test]
+fn rows(rt: HostRuntime) -> Result<(), Fail> {
+    for row in &ROWS {
+        let row: &Row = row;
+        let ending = run_file(&rt, "row.json", row.app.as_bytes(), &[], row.commands)?;
+        ends(&rt, &ending, 0, row.replies, "");
+    }
+    Ok(())
+}
+
+// The core, a tick since the turn is behind the last core, and the core again.
+fn goes_by_policy(rt: &impl Abort, timeline: &mut Timeline) {
+    for at in 1..=3 {
+        assert!(rt; timeline.app().cores() == 1);
+        let action = policy(timeline.target());
+        let is_tick = matches!(action, Move::Tick);
+        assert_eq!(rt; is_tick, at == 2);
+        let done = if is_tick {
+            timeline.go(Move::Tick)
+        } else {
+            timeline.go(Move::Core { core: 0 })
+        };
+        assert_eq!(rt; done, Ok(at));
+    }
+}
+
+#[test]
+fn round_robin_by_policy(rt: HostRuntime) -> Result<(), Fail> {
+    let alloc = rt.alloc();
+    let app = read_app(alloc, ROUND_ROBIN.as_bytes())?;
+    let mut timeline = Timeline::new(alloc, app, 10)?;
+    goes_by_policy(&rt, &mut timeline);
+    timeline.close();
+    Ok(())
+}
