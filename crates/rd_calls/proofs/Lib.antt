@@ -1,1 +1,3 @@
+pub mod StandsLaws
+pub mod WakingLaws
 pub mod StepLaws

@@ -1,273 +1,310 @@
--- A valid state stays valid through a move.
-use Rattle.std.proofs.Common.{◌≡◌, ◌∙◌, ◌≢◌, ℕ, zero, suc, ◌+◌, ◌-◌, ◌%◌, ◌<◌, ◌≤◌, Bool, true, false, cond, List, [], ◌∷◌, ◌++◌, length, get_or, set, drop, map, Option, Some, None, refl, ap, subst, sym, arith, inl, inr}
-use Rattle.std.specs.Prelude.{All, nat_eq}
-use Rattle.std.proofs.lemmas.Bool.{cases_eq, cases_lt, false≢true}
+-- A valid state stays valid through a move, and a move ends in a settled state.
+use Rattle.std.proofs.Common.{◌≡◌, ◌∙◌, ◌≢◌, ℕ, ◌+◌, ◌-◌, ◌%◌, ◌<◌, ◌≤◌, Bool, true, false, cond, List, [], ◌∷◌, length, get_or, set, drop, Option, Some, None, refl, ap, subst, sym, arith, inl, inr}
+use Rattle.std.specs.Prelude.{◌^◌, ◌++◌, is_some, nat_eq, slice_get}
+use Rattle.std.specs.Int.{w32, to_le_bytes}
+use Rattle.std.proofs.lemmas.Bool.{cases_lt, false≢true}
+use Rattle.std.proofs.lemmas.Bool.Decides.{nat_tests}
+use Rattle.std.proofs.lemmas.List.{length-set, length-map}
+use Rattle.std.proofs.lemmas.List.Elements.{All-get_or}
 use Rattle.std.proofs.lemmas.List.Sums.{get_or-le-sum_by}
 use Rattle.std.proofs.Math.Nat.{mod-lt}
-use Rattle.std.proofs.lemmas.Bool.Decides.{nat_tests}
-use Rattle.std.proofs.lemmas.List.{length-set, get_or-set_same, get_or-set_other, set-set, set-get_or, map-set}
-use Rattle.std.proofs.lemmas.List.Elements.{All-get_or, All-from_get_or}
-use Rattle.rd_notify.specs.declared.notes.Entry.{Entry}
-use Rattle.rd_queue.specs.QueueSnapshot.{QueueSnapshot}
 use Rattle.rd_queue.specs.Queues.{with_items}
 use Rattle.rd_script.specs.declared.instr.Instr.{Instr}
 use Rattle.rd_script.specs.declared.instr.Instr.TheVariants.{Set, Add, Move, Data, Pack, Unpack, Jump, JumpZero, End, Send, Receive}
+use Rattle.rd_script.specs.declared.instr.Operand.{Operand}
 use Rattle.rd_script.specs.declared.phase.Phase.{Phase}
-use Rattle.rd_script.specs.declared.phase.Phase.TheVariants.{Run, Ended}
+use Rattle.rd_script.specs.declared.phase.Phase.TheVariants.{Run, Again, Wait, Ended}
 use Rattle.rd_script.specs.declared.phase.Place.{Place}
 use Rattle.rd_script.specs.declared.phase.Place.TheVariants as at_queue
-use Rattle.rd_script.specs.Application.{Application, IsApplication, IsScript, IsWithin, code_of, is_final, priorities_of}
+use Rattle.rd_script.specs.Application.{Application, IsApplication, IsScript, IsWithin, code_of, instr_at, is_final, priorities_of}
 use Rattle.rd_script.specs.TaskScript.{TaskScript}
-use Rattle.rd_wait.specs.Joined.{IsInOrder}
+use Rattle.rd_wait.specs.Joined.{joined, IsInOrder}
+use Rattle.rd_wait.proofs.JoinedLaws.{IsInOrder-joined}
 use Rattle.rd_state.specs.Change.{with_task, with_queue, items_at}
 use Rattle.rd_state.specs.Settled.{seating_of, settled, IsSettled}
 use Rattle.rd_state.specs.Sizes.{IsSized, IsTaskOrIdle}
-use Rattle.rd_state.specs.Snapshot.{Snapshot, TaskSnapshot, no_task, no_queue, task_at, queue_at, core_at}
-use Rattle.rd_state.specs.Valid.{IsNotWaiting, IsValid, is_on, places_to_run, shape_of, times, times_on, waits_at}
-use Rattle.rd_state.specs.Waiting.{waiting_at}
+use Rattle.rd_state.specs.Snapshot.{Snapshot, TaskSnapshot, task_at, queue_at, core_at}
+use Rattle.rd_state.specs.Valid.{IsValid, StandsAtCall, is_ahead, is_on, place_of_call, places_to_run, shape_of, times, times_on, waits_at}
+use Rattle.rd_state.specs.Waiting.{HasPlace, waiting_at}
 use Rattle.rd_state.proofs.EndLaws.{settles, stays_settled}
-use Rattle.rd_state.proofs.ScheduleLaws.{SeatsKept, kept_settled, kept_rotated, kept_then, one_if, times_on-set}
-use Rattle.rd_calls.specs.Outcomes.{concluded, fails, passes, returned, is_full, sent_item}
+use Rattle.rd_state.proofs.ScheduleLaws.{SeatsKept, kept_settled, kept_rotated, kept_then, one_if, times-cons, times-joined, times_on-set}
+use Rattle.rd_state.proofs.UndoLaws.{list_sized}
+use Rattle.rd_calls.specs.declared.outcome.Outcome.TheVariants.{Waits}
+use Rattle.rd_calls.specs.Local.{off_core, unpacked}
+use Rattle.rd_calls.specs.Outcomes.{blocked, concluded, fails, passes, put, returned, is_full, sent_item, taken}
 use Rattle.rd_calls.specs.Step.{performed, next_instr, core_step, ticked, tick_step}
-use Rattle.rd_calls.specs.Tasks.{register_at, with_register, with_pc, with_bytes, advanced}
+use Rattle.rd_calls.specs.Tasks.{register_at, with_pc, with_phase, advanced}
+use Rattle.rd_calls.specs.Waking.{deadline_of, is_due, may_wait, timed_out, with_waiter, woken_first, woken_one}
+use Rattle.rd_calls.proofs.StandsLaws.{Goes, IsValid-stands, Stands, Stands-deadlines, Stands-goes, Stands-items, Stands-seats, Stands-task, Stands-valid, TaskStands, all_ahead, same_place-self, task_now, task_or_other, waiting_put, waiting_same}
+use Rattle.rd_calls.proofs.WakingLaws.{TimedOut, TimedOut-so_far, Wakes, Wakes-first, ahead_below, member_has, room_for, waits_nowhere, waits_once, woken_from-tick}
 
--- a queue but for its items
-abbrev bare : QueueSnapshot → QueueSnapshot
-bare queue = with_items queue []
+-- ---- who can run
 
-bare_shapes : (queues : List QueueSnapshot) → map shape_of queues ≡ map shape_of (map bare queues)
-bare_shapes [] = refl
-bare_shapes (q ∷ queues) = ap (λ rest. shape_of q ∷ rest) (bare_shapes queues)
-
-bare_at : (queues : List QueueSnapshot) (queue : ℕ) → get_or (map bare queues) queue no_queue ≡ bare (get_or queues queue no_queue)
-bare_at [] queue = refl
-bare_at (q ∷ queues) zero = refl
-bare_at (q ∷ queues) (suc queue) = bare_at queues queue
-
--- Where nothing but items differs, the same tasks wait.
-same_waiting : (s p : Snapshot) (place : Place) → map bare p.queues ≡ map bare s.queues → waiting_at p place ≡ waiting_at s place
-same_waiting s p (at_queue.Receive queue) e =
-    sym (ap (λ (q : QueueSnapshot). q.receiving) (bare_at p.queues queue)) ∙ ap (λ (queues : List QueueSnapshot). (get_or queues queue no_queue).receiving) e
-    ∙ ap (λ (q : QueueSnapshot). q.receiving) (bare_at s.queues queue)
-same_waiting s p (at_queue.Send queue) e =
-    sym (ap (λ (q : QueueSnapshot). q.sending) (bare_at p.queues queue)) ∙ ap (λ (queues : List QueueSnapshot). (get_or queues queue no_queue).sending) e
-    ∙ ap (λ (q : QueueSnapshot). q.sending) (bare_at s.queues queue)
-
--- The new state is the old one but for this task, which is now this, and for the queues' items.
-pub record Rewrites (s p : Snapshot) (task : ℕ) (now : TaskSnapshot) : Type 0 where
-  pub tasks : p.tasks ≡ set s.tasks task now
-  pub cores : p.cores ≡ s.cores
-  pub ready : p.ready ≡ s.ready
-  pub queues : map bare p.queues ≡ map bare s.queues
-
-nothing_yet : (s : Snapshot) (task : ℕ) → Rewrites s s task (task_at s task)
-nothing_yet s task = record { tasks = sym (set-get_or s.tasks task no_task); cores = refl; ready = refl; queues = refl }
-
--- what the task is in the new state
-now_at : (s p : Snapshot) (task : ℕ) (now : TaskSnapshot) → task < length s.tasks → Rewrites s p task now → task_at p task ≡ now
-now_at s p task now there r = ap (λ (ts : List TaskSnapshot). get_or ts task no_task) r.tasks ∙ get_or-set_same s.tasks task now no_task there
-
--- and then one more change of the task
-and_then : (s p : Snapshot) (task : ℕ) (now : TaskSnapshot) (f : TaskSnapshot → TaskSnapshot) → task < length s.tasks → Rewrites s p task now → Rewrites s (with_task p task (f (task_at p task))) task (f now)
-and_then s p task now f there r = record {
-  tasks = ap (λ (ts : List TaskSnapshot). set ts task (f (task_at p task))) r.tasks ∙ set-set s.tasks task now (f (task_at p task)) ∙ ap (λ (t : TaskSnapshot). set s.tasks task (f t)) (now_at s p task now there r);
-  cores = r.cores;
-  ready = r.ready;
-  queues = r.queues;
-}
-
--- or a change of a queue's items
-and_items : (s p : Snapshot) (task queue : ℕ) (now : TaskSnapshot) (items : List (List ℕ)) → Rewrites s p task now → Rewrites s (with_queue p queue (with_items (queue_at p queue) items)) task now
-and_items s p task queue now items r = record {
-  tasks = r.tasks;
-  cores = r.cores;
-  ready = r.ready;
-  queues = map-set bare p.queues queue (with_items (queue_at p queue) items) ∙ same_bare p.queues queue ∙ r.queues;
-}
-  where
-    same_bare : (queues : List QueueSnapshot) (queue : ℕ) → set (map bare queues) queue (bare (get_or queues queue no_queue)) ≡ map bare queues
-    same_bare [] queue = refl
-    same_bare (q ∷ queues) zero = refl
-    same_bare (q ∷ queues) (suc queue) = ap (λ rest. bare q ∷ rest) (same_bare queues queue)
-
--- The task goes on in its script at that place: it runs, and its entries are as they were.
-pub record GoesOn (s p : Snapshot) (task pc : ℕ) : Type 0 where
-  pub now : TaskSnapshot
-  pub rewrites : Rewrites s p task now
-  pub at : now.pc ≡ pc
-  pub runs : now.phase ≡ (task_at s task).phase
-  pub entries : now.entries ≡ (task_at s task).entries
-
--- one instruction further
-advances : (s p : Snapshot) (task : ℕ) (now : TaskSnapshot) → task < length s.tasks → Rewrites s p task now → now.pc ≡ (task_at s task).pc → now.phase ≡ (task_at s task).phase → now.entries ≡ (task_at s task).entries
-    → GoesOn s (advanced p task) task ((task_at s task).pc + 1)
-advances s p task now there r pc phase entries =
-    let next = (task_at p task).pc + 1 in
-    record {
-      now = record now { pc = next };
-      rewrites = and_then s p task now (λ t. record t { pc = next }) there r;
-      at = ap (λ (t : TaskSnapshot). t.pc + 1) (now_at s p task now there r) ∙ ap (λ n. n + 1) pc;
-      runs = phase;
-      entries = entries;
-    }
-
--- one instruction further, with the answer of a call
-answers : (s p : Snapshot) (task answer : ℕ) (now : TaskSnapshot) → task < length s.tasks → (task_at s task).phase ≡ Run → Rewrites s p task now → now.pc ≡ (task_at s task).pc → now.entries ≡ (task_at s task).entries
-    → GoesOn s (returned p task answer) task ((task_at s task).pc + 1)
-answers s p task answer now there runs r pc entries =
-    let next = (task_at p task).pc + 1 in
-    let with_answer : TaskSnapshot → TaskSnapshot = λ t. record t { registers = set t.registers 0 answer } in
-    let moved : TaskSnapshot → TaskSnapshot = λ t. record t { pc = next } in
-    let one = and_then s p task now with_answer there r in
-    let two = and_then s (with_register p task 0 answer) task (with_answer now) moved there one in
-    record {
-      now = record now { registers = set now.registers 0 answer; pc = next; phase = Run };
-      rewrites = and_then s (with_pc (with_register p task 0 answer) task next) task (moved (with_answer now)) (λ t. record t { phase = Run }) there two;
-      at = ap (λ (t : TaskSnapshot). t.pc + 1) (now_at s p task now there r) ∙ ap (λ n. n + 1) pc;
-      runs = sym runs;
-      entries = entries;
-    }
-
--- to another place of the script
-jumps : (s : Snapshot) (task target : ℕ) → task < length s.tasks → GoesOn s (with_pc s task target) task target
-jumps s task target there = record {
-  now = record (task_at s task) { pc = target };
-  rewrites = and_then s s task (task_at s task) (λ t. record t { pc = target }) there (nothing_yet s task);
-  at = refl;
-  runs = refl;
-  entries = refl;
-}
-
-sets_register : (s : Snapshot) (task register value : ℕ) → task < length s.tasks → GoesOn s (advanced (with_register s task register value) task) task ((task_at s task).pc + 1)
-sets_register s task register value there =
-    advances s (with_register s task register value) task (record (task_at s task) { registers = set (task_at s task).registers register value }) there
-    (and_then s s task (task_at s task) (λ t. record t { registers = set t.registers register value }) there (nothing_yet s task)) refl refl refl
-
-sets_bytes : (s : Snapshot) (task : ℕ) (bytes : List ℕ) → task < length s.tasks → GoesOn s (advanced (with_bytes s task bytes) task) task ((task_at s task).pc + 1)
-sets_bytes s task bytes there =
-    advances s (with_bytes s task bytes) task (record (task_at s task) { bytes = bytes }) there
-    (and_then s s task (task_at s task) (λ t. record t { bytes = bytes }) there (nothing_yet s task)) refl refl refl
-
-sends : (s : Snapshot) (core task queue : ℕ) → task < length s.tasks → (task_at s task).phase ≡ Run → GoesOn s (performed s core task (Send queue)) task ((task_at s task).pc + 1)
-sends s core task queue there runs =
-    elim (is_full (queue_at s queue)) as (λ b. GoesOn s (concluded (cond b (fails s) (passes (with_queue s queue (with_items (queue_at s queue) (items_at s queue ++ sent_item s task queue ∷ []))))) task) task ((task_at s task).pc + 1)) [
-      | true ↦ answers s s task 0 (task_at s task) there runs (nothing_yet s task) refl refl
-      | false ↦ answers s _ task 1 (task_at s task) there runs (and_items s s task queue (task_at s task) (items_at s queue ++ sent_item s task queue ∷ []) (nothing_yet s task)) refl refl
-    ]
-
-receives : (s : Snapshot) (core task queue : ℕ) → task < length s.tasks → (task_at s task).phase ≡ Run → GoesOn s (performed s core task (Receive queue)) task ((task_at s task).pc + 1)
-receives s core task queue there runs =
-    let first = get_or (items_at s queue) 0 [] in
-    let taken = with_queue s queue (with_items (queue_at s queue) (drop 1 (items_at s queue))) in
-    elim (nat_eq (length (items_at s queue)) 0) as (λ b. GoesOn s (concluded (cond b (fails s) (passes (with_bytes taken task first))) task) task ((task_at s task).pc + 1)) [
-      | true ↦ answers s s task 0 (task_at s task) there runs (nothing_yet s task) refl refl
-      | false ↦ answers s (with_bytes taken task first) task 1 (record (task_at s task) { bytes = first }) there runs
-          (and_then s taken task (task_at s task) (λ t. record t { bytes = first }) there (and_items s s task queue (task_at s task) (drop 1 (items_at s queue)) (nothing_yet s task))) refl refl
-    ]
-
--- Is it the instruction that ends the task?
-abbrev ends : Instr → Bool
-ends End = true
-ends _ = false
-
--- Each other instruction goes on within the script.
-goes_on : (app : Application) (len : ℕ) (s : Snapshot) (core task : ℕ) (instr : Instr) → task < length s.tasks → (task_at s task).phase ≡ Run → IsWithin app len instr
-    → (is_final instr ≡ false → (task_at s task).pc + 1 < len) → ends instr ≡ false → (pc : ℕ) × GoesOn s (performed s core task instr) task pc × (pc < len)
-goes_on app len s core task (Set register value) there runs within next e = (_, sets_register s task register value there, next refl)
-goes_on app len s core task (Add register value) there runs within next e = (_, sets_register s task register _ there, next refl)
-goes_on app len s core task (Move into from) there runs within next e = (_, sets_register s task into _ there, next refl)
-goes_on app len s core task (Data bytes) there runs within next e = (_, sets_bytes s task bytes there, next refl)
-goes_on app len s core task (Pack register) there runs within next e = (_, sets_bytes s task _ there, next refl)
-goes_on app len s core task (Unpack register) there runs within next e = (_, sets_register s task register _ there, next refl)
-goes_on app len s core task (Jump target) there runs within next e = (_, jumps s task target there, within)
-goes_on app len s core task (JumpZero register target) there runs within next e =
-    (_, jumps s task _ there, elim (nat_eq (register_at s task register) 0) as (λ b. cond b target ((task_at s task).pc + 1) < len) [ true ↦ within.1 | false ↦ next refl ])
-goes_on app len s core task End there runs within next e = absurd (cc)
-goes_on app len s core task (Send queue) there runs within next e = (_, sends s core task queue there runs, next refl)
-goes_on app len s core task (Receive queue) there runs within next e = (_, receives s core task queue there runs, next refl)
-
--- What a move's instruction leaves, of what makes a state valid.
-record Stands (app : Application) (s p : Snapshot) : Type 0 where
-  cores : length p.cores ≡ length s.cores
-  tasks : length p.tasks ≡ length s.tasks
-  places : (t : ℕ) → t < length s.tasks → (task_at p t).pc < length (code_of app t)
-  entries : (t : ℕ) → t < length s.tasks → (task_at p t).entries ≡ (task_at s t).entries
-  queues : map bare p.queues ≡ map bare s.queues
-  ready : p.ready ≡ s.ready
-  waits : (place : Place) (t : ℕ) → t < length s.tasks → times t (waiting_at s place) ≡ waits_at place (task_at p t).phase
-  placed : (t : ℕ) → t < length s.tasks → times t p.ready + times_on t p.cores ≡ places_to_run (task_at p t).phase
-
--- the task that was changed, and each other one
-task_or_other : (s p : Snapshot) (task : ℕ) (now : TaskSnapshot) (P : ℕ → TaskSnapshot → Type 0) → task < length s.tasks → p.tasks ≡ set s.tasks task now → P task now
-    → ((t : ℕ) → t ≢ task → t < length s.tasks → P t (task_at s t)) → (t : ℕ) → t < length s.tasks → P t (task_at p t)
-task_or_other s p task now P there e here other t h =
-    subst (λ (ts : List TaskSnapshot). P t (get_or ts t no_task)) (sym e)
-    (elim (cases_eq t task) [
-      | inl same ↦ subst (λ n. P n (get_or (set s.tasks task now) n no_task)) (sym same) (subst (P task) (sym (get_or-set_same s.tasks task now no_task there)) here)
-      | inr differs ↦ subst (P t) (sym (get_or-set_other s.tasks task t now no_task differs)) (other t differs h)
-    ])
-
-stands_on : (app : Application) (s p : Snapshot) (task pc : ℕ) → IsValid app s → task < length s.tasks → GoesOn s p task pc → pc < length (code_of app task) → Stands app s p
-stands_on app s p task pc valid there goes within = record {
-  cores = ap length goes.rewrites.cores;
-  tasks = ap length goes.rewrites.tasks ∙ length-set s.tasks task goes.now;
-  places = task_or_other s p task goes.now (λ t x. x.pc < length (code_of app t)) there goes.rewrites.tasks (omega (arith, goes.at, within)) (λ t differs h. valid.in_limits.places t h);
-  entries = task_or_other s p task goes.now (λ t x. x.entries ≡ (task_at s t).entries) there goes.rewrites.tasks goes.entries (λ t differs h. refl);
-  queues = goes.rewrites.queues;
-  ready = goes.rewrites.ready;
-  waits = λ place t h.
-      valid.places place t h
-      ∙ sym (task_or_other s p task goes.now (λ t x. waits_at place x.phase ≡ waits_at place (task_at s t).phase) there goes.rewrites.tasks (ap (waits_at place) goes.runs) (λ t differs h. refl) t h);
-  placed = λ t h.
-      ap (λ (seats : List ℕ). times t seats + times_on t p.cores) goes.rewrites.ready ∙ ap (λ (seats : List (Option ℕ)). times t s.ready + times_on t seats) goes.rewrites.cores ∙ valid.placed_once t h
-      ∙ sym (task_or_other s p task goes.now (λ t x. places_to_run x.phase ≡ places_to_run (task_at s t).phase) there goes.rewrites.tasks (ap places_to_run goes.runs) (λ t differs h. refl) t h);
-}
-
-nat_eq_self : (n : ℕ) → nat_eq n n ≡ true
-nat_eq_self n = grind (arith, nat_tests)
-
-nat_eq_other : (m n : ℕ) → m ≢ n → nat_eq m n ≡ false
-nat_eq_other m n h = grind (arith, nat_tests)
-
--- A task on a core stands on a core.
 on_a_core : (s : Snapshot) (core task : ℕ) → core < length s.cores → core_at s core ≡ Some task → 1 ≤ times_on task s.cores
 on_a_core s core task there e =
     let count : Option ℕ → ℕ = λ r. one_if (is_on task r) in
-    let one : count (core_at s core) ≡ 1 = ap count e ∙ ap one_if (nat_eq_self task) in
+    let self : nat_eq task task ≡ true = grind (arith, nat_tests) in
+    let one : count (core_at s core) ≡ 1 = ap count e ∙ ap one_if self in
     omega (arith, get_or-le-sum_by count s.cores core None there, one)
 
--- It runs.
-runs_phase : (phase : Phase) → 1 ≤ places_to_run phase → phase ≡ Run
-runs_phase Run h = refl
-runs_phase Ended h = absurd (omega (arith, h))
+pub is_task_on : (app : Application) (s : Snapshot) (core task : ℕ) → IsValid app s → core < length s.cores → core_at s core ≡ Some task → task < length s.tasks
+is_task_on app s core task valid there e = subst (IsTaskOrIdle (length s.tasks)) e (All-get_or (IsTaskOrIdle (length s.tasks)) s.cores core None there valid.in_limits.sized.cores)
 
-runs : (app : Application) (s : Snapshot) (core task : ℕ) → IsValid app s → core < length s.cores → task < length s.tasks → core_at s core ≡ Some task → (task_at s task).phase ≡ Run
-runs app s core task valid there is_task e = runs_phase (task_at s task).phase (omega (arith, valid.placed_once task is_task, on_a_core s core task there e))
+pub runs_on : (app : Application) (s : Snapshot) (core task : ℕ) → IsValid app s → core < length s.cores → core_at s core ≡ Some task → 1 ≤ places_to_run (task_at s task).phase
+runs_on app s core task valid there e = omega (arith, valid.placed_once task (is_task_on app s core task valid there e), on_a_core s core task there e)
 
--- The task that ends stands nowhere, and the others where they did.
-stands_ended : (app : Application) (s : Snapshot) (core task : ℕ) → IsValid app s → core < length s.cores → task < length s.tasks → core_at s core ≡ Some task → Stands app s (performed s core task End)
-stands_ended app s core task valid there is_task e =
+-- at an instruction that is no call with a block time a task doesn't try again
+runs_here : (phase : Phase) (instr : Instr) → 1 ≤ places_to_run phase → place_of_call instr ≡ None → StandsAtCall phase instr → phase ≡ Run
+runs_here Run instr runs none at = refl
+runs_here (Again deadline) instr runs none at = absurd (false≢true (sym (ap is_some none) ∙ at))
+runs_here (Wait place deadline) instr runs none at = absurd (omega (arith, runs))
+runs_here Ended instr runs none at = absurd (omega (arith, runs))
+
+runs_one : (phase : Phase) → 1 ≤ places_to_run phase → places_to_run phase ≡ 1
+runs_one Run h = refl
+runs_one (Again deadline) h = refl
+runs_one (Wait place deadline) h = absurd (omega (arith, h))
+runs_one Ended h = absurd (omega (arith, h))
+
+-- ---- what a task does by itself
+
+-- Its registers or data change.
+stands_kept : (app : Application) (D : ℕ → Phase → Type 0) (s : Snapshot) (task : ℕ) (registers bytes : List ℕ) → task < length s.tasks → Stands app D s
+    → Stands app D (with_task s task (record (task_at s task) { registers = registers; bytes = bytes }))
+stands_kept app D s task registers bytes there at =
+    let was = at.each task there in
+    Stands-task app D s task (record (task_at s task) { registers = registers; bytes = bytes }) there
+    (record { place = was.place; notes = was.notes; call = was.call; deadline = was.deadline; entries = was.entries }) refl (λ place. refl) at
+
+-- It goes on at another place.
+stands_at : (app : Application) (D : ℕ → Phase → Type 0) (s : Snapshot) (task pc : ℕ) → task < length s.tasks → (task_at s task).phase ≡ Run → pc < length (code_of app task) → Stands app D s → Stands app D (with_pc s task pc)
+stands_at app D s task pc there runs within at =
+    let was = at.each task there in
+    Stands-task app D s task (record (task_at s task) { pc = pc }) there
+    (record { place = within; notes = was.notes; call = subst (λ phase. StandsAtCall phase (instr_at app task pc)) (sym runs) tt; deadline = was.deadline; entries = was.entries }) refl (λ place. refl) at
+
+-- It is in Run, whichever of the phases that can run it was in.
+stands_run : (app : Application) (D : ℕ → Phase → Type 0) (s : Snapshot) (task : ℕ) → task < length s.tasks → 1 ≤ places_to_run (task_at s task).phase → D task Run → Stands app D s → Stands app D (with_phase s task Run)
+stands_run app D s task there runs asked at =
+    let was = at.each task there in
+    Stands-task app D s task (record (task_at s task) { phase = Run }) there
+    (record { place = was.place; notes = was.notes; call = tt; deadline = asked; entries = was.entries }) (sym (runs_one (task_at s task).phase runs)) (λ place. sym (waits_nowhere place (task_at s task).phase runs)) at
+
+-- It gets other registers or data, and goes on at a place of its script.
+stands_on : (app : Application) (D : ℕ → Phase → Type 0) (s : Snapshot) (task pc : ℕ) (registers bytes : List ℕ) → task < length s.tasks → (task_at s task).phase ≡ Run → pc < length (code_of app task) → Stands app D s
+    → Stands app D (with_pc (with_task s task (record (task_at s task) { registers = registers; bytes = bytes })) task pc)
+stands_on app D s task pc registers bytes there runs within at =
+    let x = record (task_at s task) { registers = registers; bytes = bytes } in
+    let p = with_task s task x in
+    stands_at app D p task pc (omega (arith, there, length-set s.tasks task x)) (ap (λ (t : TaskSnapshot). t.phase) (task_now s task x there) ∙ runs) within (stands_kept app D s task registers bytes there at)
+
+-- One instruction further.
+stands_further : (app : Application) (D : ℕ → Phase → Type 0) (s : Snapshot) (task : ℕ) (registers bytes : List ℕ) → task < length s.tasks → (task_at s task).phase ≡ Run → (task_at s task).pc + 1 < length (code_of app task) → Stands app D s
+    → Stands app D (advanced (with_task s task (record (task_at s task) { registers = registers; bytes = bytes })) task)
+stands_further app D s task registers bytes there runs within at =
+    let x = record (task_at s task) { registers = registers; bytes = bytes } in
+    let p = with_task s task x in
+    let same : (task_at s task).pc ≡ (task_at p task).pc = ap (λ (t : TaskSnapshot). t.pc) (sym (task_now s task x there)) in
+    subst (λ pc. Stands app D (with_pc p task (pc + 1))) same (stands_on app D s task ((task_at s task).pc + 1) registers bytes there runs within at)
+
+-- A call returns.
+stands_returned : (app : Application) (D : ℕ → Phase → Type 0) (s : Snapshot) (task answer : ℕ) → task < length s.tasks → 1 ≤ places_to_run (task_at s task).phase → (task_at s task).pc + 1 < length (code_of app task) → D task Run → Stands app D s
+    → Stands app D (returned s task answer)
+stands_returned app D s task answer there runs within asked at =
+    let x = record (task_at s task) { registers = set (task_at s task).registers 0 answer } in
+    let one = with_task s task x in
+    let there_one : task < length one.tasks = omega (arith, there, length-set s.tasks task x) in
+    let runs_still : 1 ≤ places_to_run (task_at one task).phase = subst (λ (t : TaskSnapshot). 1 ≤ places_to_run t.phase) (sym (task_now s task x there)) runs in
+    let y = record (task_at one task) { phase = Run } in
+    let two = with_task one task y in
+    let there_two : task < length two.tasks = omega (arith, there_one, length-set one.tasks task y) in
+    stands_at app D two task ((task_at s task).pc + 1) there_two (ap (λ (t : TaskSnapshot). t.phase) (task_now one task y there_one)) within
+    (stands_run app D one task there_one runs_still asked (stands_kept app D s task (set (task_at s task).registers 0 answer) (task_at s task).bytes there at))
+
+-- ---- a task that leaves its core
+
+-- how often each task is on a core, once one was emptied
+left_core : (s : Snapshot) (core task t : ℕ) → core < length s.cores → core_at s core ≡ Some task → times_on t (set s.cores core None) + one_if (nat_eq t task) ≡ times_on t s.cores
+left_core s core task t there e = omega (arith, times_on-set t core s.cores None there, ap (λ r. one_if (is_on t r)) e)
+
+same_one : (task : ℕ) → one_if (nat_eq task task) ≡ 1
+same_one task = let e : nat_eq task task ≡ true = grind (arith, nat_tests) in ap one_if e
+
+other_none : (t task : ℕ) → t ≢ task → one_if (nat_eq t task) ≡ 0
+other_none t task differs = let e : nat_eq t task ≡ false = grind (arith, nat_tests, differs) in ap one_if e
+
+-- It ends.
+stands_ended : (app : Application) (D : ℕ → Phase → Type 0) (s : Snapshot) (core task : ℕ) → task < length s.tasks → 1 ≤ places_to_run (task_at s task).phase → core < length s.cores → core_at s core ≡ Some task → D task Ended → Stands app D s
+    → Stands app D (off_core (with_phase s task Ended) core)
+stands_ended app D s core task there runs has_core e asked at =
+    let was = at.each task there in
     let now : TaskSnapshot = record (task_at s task) { phase = Ended } in
-    let run = runs app s core task valid there is_task e in
-    let left : (t : ℕ) → times_on t (set s.cores core None) + one_if (nat_eq t task) ≡ times_on t s.cores =
-    λ t. omega (arith, times_on-set t core s.cores None there, ap (λ r. one_if (is_on t r)) e) in
+    let p = off_core (with_phase s task Ended) core in
+    let left : (t : ℕ) → times_on t (set s.cores core None) + one_if (nat_eq t task) ≡ times_on t s.cores = λ t. left_core s core task t has_core e in
+    let one = runs_one (task_at s task).phase runs in
     record {
-      cores = length-set s.cores core None;
-      tasks = length-set s.tasks task now;
-      places = task_or_other s (performed s core task End) task now (λ t x. x.pc < length (code_of app t)) is_task refl (valid.in_limits.places task is_task) (λ t differs h. valid.in_limits.places t h);
-      entries = task_or_other s (performed s core task End) task now (λ t x. x.entries ≡ (task_at s t).entries) is_task refl refl (λ t differs h. refl);
-      queues = refl;
-      ready = refl;
-      waits = λ place. task_or_other s (performed s core task End) task now (λ t x. times t (waiting_at s place) ≡ waits_at place x.phase) is_task refl
-          (valid.places place task is_task ∙ ap (waits_at place) run) (λ t differs h. valid.places place t h);
-      placed = task_or_other s (performed s core task End) task now (λ t x. times t s.ready + times_on t (set s.cores core None) ≡ places_to_run x.phase) is_task refl
-          (omega (arith, left task, ap one_if (nat_eq_self task), valid.placed_once task is_task, ap places_to_run run))
-          (λ t differs h. omega (arith, left t, ap one_if (nat_eq_other t task differs), valid.placed_once t h));
+      cores = length-set s.cores core None ∙ at.cores;
+      tasks = length-set s.tasks task now ∙ at.tasks;
+      each = task_or_other s p task now (TaskStands app D) there refl (record { place = was.place; notes = was.notes; call = tt; deadline = asked; entries = was.entries }) (λ t differs h. at.each t h);
+      shapes = at.shapes;
+      placed_once = task_or_other s p task now (λ t x. times t s.ready + times_on t (set s.cores core None) ≡ places_to_run x.phase) there refl
+          (omega (arith, left task, same_one task, at.placed_once task there, one))
+          (λ t differs h. omega (arith, left t, other_none t task differs, at.placed_once t h));
+      waiting_lists = record {
+        ready = at.waiting_lists.ready;
+        waiting = λ place. subst (λ list. IsInOrder (priorities_of app) list) (sym (waiting_same s p place refl)) (at.waiting_lists.waiting place);
+      };
+      places = λ place. task_or_other s p task now (λ t x. times t (waiting_at p place) ≡ waits_at place x.phase) there refl
+          (ap (times task) (waiting_same s p place refl) ∙ at.places place task there ∙ waits_nowhere place (task_at s task).phase runs)
+          (λ t differs h. ap (times t) (waiting_same s p place refl) ∙ at.places place t h);
     }
 
-is_end : (instr : Instr) → ends instr ≡ true → instr ≡ End
-is_end End e = refl
-is_end _ e = absurd (false≢true e)
+-- It waits.
+stands_waiting : (app : Application) (D : ℕ → Phase → Type 0) (s : Snapshot) (core task : ℕ) (place : Place) (deadline : Option ℕ) → task < length s.tasks → 1 ≤ places_to_run (task_at s task).phase → core < length s.cores → core_at s core ≡ Some task
+    → HasPlace s place → place_of_call (instr_at app task (task_at s task).pc) ≡ Some place → D task (Wait place deadline) → Stands app D s
+    → Stands app D (off_core (with_phase (with_waiter (priorities_of app) s place task) task (Wait place deadline)) core)
+stands_waiting app D s core task place deadline there runs has_core e has_place call asked at =
+    let was = at.each task there in
+    let priorities = priorities_of app in
+    let now : TaskSnapshot = record (task_at s task) { phase = Wait place deadline } in
+    let list = waiting_at s place in
+    let left : (t : ℕ) → times_on t (set s.cores core None) + one_if (nat_eq t task) ≡ times_on t s.cores = λ t. left_core s core task t has_core e in
+    let one = runs_one (task_at s task).phase runs in
+    let none : times task list ≡ 0 = at.places place task there ∙ waits_nowhere place (task_at s task).phase runs in
+    let goes : Goes app D s task now place (set s.cores core None) s.ready (joined priorities list task) = record {
+      there = there;
+      stands = record { place = was.place; notes = was.notes; call = call; deadline = asked; entries = was.entries };
+      same_cores = length-set s.cores core None;
+      seats = omega (arith, left task, same_one task, at.placed_once task there, one);
+      others_seats = λ t differs. omega (arith, left t, other_none t task differs);
+      ready_order = at.waiting_lists.ready;
+      has_place = has_place;
+      waits = times-joined priorities list task task ∙ omega (arith, none, same_one task) ∙ sym (ap one_if (same_place-self place));
+      waits_elsewhere = λ other differs. ap one_if differs ∙ sym (waits_nowhere other (task_at s task).phase runs);
+      others_wait = λ t differs. omega (arith, times-joined priorities list t task, other_none t task differs);
+      waiting_order = IsInOrder-joined priorities list task (at.waiting_lists.waiting place);
+    } in
+    Stands-goes app D s task now place (set s.cores core None) s.ready (joined priorities list task) goes at
+
+-- ---- calls
+
+-- A call that can't be done.
+stands_blocked : (app : Application) (s : Snapshot) (core task : ℕ) (place : Place) (wait : Operand) → task < length s.tasks → 1 ≤ places_to_run (task_at s task).phase → core < length s.cores → core_at s core ≡ Some task
+    → HasPlace s place → place_of_call (instr_at app task (task_at s task).pc) ≡ Some place → (task_at s task).pc + 1 < length (code_of app task) → Stands app (all_ahead s.tick) s
+    → Stands app (all_ahead s.tick) (concluded (blocked (priorities_of app) s task place wait) core task)
+stands_blocked app s core task place wait there runs has_core e has_place call within at =
+    let deadline = deadline_of s task wait in
+    let priorities = priorities_of app in
+    let D = all_ahead s.tick in
+    let by_time : (b : Bool) → is_ahead s.tick deadline ≡ b → Stands app D (concluded (cond b (record { state = with_waiter priorities s place task; outcome = Waits place deadline }) (fails s)) core task) =
+    λ b. elim b as (λ b. is_ahead s.tick deadline ≡ b → Stands app D (concluded (cond b (record { state = with_waiter priorities s place task; outcome = Waits place deadline }) (fails s)) core task)) [
+      | true ↦ λ ahead. stands_waiting app D s core task place deadline there runs has_core e has_place call ahead at
+      | false ↦ λ past. stands_returned app D s task 0 there runs within tt at
+    ] in
+    by_time (is_ahead s.tick deadline) refl
+
+-- The call is done, somebody else may have been woken, and it returns.
+stands_passed : (app : Application) (tick : ℕ) (s p : Snapshot) (task answer : ℕ) → task < length s.tasks → 1 ≤ places_to_run (task_at s task).phase → (task_at s task).pc + 1 < length (code_of app task) → length s.tasks ≡ length app.scripts
+    → Wakes app (all_ahead tick) s p task → Stands app (all_ahead tick) (returned p task answer)
+stands_passed app tick s p task answer there runs within tasks wakes =
+    let same = wakes.same_caller in
+    stands_returned app (all_ahead tick) p task answer (omega (arith, there, tasks, wakes.stands.tasks)) (subst (λ (t : TaskSnapshot). 1 ≤ places_to_run t.phase) (sym same) runs)
+    (subst (λ (t : TaskSnapshot). t.pc + 1 < length (code_of app task)) (sym same) within) tt wakes.stands
+
+-- Who waits at a place is a task.
+waits_is_task : (s : Snapshot) (place : Place) (t : ℕ) → IsSized s → HasPlace s place → 1 ≤ times t (waiting_at s place) → t < length s.tasks
+waits_is_task s place t sized there some = member_has (λ t. t < length s.tasks) (waiting_at s place) t (list_sized s place sized there).0 some
+
+-- What a move knows: the state is valid, and this task runs on this core at an instruction that isn't its last.
+record Calls (app : Application) (s : Snapshot) (core task : ℕ) (instr : Instr) : Type 0 where
+  valid : IsValid app s
+  there : task < length s.tasks
+  runs : 1 ≤ places_to_run (task_at s task).phase
+  has_core : core < length s.cores
+  on_core : core_at s core ≡ Some task
+  stands_at : instr_at app task (task_at s task).pc ≡ instr
+  within : (task_at s task).pc + 1 < length (code_of app task)
+
+sends : (app : Application) (s : Snapshot) (core task queue : ℕ) (wait : Operand) → Calls app s core task (Send queue wait) → queue < length s.queues
+    → Stands app (all_ahead s.tick) (performed (priorities_of app) s core task (Send queue wait))
+sends app s core task queue wait calls there =
+    let priorities = priorities_of app in
+    let D = all_ahead s.tick in
+    let at = Stands-valid app s calls.valid in
+    let full = at_queue.Send queue in
+    let waiting = at_queue.Receive queue in
+    let items = items_at s queue ++ sent_item s task queue ∷ [] in
+    let p = put s task queue in
+    elim (is_full (queue_at s queue)) as (λ b. Stands app D (concluded (cond b (blocked priorities s task full wait) (passes (woken_first priorities p waiting))) core task)) [
+      | true ↦ stands_blocked app s core task full wait calls.there calls.runs calls.has_core calls.on_core there (ap place_of_call calls.stands_at) calls.within at
+      | false ↦ stands_passed app s.tick p (woken_first priorities p waiting) task 1 calls.there calls.runs calls.within at.tasks
+          (Wakes-first app D p waiting task
+          (λ t some. waits_is_task s waiting t calls.valid.in_limits.sized there (omega (arith, some, ap (times t) (waiting_put s p queue items waiting there refl))))
+          (λ t deadline. tt) calls.runs (Stands-items app D s queue items there at))
+    ]
+
+receives : (app : Application) (s : Snapshot) (core task queue : ℕ) (wait : Operand) → Calls app s core task (Receive queue wait) → queue < length s.queues
+    → Stands app (all_ahead s.tick) (performed (priorities_of app) s core task (Receive queue wait))
+receives app s core task queue wait calls there =
+    let priorities = priorities_of app in
+    let D = all_ahead s.tick in
+    let at = Stands-valid app s calls.valid in
+    let empty = at_queue.Receive queue in
+    let waiting = at_queue.Send queue in
+    let items = drop 1 (items_at s queue) in
+    let first = get_or (items_at s queue) 0 [] in
+    let left = with_queue s queue (with_items (queue_at s queue) items) in
+    let x = record (task_at s task) { bytes = first } in
+    let p = taken s task queue in
+    let is : task_at p task ≡ x = task_now left task x calls.there in
+    let same : length p.tasks ≡ length s.tasks = length-set s.tasks task x in
+    let runs : 1 ≤ places_to_run (task_at p task).phase = subst (λ (t : TaskSnapshot). 1 ≤ places_to_run t.phase) (sym is) calls.runs in
+    let within : (task_at p task).pc + 1 < length (code_of app task) = subst (λ (t : TaskSnapshot). t.pc + 1 < length (code_of app task)) (sym is) calls.within in
+    let stands_p : Stands app D p = stands_kept app D left task (task_at s task).registers first calls.there (Stands-items app D s queue items there at) in
+    elim (nat_eq (length (items_at s queue)) 0) as (λ b. Stands app D (concluded (cond b (blocked priorities s task empty wait) (passes (woken_first priorities p waiting))) core task)) [
+      | true ↦ stands_blocked app s core task empty wait calls.there calls.runs calls.has_core calls.on_core there (ap place_of_call calls.stands_at) calls.within at
+      | false ↦ stands_passed app s.tick p (woken_first priorities p waiting) task 1 (omega (arith, calls.there, same)) runs within stands_p.tasks
+          (Wakes-first app D p waiting task
+          (λ t some. subst (λ n. t < n) (sym same) (waits_is_task s waiting t calls.valid.in_limits.sized there (omega (arith, some, ap (times t) (waiting_put s p queue items waiting there refl)))))
+          (λ t deadline. tt) runs stands_p)
+    ]
+
+-- ---- a move of a core
+
+-- Every instruction leaves what stands.
+stands_after : (app : Application) (s : Snapshot) (core task : ℕ) (instr : Instr) → IsValid app s → task < length s.tasks → 1 ≤ places_to_run (task_at s task).phase → core < length s.cores → core_at s core ≡ Some task
+    → instr_at app task (task_at s task).pc ≡ instr → IsWithin app (length (code_of app task)) instr → (is_final instr ≡ false → (task_at s task).pc + 1 < length (code_of app task))
+    → length s.queues ≡ length app.queues → Stands app (all_ahead s.tick) (performed (priorities_of app) s core task instr)
+stands_after app s core task instr valid there runs has_core e is within next queues =
+    let D = all_ahead s.tick in
+    let at = Stands-valid app s valid in
+    let x = task_at s task in
+    let run : place_of_call instr ≡ None → x.phase ≡ Run = λ none. runs_here x.phase instr runs none (subst (StandsAtCall x.phase) is (at.each task there).call) in
+    let further : (registers bytes : List ℕ) → place_of_call instr ≡ None → is_final instr ≡ false → Stands app D (advanced (with_task s task (record x { registers = registers; bytes = bytes })) task) =
+    λ registers bytes none goes. stands_further app D s task registers bytes there (run none) (next goes) at in
+    let jumps : (target : ℕ) → place_of_call instr ≡ None → target < length (code_of app task) → Stands app D (with_pc s task target) =
+    λ target none inside. stands_at app D s task target there (run none) inside at in
+    let calls : is_final instr ≡ false → Calls app s core task instr = λ goes. record { valid = valid; there = there; runs = runs; has_core = has_core; on_core = e; stands_at = is; within = next goes } in
+    by_instr instr within next calls further jumps
+  where
+    -- the same by cases, with what each needs of the above
+    by_instr : (instr : Instr) → IsWithin app (length (code_of app task)) instr → (is_final instr ≡ false → (task_at s task).pc + 1 < length (code_of app task))
+        → (is_final instr ≡ false → Calls app s core task instr)
+        → ((registers bytes : List ℕ) → place_of_call instr ≡ None → is_final instr ≡ false → Stands app (all_ahead s.tick) (advanced (with_task s task (record (task_at s task) { registers = registers; bytes = bytes })) task))
+        → ((target : ℕ) → place_of_call instr ≡ None → target < length (code_of app task) → Stands app (all_ahead s.tick) (with_pc s task target))
+        → Stands app (all_ahead s.tick) (performed (priorities_of app) s core task instr)
+    by_instr (Set register value) within next calls further jumps = further (set (task_at s task).registers register value) (task_at s task).bytes refl refl
+    by_instr (Add register value) within next calls further jumps = further (set (task_at s task).registers register ((register_at s task register + value) % 2 ^ 32)) (task_at s task).bytes refl refl
+    by_instr (Move into from) within next calls further jumps = further (set (task_at s task).registers into (register_at s task from)) (task_at s task).bytes refl refl
+    by_instr (Data bytes) within next calls further jumps = further (task_at s task).registers bytes refl refl
+    by_instr (Pack register) within next calls further jumps = further (task_at s task).registers (to_le_bytes w32 (register_at s task register)) refl refl
+    by_instr (Unpack register) within next calls further jumps = further (set (task_at s task).registers register (unpacked s task)) (task_at s task).bytes refl refl
+    by_instr (Jump target) within next calls further jumps = jumps target refl within
+    by_instr (JumpZero register target) within next calls further jumps =
+        jumps _ refl (elim (nat_eq (register_at s task register) 0) as (λ b. cond b target ((task_at s task).pc + 1) < length (code_of app task)) [ true ↦ within.1 | false ↦ next refl ])
+    by_instr End within next calls further jumps = stands_ended app (all_ahead s.tick) s core task there runs has_core e tt (Stands-valid app s valid)
+    by_instr (Send queue wait) within next calls further jumps = sends app s core task queue wait (calls refl) (omega (arith, within.0, queues))
+    by_instr (Receive queue wait) within next calls further jumps = receives app s core task queue wait (calls refl) (omega (arith, within.0, queues))
 
 -- The last instruction of a script doesn't go on at the next.
 not_last : (app : Application) (script : TaskScript) (pc : ℕ) → IsScript app script → pc < length script.code → is_final (get_or script.code pc End) ≡ false → pc + 1 < length script.code
@@ -278,102 +315,160 @@ not_last app script pc ok within e =
           absurd (false≢true (sym e ∙ ap (λ k. is_final (get_or script.code k End)) last ∙ ok.ends))
     ]
 
--- What a move's instruction leaves stands.
-stands : (app : Application) (s : Snapshot) (core task : ℕ) → IsApplication app → IsValid app s → core < length s.cores → task < length s.tasks → core_at s core ≡ Some task
-    → Stands app s (performed s core task (next_instr app s task))
-stands app s core task limits valid there is_task e =
-    let pc = (task_at s task).pc in
+stands_moved : (app : Application) (s : Snapshot) (core task : ℕ) → IsApplication app → IsValid app s → core < length s.cores → core_at s core ≡ Some task
+    → Stands app (all_ahead s.tick) (performed (priorities_of app) s core task (next_instr app s task))
+stands_moved app s core task limits valid has_core e =
+    let there = is_task_on app s core task valid has_core e in
     let script = get_or app.scripts task (record { priority = 0; code = [] }) in
-    let instr = next_instr app s task in
-    let ok : IsScript app script = All-get_or (IsScript app) app.scripts task (record { priority = 0; code = [] }) (omega (arith, is_task, valid.in_limits.tasks)) limits.scripts in
-    let within = valid.in_limits.places task is_task in
+    let pc = (task_at s task).pc in
+    let ok : IsScript app script = All-get_or (IsScript app) app.scripts task (record { priority = 0; code = [] }) (omega (arith, there, valid.in_limits.tasks)) limits.scripts in
+    let within = valid.in_limits.places task there in
     let fits = All-get_or (IsWithin app (length script.code)) script.code pc End within ok.within in
-    let by_end : (b : Bool) → ends instr ≡ b → Stands app s (performed s core task instr) = λ b. elim b as (λ b. ends instr ≡ b → Stands app s (performed s core task instr)) [
-      | true ↦ λ last. subst (λ i. Stands app s (performed s core task i)) (sym (is_end instr last)) (stands_ended app s core task valid there is_task e)
-      | false ↦ λ goes. let on = goes_on app (length script.code) s core task instr is_task (runs app s core task valid there is_task e) fits (not_last app script pc ok within) goes in
-          stands_on app s (performed s core task instr) task on.0 valid is_task on.1 on.2
-    ] in
-    by_end (ends instr) refl
+    let queues : length s.queues ≡ length app.queues = sym (length-map s.queues shape_of) ∙ ap length valid.in_limits.queues in
+    stands_after app s core task (next_instr app s task) valid there (runs_on app s core task valid has_core e) has_core e refl fits (not_last app script pc ok within) queues
 
--- what holds of every task's entries, where the entries are as they were
-entries_kept : (s p : Snapshot) (P : List Entry → Type 0) → length p.tasks ≡ length s.tasks → ((t : ℕ) → t < length s.tasks → (task_at p t).entries ≡ (task_at s t).entries)
-    → All (λ (task : TaskSnapshot). P task.entries) s.tasks → All (λ (task : TaskSnapshot). P task.entries) p.tasks
-entries_kept s p P tasks same all = All-from_get_or (λ (task : TaskSnapshot). P task.entries) p.tasks no_task
-    (λ t h. let there : t < length s.tasks = omega (arith, h, tasks) in subst P (sym (same t there)) (All-get_or (λ (task : TaskSnapshot). P task.entries) s.tasks t no_task there all))
+-- An instruction leaves the tick.
+woken_first-tick : (priorities : List ℕ) (s : Snapshot) (place : Place) → (woken_first priorities s place).tick ≡ s.tick
+woken_first-tick priorities s place = elim (slice_get (waiting_at s place) 0) as (λ o. (woken_one priorities s o).tick ≡ s.tick) [
+  | None ↦ refl
+  | Some t ↦ woken_from-tick priorities s t (task_at s t).phase
+]
 
--- What stands stays valid, whoever is seated then.
-valid_seated : (app : Application) (s p z : Snapshot) → 0 < length p.cores → IsValid app s → Stands app s p → SeatsKept (priorities_of app) (seating_of p) (seating_of z) → z.tasks ≡ p.tasks → z.queues ≡ p.queues → IsSized z → IsValid app z
-valid_seated app s p z some valid at kept tasks queues sized =
-    let same : length z.tasks ≡ length s.tasks = ap length tasks ∙ at.tasks in
-    let is : (t : ℕ) → task_at z t ≡ task_at p t = λ t. ap (λ (ts : List TaskSnapshot). get_or ts t no_task) tasks in
-    let entries : (t : ℕ) → t < length s.tasks → (task_at z t).entries ≡ (task_at s t).entries = λ t h. ap (λ (x : TaskSnapshot). x.entries) (is t) ∙ at.entries t h in
-    let waiting : (place : Place) → waiting_at z place ≡ waiting_at s place = λ place. same_waiting s z place (ap (map bare) queues ∙ at.queues) in
-    record {
-      in_limits = record {
-        sized = sized;
-        cores = kept.cores ∙ at.cores ∙ valid.in_limits.cores;
-        tasks = same ∙ valid.in_limits.tasks;
-        places = λ t h. subst (λ (x : TaskSnapshot). x.pc < length (code_of app t)) (sym (is t)) (at.places t (omega (arith, h, same)));
-        entries = entries_kept s z (λ entries. length entries ≡ app.notes) same entries valid.in_limits.entries;
-        queues = ap (map shape_of) queues ∙ bare_shapes p.queues ∙ ap (map shape_of) at.queues ∙ sym (bare_shapes s.queues) ∙ valid.in_limits.queues;
-      };
-      placed_once = λ t h. kept.seats t ∙ at.placed t (omega (arith, h, same)) ∙ ap (λ (x : TaskSnapshot). places_to_run x.phase) (sym (is t));
-      waiting_lists = record {
-        ready = kept.order (subst (IsInOrder (priorities_of app)) (sym at.ready) valid.waiting_lists.ready);
-        waiting = λ place. subst (IsInOrder (priorities_of app)) (sym (waiting place)) (valid.waiting_lists.waiting place);
-      };
-      places = λ place t h. ap (times t) (waiting place) ∙ at.waits place t (omega (arith, h, same)) ∙ ap (λ (x : TaskSnapshot). waits_at place x.phase) (sym (is t));
-      entries = entries_kept s z (All IsNotWaiting) same entries valid.entries;
-    }
+blocked-tick : (priorities : List ℕ) (s : Snapshot) (core task : ℕ) (place : Place) (wait : Operand) → (concluded (blocked priorities s task place wait) core task).tick ≡ s.tick
+blocked-tick priorities s core task place wait =
+    elim (may_wait s task wait) as (λ b. (concluded (cond b (record { state = with_waiter priorities s place task; outcome = Waits place (deadline_of s task wait) }) (fails s)) core task).tick ≡ s.tick) [ true ↦ refl | false ↦ refl ]
+
+performed-tick : (priorities : List ℕ) (s : Snapshot) (core task : ℕ) (instr : Instr) → (performed priorities s core task instr).tick ≡ s.tick
+performed-tick priorities s core task (Set register value) = refl
+performed-tick priorities s core task (Add register value) = refl
+performed-tick priorities s core task (Move into from) = refl
+performed-tick priorities s core task (Data bytes) = refl
+performed-tick priorities s core task (Pack register) = refl
+performed-tick priorities s core task (Unpack register) = refl
+performed-tick priorities s core task (Jump target) = refl
+performed-tick priorities s core task (JumpZero register target) = refl
+performed-tick priorities s core task End = refl
+performed-tick priorities s core task (Send queue wait) =
+    elim (is_full (queue_at s queue)) as (λ b. (concluded (cond b (blocked priorities s task (at_queue.Send queue) wait) (passes (woken_first priorities (put s task queue) (at_queue.Receive queue)))) core task).tick ≡ s.tick) [
+      | true ↦ blocked-tick priorities s core task (at_queue.Send queue) wait
+      | false ↦ woken_first-tick priorities (put s task queue) (at_queue.Receive queue)
+    ]
+performed-tick priorities s core task (Receive queue wait) =
+    elim (nat_eq (length (items_at s queue)) 0) as (λ b. (concluded (cond b (blocked priorities s task (at_queue.Receive queue) wait) (passes (woken_first priorities (taken s task queue) (at_queue.Send queue)))) core task).tick ≡ s.tick) [
+      | true ↦ blocked-tick priorities s core task (at_queue.Receive queue) wait
+      | false ↦ woken_first-tick priorities (taken s task queue) (at_queue.Send queue)
+    ]
 
 pub IsValid-step : (app : Application) (s s' : Snapshot) (core task : ℕ) → IsApplication app → IsValid app s → core < length s.cores → core_at s core ≡ Some task
     → s' ≡ core_step app s core task → IsSized s' → IsValid app s'
 IsValid-step app s s' core task limits valid there e same sized =
-    let is_task = subst (IsTaskOrIdle (length s.tasks)) e (All-get_or (IsTaskOrIdle (length s.tasks)) s.cores core None there valid.in_limits.sized.cores) in
-    let p = performed s core task (next_instr app s task) in
-    let at = stands app s core task limits valid there is_task e in
-    let some : 0 < length p.cores = omega (arith, there, at.cores) in
-    let kept : SeatsKept (priorities_of app) (seating_of p) (seating_of (core_step app s core task)) = kept_settled (priorities_of app) (record p { turn = core + 1 }) some in
-    subst (λ (t : Snapshot). IsSized t → IsValid app t) (sym same) (valid_seated app s p (core_step app s core task) some valid at kept refl refl) sized
-
--- A tick changes no task.
-stands_ticked : (app : Application) (s : Snapshot) → IsValid app s → Stands app s (ticked s)
-stands_ticked app s valid = record {
-  cores = refl;
-  tasks = refl;
-  places = valid.in_limits.places;
-  entries = λ t h. refl;
-  queues = refl;
-  ready = refl;
-  waits = valid.places;
-  placed = valid.placed_once;
-}
-
-pub IsValid-tick : (app : Application) (s s' : Snapshot) → IsApplication app → IsValid app s → s' ≡ tick_step app s → IsSized s' → IsValid app s'
-IsValid-tick app s s' limits valid same sized =
     let priorities = priorities_of app in
-    let some : 0 < length s.cores = omega (arith, limits.some_cores, valid.in_limits.cores) in
-    let core = (s.tick + 1) % length s.cores in
-    let settles : SeatsKept priorities (seating_of (ticked s)) (seating_of (settled priorities (ticked s))) = kept_settled priorities (ticked s) some in
-    let there : core < length (settled priorities (ticked s)).cores = omega (arith, settles.cores, mod-lt (s.tick + 1) some) in
-    let rotates : SeatsKept priorities (seating_of (settled priorities (ticked s))) (seating_of (tick_step app s)) = kept_rotated priorities core (settled priorities (ticked s)) there in
-    let kept = kept_then priorities (seating_of (ticked s)) (seating_of (settled priorities (ticked s))) (seating_of (tick_step app s)) settles rotates in
-    subst (λ (t : Snapshot). IsSized t → IsValid app t) (sym same) (valid_seated app s (ticked s) (tick_step app s) some valid (stands_ticked app s valid) kept refl refl) sized
+    let p = performed priorities s core task (next_instr app s task) in
+    let z = core_step app s core task in
+    let at = stands_moved app s core task limits valid there e in
+    let some : 0 < length p.cores = omega (arith, limits.some_cores, at.cores) in
+    let kept : SeatsKept priorities (seating_of p) (seating_of z) = kept_settled priorities (record p { turn = core + 1 }) some in
+    let stands_z = Stands-seats app (all_ahead s.tick) p z kept refl refl at in
+    let tick : s.tick ≡ z.tick = sym (performed-tick priorities s core task (next_instr app s task)) in
+    subst (λ (t : Snapshot). IsSized t → IsValid app t) (sym same) (IsValid-stands app z (subst (λ t. Stands app (all_ahead t) z) tick stands_z)) sized
 
 -- A move ends in a settled state.
 pub IsSettled-step : (app : Application) (s s' : Snapshot) (core task : ℕ) → IsApplication app → IsValid app s → core < length s.cores → core_at s core ≡ Some task → s' ≡ core_step app s core task → IsSettled (priorities_of app) s'
 IsSettled-step app s s' core task limits valid there e same =
     let priorities = priorities_of app in
-    let is_task = subst (IsTaskOrIdle (length s.tasks)) e (All-get_or (IsTaskOrIdle (length s.tasks)) s.cores core None there valid.in_limits.sized.cores) in
-    let p = performed s core task (next_instr app s task) in
-    let at = stands app s core task limits valid there is_task e in
-    let order : IsInOrder priorities p.ready = subst (IsInOrder priorities) (sym at.ready) valid.waiting_lists.ready in
-    subst (IsSettled priorities) (sym same) (settles priorities (record p { turn = core + 1 }) (omega (arith, there, at.cores)) order).settled_now
+    let p = performed priorities s core task (next_instr app s task) in
+    let at = stands_moved app s core task limits valid there e in
+    subst (IsSettled priorities) (sym same) (settles priorities (record p { turn = core + 1 }) (omega (arith, limits.some_cores, at.cores)) at.waiting_lists.ready).settled_now
+
+-- ---- a tick
+
+-- What stands in the middle of a tick, when so many tasks were looked at.
+pub stands_timed_out : (app : Application) (s : Snapshot) (n : ℕ) → IsValid app s → n ≤ length s.tasks → TimedOut app n (record s { tick = s.tick + 1 }) (timed_out (priorities_of app) n (record s { tick = s.tick + 1 }))
+stands_timed_out app s n valid few =
+    let now : Snapshot = record s { tick = s.tick + 1 } in
+    let none : Stands app (ahead_below now.tick 0) s = Stands-deadlines app (all_ahead s.tick) (ahead_below now.tick 0) s (λ t h was below. absurd (omega (arith, below))) (Stands-valid app s valid) in
+    TimedOut-so_far app n now few (Stands-seats app (ahead_below now.tick 0) s now (record { cores = refl; seats = λ task. refl; order = λ h. h }) refl refl none)
+
+stands_ticked : (app : Application) (s : Snapshot) → IsValid app s → Stands app (all_ahead (s.tick + 1)) (ticked (priorities_of app) s)
+stands_ticked app s valid =
+    let done = stands_timed_out app s (length s.tasks) valid (omega arith) in
+    let p = ticked (priorities_of app) s in
+    Stands-deadlines app (ahead_below (s.tick + 1) (length s.tasks)) (all_ahead (s.tick + 1)) p (λ t h below. below (omega (arith, h, done.stands.tasks, valid.in_limits.tasks))) done.stands
+
+pub IsValid-tick : (app : Application) (s s' : Snapshot) → IsApplication app → IsValid app s → s' ≡ tick_step app s → IsSized s' → IsValid app s'
+IsValid-tick app s s' limits valid same sized =
+    let priorities = priorities_of app in
+    let p = ticked priorities s in
+    let z = tick_step app s in
+    let core = (s.tick + 1) % length s.cores in
+    let at = stands_ticked app s valid in
+    let some : 0 < length s.cores = omega (arith, limits.some_cores, valid.in_limits.cores) in
+    let some_p : 0 < length p.cores = omega (arith, limits.some_cores, at.cores) in
+    let settles : SeatsKept priorities (seating_of p) (seating_of (settled priorities p)) = kept_settled priorities p some_p in
+    let there : core < length (settled priorities p).cores = omega (arith, settles.cores, at.cores, valid.in_limits.cores, mod-lt (s.tick + 1) some) in
+    let rotates : SeatsKept priorities (seating_of (settled priorities p)) (seating_of z) = kept_rotated priorities core (settled priorities p) there in
+    let kept = kept_then priorities (seating_of p) (seating_of (settled priorities p)) (seating_of z) settles rotates in
+    let stands_z = Stands-seats app (all_ahead (s.tick + 1)) p z kept refl refl at in
+    let tick : s.tick + 1 ≡ z.tick = sym (stands_timed_out app s (length s.tasks) valid (omega arith)).tick in
+    subst (λ (t : Snapshot). IsSized t → IsValid app t) (sym same) (IsValid-stands app z (subst (λ t. Stands app (all_ahead t) z) tick stands_z)) sized
 
 pub IsSettled-tick : (app : Application) (s s' : Snapshot) → IsApplication app → IsValid app s → s' ≡ tick_step app s → IsSettled (priorities_of app) s'
 IsSettled-tick app s s' limits valid same =
     let priorities = priorities_of app in
+    let p = ticked priorities s in
+    let core = (s.tick + 1) % length s.cores in
+    let at = stands_ticked app s valid in
     let some : 0 < length s.cores = omega (arith, limits.some_cores, valid.in_limits.cores) in
-    let kept : SeatsKept priorities (seating_of (ticked s)) (seating_of (settled priorities (ticked s))) = kept_settled priorities (ticked s) some in
-    let there : (s.tick + 1) % length s.cores < length (settled priorities (ticked s)).cores = omega (arith, kept.cores, mod-lt (s.tick + 1) some) in
-    subst (IsSettled priorities) (sym same) (stays_settled priorities ((s.tick + 1) % length s.cores) (settled priorities (ticked s)) there (settles priorities (ticked s) some valid.waiting_lists.ready).settled_now)
+    let some_p : 0 < length p.cores = omega (arith, limits.some_cores, at.cores) in
+    let kept : SeatsKept priorities (seating_of p) (seating_of (settled priorities p)) = kept_settled priorities p some_p in
+    let there : core < length (settled priorities p).cores = omega (arith, kept.cores, at.cores, valid.in_limits.cores, mod-lt (s.tick + 1) some) in
+    subst (IsSettled priorities) (sym same) (stays_settled priorities core (settled priorities p) there (settles priorities p some_p at.waiting_lists.ready).settled_now)
+
+-- ---- room
+
+pub room_in_list : (app : Application) (s : Snapshot) (task : ℕ) (place : Place) → IsValid app s → task < length s.tasks → 1 ≤ places_to_run (task_at s task).phase → HasPlace s place → length (waiting_at s place) < length s.tasks
+room_in_list app s task place valid there runs has_place =
+    room_for (waiting_at s place) (length s.tasks) task (list_sized s place valid.in_limits.sized has_place).0
+    (λ t h. omega (arith, valid.places place t h, waits_once place (task_at s t).phase)) there (valid.places place task there ∙ waits_nowhere place (task_at s task).phase runs)
+
+runs_once : (phase : Phase) → places_to_run phase ≤ 1
+runs_once Run = omega arith
+runs_once (Again deadline) = omega arith
+runs_once (Wait place deadline) = omega arith
+runs_once Ended = omega arith
+
+-- The ready list has room for a task that can't run.
+pub room_in_ready : (app : Application) (D : ℕ → Phase → Type 0) (s : Snapshot) (task : ℕ) → Stands app D s → IsSized s → task < length s.tasks → places_to_run (task_at s task).phase ≡ 0 → length s.ready < length s.tasks
+room_in_ready app D s task at sized there idle =
+    room_for s.ready (length s.tasks) task sized.ready (λ t h. omega (arith, at.placed_once t h, runs_once (task_at s t).phase)) there (omega (arith, at.placed_once task there, idle))
+
+waits_idle : (place : Place) (phase : Phase) → 1 ≤ waits_at place phase → places_to_run phase ≡ 0
+waits_idle place Run h = absurd (omega (arith, h))
+waits_idle place (Again deadline) h = absurd (omega (arith, h))
+waits_idle place (Wait at deadline) h = refl
+waits_idle place Ended h = absurd (omega (arith, h))
+
+pub due_idle : (tick : ℕ) (phase : Phase) → is_due tick phase ≡ true → places_to_run phase ≡ 0
+due_idle tick Run e = cc
+due_idle tick (Again deadline) e = cc
+due_idle tick (Wait place deadline) e = refl
+due_idle tick Ended e = cc
+
+first_waits : (tasks : List ℕ) → 0 < length tasks → (task : ℕ) × (1 ≤ times task tasks)
+first_waits [] some = absurd (omega (arith, some))
+first_waits (first ∷ rest) some = (first, omega (arith, times-cons first first rest, same_one first))
+
+pub room_for_first : (app : Application) (s : Snapshot) (place : Place) → IsValid app s → HasPlace s place → 0 < length (waiting_at s place) → length s.ready < length s.tasks
+room_for_first app s place valid has_place some =
+    let first = first_waits (waiting_at s place) some in
+    let there = waits_is_task s place first.0 valid.in_limits.sized has_place first.1 in
+    room_in_ready app (all_ahead s.tick) s first.0 (Stands-valid app s valid) valid.in_limits.sized there
+    (waits_idle place (task_at s first.0).phase (omega (arith, first.1, valid.places place first.0 there)))
+
+-- In the middle of a tick, there is room for a task whose time is up.
+pub room_when_due : (app : Application) (s now : Snapshot) (task : ℕ) → IsValid app s → task < length s.tasks → now ≡ timed_out (priorities_of app) task (record s { tick = s.tick + 1 }) → IsSized now
+    → is_due now.tick (task_at now task).phase ≡ true → length now.ready < length now.tasks
+room_when_due app s now task valid there e sized due =
+    let so_far = stands_timed_out app s task valid (omega (arith, there)) in
+    let at = subst (Stands app (ahead_below (s.tick + 1) task)) (sym e) so_far.stands in
+    room_in_ready app (ahead_below (s.tick + 1) task) now task at sized (omega (arith, there, at.tasks, valid.in_limits.tasks)) (due_idle now.tick (task_at now task).phase due)

@@ -1,4 +1,5 @@
 pub mod Tasks
+pub mod Waking
 pub mod Outcomes
 pub mod Local
 pub mod Step

@@ -26,8 +26,8 @@ local_step s core task (Unpack register) = advanced (with_register s task regist
 local_step s core task (Jump target) = with_pc s task target
 local_step s core task (JumpZero register target) = with_pc s task (if nat_eq (register_at s task register) 0 then target else (task_at s task).pc + 1)
 local_step s core task End = off_core (with_phase s task Ended) core
-local_step s core task (Send queue) = s
-local_step s core task (Receive queue) = s
+local_step s core task (Send queue wait) = s
+local_step s core task (Receive queue wait) = s
 
 -- The registers that a local instruction names are there, and its bytes fit a task's data.
 abbrev pub NamesRegisters : Instr → Type 0
@@ -40,5 +40,5 @@ NamesRegisters (Unpack register) = register < 8
 NamesRegisters (Jump target) = Unit {0}
 NamesRegisters (JumpZero register target) = register < 8
 NamesRegisters End = Unit {0}
-NamesRegisters (Send queue) = Unit {0}
-NamesRegisters (Receive queue) = Unit {0}
+NamesRegisters (Send queue wait) = Unit {0}
+NamesRegisters (Receive queue wait) = Unit {0}

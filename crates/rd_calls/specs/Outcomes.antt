@@ -1,14 +1,20 @@
--- What a kernel call does and answers. No call waits yet: a queue that can't serve answers 0.
+-- What a kernel call does, and what becomes of its caller.
 use Rattle.std.specs.Prelude.{ℕ, ◌≡◌, ◌+◌, ◌∷◌, ◌++◌, [], List, length, drop, slice_index_or, nat_eq, if◌then◌else◌, Bool}
 use Rattle.rd_queue.specs.QueueSnapshot.{QueueSnapshot}
 use Rattle.rd_queue.specs.Queues.{fitted, with_items}
-use Rattle.rd_script.specs.declared.phase.Phase.TheVariants.{Run}
+use Rattle.rd_script.specs.declared.instr.Operand.{Operand}
+use Rattle.rd_script.specs.declared.phase.Phase.TheVariants.{Run, Wait}
+use Rattle.rd_script.specs.declared.phase.Place.{Place}
+use Rattle.rd_script.specs.declared.phase.Place.TheVariants.{Receive, Send}
 use Rattle.rd_state.specs.Snapshot.{Snapshot, task_at, queue_at}
 use Rattle.rd_state.specs.Change.{with_queue, items_at}
 use Rattle.rd_state.specs.Edit.{Edit, Comes}
+use Rattle.rd_state.specs.Sizes.{IsSizedPhase}
+use Rattle.rd_calls.specs.Local.{off_core}
 use Rattle.rd_calls.specs.Tasks.{with_register, with_pc, with_bytes, with_phase}
 use Rattle.rd_calls.specs.declared.outcome.Outcome.{Outcome}
-use Rattle.rd_calls.specs.declared.outcome.Outcome.TheVariants.{Returns}
+use Rattle.rd_calls.specs.declared.outcome.Outcome.TheVariants.{Returns, Waits}
+use Rattle.rd_calls.specs.Waking.{deadline_of, may_wait, with_waiter, woken_first}
 
 -- the state that a call leaves, and what becomes of the caller
 pub record Called : Type 0 where
@@ -22,6 +28,12 @@ passes s = record { state = s; outcome = Returns 1 }
 abbrev pub fails : Snapshot → Called
 fails s = record { state = s; outcome = Returns 0 }
 
+-- A call that can't be done waits at a place, where its block time lasts, and else fails.
+abbrev pub blocked : List ℕ → Snapshot → ℕ → Place → Operand → Called
+blocked priorities s task place wait =
+    if may_wait s task wait then record { state = with_waiter priorities s place task; outcome = Waits place (deadline_of s task wait) }
+    else fails s
+
 -- Is every place taken?
 abbrev pub is_full : QueueSnapshot → Bool
 is_full queue = nat_eq (length queue.items) queue.capacity
@@ -30,29 +42,47 @@ is_full queue = nat_eq (length queue.items) queue.capacity
 abbrev pub sent_item : Snapshot → ℕ → ℕ → List ℕ
 sent_item s task queue = fitted (queue_at s queue).item_size (task_at s task).bytes
 
--- xQueueSend, xQueueSendToBack: the item goes to the back, where there is room
-abbrev pub send_outcome : Snapshot → ℕ → ℕ → Called
-send_outcome s task queue =
-    if is_full (queue_at s queue) then fails s
-    else passes (with_queue s queue (with_items (queue_at s queue) (items_at s queue ++ sent_item s task queue ∷ [])))
+-- the item at a queue's back
+abbrev pub put : Snapshot → ℕ → ℕ → Snapshot
+put s task queue = with_queue s queue (with_items (queue_at s queue) (items_at s queue ++ sent_item s task queue ∷ []))
 
--- xQueueReceive: the item at the front leaves and becomes the caller's data, where there is one
-abbrev pub receive_outcome : Snapshot → ℕ → ℕ → Called
-receive_outcome s task queue =
-    if nat_eq (length (items_at s queue)) 0 then fails s
-    else passes (with_bytes (with_queue s queue (with_items (queue_at s queue) (drop 1 (items_at s queue)))) task (slice_index_or (items_at s queue) 0 []))
+-- a queue's first item as the task's data
+abbrev pub taken : Snapshot → ℕ → ℕ → Snapshot
+taken s task queue = with_bytes (with_queue s queue (with_items (queue_at s queue) (drop 1 (items_at s queue)))) task (slice_index_or (items_at s queue) 0 [])
+
+-- xQueueSend, xQueueSendToBack: where there is room, the item goes to the back, and the first who waits for one is
+-- woken. It isn't handed the item: it tries again when it runs.
+abbrev pub send_outcome : List ℕ → Snapshot → ℕ → ℕ → Operand → Called
+send_outcome priorities s task queue wait =
+    if is_full (queue_at s queue) then blocked priorities s task (Send queue) wait
+    else passes (woken_first priorities (put s task queue) (Receive queue))
+
+-- xQueueReceive: where there is an item, the one at the front leaves and becomes the caller's data, and the first who
+-- waits for a free place is woken
+abbrev pub receive_outcome : List ℕ → Snapshot → ℕ → ℕ → Operand → Called
+receive_outcome priorities s task queue wait =
+    if nat_eq (length (items_at s queue)) 0 then blocked priorities s task (Receive queue) wait
+    else passes (woken_first priorities (taken s task queue) (Send queue))
 
 -- the caller after its call: the answer stands in r0 and the script goes on
 abbrev pub returned : Snapshot → ℕ → ℕ → Snapshot
-returned s task answer = with_phase (with_pc (with_register s task 0 answer) task ((task_at s task).pc + 1)) task Run
+returned s task answer = with_pc (with_phase (with_register s task 0 answer) task Run) task ((task_at s task).pc + 1)
 
-abbrev pub concluded : Called → ℕ → Snapshot
-concluded called task = concluded_as called.state task called.outcome
+-- and where it waits: it has left its core
+abbrev pub concluded : Called → ℕ → ℕ → Snapshot
+concluded called core task = concluded_as called.state core task called.outcome
   where
-    concluded_as : Snapshot → ℕ → Outcome → Snapshot
-    concluded_as s task (Returns answer) = returned s task answer
+    concluded_as : Snapshot → ℕ → ℕ → Outcome → Snapshot
+    concluded_as s core task (Returns answer) = returned s task answer
+    concluded_as s core task (Waits place deadline) = off_core (with_phase s task (Wait place deadline)) core
+
+-- A task that is to wait, waits at a place that is there, until a deadline that is one.
+abbrev pub IsSizedOutcome : ℕ → Outcome → Type 0
+IsSizedOutcome queues (Returns answer) = Unit {0}
+IsSizedOutcome queues (Waits place deadline) = IsSizedPhase queues (Wait place deadline)
 
 -- The call has been done, at that cost at the most, and this became of the caller.
 pub record DoesCall (old new : Edit) (called : Called) (cost : ℕ) (outcome : Outcome) : Type 0 where
   pub comes : Comes old new called.state cost
   pub becomes : outcome ≡ called.outcome
+  pub sized : IsSizedOutcome (length new.now.queues) outcome

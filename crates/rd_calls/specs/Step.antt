@@ -2,23 +2,24 @@
 use Rattle.std.specs.Prelude.{ℕ, ◌+◌, ◌*◌, ◌%◌, ◌<◌, ◌≤◌, List, length, drop, position, nat_lt, if◌then◌else◌, Option, None, Some, is_some, Result, Ok, Err}
 use Rattle.rd_script.specs.declared.instr.Instr.{Instr}
 use Rattle.rd_script.specs.declared.instr.Instr.TheVariants.{Send, Receive}
-use Rattle.rd_script.specs.Application.{Application, instr_at, priorities_of}
+use Rattle.rd_script.specs.Application.{Application, IsOperand, instr_at, priorities_of}
 use Rattle.rd_state.specs.declared.change.Change.{Change}
 use Rattle.rd_state.specs.Change.{weight_of}
 use Rattle.rd_state.specs.Settled.{settled, rotated}
 use Rattle.rd_state.specs.Snapshot.{Snapshot, task_at, core_at}
 use Rattle.rd_calls.specs.Local.{local_step, NamesRegisters}
 use Rattle.rd_calls.specs.Outcomes.{concluded, send_outcome, receive_outcome}
+use Rattle.rd_calls.specs.Waking.{timed_out}
 use Rattle.rd_calls.specs.declared.moves.Move.{Move}
 use Rattle.rd_calls.specs.declared.moves.Move.TheVariants.{Core, Tick}
 use Rattle.rd_calls.specs.declared.moves.PlayError.{PlayError}
 use Rattle.rd_calls.specs.declared.moves.PlayError.TheVariants.{NoTask, TickLimit}
 
 -- the state after an instruction of the task on a core
-abbrev pub performed : Snapshot → ℕ → ℕ → Instr → Snapshot
-performed s core task (Send queue) = concluded (send_outcome s task queue) task
-performed s core task (Receive queue) = concluded (receive_outcome s task queue) task
-performed s core task instr = local_step s core task instr
+abbrev pub performed : List ℕ → Snapshot → ℕ → ℕ → Instr → Snapshot
+performed priorities s core task (Send queue wait) = concluded (send_outcome priorities s task queue wait) core task
+performed priorities s core task (Receive queue wait) = concluded (receive_outcome priorities s task queue wait) core task
+performed priorities s core task instr = local_step s core task instr
 
 -- the instruction that a task stands at
 abbrev pub next_instr : Application → Snapshot → ℕ → Instr
@@ -26,20 +27,21 @@ next_instr app s task = instr_at app task (task_at s task).pc
 
 -- The task on the core does its instruction, the turn goes to the core after it, and the scheduler runs.
 abbrev pub core_step : Application → Snapshot → ℕ → ℕ → Snapshot
-core_step app s core task = settled (priorities_of app) (record (performed s core task (next_instr app s task)) { turn = core + 1 })
+core_step app s core task = settled (priorities_of app) (record (performed (priorities_of app) s core task (next_instr app s task)) { turn = core + 1 })
 
 -- an idle core has no task that could
 abbrev pub step_of_core : Application → Snapshot → ℕ → Option ℕ → Result Snapshot PlayError
 step_of_core app s core None = Err NoTask
 step_of_core app s core (Some task) = Ok (core_step app s core task)
 
--- A tick passes, the scheduler runs, and then tasks of one priority take turns on one of the cores, each core in its
--- turn. The turn goes to core 0.
-abbrev pub ticked : Snapshot → Snapshot
-ticked s = record s { tick = s.tick + 1 }
+-- A tick passes, and tasks whose time is up are woken.
+abbrev pub ticked : List ℕ → Snapshot → Snapshot
+ticked priorities s = timed_out priorities (length s.tasks) (record s { tick = s.tick + 1 })
 
+-- Then the scheduler runs, and tasks of one priority take turns on one of the cores, each core in its turn. The turn
+-- goes to core 0.
 abbrev pub tick_step : Application → Snapshot → Snapshot
-tick_step app s = record (rotated (priorities_of app) ((s.tick + 1) % length s.cores) (settled (priorities_of app) (ticked s))) { turn = 0 }
+tick_step app s = record (rotated (priorities_of app) ((s.tick + 1) % length s.cores) (settled (priorities_of app) (ticked (priorities_of app) s))) { turn = 0 }
 
 -- the last tick that there is
 abbrev pub last_tick : ℕ
@@ -73,6 +75,6 @@ IsSmall s move changes = weight_of changes ≤ 4 * length s.tasks + 6 * length s
 
 -- The registers and queues that an instruction names are there.
 abbrev pub NamesParts : ℕ → Instr → Type 0
-NamesParts queues (Send queue) = queue < queues
-NamesParts queues (Receive queue) = queue < queues
+NamesParts queues (Send queue wait) = (queue < queues) × IsOperand wait
+NamesParts queues (Receive queue wait) = (queue < queues) × IsOperand wait
 NamesParts queues instr = NamesRegisters instr

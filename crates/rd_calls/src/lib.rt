@@ -8,5 +8,7 @@ mod perform;
 pub mod play;
 pub mod policy;
 mod queues;
+mod room;
 mod steps;
 mod tick;
+mod waking;

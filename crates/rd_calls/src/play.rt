@@ -5,6 +5,7 @@ ghost use Rattle.rd_state.specs.Settled.{IsSettled};
 ghost use Rattle.rd_state.specs.Snapshot.{core_at};
 ghost use Rattle.rd_state.specs.Undoing.{undone, CanUndo};
 ghost use Rattle.rd_state.specs.Valid.{IsValid};
+ghost use Rattle.rd_calls.specs.Waking.{FirstTriesWait};
 ghost use Rattle.rd_calls.specs.Step.{step, core_step, tick_step, last_tick, IsMoveOf, IsSmall};
 
 use crate::moves::{Move, PlayError};
@@ -50,7 +51,7 @@ fn play_task(
     ensures state { OnOk result (state.new ≡ core_step app.now state.old core task) }
     ensures undone { IfOk result (λ undo. undone state.new undo ≡ state.old) }
     ensures can_undo { IfOk result (λ undo. CanUndo state.new undo) }
-    ensures small { IfOk result (λ undo. weight_of undo ≤ 326 + 3 * length state.old.cores) }
+    ensures small { IfOk result (λ undo. weight_of undo ≤ 329 + 3 * length state.old.cores) }
     ensures err { OnErr result (state.new ≡ state.old) }
     ensures valid { OnOk result (IsValid app.now state.new) }
     ensures settled { OnOk result (IsSettled (priorities_of app.now) state.new) }
@@ -70,7 +71,7 @@ fn play_tick(alloc: Global, state: &mut State, app: &App) -> Result<Undo, NoMemo
     ensures state { OnOk result (state.new ≡ tick_step app.now state.old) }
     ensures undone { IfOk result (λ undo. undone state.new undo ≡ state.old) }
     ensures can_undo { IfOk result (λ undo. CanUndo state.new undo) }
-    ensures small { IfOk result (λ undo. weight_of undo ≤ 5 + 3 * length state.old.cores) }
+    ensures small { IfOk result (λ undo. weight_of undo ≤ 5 + 3 * length state.old.tasks + 3 * length state.old.cores) }
     ensures err { OnErr result (state.new ≡ state.old) }
     ensures valid { OnOk result (IsValid app.now state.new) }
     ensures settled { OnOk result (IsSettled (priorities_of app.now) state.new) }
@@ -113,3 +114,8 @@ pub fn play(alloc: Global, state: &mut State, app: &App, action: Move) -> Result
         Move::Tick => play_tick(alloc, state, app).map_err(|_| PlayError::NoMemory),
     }
 }
+
+/// A call that is tried for the first time waits exactly where its block time isn't 0, if it can't be done.
+pub fn first_tries_wait()
+    ensures { FirstTriesWait }
+{}

@@ -2,6 +2,7 @@
 ghost use Rattle.std.specs.Prelude.{◌≡◌, ◌+◌, ◌<◌, ◌≤◌, length, OnOk, OnErr};
 ghost use Rattle.rd_script.specs.declared.phase.Phase.TheVariants.{Run};
 ghost use Rattle.rd_state.specs.Edit.{Comes};
+ghost use Rattle.rd_state.specs.Sizes.{IsSizedPhase};
 ghost use Rattle.rd_state.specs.Snapshot.{task_at};
 ghost use Rattle.rd_calls.specs.Tasks.{with_register, with_pc, with_bytes, with_phase, advanced};
 ghost use Rattle.rd_calls.specs.Outcomes.{returned};
@@ -71,7 +72,8 @@ pub fn advance(editing: &mut Editing, task: usize) -> Result<(), NoMemory>
 
 /// Puts a task into another phase.
 pub fn set_phase(editing: &mut Editing, task: usize, phase: Phase) -> Result<(), NoMemory>
-    requires { task < length editing.old.now.tasks }
+    requires task { task < length editing.old.now.tasks }
+    requires sized { IsSizedPhase (length editing.old.now.queues) phase }
     ensures ok { OnOk result (Comes editing.old editing.new (with_phase editing.old.now task phase) 1) }
     ensures err { OnErr result (editing.new.base ≡ editing.old.base) }
 {
@@ -87,8 +89,8 @@ pub fn return_from(editing: &mut Editing, task: usize, answer: u32) -> Result<()
 {
     let pc = editing.state().task(task).pc();
     set_register(editing, task, 0, answer)?;
-    set_pc(editing, task, pc + 1)?;
-    set_phase(editing, task, Phase::Run)
+    set_phase(editing, task, Phase::Run)?;
+    set_pc(editing, task, pc + 1)
 }
 
 /// Gives the turn to this core, if it hasn't it.

@@ -1,22 +1,20 @@
 -- Answers to lines, by the command that the line spells.
-use Rattle.std.proofs.Common.{◌≡◌, ℕ, ◌<◌, List, [], ◌++◌, length, Option, Some, None, Result, Ok, Err, OnOk, refl, ap, subst, sym, arith, inl, inr}
+use Rattle.std.proofs.Common.{◌≡◌, ℕ, ◌<◌, List, [], length, Option, Some, Result, Ok, Err, OnOk, refl, ap, subst, sym, arith, inl, inr}
 use Rattle.std.specs.Str.{bytes_eq}
 use Rattle.std.specs.Prelude.{All}
 use Rattle.std.proofs.lemmas.List.{length-map}
 use Rattle.std.proofs.lemmas.List.Elements.{All-get_or}
 use Rattle.std.proofs.lemmas.List.Quantifiers.{position-Some}
-use Rattle.rd_calls.specs.declared.moves.Move.TheVariants as move
 use Rattle.rd_script.specs.Application.{IsApplication}
-use Rattle.rd_state.specs.Sizes.{HasSizedLists, IsTaskOrIdle}
-use Rattle.rd_state.specs.Snapshot.{no_queue, queue_at}
+use Rattle.rd_script.specs.declared.phase.Phase.{Phase}
+use Rattle.rd_script.specs.declared.phase.Phase.TheVariants.{Run, Again, Wait, Ended}
+use Rattle.rd_state.specs.Sizes.{HasSizedLists, IsSizedPhase, IsTaskOrIdle}
+use Rattle.rd_state.specs.Snapshot.{TaskSnapshot, no_queue, no_task, queue_at, task_at}
+use Rattle.rd_state.specs.Waiting.{IsPlace}
 use Rattle.rd_state.specs.Valid.{IsValid, shape_of}
 use Rattle.rd_timeline.specs.Course.{Course}
-use Rattle.rd_main.specs.declared.reply.Reply.{Reply}
-use Rattle.rd_main.specs.declared.reply.Reply.TheVariants.{Refused}
-use Rattle.rd_main.specs.declared.reply.Refusal.TheVariants.{Syntax}
-use Rattle.rd_main.specs.Answers.{Adds, IsAnswer, IsView, PutsPage, MoveReply, StepReply, BackReply, QueueLine, TaskLine, no_memory, number_named}
-use Rattle.rd_main.specs.Commands.{Asked, Step, Tick, Back, ShowQueue, ShowTask}
-use Rattle.rd_main.specs.Replies.{line_of, reply_text, WaitersAreNamed, SeatedAreNamed}
+use Rattle.rd_main.specs.Answers.{Adds, IsView, PutsPage, no_memory, number_named}
+use Rattle.rd_main.specs.Replies.{line_of, PlaceIsNamed, WaitersAreNamed, SeatedAreNamed}
 
 -- What has a name is there.
 pub queue_there : (course : Course) (queue : ℕ) (name : List ℕ) → IsApplication course.app → IsValid course.app course.target → number_named name course.app.queue_names ≡ Some queue → queue < length course.target.queues
@@ -36,6 +34,19 @@ waiters_named course queue limits valid there =
       receiving = subst (λ n. All (λ task. task < n) (queue_at course.target queue).receiving) tasks lists.receiving.0;
       sending = subst (λ n. All (λ task. task < n) (queue_at course.target queue).sending) tasks lists.sending.0;
     }
+
+-- The place where a task waits has a name.
+pub place_named : (course : Course) (task : ℕ) → IsApplication course.app → IsValid course.app course.target → task < length course.target.tasks → PlaceIsNamed course.app.queue_names (task_at course.target task).phase
+place_named course task limits valid there =
+    let queues : length course.target.queues ≡ length course.app.queue_names = omega (arith, limits.queue_names, ap length valid.in_limits.queues, length-map course.target.queues shape_of) in
+    of_phase (length course.target.queues) course.app.queue_names (task_at course.target task).phase queues
+    (All-get_or (λ (t : TaskSnapshot). IsSizedPhase (length course.target.queues) t.phase) course.target.tasks task no_task there valid.in_limits.sized.phases)
+  where
+    of_phase : (queues : ℕ) (names : List (List ℕ)) (phase : Phase) → queues ≡ length names → IsSizedPhase queues phase → PlaceIsNamed names phase
+    of_phase queues names Run same sized = tt
+    of_phase queues names (Again deadline) same sized = tt
+    of_phase queues names (Wait place deadline) same sized = subst (λ n. IsPlace n place) same sized.0
+    of_phase queues names Ended same sized = tt
 
 -- Who runs and who is ready has a name.
 pub seated_named : (course : Course) → IsApplication course.app → IsValid course.app course.target → SeatedAreNamed course.app.task_names course.target

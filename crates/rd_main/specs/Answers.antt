@@ -82,7 +82,7 @@ abbrev pub QueueLine : Course → List ℕ → List ℕ → Type 0
 QueueLine course name line = IsView (number_named name course.app.queue_names) (λ queue. queue_text course.app.task_names name (queue_at course.target queue)) line
 
 abbrev pub TaskLine : Course → List ℕ → List ℕ → Type 0
-TaskLine course name line = IsView (number_named name course.app.task_names) (λ task. task_text name (position (is_task task) course.target.cores) (task_at course.target task)) line
+TaskLine course name line = IsView (number_named name course.app.task_names) (λ task. task_text course.app.queue_names name (position (is_task task) course.target.cores) (task_at course.target task)) line
 
 abbrev pub CoresLine : Course → List ℕ → Type 0
 CoresLine course line = IsShown (cores_text course.app.task_names course.target) line

@@ -1,5 +1,5 @@
 -- How a command is spelled, by the words of its line.
-use Rattle.std.specs.Prelude.{ℕ, ◌&&◌, Bool, codes, List, [], ◌∷◌, nat_lt, nat_le, if◌then◌else◌, Option, Some, None, Result, Ok, Err, option_map, option_and_then}
+use Rattle.std.specs.Prelude.{ℕ, ◌&&◌, codes, List, [], ◌∷◌, nat_lt, nat_le, if◌then◌else◌, Option, Some, None, option_map, option_and_then}
 use Rattle.std.specs.Str.{bytes_eq}
 use Rattle.rd_script.specs.Words.{number_of, is_name}
 use Rattle.rd_main.specs.declared.command.Command.{Command}

@@ -1,5 +1,5 @@
 -- How bytes that were read are cut into lines.
-use Rattle.std.specs.Prelude.{ℕ, ◌==◌, ◌-◌, Bool, List, length, take, drop, nat_lt, slice_index, if◌then◌else◌, ◌&&◌}
+use Rattle.std.specs.Prelude.{ℕ, ◌==◌, ◌-◌, Bool, List, length, take, nat_lt, slice_index, if◌then◌else◌, ◌&&◌}
 use Rattle.std.specs.List.{position_or_len}
 use Rattle.rd_main.specs.declared.lines.Front.{Front}
 use Rattle.rd_main.specs.declared.lines.Front.TheVariants.{Line, TooLong, Part}

@@ -7,9 +7,12 @@ use Rattle.rd_notify.specs.declared.notes.EntryState.{EntryState}
 use Rattle.rd_notify.specs.declared.notes.EntryState.TheVariants.{Idle, Waiting, Received}
 use Rattle.rd_queue.specs.QueueSnapshot.{QueueSnapshot}
 use Rattle.rd_script.specs.declared.phase.Phase.{Phase}
-use Rattle.rd_script.specs.declared.phase.Phase.TheVariants.{Run, Ended}
+use Rattle.rd_script.specs.declared.phase.Phase.TheVariants.{Run, Again, Wait, Ended}
+use Rattle.rd_script.specs.declared.phase.Place.{Place}
+use Rattle.rd_script.specs.declared.phase.Place.TheVariants.{Receive, Send}
 use Rattle.rd_state.specs.Sizes.{IsTaskOrIdle}
 use Rattle.rd_state.specs.Snapshot.{Snapshot, TaskSnapshot}
+use Rattle.rd_state.specs.Waiting.{IsPlace}
 use Rattle.rd_main.specs.declared.reply.Refusal.{Refusal}
 use Rattle.rd_main.specs.declared.reply.Refusal.TheVariants.{NoTask, TickLimit, TooFar, MovesFull, NoSuch, NoMemory, Syntax, LineTooLong}
 use Rattle.rd_main.specs.declared.reply.Reply.{Reply}
@@ -52,9 +55,32 @@ abbrev pub bytes_text : List ℕ → List ℕ
 bytes_text [] = codes "-"
 bytes_text (byte ∷ bytes) = encode_lower (byte ∷ bytes)
 
-abbrev pub phase_text : Phase → List ℕ
-phase_text Run = codes "run"
-phase_text Ended = codes "ended"
+-- the name of an object or a task, by its number
+abbrev pub name_at : List (List ℕ) → ℕ → List ℕ
+name_at names number = slice_index_or names number []
+
+-- a deadline's tick; `max` for none
+abbrev pub deadline_text : Option ℕ → List ℕ
+deadline_text None = codes "max"
+deadline_text (Some tick) = decimal tick
+
+-- a place where tasks wait, by the queues' names
+abbrev pub place_text : List (List ℕ) → Place → List ℕ
+place_text queues (Receive queue) = codes "recv:" ++ name_at queues queue
+place_text queues (Send queue) = codes "send:" ++ name_at queues queue
+
+abbrev pub phase_text : List (List ℕ) → Phase → List ℕ
+phase_text queues Run = codes "run"
+phase_text queues (Again deadline) = codes "again:" ++ deadline_text deadline
+phase_text queues (Wait place deadline) = codes "wait:" ++ place_text queues place ++ codes ":" ++ deadline_text deadline
+phase_text queues Ended = codes "ended"
+
+-- The place where a task waits, if it waits, has a name.
+abbrev pub PlaceIsNamed : List (List ℕ) → Phase → Type 0
+PlaceIsNamed queues Run = Unit {0}
+PlaceIsNamed queues (Again deadline) = Unit {0}
+PlaceIsNamed queues (Wait place deadline) = IsPlace (length queues) place
+PlaceIsNamed queues Ended = Unit {0}
 
 abbrev pub entry_state_text : EntryState → List ℕ
 entry_state_text Idle = codes "idle"
@@ -80,14 +106,10 @@ core_text (Some core) = decimal core
 abbrev pub counts_text : QueueSnapshot → List ℕ
 counts_text queue = decimal (length queue.items) ++ codes "/" ++ decimal queue.capacity
 
--- a task's name, by the tasks' names
-abbrev pub task_name : List (List ℕ) → ℕ → List ℕ
-task_name names task = slice_index_or names task []
-
 -- who waits to receive and to send, by the tasks' names; the queue is in no set
 abbrev pub waiting_text : List (List ℕ) → QueueSnapshot → List ℕ
 waiting_text names queue =
-    codes " recv " ++ list_text (task_name names) queue.receiving ++ codes " send " ++ list_text (task_name names) queue.sending
+    codes " recv " ++ list_text (name_at names) queue.receiving ++ codes " send " ++ list_text (name_at names) queue.sending
     ++ codes " set -"
 
 -- what a queue has, from its amounts on
@@ -106,14 +128,14 @@ pub record WaitersAreNamed (names : List (List ℕ)) (queue : QueueSnapshot) : T
 -- who runs on a core, by the tasks' names; `-` for nobody
 abbrev pub seat_text : List (List ℕ) → Option ℕ → List ℕ
 seat_text names None = codes "-"
-seat_text names (Some task) = task_name names task
+seat_text names (Some task) = name_at names task
 
 abbrev pub ticks_text : Snapshot → List ℕ
 ticks_text s = codes " tick " ++ decimal s.tick ++ codes " turn " ++ decimal s.turn
 
 -- who runs and who is ready, by the tasks' names, with the tick and the turn
 abbrev pub cores_text : List (List ℕ) → Snapshot → List ℕ
-cores_text names s = codes "cores " ++ list_text (seat_text names) s.cores ++ codes " ready " ++ list_text (task_name names) s.ready ++ ticks_text s
+cores_text names s = codes "cores " ++ list_text (seat_text names) s.cores ++ codes " ready " ++ list_text (name_at names) s.ready ++ ticks_text s
 
 -- Those who run and those who are ready have a name.
 pub record SeatedAreNamed (names : List (List ℕ)) (s : Snapshot) : Type 0 where
@@ -126,8 +148,8 @@ state_text task =
     codes " regs " ++ list_text decimal task.registers ++ codes " data " ++ bytes_text task.bytes
     ++ codes " notes " ++ list_text entry_text task.entries
 
--- a task that runs on that core, if on any
-abbrev pub task_text : List ℕ → Option ℕ → TaskSnapshot → List ℕ
-task_text name core task =
+-- a task that runs on that core, if on any, by the queues' names and its own
+abbrev pub task_text : List (List ℕ) → List ℕ → Option ℕ → TaskSnapshot → List ℕ
+task_text queues name core task =
     codes "task " ++ name ++ codes " core " ++ core_text core ++ codes " pc " ++ decimal task.pc
-    ++ codes " phase " ++ phase_text task.phase ++ state_text task
+    ++ codes " phase " ++ phase_text queues task.phase ++ state_text task

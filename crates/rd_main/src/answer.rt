@@ -102,7 +102,7 @@ fn put_task(
     timeline.keeps();
     let target = timeline.target();
     let core = core_of(target.cores(), task);
-    let shown = show_task(page, name, core, target.task(task));
+    let shown = show_task(page, timeline.app(), name, core, target.task(task));
     put_page(answers, page.as_slice(), shown)
 }
 

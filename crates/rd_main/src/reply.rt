@@ -2,14 +2,15 @@
 
 ghost use Rattle.std.specs.Prelude.{◌≡◌, ◌++◌, ◌<◌, ◌≤◌, ◌∷◌, [], decimal, length, position, All, OnOk};
 ghost use Rattle.rd_state.specs.Sizes.{IsTaskOrIdle};
-ghost use Rattle.rd_main.specs.Replies.{line_of, refusal_text, reply_text, list_text, bytes_text, phase_text, entry_text, core_text, counts_text, amounts_text, waiting_text, queue_text, task_name, task_text, state_text, seat_text, cores_text, ticks_text, is_task, WaitersAreNamed, SeatedAreNamed};
+ghost use Rattle.rd_state.specs.Waiting.{IsPlace};
+ghost use Rattle.rd_main.specs.Replies.{line_of, refusal_text, reply_text, list_text, bytes_text, phase_text, entry_text, core_text, counts_text, amounts_text, waiting_text, queue_text, name_at, task_text, state_text, seat_text, deadline_text, place_text, cores_text, ticks_text, is_task, PlaceIsNamed, WaitersAreNamed, SeatedAreNamed};
 
 use itoa::{Buffer, Integer};
 use rd_notify::notes::{Entry, EntryState};
 use rd_queue::queue::Queue;
 use rd_queue::waiting_list::WaitingList;
 use rd_script::app::{App, Kind};
-use rd_script::phase::Phase;
+use rd_script::phase::{Phase, Place};
 use rd_state::state::State;
 use rd_state::task::Task;
 use std::alloc::AllocError;
@@ -147,7 +148,7 @@ fn put_numbers(page: &mut Vec<u8>, numbers: &[u32]) -> Put
 // The names of tasks.
 fn put_tasks(page: &mut Vec<u8>, app: &App, tasks: &[usize]) -> Put
     requires { All (λ task. task < length app.now.task_names) tasks.now }
-    ensures { OnOk result (page.new.items ≡ page.old.items ++ list_text (task_name app.now.task_names) tasks.now) }
+    ensures { OnOk result (page.new.items ≡ page.old.items ++ list_text (name_at app.now.task_names) tasks.now) }
 {
     if tasks.is_empty() {
         return put(page, b"-");
@@ -207,11 +208,49 @@ fn put_entries(page: &mut Vec<u8>, entries: &[Entry]) -> Put
     Ok(())
 }
 
-fn put_phase(page: &mut Vec<u8>, phase: Phase) -> Put
-    ensures { OnOk result (page.new.items ≡ page.old.items ++ phase_text phase) }
+// A deadline's tick; `max` for none.
+fn put_deadline(page: &mut Vec<u8>, deadline: Option<u64>) -> Put
+    ensures { OnOk result (page.new.items ≡ page.old.items ++ deadline_text deadline) }
+{
+    match deadline {
+        Some(tick) => put_number(page, tick),
+        None => put(page, b"max"),
+    }
+}
+
+// A place where tasks wait.
+fn put_place(page: &mut Vec<u8>, app: &App, place: Place) -> Put
+    requires { IsPlace (length app.now.queue_names) place }
+    ensures { OnOk result (page.new.items ≡ page.old.items ++ place_text app.now.queue_names place) }
+{
+    match place {
+        Place::Receive { queue } => {
+            put(page, b"recv:")?;
+            put(page, app.name(Kind::Queue, queue).as_bytes())
+        }
+        Place::Send { queue } => {
+            put(page, b"send:")?;
+            put(page, app.name(Kind::Queue, queue).as_bytes())
+        }
+    }
+}
+
+fn put_phase(page: &mut Vec<u8>, app: &App, phase: Phase) -> Put
+    requires { PlaceIsNamed app.now.queue_names phase }
+    ensures { OnOk result (page.new.items ≡ page.old.items ++ phase_text app.now.queue_names phase) }
 {
     match phase {
         Phase::Run => put(page, b"run"),
+        Phase::Again { deadline } => {
+            put(page, b"again:")?;
+            put_deadline(page, deadline)
+        }
+        Phase::Wait { place, deadline } => {
+            put(page, b"wait:")?;
+            put_place(page, app, place)?;
+            put(page, b":")?;
+            put_deadline(page, deadline)
+        }
         Phase::Ended => put(page, b"ended"),
     }
 }
@@ -271,8 +310,9 @@ fn put_waiting(page: &mut Vec<u8>, app: &App, queue: &Queue) -> Put
 }
 
 /// Writes the view of a task onto the page, in the place of what was there.
-pub fn show_task(page: &mut Vec<u8>, name: &str, core: Option<usize>, task: &Task) -> Put
-    ensures { OnOk result (page.new.items ≡ line_of (task_text name.now core task.now)) }
+pub fn show_task(page: &mut Vec<u8>, app: &App, name: &str, core: Option<usize>, task: &Task) -> Put
+    requires { PlaceIsNamed app.now.queue_names task.now.phase }
+    ensures { OnOk result (page.new.items ≡ line_of (task_text app.now.queue_names name.now core task.now)) }
 {
     page.clear();
     put(page, b"task ")?;
@@ -282,7 +322,7 @@ pub fn show_task(page: &mut Vec<u8>, name: &str, core: Option<usize>, task: &Tas
     put(page, b" pc ")?;
     put_number(page, task.pc())?;
     put(page, b" phase ")?;
-    put_phase(page, task.phase())?;
+    put_phase(page, app, task.phase())?;
     put_state(page, task)
 }
 

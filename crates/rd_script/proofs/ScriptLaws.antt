@@ -6,14 +6,17 @@ use Rattle.std.proofs.lemmas.List.Quantifiers.{position-Some}
 use Rattle.std.specs.Result.{result_ok}
 use Rattle.hex.specs.Hex.{decode_of}
 use Rattle.hex.proofs.HexLemmas.{decode_of-ok}
+use Rattle.rd_script.specs.declared.instr.Operand.{Operand}
+use Rattle.rd_script.specs.declared.instr.Operand.TheVariants as operand
 use Rattle.rd_script.specs.declared.instr.Instr.{Instr}
 use Rattle.rd_script.specs.declared.instr.Instr.TheVariants as instr
-use Rattle.rd_script.specs.Application.{Application, IsWithin, IsScript, is_final}
-use Rattle.rd_script.specs.Spelling.{◌>>=◌, register_of, target_of, name_of}
+use Rattle.rd_script.specs.Application.{Application, IsOperand, IsWithin, IsScript, is_final, max_delay}
+use Rattle.rd_script.specs.Spelling.{◌>>=◌, register_of, operand_of, time_of, target_of, name_of}
 use Rattle.serde_json.specs.Data.{Data, null, boolean, number, string, array, object, Items, no_items, item}
 use Rattle.serde_json.specs.Events.{items_len}
 use Rattle.serde_json.specs.Find.{as_str}
 use Rattle.std.specs.List.{AllByRecursion, slice_get}
+use Rattle.std.specs.Option.{option_or}
 use Rattle.std.specs.Prelude.{option_map, unwrap_or, slice_index_or}
 use Rattle.std.proofs.lemmas.List.{append-nil}
 use Rattle.std.proofs.lemmas.List.Elements.{All-from_recursion}
@@ -76,6 +79,22 @@ bytes_few word bytes =
       | false ↦ decoded_few word bytes
     ]
 
+-- an operand that is a register, or otherwise a number
+either_there : (register value : Option ℕ) (o : Operand) → ((r : ℕ) → register ≡ Some r → r < 8) → option_or (option_map operand.Register register) (option_map operand.Number value) ≡ Some o → IsOperand o
+either_there (Some r) value o small e = let is : operand.Register r ≡ o = cc in subst IsOperand is (small r refl)
+either_there None (Some n) o small e = let is : operand.Number n ≡ o = cc in subst IsOperand is tt
+either_there None None o small e = absurd cc
+
+max_there : (o : Operand) → Some (operand.Number max_delay) ≡ Some o → IsOperand o
+max_there o e = let is : operand.Number max_delay ≡ o = cc in subst IsOperand is tt
+
+time_there : (word : List ℕ) (wait : Operand) → time_of word ≡ Some wait → IsOperand wait
+time_there word wait =
+    elim (bytes_eq word (codes "max")) as (λ b. cond b (Some (operand.Number max_delay)) (operand_of word) ≡ Some wait → IsOperand wait) [
+      | true ↦ max_there wait
+      | false ↦ either_there (register_of word) (number_of word) wait (register_small word)
+    ]
+
 pub spells_within : (app : Application) (queues : List (List ℕ)) (len : ℕ) (words : List (List ℕ)) (i : Instr) → length app.queues ≡ length queues → Spells queues len words i → IsWithin app len i
 spells_within app queues len words (instr.Set a b) sizes h = register_small h.0 a h.3
 spells_within app queues len words (instr.Add a b) sizes h = register_small h.0 a h.3
@@ -86,8 +105,8 @@ spells_within app queues len words (instr.Unpack a) sizes h = register_small h.0
 spells_within app queues len words (instr.Jump a) sizes h = target_small len h.0 a h.2
 spells_within app queues len words (instr.JumpZero a b) sizes h = (register_small h.0 a h.3, target_small len h.1 b h.4)
 spells_within app queues len words instr.End sizes h = tt
-spells_within app queues len words (instr.Send a) sizes h = rw sizes (queue_there queues h.0 a h.3)
-spells_within app queues len words (instr.Receive a) sizes h = rw sizes (queue_there queues h.0 a h.3)
+spells_within app queues len words (instr.Send a b) sizes h = (rw sizes (queue_there queues h.0 a h.3), time_there h.1 b h.4)
+spells_within app queues len words (instr.Receive a b) sizes h = (rw sizes (queue_there queues h.0 a h.3), time_there h.1 b h.4)
 
 -- ---- the texts of a task
 

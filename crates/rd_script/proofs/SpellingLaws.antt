@@ -3,11 +3,12 @@ use Rattle.std.proofs.Common.{◌≡◌, ◌∙◌, ℕ, true, false, cond, code
 use Rattle.std.specs.Str.{bytes_eq}
 use Rattle.std.proofs.lemmas.Slice.Eq.{bytes_eq-Decides}
 use Rattle.rd_script.specs.declared.error.AppError.TheVariants as fault
+use Rattle.rd_script.specs.declared.instr.Operand.{Operand}
 use Rattle.rd_script.specs.declared.instr.Instr.{Instr}
 use Rattle.rd_script.specs.declared.instr.Instr.TheVariants as instr
 use Rattle.rd_script.specs.declared.spelling.Keyword.{Keyword}
 use Rattle.rd_script.specs.declared.spelling.Keyword.TheVariants.{Set, Add, Move, Data, Pack, Unpack, Jump, JumpZero, End, Send, Receive}
-use Rattle.rd_script.specs.Spelling.{◌>>=◌, keyword_of, register_of, target_of, name_of, no_wait_of, operand, ended, object_at, operation_of, instr_of}
+use Rattle.rd_script.specs.Spelling.{◌>>=◌, keyword_of, register_of, target_of, name_of, time_of, operand, ended, queue_of, object_at, operation_of, instr_of}
 use Rattle.rd_script.specs.Spells.{HasOne, HasTwo, queue_named, Spells}
 use Rattle.rd_script.specs.Words.{number_of, bytes_of}
 use Rattle.rd_script.proofs.Steps.{bind_ok, ok_or_ok}
@@ -82,16 +83,19 @@ two_ok keyword read also words make i e =
     let rest = second.1 ∙ ap (λ (ws : List (List ℕ)). second.0 ∷ ws) (ended_ok y.0.1 end.0 end.1) in
     (x.0.0, y.0.0, is, (first.0, second.0, ap (λ (ws : List (List ℕ)). keyword ∷ ws) (first.1 ∙ ap (λ (ws : List (List ℕ)). first.0 ∷ ws) rest), first.2, second.2))
 
-object_ok : (keyword : List ℕ) (queues : List (List ℕ)) (words : List (List ℕ)) (queue : ℕ) → object_at queues words ≡ Ok queue → HasTwo keyword (queue_named queues) no_wait_of (keyword ∷ words) queue tt
+object_ok : (keyword : List ℕ) (queues : List (List ℕ)) (words : List (List ℕ)) (object : ℕ × Operand) → object_at queues words ≡ Ok object → HasTwo keyword (queue_named queues) time_of (keyword ∷ words) object.0 object.1
 unfolding object_at
-object_ok keyword queues words queue e =
-    let x = bind_ok (operand name_of words) _ queue e in
-    let y = bind_ok (operand no_wait_of x.0.1) _ queue x.2 in
-    let end = bind_ok (ended y.0.1) _ queue y.2 in
+object_ok keyword queues words object e =
+    let x = bind_ok (operand name_of words) _ object e in
+    let y = bind_ok (operand time_of x.0.1) _ object x.2 in
+    let end = bind_ok (ended y.0.1) _ object y.2 in
+    let queue = bind_ok (queue_of queues x.0.0) _ object end.2 in
     let first = operand_ok name_of words x.0 x.1 in
-    let second = operand_ok no_wait_of x.0.1 y.0 y.1 in
-    let found = ok_or_ok (position (bytes_eq x.0.0) queues) queue _ end.2 in
+    let second = operand_ok time_of x.0.1 y.0 y.1 in
+    let found = ok_or_ok (position (bytes_eq x.0.0) queues) queue.0 _ queue.1 in
     let rest = second.1 ∙ ap (λ (ws : List (List ℕ)). second.0 ∷ ws) (ended_ok y.0.1 end.0 end.1) in
+    let is : (queue.0, y.0.0) ≡ object = cc in
+    subst (λ (o : ℕ × Operand). HasTwo keyword (queue_named queues) time_of (keyword ∷ words) o.0 o.1) is
     (first.0, second.0, ap (λ (ws : List (List ℕ)). keyword ∷ ws) (first.1 ∙ ap (λ (ws : List (List ℕ)). first.0 ∷ ws) rest), ap (λ (o : Option (List ℕ)). option_and_then (λ name. position (bytes_eq name) queues) o) first.2 ∙ found, second.2)
 
 -- the words behind a keyword
@@ -110,13 +114,13 @@ operation_takes queues len End words i e =
     let is : instr.End ≡ i = cc in
     subst (Spells queues len (codes "end" ∷ words)) is (ap (λ (ws : List (List ℕ)). codes "end" ∷ ws) (ended_ok words end.0 end.1))
 operation_takes queues len Send words i e =
-    let queue = bind_ok (object_at queues words) _ i e in
-    let is : instr.Send queue.0 ≡ i = cc in
-    subst (Spells queues len (codes "send" ∷ words)) is (object_ok (codes "send") queues words queue.0 queue.1)
+    let object = bind_ok (object_at queues words) _ i e in
+    let is : instr.Send object.0.0 object.0.1 ≡ i = cc in
+    subst (Spells queues len (codes "send" ∷ words)) is (object_ok (codes "send") queues words object.0 object.1)
 operation_takes queues len Receive words i e =
-    let queue = bind_ok (object_at queues words) _ i e in
-    let is : instr.Receive queue.0 ≡ i = cc in
-    subst (Spells queues len (codes "recv" ∷ words)) is (object_ok (codes "recv") queues words queue.0 queue.1)
+    let object = bind_ok (object_at queues words) _ i e in
+    let is : instr.Receive object.0.0 object.0.1 ≡ i = cc in
+    subst (Spells queues len (codes "recv" ∷ words)) is (object_ok (codes "recv") queues words object.0 object.1)
 
 pub instr_takes : (queues : List (List ℕ)) (len : ℕ) (words : List (List ℕ)) (i : Instr) → instr_of queues len words ≡ Ok i → Spells queues len words i
 unfolding instr_of
@@ -135,18 +139,18 @@ two_again : {X Y : Type 0} (read : List ℕ → Option X) (also : List ℕ → O
 two_again read also first second make x y e f = rw (e, f) refl
 
 found_again : {X Y : Type 0} (read : List ℕ → Option X) (wait : List ℕ → Option Y) (find : X → Option ℕ) (first second : List ℕ) (x : X) (y : Y) (queue : ℕ) → read first ≡ Some x → wait second ≡ Some y → find x ≡ Some queue
-    → (operand read (first ∷ second ∷ []) >>= λ x. operand wait x.1 >>= λ y. ended y.1 >>= λ _. ok_or (find x.0) fault.Name) ≡ Ok queue
+    → (operand read (first ∷ second ∷ []) >>= λ x. operand wait x.1 >>= λ y. ended y.1 >>= λ _. ok_or (find x.0) fault.Name >>= λ queue. let object : ℕ × Y = (queue, y.0) in Ok object) ≡ Ok (queue, y)
 found_again read wait find first second x y queue e f g = rw (e, f, g) refl
 
 pub then_some : {X Y : Type 0} (f : X → Option Y) (o : Option X) (y : Y) → option_and_then f o ≡ Some y → (x : X) × (o ≡ Some x) × (f x ≡ Some y)
 then_some f (Some x) y e = (x, refl, e)
 then_some f None y e = absurd cc
 
-object_again : (queues : List (List ℕ)) (first second : List ℕ) (queue : ℕ) → queue_named queues first ≡ Some queue → no_wait_of second ≡ Some tt → object_at queues (first ∷ second ∷ []) ≡ Ok queue
+object_again : (queues : List (List ℕ)) (first second : List ℕ) (queue : ℕ) (wait : Operand) → queue_named queues first ≡ Some queue → time_of second ≡ Some wait → object_at queues (first ∷ second ∷ []) ≡ Ok (queue, wait)
 unfolding object_at
-object_again queues first second queue e f =
+object_again queues first second queue wait e f =
     let name = then_some (λ name. position (bytes_eq name) queues) (name_of first) queue e in
-    found_again name_of no_wait_of (λ name. position (bytes_eq name) queues) first second name.0 tt queue name.1 f name.2
+    found_again name_of time_of (λ name. position (bytes_eq name) queues) first second name.0 wait queue name.1 f name.2
 
 pub instr_again : (queues : List (List ℕ)) (len : ℕ) (words : List (List ℕ)) (i : Instr) → Spells queues len words i → instr_of queues len words ≡ Ok i
 unfolding instr_of operation_of
@@ -159,5 +163,5 @@ instr_again queues len words (instr.Unpack a) h = ap (instr_of queues len) h.1 �
 instr_again queues len words (instr.Jump a) h = ap (instr_of queues len) h.1 ∙ one_again (target_of len) h.0 (λ a. instr.Jump a) a h.2
 instr_again queues len words (instr.JumpZero a b) h = ap (instr_of queues len) h.2 ∙ two_again register_of (target_of len) h.0 h.1 (λ a b. instr.JumpZero a b) a b h.3 h.4
 instr_again queues len words instr.End h = ap (instr_of queues len) h
-instr_again queues len words (instr.Send queue) h = ap (instr_of queues len) h.2 ∙ ap (λ r. r >>= λ queue. Ok (instr.Send queue)) (object_again queues h.0 h.1 queue h.3 h.4)
-instr_again queues len words (instr.Receive queue) h = ap (instr_of queues len) h.2 ∙ ap (λ r. r >>= λ queue. Ok (instr.Receive queue)) (object_again queues h.0 h.1 queue h.3 h.4)
+instr_again queues len words (instr.Send queue wait) h = ap (instr_of queues len) h.2 ∙ ap (λ r. r >>= λ object. Ok (instr.Send object.0 object.1)) (object_again queues h.0 h.1 queue wait h.3 h.4)
+instr_again queues len words (instr.Receive queue wait) h = ap (instr_of queues len) h.2 ∙ ap (λ r. r >>= λ object. Ok (instr.Receive object.0 object.1)) (object_again queues h.0 h.1 queue wait h.3 h.4)

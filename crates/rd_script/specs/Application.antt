@@ -5,6 +5,8 @@ use Rattle.std.specs.Str.{bytes_eq}
 use Rattle.rd_script.specs.declared.app.QueueShape.{QueueShape}
 use Rattle.rd_script.specs.declared.app.Kind.{Kind}
 use Rattle.rd_script.specs.declared.app.Kind.TheVariants.{Queue, Task}
+use Rattle.rd_script.specs.declared.instr.Operand.{Operand}
+use Rattle.rd_script.specs.declared.instr.Operand.TheVariants.{Number, Register}
 use Rattle.rd_script.specs.declared.instr.Instr.{Instr}
 use Rattle.rd_script.specs.declared.instr.Instr.TheVariants.{Set, Add, Move, Data, Pack, Unpack, Jump, JumpZero, End, Send, Receive}
 use Rattle.rd_script.specs.TaskScript.{TaskScript}
@@ -41,6 +43,15 @@ instr_at app task pc = slice_index_or (code_of app task) pc End
 abbrev pub priorities_of : Application → List ℕ
 priorities_of app = map (λ script. script.priority) app.scripts
 
+-- the block time of a call that waits without end
+abbrev pub max_delay : ℕ
+max_delay = 4294967295
+
+-- The register that an operand reads is there.
+abbrev pub IsOperand : Operand → Type 0
+IsOperand (Number value) = Unit {0}
+IsOperand (Register register) = register < 8
+
 -- Registers, places in the script and objects are there.
 abbrev pub IsWithin : Application → ℕ → Instr → Type 0
 IsWithin app len (Set register value) = register < 8
@@ -52,8 +63,8 @@ IsWithin app len (Unpack register) = register < 8
 IsWithin app len (Jump target) = target < len
 IsWithin app len (JumpZero register target) = (register < 8) × (target < len)
 IsWithin app len End = Unit {0}
-IsWithin app len (Send queue) = queue < length app.queues
-IsWithin app len (Receive queue) = queue < length app.queues
+IsWithin app len (Send queue wait) = (queue < length app.queues) × IsOperand wait
+IsWithin app len (Receive queue wait) = (queue < length app.queues) × IsOperand wait
 
 -- does the script never go on at the next instruction?
 abbrev pub is_final : Instr → Bool

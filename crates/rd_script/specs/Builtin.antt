@@ -1,5 +1,6 @@
 -- The built-in application: one task that sends three times to a queue with room for two items.
 use Rattle.std.specs.Prelude.{codes, [], ◌∷◌}
+use Rattle.rd_script.specs.declared.instr.Operand.TheVariants.{Number}
 use Rattle.rd_script.specs.declared.instr.Instr.TheVariants.{Data, End, Send}
 use Rattle.rd_script.specs.Application.{Application}
 
@@ -10,6 +11,6 @@ builtin = record {
   tick = 0;
   queues = record { capacity = 2; item_size = 1 } ∷ [];
   queue_names = codes "q0" ∷ [];
-  scripts = record { priority = 1; code = Data (65 ∷ []) ∷ Send 0 ∷ Send 0 ∷ Send 0 ∷ End ∷ [] } ∷ [];
+  scripts = record { priority = 1; code = Data (65 ∷ []) ∷ Send 0 (Number 0) ∷ Send 0 (Number 0) ∷ Send 0 (Number 0) ∷ End ∷ [] } ∷ [];
   task_names = codes "t0" ∷ [];
 }

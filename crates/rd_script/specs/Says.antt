@@ -1,7 +1,6 @@
 -- Which application a file's JSON value says, whatever the order in which it is read.
-use Rattle.std.specs.Prelude.{ℕ, ◌≡◌, ◌≤◌, true, codes, length, List, [], ◌∷◌, Option, Some, None, IsUtf8}
+use Rattle.std.specs.Prelude.{ℕ, ◌≡◌, true, codes, List, [], ◌∷◌, Option, Some, None, IsUtf8}
 use Rattle.serde_json.specs.Read.{read}
-use Rattle.rd_script.specs.declared.app.file.TheConstants as limit
 use Rattle.serde_json.specs.Data.{Data, number, unsigned, string, array, Items, no_items, item}
 use Rattle.serde_json.specs.Events.{items_len}
 use Rattle.serde_json.specs.Find.{get}

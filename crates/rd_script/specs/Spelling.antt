@@ -1,12 +1,16 @@
 -- How an instruction is spelled.
 use Rattle.std.specs.Prelude.{ℕ, ◌≡◌, ◌-◌, ◌&&◌, ◌==◌, codes, List, [], ◌∷◌, length, slice_index, nat_lt, nat_le, if◌then◌else◌, Option, Some, None, Result, Ok, Err, ok_or, option_map, option_and_then, position, ⊤}
+use Rattle.std.specs.Option.{option_or}
 use Rattle.std.specs.Str.{bytes_eq}
 use Rattle.rd_script.specs.declared.error.AppError.{AppError}
 use Rattle.rd_script.specs.declared.error.AppError.TheVariants as fault
+use Rattle.rd_script.specs.declared.instr.Operand.{Operand}
+use Rattle.rd_script.specs.declared.instr.Operand.TheVariants.{Number, Register}
 use Rattle.rd_script.specs.declared.instr.Instr.{Instr}
 use Rattle.rd_script.specs.declared.instr.Instr.TheVariants as instr
 use Rattle.rd_script.specs.declared.spelling.Keyword.{Keyword}
 use Rattle.rd_script.specs.declared.spelling.Keyword.TheVariants.{Set, Add, Move, Data, Pack, Unpack, Jump, JumpZero, End, Send, Receive}
+use Rattle.rd_script.specs.Application.{max_delay}
 use Rattle.rd_script.specs.Words.{number_of, bytes_of, is_name}
 
 abbrev pub keyword_of : List ℕ → Option Keyword
@@ -38,9 +42,13 @@ target_of len word = option_and_then (λ target. if nat_lt target len then Some 
 abbrev pub name_of : List ℕ → Option (List ℕ)
 name_of word = if is_name word then Some word else None
 
--- the block time 0
-abbrev pub no_wait_of : List ℕ → Option ⊤
-no_wait_of word = option_and_then (λ time. if time == 0 then Some tt else None) (number_of word)
+-- a number, or the value of a register
+abbrev pub operand_of : List ℕ → Option Operand
+operand_of word = option_or (option_map Register (register_of word)) (option_map Number (number_of word))
+
+-- a block time: `max` is the number 4,294,967,295
+abbrev pub time_of : List ℕ → Option Operand
+time_of word = if bytes_eq word (codes "max") then Some (Number max_delay) else operand_of word
 
 abbrev pub queue_of : List (List ℕ) → List ℕ → Result ℕ AppError
 queue_of queues name = ok_or (position (bytes_eq name) queues) fault.Name
@@ -69,13 +77,14 @@ TakesBy view (Err e) left read = read ≡ Err e
 abbrev pub Takes : {X : Type 0} → Result X AppError → List (List ℕ) → Result (X × List (List ℕ)) AppError → Type 0
 Takes result left read = TakesBy (λ x. x) result left read
 
--- a queue's name and the block time, and no more
-unfoldable pub object_at : List (List ℕ) → List (List ℕ) → Result ℕ AppError
+-- a queue's name and a block time, and no more
+unfoldable pub object_at : List (List ℕ) → List (List ℕ) → Result (ℕ × Operand) AppError
 object_at queues words = do
   name ← operand name_of words
-  time ← operand no_wait_of name.1
-  _ ← ended time.1
-  queue_of queues name.0
+  wait ← operand time_of name.1
+  _ ← ended wait.1
+  queue ← queue_of queues name.0
+  Ok (queue, wait.0)
 
 -- the words behind the first
 unfoldable pub operation_of : List (List ℕ) → ℕ → Keyword → List (List ℕ) → Result Instr AppError
@@ -119,11 +128,11 @@ operation_of queues len End words = do
   _ ← ended words
   Ok instr.End
 operation_of queues len Send words = do
-  queue ← object_at queues words
-  Ok (instr.Send queue)
+  object ← object_at queues words
+  Ok (instr.Send object.0 object.1)
 operation_of queues len Receive words = do
-  queue ← object_at queues words
-  Ok (instr.Receive queue)
+  object ← object_at queues words
+  Ok (instr.Receive object.0 object.1)
 
 -- the instruction of a text's words, or its fault: one in the form of a word comes before an unknown name
 unfoldable pub instr_of : List (List ℕ) → ℕ → List (List ℕ) → Result Instr AppError

@@ -3,7 +3,7 @@ use Rattle.std.specs.Prelude.{ℕ, ◌≡◌, codes, List, [], ◌∷◌, Option
 use Rattle.std.specs.Str.{bytes_eq}
 use Rattle.rd_script.specs.declared.instr.Instr.{Instr}
 use Rattle.rd_script.specs.declared.instr.Instr.TheVariants.{Set, Add, Move, Data, Pack, Unpack, Jump, JumpZero, End, Send, Receive}
-use Rattle.rd_script.specs.Spelling.{register_of, target_of, name_of, no_wait_of}
+use Rattle.rd_script.specs.Spelling.{register_of, target_of, name_of, time_of}
 use Rattle.rd_script.specs.Words.{number_of, bytes_of}
 
 -- a keyword and one operand, which stands for x
@@ -28,5 +28,5 @@ Spells queues len words (Unpack register) = HasOne (codes "unpack") register_of 
 Spells queues len words (Jump target) = HasOne (codes "jump") (target_of len) words target
 Spells queues len words (JumpZero register target) = HasTwo (codes "jumpz") register_of (target_of len) words register target
 Spells queues len words End = words ≡ codes "end" ∷ []
-Spells queues len words (Send queue) = HasTwo (codes "send") (queue_named queues) no_wait_of words queue tt
-Spells queues len words (Receive queue) = HasTwo (codes "recv") (queue_named queues) no_wait_of words queue tt
+Spells queues len words (Send queue wait) = HasTwo (codes "send") (queue_named queues) time_of words queue wait
+Spells queues len words (Receive queue wait) = HasTwo (codes "recv") (queue_named queues) time_of words queue wait

@@ -4,7 +4,7 @@ ghost use Rattle.rd_script.specs.Application.{names_of, code_of, priorities_of, 
 ghost use Rattle.rd_script.specs.Builtin.{builtin};
 
 use crate::bytes::Bytes;
-use crate::instr::Instr;
+use crate::instr::{Instr, Operand};
 use indexmap::IndexSet;
 use std::alloc::{AllocError, Global};
 use std::marker::Model;
@@ -86,13 +86,14 @@ impl App {
             capacity: 2,
             item_size: 1,
         };
+        let wait = Operand::Number { value: 0 };
         let code = vec![in alloc;
             Instr::Data {
                 bytes: Bytes::from_slice(b"\x41")
             },
-            Instr::Send { queue: 0 },
-            Instr::Send { queue: 0 },
-            Instr::Send { queue: 0 },
+            Instr::Send { queue: 0, wait },
+            Instr::Send { queue: 0, wait },
+            Instr::Send { queue: 0, wait },
             Instr::End,
         ]?;
         Ok(App {

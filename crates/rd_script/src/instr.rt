@@ -3,6 +3,16 @@ use crate::bytes::Bytes;
 /// How many registers a task has.
 pub const REGISTERS: usize = 8;
 
+/// The block time of a call that waits without end, written `max` (`portMAX_DELAY`).
+pub const MAX_DELAY: u32 = u32::MAX;
+
+/// An operand that is a number, or what a register holds when the instruction is done.
+#[derive(Clone, Copy, Debug, PartialEq, Eq)]
+pub enum Operand {
+    Number { value: u32 },
+    Register { register: usize },
+}
+
 /// One instruction of a task's script. Registers are 0 to 7; queues and places in the script are
 /// counted from 0.
 #[derive(Drop)]
@@ -25,8 +35,10 @@ pub enum Instr {
     JumpZero { register: usize, target: usize },
     /// `end`: the task has ended.
     End,
-    /// `send Q 0`: puts the data at the queue's back and doesn't wait (`xQueueSend`).
-    Send { queue: usize },
-    /// `recv Q 0`: takes the queue's first item as the data and doesn't wait (`xQueueReceive`).
-    Receive { queue: usize },
+    /// `send Q T`: puts the data at the queue's back, and waits for room up to the block time
+    /// (`xQueueSend`).
+    Send { queue: usize, wait: Operand },
+    /// `recv Q T`: takes the queue's first item as the data, and waits for one up to the block time
+    /// (`xQueueReceive`).
+    Receive { queue: usize, wait: Operand },
 }

@@ -3,6 +3,11 @@
 pub enum Phase {
     /// It runs, or is ready to.
     Run,
+    /// It was woken, and tries its call again when it runs. The deadline is a tick, or none.
+    Again { deadline: Option<u64> },
+    /// It waits at a place for as long as its deadline, a tick, is ahead; without end where it has
+    /// none.
+    Wait { place: Place, deadline: Option<u64> },
     /// It has done `end`.
     Ended,
 }

@@ -1,12 +1,12 @@
 //! Reads an instruction from its words.
 
 ghost use Rattle.std.specs.Prelude.{◌≡◌, map, string_bytes};
-ghost use Rattle.rd_script.specs.Spelling.{Takes, TakesBy, operand, keyword_of, register_of, target_of, name_of, no_wait_of, ended, queue_of, object_at, operation_of, instr_of};
+ghost use Rattle.rd_script.specs.Spelling.{Takes, TakesBy, operand, keyword_of, register_of, target_of, operand_of, time_of, name_of, ended, queue_of, object_at, operation_of, instr_of};
 ghost use Rattle.rd_script.specs.Words.{words_of, number_of, bytes_of};
 
 use crate::bytes::Bytes;
 use crate::error::AppError;
-use crate::instr::Instr;
+use crate::instr::{Instr, MAX_DELAY, Operand};
 use crate::words::{Words, bytes, is_name, number};
 use indexmap::IndexSet;
 
@@ -55,6 +55,28 @@ fn register_of(word: &[u8]) -> Option<usize>
     }
 }
 
+// A number, or the value of a register.
+fn operand_of(word: &[u8]) -> Option<Operand>
+    ensures { result ≡ operand_of word.now }
+{
+    match register_of(word) {
+        Some(register) => Some(Operand::Register { register }),
+        None => Some(Operand::Number {
+            value: number(word)?,
+        }),
+    }
+}
+
+// A block time: `max`, a number of ticks, or the value of a register.
+fn time_of(word: &[u8]) -> Option<Operand>
+    ensures { result ≡ time_of word.now }
+{
+    match word {
+        b"max" => Some(Operand::Number { value: MAX_DELAY }),
+        _ => operand_of(word),
+    }
+}
+
 // The next word, as what it stands for.
 fn register(words: &mut Words<'_>) -> Result<usize, AppError>
     ensures { Takes result words.new (operand register_of words.old) }
@@ -100,14 +122,11 @@ fn name<'a>(words: &mut Words<'a>) -> Result<&'a str, AppError>
     Ok(str::from_utf8(word).unwrap())
 }
 
-// A block time, which is 0.
-fn no_wait(words: &mut Words<'_>) -> Result<(), AppError>
-    ensures { Takes result words.new (operand no_wait_of words.old) }
+fn time(words: &mut Words<'_>) -> Result<Operand, AppError>
+    ensures { Takes result words.new (operand time_of words.old) }
 {
-    match value(words)? {
-        0 => Ok(()),
-        _ => Err(AppError::Instr),
-    }
+    let word = words.next().ok_or(AppError::Instr)?;
+    time_of(word).ok_or(AppError::Instr)
 }
 
 // No word is left.
@@ -126,15 +145,16 @@ fn queue_of(name: &str, queues: &IndexSet<String>) -> Result<usize, AppError>
     queues.get_index_of(name).ok_or(AppError::Name)
 }
 
-// The queue of a call that doesn't wait.
+// The queue and the block time of a call. A fault in the form of a word comes before a name that
+// nothing has.
 #[tactic(auto, unfolding(crate::specs::Spelling::object_at))]
-fn object(words: &mut Words<'_>, queues: &IndexSet<String>) -> Result<usize, AppError>
+fn object(words: &mut Words<'_>, queues: &IndexSet<String>) -> Result<(usize, Operand), AppError>
     ensures { result ≡ object_at (map string_bytes queues.now.keys) words.old }
 {
     let name = name(words)?;
-    no_wait(words)?;
+    let wait = time(words)?;
     end(words)?;
-    queue_of(name, queues)
+    Ok((queue_of(name, queues)?, wait))
 }
 
 #[tactic(auto, unfolding(crate::specs::Spelling::operation_of))]
@@ -177,12 +197,12 @@ fn operation(
         },
         Keyword::End => Instr::End,
         Keyword::Send => {
-            let queue = object(words, queues)?;
-            return Ok(Instr::Send { queue });
+            let (queue, wait) = object(words, queues)?;
+            return Ok(Instr::Send { queue, wait });
         }
         Keyword::Receive => {
-            let queue = object(words, queues)?;
-            return Ok(Instr::Receive { queue });
+            let (queue, wait) = object(words, queues)?;
+            return Ok(Instr::Receive { queue, wait });
         }
     };
     end(words)?;

@@ -12,14 +12,14 @@ use Rattle.rd_queue.specs.Queues.{waiting_in}
 use Rattle.rd_script.specs.declared.app.QueueShape.{QueueShape}
 use Rattle.rd_script.specs.declared.phase.Place.{Place}
 use Rattle.rd_script.specs.declared.phase.Place.TheVariants.{Receive, Send}
-use Rattle.rd_script.specs.Application.{Application, IsApplication, IsScript, priorities_of}
+use Rattle.rd_script.specs.Application.{Application, IsApplication, IsScript, instr_at, priorities_of}
 use Rattle.rd_wait.specs.Joined.{IsInOrder}
 use Rattle.rd_wait.proofs.JoinedLaws.{IsInOrder-joined}
 use Rattle.rd_state.specs.Boot.{all_joined, before_scheduling, boot_of, fresh_task, new_queue}
 use Rattle.rd_state.specs.Settled.{seating_of, IsSettled}
 use Rattle.rd_state.specs.Sizes.{IsSized}
 use Rattle.rd_state.specs.Snapshot.{Snapshot, TaskSnapshot, no_queue, no_task, task_at}
-use Rattle.rd_state.specs.Valid.{IsNotWaiting, IsValid, is_on, places_to_run, shape_of, times, times_on, waits_at}
+use Rattle.rd_state.specs.Valid.{IsNotWaiting, IsValid, StandsAtCall, WaitsAhead, is_on, places_to_run, shape_of, times, times_on, waits_at}
 use Rattle.rd_state.specs.Waiting.{waiting_at}
 use Rattle.rd_state.proofs.EndLaws.{settles}
 use Rattle.rd_state.proofs.ScheduleLaws.{SeatsKept, kept_settled, one_if, times-joined}
@@ -87,6 +87,8 @@ IsValid-boot app s limits sized e =
       };
       places = λ place task h.
           ap (times task) (nobody_waits app place) ∙ sym (ap (λ (t : TaskSnapshot). waits_at place t.phase) (there task h));
+      calls = λ task h. subst (λ (t : TaskSnapshot). StandsAtCall t.phase (instr_at app task t.pc)) (sym (there task h)) tt;
+      deadlines = λ task h. subst (λ (t : TaskSnapshot). WaitsAhead app.tick t.phase) (sym (there task h)) tt;
       entries = All-replicate (λ (task : TaskSnapshot). All IsNotWaiting task.entries) n (fresh_task app.notes) (All-replicate IsNotWaiting app.notes idle_entry idle_is_not_waiting);
     } in
     subst (λ (t : Snapshot). IsSized t → IsValid app t) (sym e) valid sized

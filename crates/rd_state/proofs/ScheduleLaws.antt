@@ -20,7 +20,7 @@ seats_of task seats = times task seats.ready + times_on task seats.cores
 abbrev pub one_if : Bool → ℕ
 one_if b = cond b 1 0
 
-times-cons : (task first : ℕ) (rest : List ℕ) → times task (first ∷ rest) ≡ one_if (nat_eq task first) + times task rest
+pub times-cons : (task first : ℕ) (rest : List ℕ) → times task (first ∷ rest) ≡ one_if (nat_eq task first) + times task rest
 times-cons task first rest = sum_by-cons (λ t. one_if (nat_eq task t)) first rest
 
 pub times-joined : (priorities tasks : List ℕ) (task joining : ℕ) → times task (joined priorities tasks joining) ≡ times task tasks + one_if (nat_eq task joining)

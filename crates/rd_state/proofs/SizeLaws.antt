@@ -3,7 +3,7 @@ use Rattle.std.proofs.Common.{◌≡◌, ◌∙◌, ℕ, zero, suc, ◌+◌, ◌
 use Rattle.std.specs.Prelude.{All, insert, remove, slice_index}
 use Rattle.std.specs.Vec.{with_item}
 use Rattle.std.specs.List.{prefix_len}
-use Rattle.std.proofs.lemmas.List.{get_or_default, length-drop, length-replicate}
+use Rattle.std.proofs.lemmas.List.{get_or_default, length-drop, length-replicate, length-set}
 use Rattle.std.proofs.lemmas.List.Edits.{length-insert, length-remove}
 use Rattle.std.proofs.lemmas.List.Elements.{All-nil, All-same, All-set, All-drop, All-get_or, All-replicate, All-map, All-weaker}
 use Rattle.std.proofs.lemmas.List.Sums.{prefix_len-le-length}
@@ -18,8 +18,8 @@ use Rattle.rd_wait.specs.TaskList.{TaskList}
 use Rattle.rd_state.specs.declared.state.State.TheInside.{Inside}
 use Rattle.rd_state.specs.Boot.{all_joined, fresh_task, new_queue}
 use Rattle.rd_state.specs.Inside.{IsKept, snapshot_of}
-use Rattle.rd_state.specs.Sizes.{HasSizedLists, IsSizedList, IsSizedTask, IsSizedQueue, IsTaskOrIdle}
-use Rattle.rd_state.specs.Snapshot.{Snapshot, no_queue, queue_at}
+use Rattle.rd_state.specs.Sizes.{HasSizedLists, IsSizedList, IsSizedPhase, IsSizedTask, IsSizedQueue, IsTaskOrIdle}
+use Rattle.rd_state.specs.Snapshot.{Snapshot, TaskSnapshot, no_queue, queue_at}
 use Rattle.rd_wait.proofs.ListLaws.{All-insert, All-remove}
 
 -- a task has left the ready list
@@ -31,6 +31,7 @@ IsKept-remove s place h kept = record {
     ready = All-remove (λ task. task < length s.tasks.items) s.ready.tasks place kept.sized.ready;
     room = omega (arith, length-remove s.ready.tasks place h, kept.sized.room);
     tasks = kept.sized.tasks;
+    phases = kept.sized.phases;
     queues = kept.sized.queues;
     lists = kept.sized.lists;
   };
@@ -55,6 +56,7 @@ IsKept-queue s queue new sized lists kept = record {
     ready = kept.sized.ready;
     room = kept.sized.room;
     tasks = kept.sized.tasks;
+    phases = subst (λ (queues : ℕ). All (λ (task : TaskSnapshot). IsSizedPhase queues task.phase) s.tasks.items) (sym (length-set s.queues.items queue new)) kept.sized.phases;
     queues = All-set IsSizedQueue s.queues.items queue new sized kept.sized.queues;
     lists = All-set (HasSizedLists (length s.tasks.items)) s.queues.items queue new lists kept.sized.lists;
   };
@@ -155,6 +157,8 @@ IsKept-new app s n limits turn cores ready tasks queues =
         ready = All-same (λ task. task < length s.tasks.items) s.ready.tasks (all_joined (priorities_of app) n) listed (All-all_joined (priorities_of app) n (length s.tasks.items) (omega (arith, count)));
         room = omega (arith, ap length listed, length-all_joined (priorities_of app) n, count);
         tasks = All-same IsSizedTask s.tasks.items (replicate n (fresh_task app.notes)) tasks (All-replicate IsSizedTask n (fresh_task app.notes) (refl, omega arith));
+        phases = All-same (λ (task : TaskSnapshot). IsSizedPhase (length s.queues.items) task.phase) s.tasks.items (replicate n (fresh_task app.notes)) tasks
+            (All-replicate (λ (task : TaskSnapshot). IsSizedPhase (length s.queues.items) task.phase) n (fresh_task app.notes) tt);
         queues = All-same IsSizedQueue s.queues.items (map (new_queue n) app.queues) queues
             (All-map IsSizedQueue (new_queue n) app.queues (All-weaker IsQueueShape (λ q. IsSizedQueue (new_queue n q)) (λ q h. (omega arith, All-nil (λ (item : List ℕ). length item ≡ q.item_size), omega (arith, h.3))) app.queues limits.queues));
         lists = All-same (HasSizedLists (length s.tasks.items)) s.queues.items (map (new_queue n) app.queues) queues

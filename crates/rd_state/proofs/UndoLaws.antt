@@ -14,7 +14,7 @@ use Rattle.rd_state.specs.declared.change.Change.TheVariants.{SetTick, SetTurn, 
 use Rattle.rd_state.specs.Snapshot.{Snapshot, TaskSnapshot, no_task, no_queue, task_at, queue_at}
 use Rattle.rd_state.specs.Change.{applied, inverse_of, Fits, Takes, HasItem, items_at, with_task, with_queue}
 use Rattle.rd_state.specs.Waiting.{HasPlace, waiting_at, with_waiting_at}
-use Rattle.rd_state.specs.Sizes.{HasSizedLists, IsSized, IsSizedList, IsSizedTask, IsSizedQueue, IsTaskOrIdle}
+use Rattle.rd_state.specs.Sizes.{HasSizedLists, IsSized, IsSizedList, IsSizedPhase, IsSizedTask, IsSizedQueue, IsTaskOrIdle}
 use Rattle.rd_state.specs.Undoing.{undone, CanUndo, EachIsUndone}
 use Rattle.rd_wait.proofs.ListLaws.{remove-insert, insert-remove, set_back}
 
@@ -85,7 +85,7 @@ back s (SetReg task register value) sized fits =
     let registers = (task_at s task).registers in
     task_back s task (record (task_at s task) { registers = set registers register value }) (λ t. record t { registers = set t.registers register (get_or registers register 0) }) fits.0
     (ap (λ (r : List ℕ). record (task_at s task) { registers = r }) (set_back registers register 0 value))
-back s (SetPhase task phase) sized fits = task_back s task (record (task_at s task) { phase = phase }) (λ t. record t { phase = (task_at s task).phase }) fits refl
+back s (SetPhase task phase) sized fits = task_back s task (record (task_at s task) { phase = phase }) (λ t. record t { phase = (task_at s task).phase }) fits.0 refl
 back s (SetData task bytes) sized fits = task_back s task (record (task_at s task) { bytes = bytes }) (λ t. record t { bytes = (task_at s task).bytes }) fits.0 refl
 back s (InsReady place task) sized fits = ap (λ (ready : List ℕ). record s { ready = ready }) (remove-insert s.ready place task fits.0)
 back s (DelReady place) sized fits = ap (λ (ready : List ℕ). record s { ready = ready }) (insert-remove s.ready place 0 fits)
@@ -142,7 +142,8 @@ item_sized : (s : Snapshot) (queue place : ℕ) → IsSized s → queue < length
 item_sized s queue place sized h there =
     All-get_or (λ (item : List ℕ). length item ≡ (queue_at s queue).item_size) (items_at s queue) place [] there (queue_sized s queue sized h).1
 
-list_sized : (s : Snapshot) (place : Place) → IsSized s → HasPlace s place → IsSizedList (length s.tasks) (waiting_at s place)
+-- Those who wait at a place are tasks, and no more than there are.
+pub list_sized : (s : Snapshot) (place : Place) → IsSized s → HasPlace s place → IsSizedList (length s.tasks) (waiting_at s place)
 list_sized s (Receive queue) sized h = (All-get_or (HasSizedLists (length s.tasks)) s.queues queue no_queue h sized.lists).receiving
 list_sized s (Send queue) sized h = (All-get_or (HasSizedLists (length s.tasks)) s.queues queue no_queue h sized.lists).sending
 
@@ -152,7 +153,8 @@ fits_back s (SetTurn turn) sized fits = sized.turn
 fits_back s (SetCore core task) sized fits = (omega (arith, length-set s.cores core task, fits.0), All-get_or (IsTaskOrIdle (length s.tasks)) s.cores core None fits.0 sized.cores)
 fits_back s (SetPc task pc) sized fits = task_there s task (record (task_at s task) { pc = pc }) fits
 fits_back s (SetReg task register value) sized fits = (task_there s task (record (task_at s task) { registers = set (task_at s task).registers register value }) fits.0, fits.1)
-fits_back s (SetPhase task phase) sized fits = task_there s task (record (task_at s task) { phase = phase }) fits
+fits_back s (SetPhase task phase) sized fits =
+    (task_there s task (record (task_at s task) { phase = phase }) fits.0, All-get_or (λ (t : TaskSnapshot). IsSizedPhase (length s.queues) t.phase) s.tasks task no_task fits.0 sized.phases)
 fits_back s (SetData task bytes) sized fits = (task_there s task (record (task_at s task) { bytes = bytes }) fits.0, (All-get_or IsSizedTask s.tasks task no_task fits.0 sized.tasks).1)
 fits_back s (InsReady place task) sized fits = omega (arith, length-insert s.ready place task fits.0)
 fits_back s (DelReady place) sized fits =

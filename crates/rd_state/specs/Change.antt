@@ -5,6 +5,7 @@ use Rattle.rd_queue.specs.QueueSnapshot.{QueueSnapshot}
 use Rattle.rd_script.specs.declared.phase.Place.{Place}
 use Rattle.rd_state.specs.declared.change.Change.{Change}
 use Rattle.rd_state.specs.declared.change.Change.TheVariants.{SetTick, SetTurn, SetCore, SetPc, SetReg, SetPhase, SetData, InsReady, DelReady, InsWait, DelWait, PutBack, TakeBack, PutFront, TakeFront}
+use Rattle.rd_state.specs.Sizes.{IsSizedPhase}
 use Rattle.rd_state.specs.Snapshot.{Snapshot, TaskSnapshot, task_at, queue_at, core_at}
 use Rattle.rd_state.specs.Waiting.{HasPlace, waiting_at, with_waiting_at}
 
@@ -74,7 +75,7 @@ Fits s (SetTurn turn) = turn ≤ length s.cores
 Fits s (SetCore core task) = (core < length s.cores) × IfSome task (λ t. t < length s.tasks)
 Fits s (SetPc task pc) = task < length s.tasks
 Fits s (SetReg task register value) = (task < length s.tasks) × (register < 8)
-Fits s (SetPhase task phase) = task < length s.tasks
+Fits s (SetPhase task phase) = (task < length s.tasks) × IsSizedPhase (length s.queues) phase
 Fits s (SetData task bytes) = (task < length s.tasks) × (length bytes ≤ 256)
 Fits s (InsReady place task) = (place ≤ length s.ready) × (length s.ready < length s.tasks) × (task < length s.tasks)
 Fits s (DelReady place) = place < length s.ready

@@ -1,17 +1,20 @@
 -- What holds of a state between moves, for an application.
-use Rattle.std.specs.Prelude.{ℕ, ◌≡◌, ◌≢◌, ◌+◌, ◌<◌, Bool, false, List, length, map, All, count_by, nat_eq, Option, Some, None}
+use Rattle.std.specs.Prelude.{ℕ, ◌≡◌, ◌≢◌, ◌+◌, ◌<◌, Bool, true, false, List, length, map, All, count_by, nat_eq, nat_lt, if◌then◌else◌, Option, Some, None, IsSome}
 use Rattle.rd_notify.specs.declared.notes.Entry.{Entry}
 use Rattle.rd_notify.specs.declared.notes.EntryState.TheVariants.{Waiting}
 use Rattle.rd_queue.specs.QueueSnapshot.{QueueSnapshot}
 use Rattle.rd_script.specs.declared.app.QueueShape.{QueueShape}
 use Rattle.rd_script.specs.declared.phase.Phase.{Phase}
-use Rattle.rd_script.specs.declared.phase.Phase.TheVariants.{Run, Ended}
+use Rattle.rd_script.specs.declared.phase.Phase.TheVariants.{Run, Again, Wait, Ended}
+use Rattle.rd_script.specs.declared.instr.Instr.{Instr}
+use Rattle.rd_script.specs.declared.instr.Instr.TheVariants as instr
 use Rattle.rd_script.specs.declared.phase.Place.{Place}
-use Rattle.rd_script.specs.Application.{Application, code_of, priorities_of}
+use Rattle.rd_script.specs.declared.phase.Place.TheVariants.{Receive, Send}
+use Rattle.rd_script.specs.Application.{Application, code_of, instr_at, priorities_of}
 use Rattle.rd_wait.specs.Joined.{IsInOrder}
 use Rattle.rd_state.specs.Snapshot.{Snapshot, task_at}
 use Rattle.rd_state.specs.Sizes.{IsSized}
-use Rattle.rd_state.specs.Waiting.{waiting_at}
+use Rattle.rd_state.specs.Waiting.{same_place, waiting_at}
 
 abbrev pub shape_of : QueueSnapshot → QueueShape
 shape_of queue = record { capacity = queue.capacity; item_size = queue.item_size }
@@ -39,6 +42,8 @@ times_on task cores = count_by (is_on task) cores
 -- on how many cores or in how many places of the ready list a task of this phase stands
 abbrev pub places_to_run : Phase → ℕ
 places_to_run Run = 1
+places_to_run (Again deadline) = 1
+places_to_run (Wait place deadline) = 0
 places_to_run Ended = 0
 
 -- A task that can run is on one core or once in the ready list, not both; any other is in neither.
@@ -48,11 +53,44 @@ PlacedOnce s = (task : ℕ) → task < length s.tasks → times task s.ready + t
 -- how often a task of this phase stands in the list of a place
 abbrev pub waits_at : Place → Phase → ℕ
 waits_at place Run = 0
+waits_at place (Again deadline) = 0
+waits_at place (Wait at deadline) = if same_place place at then 1 else 0
 waits_at place Ended = 0
 
 -- A task stands in the list of each place as often as its phase says.
 abbrev pub WaitsAtPlaces : Snapshot → Type 0
 WaitsAtPlaces s = (place : Place) (task : ℕ) → task < length s.tasks → times task (waiting_at s place) ≡ waits_at place (task_at s task).phase
+
+-- the place where a task waits for an instruction, if that is a call with a block time
+abbrev pub place_of_call : Instr → Option Place
+place_of_call (instr.Send queue wait) = Some (Send queue)
+place_of_call (instr.Receive queue wait) = Some (Receive queue)
+place_of_call _ = None
+
+-- A task that tries again stands at a call with a block time, and one that waits, at the call of its place.
+abbrev pub StandsAtCall : Phase → Instr → Type 0
+StandsAtCall Run instr = Unit {0}
+StandsAtCall (Again deadline) instr = IsSome (place_of_call instr)
+StandsAtCall (Wait place deadline) instr = place_of_call instr ≡ Some place
+StandsAtCall Ended instr = Unit {0}
+
+abbrev pub StandAtCalls : Application → Snapshot → Type 0
+StandAtCalls app s = (task : ℕ) → task < length s.tasks → StandsAtCall (task_at s task).phase (instr_at app task (task_at s task).pc)
+
+-- Is a deadline none, or a tick to come?
+abbrev pub is_ahead : ℕ → Option ℕ → Bool
+is_ahead tick None = true
+is_ahead tick (Some deadline) = nat_lt tick deadline
+
+-- A task waits for as long as its deadline is ahead.
+abbrev pub WaitsAhead : ℕ → Phase → Type 0
+WaitsAhead tick Run = Unit {0}
+WaitsAhead tick (Again deadline) = Unit {0}
+WaitsAhead tick (Wait place deadline) = is_ahead tick deadline ≡ true
+WaitsAhead tick Ended = Unit {0}
+
+abbrev pub WaitAhead : Snapshot → Type 0
+WaitAhead s = (task : ℕ) → task < length s.tasks → WaitsAhead s.tick (task_at s task).phase
 
 -- Each list of tasks is in priority order.
 pub record ListsInOrder (priorities : List ℕ) (s : Snapshot) : Type 0 where
@@ -68,4 +106,6 @@ pub record IsValid (app : Application) (s : Snapshot) : Type 0 where
   pub placed_once : PlacedOnce s
   pub waiting_lists : ListsInOrder (priorities_of app) s
   pub places : WaitsAtPlaces s
+  pub calls : StandAtCalls app s
+  pub deadlines : WaitAhead s
   pub entries : All (λ task. All IsNotWaiting task.entries) s.tasks

@@ -1,5 +1,5 @@
 -- The places where tasks can wait, and the list of each.
-use Rattle.std.specs.Prelude.{ℕ, ◌<◌, List, length, slice_set}
+use Rattle.std.specs.Prelude.{ℕ, ◌<◌, Bool, false, List, length, nat_eq, slice_set}
 use Rattle.rd_queue.specs.declared.waiting_list.WaitingList.TheVariants.{Receiving, Sending}
 use Rattle.rd_queue.specs.QueueSnapshot.{QueueSnapshot}
 use Rattle.rd_queue.specs.Queues.{waiting_in, with_waiting}
@@ -7,10 +7,20 @@ use Rattle.rd_script.specs.declared.phase.Place.{Place}
 use Rattle.rd_script.specs.declared.phase.Place.TheVariants.{Receive, Send}
 use Rattle.rd_state.specs.Snapshot.{Snapshot, queue_at}
 
--- The place is there.
+-- The place is there, where there are that many queues.
+abbrev pub IsPlace : ℕ → Place → Type 0
+IsPlace queues (Receive queue) = queue < queues
+IsPlace queues (Send queue) = queue < queues
+
 abbrev pub HasPlace : Snapshot → Place → Type 0
-HasPlace s (Receive queue) = queue < length s.queues
-HasPlace s (Send queue) = queue < length s.queues
+HasPlace s place = IsPlace (length s.queues) place
+
+-- Are they one place?
+abbrev pub same_place : Place → Place → Bool
+same_place (Receive queue) (Receive other) = nat_eq queue other
+same_place (Receive queue) (Send other) = false
+same_place (Send queue) (Receive other) = false
+same_place (Send queue) (Send other) = nat_eq queue other
 
 -- the tasks that wait at a place, the first to be served first
 abbrev pub waiting_at : Snapshot → Place → List ℕ

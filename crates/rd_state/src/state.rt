@@ -1,9 +1,9 @@
-ghost use Rattle.std.specs.Prelude.{◌≡◌, ◌-◌, ◌<◌, ◌≤◌, ◌↔◌, length, insert, remove, slice_get, Some, IfOk, IsTrue};
+ghost use Rattle.std.specs.Prelude.{◌≡◌, ◌-◌, ◌<◌, ◌≤◌, ◌↔◌, length, insert, remove, slice_get, All, Some, IfOk, IsTrue};
 ghost use Rattle.rd_state.specs.Boot.{before_scheduling};
 ghost use Rattle.rd_queue.specs.Queues.{waiting_in, with_waiting};
 ghost use Rattle.rd_state.specs.Change.{applied, inverse_of, with_queue, Fits};
 ghost use Rattle.rd_state.specs.Settled.{weakest_of, rank_of};
-ghost use Rattle.rd_state.specs.Sizes.{IsSized};
+ghost use Rattle.rd_state.specs.Sizes.{IsSized, IsSizedPhase};
 ghost use Rattle.rd_state.specs.Snapshot.{hollow_state, task_at, queue_at, core_at, SameScheduling, SameObjects};
 ghost use Rattle.rd_state.specs.Waiting.{HasPlace, waiting_at};
 
@@ -239,6 +239,16 @@ impl State {
         &self.tasks[task]
     }
 
+    /// What a task does. A place where it waits is there, and a deadline is below 2^33.
+    pub fn phase(&self, task: usize) -> Phase
+        requires { task < length self.now.tasks }
+        ensures phase { result ≡ (task_at self.now task).phase }
+        ensures sized { IsSizedPhase (length self.now.queues) result }
+    {
+        self.sizes();
+        self.task(task).phase()
+    }
+
     /// How many queues there are.
     pub fn queue_count(&self) -> usize
         ensures { result ≡ length self.now.queues }
@@ -258,6 +268,7 @@ impl State {
     pub fn waiting(&self, place: Place) -> &PrioList
         requires { HasPlace self.now place }
         ensures tasks { result.now.tasks ≡ waiting_at self.now place }
+        ensures members { All (λ task. task < length self.now.tasks) (waiting_at self.now place) }
         ensures room { result.now.room ≡ length self.now.tasks }
     {
         match place {

@@ -1,3 +1,4 @@
 pub mod HistoryLaws
 pub mod TimelineLaws
 pub mod Rows
+pub mod WaitingRows

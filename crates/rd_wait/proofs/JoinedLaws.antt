@@ -1,12 +1,12 @@
 -- Joining keeps the order.
-use Rattle.std.proofs.Common.{◌≡◌, ◌∙◌, ℕ, suc, ◌+◌, ◌<◌, ◌≤◌, Bool, true, false, cond, List, [], ◌∷◌, ◌++◌, drop, refl, ap, subst, sym, arith, inl, inr}
-use Rattle.std.specs.Prelude.{filter, insert, nat_lt, slice_index}
+use Rattle.std.proofs.Common.{◌≡◌, ◌∙◌, ℕ, zero, suc, ◌+◌, ◌<◌, ◌≤◌, Bool, true, false, cond, List, [], ◌∷◌, ◌++◌, drop, refl, ap, subst, sym, arith, inl, inr}
+use Rattle.std.specs.Prelude.{filter, insert, remove, nat_lt, slice_index}
 use Rattle.std.specs.List.{prefix_len, AllByRecursion}
 use Rattle.std.proofs.Math.Dec.{leb}
 use Rattle.std.proofs.lemmas.Bool.{le-leb}
 use Rattle.std.proofs.lemmas.Bool.Decides.{leb_tells, nat_tests}
 use Rattle.rd_wait.specs.Joined.{among, joined, is_at_least, IsInOrder, JoinsAmong}
-use Rattle.rd_wait.proofs.ListLaws.{AllByRecursion-insert, AllByRecursion-weaker}
+use Rattle.rd_wait.proofs.ListLaws.{AllByRecursion-insert, AllByRecursion-remove, AllByRecursion-weaker}
 
 -- the list with the task at that place of the first member and the rest
 place_cons : (first : ℕ) (rest : List ℕ) (n task : ℕ) (b : Bool) → insert (first ∷ rest) (cond b (1 + n) 0) task ≡ cond b (first ∷ insert rest n task) (task ∷ first ∷ rest)
@@ -38,6 +38,14 @@ IsInOrder-joined priorities (first ∷ rest) task h =
 pub IsInOrder-rest : (priorities tasks : List ℕ) → IsInOrder priorities tasks → IsInOrder priorities (drop 1 tasks)
 IsInOrder-rest priorities [] h = tt
 IsInOrder-rest priorities (first ∷ rest) h = h.1
+
+-- A list in order stays in order when a member leaves.
+pub IsInOrder-remove : (priorities tasks : List ℕ) (place : ℕ) → IsInOrder priorities tasks → IsInOrder priorities (remove tasks place)
+IsInOrder-remove priorities [] zero h = tt
+IsInOrder-remove priorities [] (suc place) h = tt
+IsInOrder-remove priorities (first ∷ rest) zero h = h.1
+IsInOrder-remove priorities (first ∷ rest) (suc place) h =
+    (AllByRecursion-remove (λ later. slice_index priorities later ≤ slice_index priorities first) rest place h.0, IsInOrder-remove priorities rest place h.1)
 
 -- below a task's priority, nobody has at least it
 none_at_least : (priorities tasks : List ℕ) (priority : ℕ) → AllByRecursion (λ later. slice_index priorities later < priority) tasks

@@ -31,6 +31,10 @@ set_back xs i d y = set-set xs i y (get_or xs i d) ∙ set-get_or xs i d
 pub AllByRecursion-insert : {X : Type 0} (P : X → Type 0) (xs : List X) (i : ℕ) (x : X) → AllByRecursion P xs → P x → AllByRecursion P (insert xs i x)
 AllByRecursion-insert P xs i x h here = recursion_from_All P (insert xs i x) (All-insert P xs i x (All-from_recursion P xs h) here)
 
+-- and after a member was taken out
+pub AllByRecursion-remove : {X : Type 0} (P : X → Type 0) (xs : List X) (i : ℕ) → AllByRecursion P xs → AllByRecursion P (remove xs i)
+AllByRecursion-remove P xs i h = recursion_from_All P (remove xs i) (All-remove P xs i (All-from_recursion P xs h))
+
 pub AllByRecursion-weaker : {X : Type 0} (P Q : X → Type 0) → ((x : X) → P x → Q x) → (xs : List X) → AllByRecursion P xs → AllByRecursion Q xs
 AllByRecursion-weaker P Q f [] h = tt
 AllByRecursion-weaker P Q f (x ∷ xs) h = (f x h.0, AllByRecursion-weaker P Q f xs h.1)

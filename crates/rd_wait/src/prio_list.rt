@@ -1,4 +1,4 @@
-ghost use Rattle.std.specs.Prelude.{◌≡◌, ◌↔◌, ◌+◌, ◌<◌, ◌≤◌, IsTrue, [], ◌∷◌, ◌++◌, length, All, IfOk, take, drop, insert, remove, position, slice_get, nat_eq, slice_index_or};
+ghost use Rattle.std.specs.Prelude.{◌≡◌, ◌↔◌, ◌+◌, ◌<◌, ◌≤◌, IsTrue, [], ◌∷◌, ◌++◌, length, All, IfOk, IfSome, take, drop, insert, remove, position, slice_get, nat_eq, slice_index_or};
 ghost use Rattle.rd_wait.specs.Joined.{place_of, AreTasks, JoinsAmong};
 
 use std::alloc::{AllocError, Global};
@@ -105,7 +105,8 @@ impl PrioList {
 
     /// The first place at which `task` stands.
     pub fn position(&self, task: usize) -> Option<usize>
-        ensures { result ≡ position (λ member. nat_eq member task) self.now.tasks }
+        ensures place { result ≡ position (λ member. nat_eq member task) self.now.tasks }
+        ensures within { IfSome result (λ place. place < length self.now.tasks) }
     {
         self.tasks.iter().position(|member| *member == task)
     }

@@ -1,7 +1,7 @@
 use crate::app::file::read_app;
 use crate::app::{App, Kind};
 use crate::error::AppError;
-use crate::instr::Instr;
+use crate::instr::{Instr, MAX_DELAY, Operand};
 use std::alloc::Global;
 use std::test::Fail;
 
@@ -39,6 +39,10 @@ fn refused_files(rt: HostRuntime) -> Result<(), Fail> {
             AppError::Instr,
         ),
         (
+            r#"{"profile":1,"cores":1,"queues":[{"name":"q0","length":2,"item":1}],"tasks":[{"name":"t0","priority":1,"code":["send q9 r8","end"]}]}"#,
+            AppError::Instr,
+        ),
+        (
             r#"{"profile":1,"cores":1,"queues":[{"name":"q0","length":2,"item":1}]}"#,
             AppError::Shape,
         ),
@@ -69,6 +73,31 @@ fn pack_and_unpack(rt: HostRuntime) -> Result<(), Fail> {
     assert!(rt; matches!(code[1], Instr::Pack { register: 1 }));
     assert!(rt; matches!(code[2], Instr::Unpack { register: 2 }));
     assert!(rt; matches!(code[3], Instr::End));
+    Ok(())
+}
+
+// The block time of a call.
+fn wait_of(instr: &Instr) -> Option<Operand> {
+    match instr {
+        Instr::Send { wait, .. } | Instr::Receive { wait, .. } => Some(*wait),
+        _ => None,
+    }
+}
+
+#[test]
+fn block_times(rt: HostRuntime) -> Result<(), Fail> {
+    let text =
+        r#"{"profile":1,"cores":1,"queues":[{"name":"q0","length":2,"item":1}],"tasks":[{"name":"t0","priority":1,"code":["send q0 1","recv q0 max","send q0 r3","end"]}]}"#;
+    let app = read_app(rt.alloc(), text.as_bytes())?;
+    let code = app.code(0);
+    assert_eq!(rt; code.len(), 4);
+    assert_eq!(rt; wait_of(&code[0]), Some(Operand::Number { value: 1 }));
+    assert_eq!(rt;
+        wait_of(&code[1]),
+        Some(Operand::Number { value: MAX_DELAY })
+    );
+    assert_eq!(rt; wait_of(&code[2]), Some(Operand::Register { register: 3 }));
+    assert_eq!(rt; wait_of(&code[3]), None);
     Ok(())
 }
 

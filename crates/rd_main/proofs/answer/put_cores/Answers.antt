@@ -1,4 +1,4 @@
-use Rattle.std.proofs.Common.{◌≡◌, ◌∙◌, ℕ, Some, refl, ap}
+use Rattle.std.proofs.Common.{◌∙◌, ℕ, Some, refl, ap}
 use Rattle.std.proofs.lemmas.Result.{on_ok_weaker}
 use Rattle.rd_script.specs.Application.{Application}
 use Rattle.rd_state.specs.Snapshot.{Snapshot}

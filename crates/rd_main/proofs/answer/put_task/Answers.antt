@@ -1,15 +1,22 @@
 use Rattle.std.proofs.Common.{◌≡◌, ◌∙◌, ℕ, Option, Some, List, ap, sym, position}
 use Rattle.std.proofs.lemmas.Result.{on_ok_weaker}
+use Rattle.rd_script.specs.Application.{Application}
 use Rattle.rd_state.specs.Snapshot.{Snapshot, TaskSnapshot, task_at}
 use Rattle.rd_main.specs.Answers.{number_named}
 use Rattle.rd_main.specs.Replies.{is_task, line_of, task_text}
-use Rattle.rd_main.proofs.AnswerLaws.{page_view, task_there}
+use Rattle.rd_main.proofs.AnswerLaws.{page_view, place_named, task_there}
 use Rattle.rd_main.proofs.answer.put_task.Goals as goal
 
 pub task-requires : goal.task-requires
 task-requires c =
     rw c.target-target.ensures
     (task_there c.args.timeline.now c.in-Some.task c.args.name.now (rw c.app-2.ensures at c.limits.ensures) c.keeps.ensures.valid (sym (rw c.app.ensures at c.in-Some.ensures)))
+
+pub show_task-shown-requires : goal.show_task-shown-requires
+show_task-shown-requires c =
+    let limits = rw c.app-2.ensures at c.limits.ensures in
+    let there = task_there c.args.timeline.now c.in-Some.task c.args.name.now limits c.keeps.ensures.valid (sym (rw c.app.ensures at c.in-Some.ensures)) in
+    rw (c.app-3.ensures, c.task.ensures, c.target-target.ensures) (place_named c.args.timeline.now c.in-Some.task limits c.keeps.ensures.valid there)
 
 pub returns : goal.returns
 returns c =
@@ -20,9 +27,10 @@ returns c =
     let on_core : c.core_of-core.result ≡ position (is_task task) course.target.cores =
     c.core_of-core.ensures ∙ ap (λ (cores : List (Option ℕ)). position (is_task task) cores) (c.cores.ensures ∙ ap (λ (s : Snapshot). s.cores) c.target-target.ensures) in
     on_ok_weaker c.put_page.result
-    (page_view c.show_task-shown.result _ (λ (t : ℕ). task_text name (position (is_task t) course.target.cores) (task_at course.target t)) task _ _ _ found
+    (page_view c.show_task-shown.result _ (λ (t : ℕ). task_text course.app.queue_names name (position (is_task t) course.target.cores) (task_at course.target t)) task _ _ _ found
     (on_ok_weaker c.show_task-shown.result
-    (λ text. c.as_slice.ensures.value ∙ text ∙ ap (λ (core : Option ℕ). line_of (task_text name core c.task.result.now)) on_core
-    ∙ ap (λ (t : TaskSnapshot). line_of (task_text name (position (is_task task) course.target.cores) t)) (c.task.ensures ∙ ap (λ (s : Snapshot). task_at s task) c.target-target.ensures))
+    (λ text. c.as_slice.ensures.value ∙ text ∙ ap (λ (app : Application). line_of (task_text app.queue_names name c.core_of-core.result c.task.result.now)) c.app-3.ensures
+    ∙ ap (λ (core : Option ℕ). line_of (task_text course.app.queue_names name core c.task.result.now)) on_core
+    ∙ ap (λ (t : TaskSnapshot). line_of (task_text course.app.queue_names name (position (is_task task) course.target.cores) t)) (c.task.ensures ∙ ap (λ (s : Snapshot). task_at s task) c.target-target.ensures))
     c.show_task-shown.ensures))
     c.put_page.ensures

@@ -1,4 +1,4 @@
-use Rattle.std.proofs.Common.{Option, None, arith}
+use Rattle.std.proofs.Common.{None, arith}
 use Rattle.rd_main.proofs.TextLaws.{one_more}
 use Rattle.rd_main.specs.Replies.{seat_text}
 use Rattle.rd_main.proofs.reply.put_seats.Goals as goal

@@ -1,0 +1,5 @@
+use Rattle.rd_calls.proofs.WakingLaws.{first_tries_wait}
+use Rattle.rd_calls.proofs.play.first_tries_wait.Goals as goal
+
+pub returns : goal.returns
+returns c = first_tries_wait

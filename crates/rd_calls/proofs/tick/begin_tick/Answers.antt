@@ -1,0 +1,9 @@
+use Rattle.std.proofs.Common.{rules, subst}
+use Rattle.rd_state.specs.Sizes.{IsSized}
+use Rattle.rd_calls.proofs.StepLaws.{room_when_due}
+use Rattle.rd_calls.proofs.tick.begin_tick.Goals as goal
+
+pub wake_if_due-requires-clause-room : goal.wake_if_due-requires-clause-room
+wake_if_due-requires-clause-room c =
+    room_when_due c.args.app.now c.args.editing.now.now c.loop-task.editing.now c.loop-task.task c.requires.valid (search rules) c.loop-task.invariant.comes.now
+    (subst IsSized c.state-in-loop-task.ensures c.sizes.ensures)
