@@ -1,5 +1,5 @@
 //! Single changes in the middle of a step.
-ghost use Rattle.std.specs.Prelude.{◌≡◌, ◌+◌, ◌<◌, ◌≤◌, length, OnOk, OnErr};
+ghost use Rattle.std.specs.Prelude.{◌≡◌, ◌+◌, ◌<◌, ◌≤◌, length, IsOk, OnOk, OnErr};
 ghost use Rattle.rd_script.specs.declared.phase.Phase.TheVariants.{Run};
 ghost use Rattle.rd_state.specs.Edit.{Comes};
 ghost use Rattle.rd_state.specs.Sizes.{IsSizedPhase};
@@ -93,10 +93,11 @@ pub fn return_from(editing: &mut Editing, task: usize, answer: u32) -> Result<()
     set_pc(editing, task, pc + 1)
 }
 
-/// Gives the turn to this core, if it hasn't it.
+/// Gives the turn to this core. If it has the turn already, nothing changes, and no memory is taken.
 pub fn set_turn(editing: &mut Editing, turn: usize) -> Result<(), NoMemory>
     requires { turn ≤ length editing.old.now.cores }
     ensures ok { OnOk result (Comes editing.old editing.new (record editing.old.now { turn = turn }) 1) }
+    ensures has_it { editing.old.now.turn ≡ turn → IsOk result }
     ensures err { OnErr result (editing.new.base ≡ editing.old.base) }
 {
     if editing.state().turn() == turn {

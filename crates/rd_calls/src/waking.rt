@@ -1,13 +1,13 @@
 //! Block times: tasks that begin to wait, and tasks that are woken.
-ghost use Rattle.std.specs.Prelude.{◌≡◌, ◌<◌, length, IfOk, OnOk, OnErr, IsTrue};
+ghost use Rattle.std.specs.Prelude.{◌≡◌, ◌<◌, ◌≤◌, [], None, false, length, nat_eq, position, IfOk, IsOk, OnOk, OnErr, IsTrue};
 ghost use Rattle.rd_script.specs.Application.{IsOperand};
 ghost use Rattle.rd_state.specs.Edit.{Comes};
 ghost use Rattle.rd_state.specs.Sizes.{IsDeadline};
 ghost use Rattle.rd_state.specs.Snapshot.{task_at};
-ghost use Rattle.rd_state.specs.Valid.{is_ahead};
+ghost use Rattle.rd_state.specs.Valid.{is_ahead, places_to_run};
 ghost use Rattle.rd_state.specs.Waiting.{HasPlace, waiting_at};
 ghost use Rattle.rd_calls.specs.Outcomes.{DoesCall, blocked};
-ghost use Rattle.rd_calls.specs.Waking.{value_of, deadline_after, deadline_of, left, is_due};
+ghost use Rattle.rd_calls.specs.Waking.{value_of, deadline_after, deadline_of, may_wait, left, is_due};
 ghost use Rattle.rd_calls.specs.Waking.{ReadyHasRoom, woken, woken_first, woken_if_due};
 
 use crate::outcome::Outcome;
@@ -67,7 +67,7 @@ fn is_ahead(tick: u32, deadline: Option<u64>) -> bool
 }
 
 /// Ends a call that can't be done: its task waits at the place, where its block time lasts, and else the call fails.
-/// The task is the last of those of its priority there.
+/// The task is the last of those of its priority there. A call that fails takes no memory.
 pub fn block(
     editing: &mut Editing,
     priorities: &[u8],
@@ -82,6 +82,7 @@ pub fn block(
     requires priorities { length priorities.now ≡ length editing.old.now.tasks }
     ensures ok { IfOk result (DoesCall editing.old editing.new
         (blocked priorities.now editing.old.now task place wait) 1) }
+    ensures at_once { may_wait editing.old.now task wait ≡ false → IsOk result }
     ensures err { OnErr result (editing.new.base ≡ editing.old.base) }
 {
     let deadline = deadline_of(editing, task, wait);
@@ -100,6 +101,7 @@ pub fn block(
 fn leave(editing: &mut Editing, place: Place, task: usize) -> Result<(), NoMemory>
     requires { HasPlace editing.old.now place }
     ensures ok { OnOk result (Comes editing.old editing.new (left editing.old.now place task) 1) }
+    ensures absent { position (λ member. nat_eq member task) (waiting_at editing.old.now place) ≡ None → IsOk result }
     ensures err { OnErr result (editing.new.base ≡ editing.old.base) }
 {
     match editing.state().waiting(place).position(task) {
@@ -109,12 +111,13 @@ fn leave(editing: &mut Editing, place: Place, task: usize) -> Result<(), NoMemor
 }
 
 /// Wakes a task that waits: it leaves its list, is to try its call again with its deadline, and joins the ready list.
-/// A task that doesn't wait stays as it is.
+/// A task that doesn't wait stays as it is, which takes no memory.
 pub fn wake(editing: &mut Editing, priorities: &[u8], task: usize) -> Result<(), NoMemory>
     requires task { task < length editing.old.now.tasks }
     requires room { ReadyHasRoom editing.old.now }
     requires priorities { length priorities.now ≡ length editing.old.now.tasks }
     ensures ok { OnOk result (Comes editing.old editing.new (woken priorities.now editing.old.now task) 3) }
+    ensures awake { 1 ≤ places_to_run (task_at editing.old.now task).phase → IsOk result }
     ensures err { OnErr result (editing.new.base ≡ editing.old.base) }
 {
     let Phase::Wait { place, deadline } = editing.state().phase(task) else {
@@ -125,12 +128,13 @@ pub fn wake(editing: &mut Editing, priorities: &[u8], task: usize) -> Result<(),
     editing.join_ready(priorities, task)
 }
 
-/// Wakes the first to be served at a place, if anyone waits there.
+/// Wakes the first to be served at a place, if anyone waits there. Waking nobody takes no memory.
 pub fn wake_first(editing: &mut Editing, priorities: &[u8], place: Place) -> Result<(), NoMemory>
     requires place { HasPlace editing.old.now place }
     requires room { 0 < length (waiting_at editing.old.now place) → ReadyHasRoom editing.old.now }
     requires priorities { length priorities.now ≡ length editing.old.now.tasks }
     ensures ok { OnOk result (Comes editing.old editing.new (woken_first priorities.now editing.old.now place) 3) }
+    ensures nobody { waiting_at editing.old.now place ≡ [] → IsOk result }
     ensures err { OnErr result (editing.new.base ≡ editing.old.base) }
 {
     match editing.state().waiting(place).first() {
@@ -150,12 +154,13 @@ fn is_due(editing: &Editing, task: usize) -> bool
     }
 }
 
-/// Wakes a task whose time is up; any other stays as it is.
+/// Wakes a task whose time is up; any other stays as it is, which takes no memory.
 pub fn wake_if_due(editing: &mut Editing, priorities: &[u8], task: usize) -> Result<(), NoMemory>
     requires task { task < length editing.old.now.tasks }
     requires room { IsTrue (is_due editing.old.now.tick (task_at editing.old.now task).phase) → ReadyHasRoom editing.old.now }
     requires priorities { length priorities.now ≡ length editing.old.now.tasks }
     ensures ok { OnOk result (Comes editing.old editing.new (woken_if_due priorities.now editing.old.now task) 3) }
+    ensures early { is_due editing.old.now.tick (task_at editing.old.now task).phase ≡ false → IsOk result }
     ensures err { OnErr result (editing.new.base ≡ editing.old.base) }
 {
     if is_due(editing, task) {

@@ -2,3 +2,4 @@ pub mod AnswerLaws
 pub mod LineLaws
 pub mod NameLaws
 pub mod TextLaws
+pub mod FaultLaws

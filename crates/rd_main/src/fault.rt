@@ -1,6 +1,7 @@
 //! Why the program ends with another status than 0.
 
 ghost use Rattle.std.specs.Prelude.{◌≡◌, ◌≢◌};
+ghost use Rattle.rd_main.specs.Requests.{IsReadFault};
 ghost use Rattle.rd_main.specs.declared.fault.Fault.TheVariants.{BadLine, NoMemory};
 
 use rd_script::error::AppError;
@@ -45,7 +46,7 @@ impl From<no_memory::NoMemory> for Fault {
 
 // What was met where a file is opened or read.
 impl From<io::Error> for Fault {
-    ghost from_gives = { λ _ fault. fault ≢ BadLine };
+    ghost from_gives = { λ _ fault. IsReadFault fault };
 
     fn from(error: io::Error) -> Fault {
         if error.kind() == ErrorKind::OutOfMemory {

@@ -1,12 +1,16 @@
 //! Reads an application from a file.
 
-ghost use Rattle.std.specs.Prelude.{◌≢◌, ◌≤◌, length, IfOk, IfErr};
-ghost use Rattle.rd_main.specs.declared.fault.Fault.TheVariants.{BadLine};
+ghost use Rattle.std.specs.Prelude.{◌≡◌, IfOk, IfErr, IsNone, IsSome};
+ghost use Rattle.rd_script.specs.Builtin.{builtin};
+ghost use Rattle.rd_script.specs.Application.{IsApplication};
+ghost use Rattle.rd_script.specs.Says.{FileSays};
+ghost use Rattle.rd_main.specs.Requests.{IsFile, IsOfAFile, IsReadFault, IsRefusalOf, IsLoadFault};
+ghost use Rattle.rd_main.specs.declared.fault.Fault.TheVariants.{NoMemory};
 
 use crate::fault::Fault;
 use rd_script::app::App;
 use rd_script::app::file::read_app;
-use std::alloc::AllocGlobal;
+use std::alloc::{AllocGlobal, Global};
 use std::fs;
 use std::io::Read;
 use std::rt::Files;
@@ -16,8 +20,8 @@ pub const MAX_FILE: usize = 1_048_576;
 
 // The bytes of a file.
 fn read_file<H: Files + AllocGlobal>(handle: &H, path: &str) -> Result<Vec<u8>, Fault>
-    ensures len { IfOk result (λ bytes. length bytes.items ≤ 1048576) }
-    ensures fault { IfErr result (λ fault. fault ≢ BadLine) }
+    ensures len { IfOk result (λ bytes. IsFile bytes.items) }
+    ensures fault { IfErr result IsReadFault }
 {
     let mut bytes = Vec::new(handle.alloc());
     let file = fs::open(handle, path)?;
@@ -29,14 +33,30 @@ fn read_file<H: Files + AllocGlobal>(handle: &H, path: &str) -> Result<Vec<u8>, 
     Ok(bytes)
 }
 
+// The application that a file's bytes say.
+fn app_of(alloc: Global, bytes: &[u8]) -> Result<App, Fault>
+    ensures app { IfOk result (λ app. FileSays bytes.now app × IsApplication app) }
+    ensures fault { IfErr result (IsRefusalOf bytes.now) }
+{
+    match read_app(alloc, bytes) {
+        Ok(app) => Ok(app),
+        Err(error) => Err(Fault::App { error }),
+    }
+}
+
 /// The application of the file at the path, or the built-in one where no file is named. `CannotRead` where the file
 /// can't be opened or read or has more than 1,048,576 bytes, `App` where it is refused, `NoMemory` where there is none.
 pub fn load<H: Files + AllocGlobal>(handle: &H, path: Option<&str>) -> Result<App, Fault>
-    ensures { IfErr result (λ fault. fault ≢ BadLine) }
+    // With no path, the built-in application, but for want of memory.
+    ensures builtin { IsNone path.entry → IfOk result (λ app. app ≡ builtin) }
+    ensures no_file { IsNone path.entry → IfErr result (λ fault. fault ≡ NoMemory) }
+    // With a path, what a file says.
+    ensures app { IsSome path.entry → IfOk result IsOfAFile }
+    ensures fault { IfErr result IsLoadFault }
 {
     let Some(path) = path else {
         return Ok(App::builtin(handle.alloc())?);
     };
     let bytes = read_file(handle, path)?;
-    read_app(handle.alloc(), bytes.as_slice()).map_err(|error| Fault::App { error })
+    app_of(handle.alloc(), bytes.as_slice())
 }

@@ -1,4 +1,4 @@
-ghost use Rattle.std.specs.Prelude.{◌≡◌, [], IfOk, length};
+ghost use Rattle.std.specs.Prelude.{◌≡◌, ◌≤◌, [], IfOk, IsOk, length};
 
 use crate::no_memory::NoMemory;
 use smallvec::SmallVec;
@@ -23,9 +23,10 @@ impl Model for SavedBytes {
 }
 
 impl SavedBytes {
-    /// These bytes.
+    /// These bytes. Up to 16 of them take no memory.
     pub fn from_slice(alloc: Global, bytes: &[u8]) -> Result<SavedBytes, NoMemory>
-        ensures { IfOk result (λ saved. saved ≡ bytes.now) }
+        ensures bytes { IfOk result (λ saved. saved ≡ bytes.now) }
+        ensures short { length bytes.now ≤ 16 → IsOk result }
     {
         let bytes = SmallVec::from_slice(alloc, bytes)?;
         Ok(SavedBytes { bytes })

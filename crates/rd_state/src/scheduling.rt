@@ -1,7 +1,7 @@
-ghost use Rattle.std.specs.Prelude.{◌≡◌, ◌+◌, ◌*◌, ◌-◌, ◌<◌, ◌≤◌, length, slice_index, Ok, false, IfOk, OnOk, OnErr};
+ghost use Rattle.std.specs.Prelude.{◌≡◌, ◌+◌, ◌*◌, ◌-◌, ◌<◌, ◌≤◌, length, slice_index, Ok, false, IfOk, IsOk, OnOk, OnErr};
 ghost use Rattle.rd_wait.specs.Joined.{joined};
 ghost use Rattle.rd_state.specs.Edit.{Comes};
-ghost use Rattle.rd_state.specs.Settled.{settled, settled_in, rotated, weakest_of, rank_of, head_of, seated_on, seated_once, seating_of, with_seats, SchedulingSettles};
+ghost use Rattle.rd_state.specs.Settled.{settled, settled_in, rotated, weakest_of, rank_of, head_of, seated_on, seated_once, seating_of, shares_core, with_seats, IsSettled, SchedulingSettles};
 ghost use Rattle.rd_state.specs.Sizes.{IsTaskOrIdle};
 
 use crate::change::Change;
@@ -82,6 +82,7 @@ impl Editing {
         requires cores { 0 < length self.old.now.cores }
         requires priorities { length priorities.now ≡ length self.old.now.tasks }
         ensures ok { OnOk result (Comes self.old self.new (settled_in priorities.now 1 self.old.now) 3) }
+        ensures settled { IsSettled priorities.now self.old.now → result ≡ Ok false }
         ensures still { result ≡ Ok false → seated_once priorities.now (seating_of self.old.now) ≡ seating_of self.old.now }
         ensures err { OnErr result (self.new.base ≡ self.old.base) }
     {
@@ -103,6 +104,7 @@ impl Editing {
         requires cores { 0 < length self.old.now.cores }
         requires priorities { length priorities.now ≡ length self.old.now.tasks }
         ensures ok { OnOk result (Comes self.old self.new (settled_in priorities.now rounds self.old.now) (3 * rounds)) }
+        ensures settled { IsSettled priorities.now self.old.now → IsOk result }
         ensures err { OnErr result (self.new.base ≡ self.old.base) }
     {
         if rounds == 0 {
@@ -115,12 +117,14 @@ impl Editing {
         }
     }
 
-    /// Schedules: ready tasks take idle cores and displace tasks of lower priority, until none can.
+    /// Schedules: ready tasks take idle cores and displace tasks of lower priority, until none can. Where none can to
+    /// begin with, no memory is taken.
     pub fn settle(&mut self, priorities: &[u8]) -> Result<(), NoMemory>
         requires cores { 0 < length self.old.now.cores }
         requires priorities { length priorities.now ≡ length self.old.now.tasks }
         ensures ok { OnOk result (Comes self.old self.new (settled priorities.now self.old.now)
             (3 * length self.old.now.cores)) }
+        ensures settled { IsSettled priorities.now self.old.now → IsOk result }
         ensures err { OnErr result (self.new.base ≡ self.old.base) }
     {
         let rounds = self.state().cores().len();
@@ -128,11 +132,12 @@ impl Editing {
     }
 
     /// Lets tasks of one priority take turns: where the head of the ready list has the priority of the task on the
-    /// core, it takes the core (`configUSE_TIME_SLICING`).
+    /// core, it takes the core (`configUSE_TIME_SLICING`). Where it hasn't, no memory is taken.
     pub fn rotate(&mut self, priorities: &[u8], core: usize) -> Result<(), NoMemory>
         requires core { core < length self.old.now.cores }
         requires priorities { length priorities.now ≡ length self.old.now.tasks }
         ensures ok { OnOk result (Comes self.old self.new (rotated priorities.now core self.old.now) 3) }
+        ensures stays { shares_core priorities.now (seating_of self.old.now) core ≡ false → IsOk result }
         ensures err { OnErr result (self.new.base ≡ self.old.base) }
     {
         self.state().sizes();

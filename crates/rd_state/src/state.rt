@@ -1,7 +1,7 @@
-ghost use Rattle.std.specs.Prelude.{◌≡◌, ◌-◌, ◌<◌, ◌≤◌, ◌↔◌, length, insert, remove, slice_get, All, Some, IfOk, IsTrue};
+ghost use Rattle.std.specs.Prelude.{◌≡◌, ◌-◌, ◌<◌, ◌≤◌, ◌↔◌, length, insert, remove, slice_get, All, Some, IfOk, IsOk, IsTrue};
 ghost use Rattle.rd_state.specs.Boot.{before_scheduling};
 ghost use Rattle.rd_queue.specs.Queues.{waiting_in, with_waiting};
-ghost use Rattle.rd_state.specs.Change.{applied, inverse_of, with_queue, Fits};
+ghost use Rattle.rd_state.specs.Change.{applied, inverse_of, saved_bytes, with_queue, Fits};
 ghost use Rattle.rd_state.specs.Settled.{weakest_of, rank_of};
 ghost use Rattle.rd_state.specs.Sizes.{IsSized, IsSizedPhase};
 ghost use Rattle.rd_state.specs.Snapshot.{hollow_state, task_at, queue_at, core_at, SameScheduling, SameObjects};
@@ -452,10 +452,11 @@ impl State {
         }
     }
 
-    /// The change that undoes `change`, made at this state. It needs memory only for bytes that are saved.
+    /// The change that undoes `change`, made at this state. It needs memory only where more than 16 bytes are saved.
     pub fn inverse_of(&self, alloc: Global, change: &Change) -> Result<Change, NoMemory>
         requires { Fits self.now change.now }
-        ensures { IfOk result (λ inverse. inverse ≡ inverse_of self.now change.now) }
+        ensures inverse { IfOk result (λ inverse. inverse ≡ inverse_of self.now change.now) }
+        ensures memory { saved_bytes (inverse_of self.now change.now) ≤ 16 → IsOk result }
     {
         match change {
             Change::SetTick { .. } => Ok(Change::SetTick { tick: self.tick }),
