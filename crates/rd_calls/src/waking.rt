@@ -111,7 +111,7 @@ fn leave(editing: &mut Editing, place: Place, task: usize) -> Result<(), NoMemor
 }
 
 /// Wakes a task that waits: it leaves its list, is to try its call again with its deadline, and joins the ready list.
-/// A task that doesn't wait stays as it is, which takes no memory.
+/// A task that doesn't wait stays as it is; where it can run, that takes no memory.
 pub fn wake(editing: &mut Editing, priorities: &[u8], task: usize) -> Result<(), NoMemory>
     requires task { task < length editing.old.now.tasks }
     requires room { ReadyHasRoom editing.old.now }

@@ -9,7 +9,9 @@ pub const MAX_DELAY: u32 = u32::MAX;
 /// An operand that is a number, or what a register holds when the instruction is done.
 #[derive(Clone, Copy, Debug, PartialEq, Eq)]
 pub enum Operand {
+    /// This number.
     Number { value: u32 },
+    /// The value of the register, 0 to 7.
     Register { register: usize },
 }
 
