@@ -1,3 +1,4 @@
+-- The files of definitions of rd_calls.
 pub mod Tasks
 pub mod Waking
 pub mod Outcomes

@@ -1,5 +1,6 @@
 -- A move: one instruction of the task on a core, or a tick, and then scheduling.
-use Rattle.std.specs.Prelude.{ℕ, ◌+◌, ◌*◌, ◌%◌, ◌<◌, ◌≤◌, List, length, drop, position, nat_lt, if◌then◌else◌, Option, None, Some, is_some, Result, Ok, Err}
+use Rattle.std.specs.Prelude.{ℕ, ◌+◌, ◌*◌, ◌%◌, ◌<◌, ◌≤◌, List, length, drop, position, nat_lt}
+use Rattle.std.specs.Prelude.{if◌then◌else◌, Option, None, Some, is_some, Result, Ok, Err}
 use Rattle.rd_script.specs.declared.instr.Instr.{Instr}
 use Rattle.rd_script.specs.declared.instr.Instr.TheVariants.{Send, Receive}
 use Rattle.rd_script.specs.Application.{Application, IsOperand, instr_at, priorities_of}
@@ -17,17 +18,22 @@ use Rattle.rd_calls.specs.declared.moves.PlayError.TheVariants.{NoTask, TickLimi
 
 -- the state after an instruction of the task on a core
 abbrev pub performed : List ℕ → Snapshot → ℕ → ℕ → Instr → Snapshot
-performed priorities s core task (Send queue wait) = concluded (send_outcome priorities s task queue wait) core task
-performed priorities s core task (Receive queue wait) = concluded (receive_outcome priorities s task queue wait) core task
+performed priorities s core task (Send queue wait) =
+    concluded (send_outcome priorities s task queue wait) core task
+performed priorities s core task (Receive queue wait) =
+    concluded (receive_outcome priorities s task queue wait) core task
 performed priorities s core task instr = local_step s core task instr
 
 -- the instruction that a task stands at
 abbrev pub next_instr : Application → Snapshot → ℕ → Instr
 next_instr app s task = instr_at app task (task_at s task).pc
 
--- The task on the core does its instruction, the turn goes to the core after it, and the scheduler runs.
+-- The task on the core does its instruction, the turn goes
+-- to the core after it, and the scheduler runs.
 abbrev pub core_step : Application → Snapshot → ℕ → ℕ → Snapshot
-core_step app s core task = settled (priorities_of app) (record (performed (priorities_of app) s core task (next_instr app s task)) { turn = core + 1 })
+core_step app s core task =
+    settled (priorities_of app)
+    (record (performed (priorities_of app) s core task (next_instr app s task)) { turn = core + 1 })
 
 -- an idle core has no task that could
 abbrev pub step_of_core : Application → Snapshot → ℕ → Option ℕ → Result Snapshot PlayError
@@ -38,10 +44,12 @@ step_of_core app s core (Some task) = Ok (core_step app s core task)
 abbrev pub ticked : List ℕ → Snapshot → Snapshot
 ticked priorities s = timed_out priorities (length s.tasks) (record s { tick = s.tick + 1 })
 
--- Then the scheduler runs, and tasks of one priority take turns on one of the cores, each core in its turn. The turn
--- goes to core 0.
+-- Then the scheduler runs, and tasks of one priority take turns on one of the cores, each core in
+-- its turn. The turn goes to core 0.
 abbrev pub tick_step : Application → Snapshot → Snapshot
-tick_step app s = record (rotated (priorities_of app) ((s.tick + 1) % length s.cores) (settled (priorities_of app) (ticked (priorities_of app) s))) { turn = 0 }
+tick_step app s =
+    record (rotated (priorities_of app) ((s.tick + 1) % length s.cores)
+    (settled (priorities_of app) (ticked (priorities_of app) s))) { turn = 0 }
 
 -- the last tick that there is
 abbrev pub last_tick : ℕ
@@ -60,7 +68,8 @@ abbrev pub IsMoveOf : Application → Move → Type 0
 IsMoveOf app (Core core) = core < app.cores
 IsMoveOf app Tick = Unit {0}
 
--- The move that a run makes next: of the first busy core from the turn on, or a tick where there is none.
+-- The move that a run makes next: of the first busy core
+-- from the turn on, or a tick where there is none.
 abbrev pub move_from : ℕ → Option ℕ → Move
 move_from turn None = Tick
 move_from turn (Some ahead) = Core (turn + ahead)
@@ -68,10 +77,10 @@ move_from turn (Some ahead) = Core (turn + ahead)
 abbrev pub policy_of : Snapshot → Move
 policy_of s = move_from s.turn (position is_some (drop s.turn s.cores))
 
--- The record of a move is small: its weight has a bound that only the numbers of tasks and cores enter,
--- beside the bytes of one task's data and one item.
-abbrev pub IsSmall : Snapshot → Move → List Change → Type 0
-IsSmall s move changes = weight_of changes ≤ 4 * length s.tasks + 6 * length s.cores + 16 + 512
+-- The record of a move is small: its weight has a bound that only the numbers of tasks and cores
+-- enter, apart from the bytes of one task's data and one item.
+abbrev pub IsSmall : Snapshot → List Change → Type 0
+IsSmall s changes = weight_of changes ≤ 4 * length s.tasks + 6 * length s.cores + 16 + 512
 
 -- The registers and queues that an instruction names are there.
 abbrev pub NamesParts : ℕ → Instr → Type 0

@@ -8,7 +8,9 @@ abbrev pub register_at : Snapshot → ℕ → ℕ → ℕ
 register_at s task register = slice_index (task_at s task).registers register
 
 abbrev pub with_register : Snapshot → ℕ → ℕ → ℕ → Snapshot
-with_register s task register value = with_task s task (record (task_at s task) { registers = slice_set (task_at s task).registers register value })
+with_register s task register value =
+    with_task s task
+    (record (task_at s task) { registers = slice_set (task_at s task).registers register value })
 
 abbrev pub with_pc : Snapshot → ℕ → ℕ → Snapshot
 with_pc s task pc = with_task s task (record (task_at s task) { pc = pc })

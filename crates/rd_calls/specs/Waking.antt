@@ -1,5 +1,7 @@
 -- Block times: tasks that begin to wait, and tasks that are woken.
-use Rattle.std.specs.Prelude.{ℕ, ◌≡◌, zero, suc, ◌+◌, ◌<◌, Bool, true, false, List, length, nat_eq, nat_lt, not, position, remove, slice_get, if◌then◌else◌, Option, None, Some}
+use Rattle.std.specs.Prelude.{ℕ, ◌≡◌, zero, suc, ◌+◌, ◌<◌, Bool, true, false, List}
+use Rattle.std.specs.Prelude.{length, nat_eq, nat_lt, not, position, remove, slice_get}
+use Rattle.std.specs.Prelude.{if◌then◌else◌, Option, None, Some}
 use Rattle.rd_queue.specs.QueueSnapshot.{QueueSnapshot}
 use Rattle.rd_script.specs.declared.instr.Operand.{Operand}
 use Rattle.rd_script.specs.declared.instr.Operand.TheVariants.{Number, Register}
@@ -39,7 +41,9 @@ deadline_after tick time = if nat_eq time max_delay then None else Some (tick + 
 -- A block time is read at the first try alone. Whoever tries again has the deadline of then.
 abbrev pub deadline_of : Snapshot → ℕ → Operand → Option ℕ
 deadline_of s task wait =
-    if is_first (task_at s task).phase then deadline_after s.tick (value_of s task wait) else kept_deadline (task_at s task).phase
+    if is_first (task_at s task).phase
+    then deadline_after s.tick (value_of s task wait)
+    else kept_deadline (task_at s task).phase
 
 -- A call may wait as long as its deadline is ahead. The deadline of the block time 0 never is.
 abbrev pub may_wait : Snapshot → ℕ → Operand → Bool
@@ -47,31 +51,38 @@ may_wait s task wait = is_ahead s.tick (deadline_of s task wait)
 
 -- In the words of a block time: the first try of a call waits exactly where the time isn't 0.
 abbrev pub FirstTriesWait : Type 0
-FirstTriesWait = (s : Snapshot) (task : ℕ) (wait : Operand) → is_first (task_at s task).phase ≡ true → may_wait s task wait ≡ nat_lt 0 (value_of s task wait)
+FirstTriesWait =
+    (s : Snapshot) (task : ℕ) (wait : Operand) → is_first (task_at s task).phase ≡ true
+    → may_wait s task wait ≡ nat_lt 0 (value_of s task wait)
 
--- the state with the task in the list of a place, behind those of at least its priority
+-- the state with the task in the list of a place, after those of at least its priority
 abbrev pub with_waiter : List ℕ → Snapshot → Place → ℕ → Snapshot
-with_waiter priorities s place task = with_waiting_at s place (joined priorities (waiting_at s place) task)
+with_waiter priorities s place task =
+    with_waiting_at s place (joined priorities (waiting_at s place) task)
 
--- the queues, once the member at that place of the list has left it
-abbrev pub queues_left : Snapshot → Place → Option ℕ → List QueueSnapshot
-queues_left s place None = s.queues
-queues_left s place (Some at) = queues_then s place (remove (waiting_at s place) at)
+-- the queues, once the member at that index of the list has left it
+abbrev pub queues_without : Snapshot → Place → Option ℕ → List QueueSnapshot
+queues_without s place None = s.queues
+queues_without s place (Some index) = queues_then s place (remove (waiting_at s place) index)
 
 -- the state once the task has left the list, if it stood there
-abbrev pub left : Snapshot → Place → ℕ → Snapshot
-left s place task = record s { queues = queues_left s place (position (λ member. nat_eq member task) (waiting_at s place)) }
+abbrev pub without_waiter : Snapshot → Place → ℕ → Snapshot
+without_waiter s place task = record s {
+  queues = queues_without s place (position (λ member. nat_eq member task) (waiting_at s place));
+}
 
 -- The ready list has room for one task more.
 abbrev pub ReadyHasRoom : Snapshot → Type 0
 ReadyHasRoom s = length s.ready < length s.tasks
 
--- A task that waits leaves its list, is to try its call again with its deadline, and joins the ready list.
+-- A task that waits leaves its list, is to try its call
+-- again with its deadline, and joins the ready list.
 abbrev pub woken_from : List ℕ → Snapshot → ℕ → Phase → Snapshot
 woken_from priorities s task Run = s
 woken_from priorities s task (Again deadline) = s
 woken_from priorities s task (Wait place deadline) =
-    record (with_phase (left s place task) task (Again deadline)) { ready = joined priorities s.ready task }
+    record (with_phase (without_waiter s place task) task (Again deadline))
+    { ready = joined priorities s.ready task }
 woken_from priorities s task Ended = s
 
 abbrev pub woken : List ℕ → Snapshot → ℕ → Snapshot
@@ -93,7 +104,8 @@ is_due tick (Wait place deadline) = not (is_ahead tick deadline)
 is_due tick Ended = false
 
 abbrev pub woken_if_due : List ℕ → Snapshot → ℕ → Snapshot
-woken_if_due priorities s task = if is_due s.tick (task_at s task).phase then woken priorities s task else s
+woken_if_due priorities s task =
+    if is_due s.tick (task_at s task).phase then woken priorities s task else s
 
 -- Of the first n tasks, those whose time is up are woken, by rising number.
 abbrev pub timed_out : List ℕ → ℕ → Snapshot → Snapshot

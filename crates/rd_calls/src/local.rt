@@ -1,9 +1,9 @@
 //! The instructions that touch nothing but their own task.
 ghost use Rattle.std.specs.Prelude.{◌≡◌, ◌<◌, ◌≤◌, length, slice_index, OnOk, OnErr};
 ghost use Rattle.std.specs.Int.{w32, from_le_bytes};
-ghost use Rattle.rd_state.specs.Edit.{Comes};
+ghost use Rattle.rd_state.specs.Edit.{Reaches};
 ghost use Rattle.rd_state.specs.Snapshot.{task_at};
-ghost use Rattle.rd_calls.specs.Local.{local_step, off_core, NamesRegisters};
+ghost use Rattle.rd_calls.specs.Local.{local_step, with_idle_core, NamesRegisters};
 ghost use Rattle.rd_calls.specs.Tasks.{register_at, with_phase};
 
 use crate::steps::{advance, set_bytes, set_pc, set_phase, set_register};
@@ -18,11 +18,11 @@ use std::alloc::Global;
 fn unpacked(bytes: &[u8]) -> u32
     ensures { result ≡ from_le_bytes w32 bytes.now }
 {
-    let byte = |place: usize| bytes.get(place).copied().unwrap_or(0);
+    let byte = |index: usize| bytes.get(index).copied().unwrap_or(0);
     u32::from_le_bytes([byte(0), byte(1), byte(2), byte(3)])
 }
 
-fn register_of(editing: &Editing, task: usize, register: usize) -> u32
+fn register_at(editing: &Editing, task: usize, register: usize) -> u32
     requires task { task < length editing.now.now.tasks }
     requires register { register < 8 }
     ensures { result ≡ register_at editing.now.now task register }
@@ -34,8 +34,8 @@ fn register_of(editing: &Editing, task: usize, register: usize) -> u32
 fn end_task(editing: &mut Editing, core: usize, task: usize) -> Result<(), NoMemory>
     requires task { task < length editing.old.now.tasks }
     requires core { core < length editing.old.now.cores }
-    ensures ok { OnOk result (Comes editing.old editing.new
-        (off_core (with_phase editing.old.now task Phase.Ended) core) 2) }
+    ensures ok { OnOk result (Reaches editing.old editing.new
+        (with_idle_core (with_phase editing.old.now task Phase.Ended) core) 2) }
     ensures err { OnErr result (editing.new.base ≡ editing.old.base) }
 {
     set_phase(editing, task, Phase::Ended)?;
@@ -52,9 +52,10 @@ pub fn do_local(
 ) -> Result<(), NoMemory>
     requires task { task < length editing.old.now.tasks }
     requires core { core < length editing.old.now.cores }
-    requires place { (task_at editing.old.now task).pc < 256 }
+    requires pc { (task_at editing.old.now task).pc < 256 }
     requires registers { NamesRegisters instr.now }
-    ensures ok { OnOk result (Comes editing.old editing.new (local_step editing.old.now core task instr.now) 258) }
+    ensures ok { OnOk result
+        (Reaches editing.old editing.new (local_step editing.old.now core task instr.now) 258) }
     ensures err { OnErr result (editing.new.base ≡ editing.old.base) }
 {
     match instr {
@@ -63,12 +64,12 @@ pub fn do_local(
             advance(editing, task)
         }
         Instr::Add { register, value } => {
-            let sum = register_of(editing, task, *register).wrapping_add(*value);
+            let sum = register_at(editing, task, *register).wrapping_add(*value);
             set_register(editing, task, *register, sum)?;
             advance(editing, task)
         }
         Instr::Move { into, from } => {
-            let value = register_of(editing, task, *from);
+            let value = register_at(editing, task, *from);
             set_register(editing, task, *into, value)?;
             advance(editing, task)
         }
@@ -77,7 +78,7 @@ pub fn do_local(
             advance(editing, task)
         }
         Instr::Pack { register } => {
-            let bytes = register_of(editing, task, *register).to_le_bytes();
+            let bytes = register_at(editing, task, *register).to_le_bytes();
             set_bytes(alloc, editing, task, &bytes)?;
             advance(editing, task)
         }
@@ -89,7 +90,7 @@ pub fn do_local(
         Instr::Jump { target } => set_pc(editing, task, *target),
         Instr::JumpZero { register, target } => {
             let next = editing.state().task(task).pc() + 1;
-            let is_zero = register_of(editing, task, *register) == 0;
+            let is_zero = register_at(editing, task, *register) == 0;
             set_pc(editing, task, if is_zero { *target } else { next })
         }
         Instr::End => end_task(editing, core, task),

@@ -1,3 +1,5 @@
+//! Moves, and why one is refused.
+
 ghost use Rattle.std.specs.Prelude.{◌≡◌};
 
 use thiserror::Error;

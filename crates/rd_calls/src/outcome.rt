@@ -1,3 +1,5 @@
+//! What becomes of a caller.
+
 use rd_script::phase::Place;
 
 /// What becomes of a task that calls the kernel.
@@ -5,6 +7,7 @@ use rd_script::phase::Place;
 pub enum Outcome {
     /// The call returns this answer.
     Returns(u32),
-    /// The task waits at a place while the deadline, a tick, is ahead; without end where there is none.
+    /// The task waits at a place while the deadline, a tick, is
+    /// ahead; without end where there is none.
     Waits { place: Place, deadline: Option<u64> },
 }

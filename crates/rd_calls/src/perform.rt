@@ -1,11 +1,11 @@
 //! The move of a core in the middle: the instruction, the turn, the scheduler.
 ghost use Rattle.std.specs.Prelude.{◌≡◌, ◌+◌, ◌*◌, ◌<◌, ◌≤◌, length, Some, OnOk, OnErr};
-ghost use Rattle.rd_state.specs.Edit.{Comes};
+ghost use Rattle.rd_state.specs.Edit.{Reaches};
 ghost use Rattle.rd_state.specs.Snapshot.{task_at, core_at};
 ghost use Rattle.rd_script.specs.Application.{priorities_of};
 ghost use Rattle.rd_state.specs.Sizes.{IsSizedPhase};
-ghost use Rattle.rd_state.specs.Valid.{IsValid, places_to_run};
-ghost use Rattle.rd_calls.specs.Local.{off_core};
+ghost use Rattle.rd_state.specs.Valid.{IsValid, seats_to_run};
+ghost use Rattle.rd_calls.specs.Local.{with_idle_core};
 ghost use Rattle.rd_calls.specs.Outcomes.{IsSizedOutcome, concluded};
 ghost use Rattle.rd_calls.specs.Step.{performed, core_step, NamesParts};
 ghost use Rattle.rd_calls.specs.Tasks.{with_phase};
@@ -13,7 +13,7 @@ ghost use Rattle.rd_calls.specs.Tasks.{with_phase};
 use crate::local::do_local;
 use crate::outcome::Outcome;
 use crate::queues::{receive, send};
-use crate::room::runs;
+use crate::room::task_on_core_runs;
 use crate::steps::{return_from, set_phase, set_turn};
 use rd_script::app::App;
 use rd_script::instr::Instr;
@@ -34,8 +34,8 @@ fn begin_waiting(
     requires task { task < length editing.old.now.tasks }
     requires core { core < length editing.old.now.cores }
     requires sized { IsSizedPhase (length editing.old.now.queues) (Phase.Wait place deadline) }
-    ensures ok { OnOk result (Comes editing.old editing.new
-        (off_core (with_phase editing.old.now task (Phase.Wait place deadline)) core) 2) }
+    ensures ok { OnOk result (Reaches editing.old editing.new
+        (with_idle_core (with_phase editing.old.now task (Phase.Wait place deadline)) core) 2) }
     ensures err { OnErr result (editing.new.base ≡ editing.old.base) }
 {
     set_phase(editing, task, Phase::Wait { place, deadline })?;
@@ -51,9 +51,9 @@ fn conclude(
 ) -> Result<(), NoMemory>
     requires task { task < length editing.old.now.tasks }
     requires core { core < length editing.old.now.cores }
-    requires place { (task_at editing.old.now task).pc < 256 }
+    requires pc { (task_at editing.old.now task).pc < 256 }
     requires sized { IsSizedOutcome (length editing.old.now.queues) outcome }
-    ensures ok { OnOk result (Comes editing.old editing.new
+    ensures ok { OnOk result (Reaches editing.old editing.new
         (concluded (record { state = editing.old.now; outcome = outcome }) core task) 3) }
     ensures err { OnErr result (editing.new.base ≡ editing.old.base) }
 {
@@ -76,11 +76,11 @@ fn perform(
 ) -> Result<(), NoMemory>
     requires valid { IsValid app.now editing.old.now }
     requires task { task < length editing.old.now.tasks }
-    requires runs { 1 ≤ places_to_run (task_at editing.old.now task).phase }
+    requires runs { 1 ≤ seats_to_run (task_at editing.old.now task).phase }
     requires core { core < length editing.old.now.cores }
-    requires place { (task_at editing.old.now task).pc < 256 }
+    requires pc { (task_at editing.old.now task).pc < 256 }
     requires names { NamesParts (length editing.old.now.queues) instr.now }
-    ensures ok { OnOk result (Comes editing.old editing.new
+    ensures ok { OnOk result (Reaches editing.old editing.new
         (performed (priorities_of app.now) editing.old.now core task instr.now) 328) }
     ensures err { OnErr result (editing.new.base ≡ editing.old.base) }
 {
@@ -108,13 +108,14 @@ pub fn move_core(
     requires valid { IsValid app.now editing.old.now }
     requires core { core < length editing.old.now.cores }
     requires task { core_at editing.old.now core ≡ Some task }
-    ensures ok { OnOk result (Comes editing.old editing.new (core_step app.now editing.old.now core task)
+    ensures ok { OnOk result
+        (Reaches editing.old editing.new (core_step app.now editing.old.now core task)
         (329 + 3 * length editing.old.now.cores)) }
     ensures err { OnErr result (editing.new.base ≡ editing.old.base) }
 {
     app.limits();
     editing.state().sizes();
-    runs(app, editing.state(), core, task);
+    task_on_core_runs(app, editing.state(), core, task);
     let pc = editing.state().task(task).pc();
     let instr = &app.code(task)[pc];
     perform(alloc, app, editing, core, task, instr)?;

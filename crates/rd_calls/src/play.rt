@@ -1,4 +1,7 @@
-ghost use Rattle.std.specs.Prelude.{◌≡◌, ◌↔◌, ◌+◌, ◌*◌, ◌<◌, ◌≤◌, length, Ok, Err, Some, IfOk, OnOk, OnErr, IsOk, IsErrOf};
+//! Moves, made whole or not at all.
+
+ghost use Rattle.std.specs.Prelude.{◌≡◌, ◌↔◌, ◌+◌, ◌*◌, ◌<◌, ◌≤◌, length, Ok, Err};
+ghost use Rattle.std.specs.Prelude.{Some, IfOk, OnOk, OnErr, IsOk, IsErrOf};
 ghost use Rattle.rd_state.specs.Change.{weight_of};
 ghost use Rattle.rd_script.specs.Application.{priorities_of};
 ghost use Rattle.rd_state.specs.Settled.{IsSettled};
@@ -38,7 +41,7 @@ fn finish(editing: Editing, made: Result<(), NoMemory>, state: &mut State) -> Re
 }
 
 // The move of a core whose task is known.
-fn play_task(
+fn play_core(
     alloc: Global,
     state: &mut State,
     app: &App,
@@ -71,7 +74,8 @@ fn play_tick(alloc: Global, state: &mut State, app: &App) -> Result<Undo, NoMemo
     ensures state { OnOk result (state.new ≡ tick_step app.now state.old) }
     ensures undone { IfOk result (λ undo. undone state.new undo ≡ state.old) }
     ensures can_undo { IfOk result (λ undo. CanUndo state.new undo) }
-    ensures small { IfOk result (λ undo. weight_of undo ≤ 5 + 3 * length state.old.tasks + 3 * length state.old.cores) }
+    ensures small { IfOk result
+        (λ undo. weight_of undo ≤ 5 + 3 * length state.old.tasks + 3 * length state.old.cores) }
     ensures err { OnErr result (state.new ≡ state.old) }
     ensures valid { OnOk result (IsValid app.now state.new) }
     ensures settled { OnOk result (IsSettled (priorities_of app.now) state.new) }
@@ -84,20 +88,23 @@ fn play_tick(alloc: Global, state: &mut State, app: &App) -> Result<Undo, NoMemo
     Ok(undo)
 }
 
-/// Makes a move and answers its record, which undoes it exactly. A refusal leaves the state as it was:
-/// `NoTask` where the core is idle, `TickLimit` where the tick is 4,294,967,295, `NoMemory` where a growth was refused.
+/// Makes a move and answers its record, which undoes it exactly. A refusal leaves the state as it
+/// was: `NoTask` where the core is idle, `TickLimit` where the tick is 4,294,967,295, `NoMemory`
+/// where a growth was refused.
 pub fn play(alloc: Global, state: &mut State, app: &App, action: Move) -> Result<Undo, PlayError>
     requires valid { IsValid app.now state.old }
     requires named { IsMoveOf app.now action }
     ensures step { OnOk result (step app.now state.old action ≡ Ok state.new) }
-    ensures no_task { IsErrOf result PlayError.NoTask ↔ (step app.now state.old action ≡ Err PlayError.NoTask) }
-    ensures tick_limit { IsErrOf result PlayError.TickLimit ↔ (step app.now state.old action ≡ Err PlayError.TickLimit) }
+    ensures no_task { IsErrOf result PlayError.NoTask
+        ↔ (step app.now state.old action ≡ Err PlayError.NoTask) }
+    ensures tick_limit { IsErrOf result PlayError.TickLimit
+        ↔ (step app.now state.old action ≡ Err PlayError.TickLimit) }
     ensures err { OnErr result (state.new ≡ state.old) }
 
     // The record leads back, and is small.
     ensures undone { IfOk result (λ undo. undone state.new undo ≡ state.old) }
     ensures can_undo { IfOk result (λ undo. CanUndo state.new undo) }
-    ensures small { IfOk result (λ undo. IsSmall state.old action undo) }
+    ensures small { IfOk result (λ undo. IsSmall state.old undo) }
 
     // A valid state stays valid, and nothing is left to schedule between moves.
     ensures valid { OnOk result (IsValid app.now state.new) }
@@ -108,14 +115,15 @@ pub fn play(alloc: Global, state: &mut State, app: &App, action: Move) -> Result
             let Some(task) = state.core(core) else {
                 return Err(PlayError::NoTask);
             };
-            play_task(alloc, state, app, core, task).map_err(|_| PlayError::NoMemory)
+            play_core(alloc, state, app, core, task).map_err(|_| PlayError::NoMemory)
         }
         Move::Tick if state.tick() == u32::MAX => Err(PlayError::TickLimit),
         Move::Tick => play_tick(alloc, state, app).map_err(|_| PlayError::NoMemory),
     }
 }
 
-/// A call that is tried for the first time waits exactly where its block time isn't 0, if it can't be done.
+/// A call that is tried for the first time waits exactly where
+/// its block time isn't 0, if it can't be done.
 pub fn first_tries_wait()
     ensures { FirstTriesWait }
 {}

@@ -12,7 +12,8 @@ fn busy_from(cores: &[Option<usize>]) -> Option<usize>
     cores.iter().position(|running| running.is_some())
 }
 
-/// The move that a run makes next: of the first busy core from the turn on, or a tick where there is none.
+/// The move that a run makes next: of the first busy core from
+/// the turn on, or a tick where there is none.
 pub fn policy(state: &State) -> Move
     ensures { result ≡ policy_of state.now }
 {

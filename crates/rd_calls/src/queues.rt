@@ -1,13 +1,14 @@
 //! The calls of queues.
 ghost use Rattle.std.specs.Prelude.{◌≡◌, ◌<◌, ◌≤◌, length, IfOk, OnOk, OnErr};
 ghost use Rattle.rd_script.specs.Application.{IsOperand, priorities_of};
-ghost use Rattle.rd_state.specs.Edit.{Comes};
+ghost use Rattle.rd_state.specs.Edit.{Reaches};
 ghost use Rattle.rd_state.specs.Snapshot.{task_at, queue_at};
-ghost use Rattle.rd_state.specs.Valid.{IsValid, places_to_run};
-ghost use Rattle.rd_calls.specs.Outcomes.{DoesCall, put, taken, send_outcome, receive_outcome};
+ghost use Rattle.rd_state.specs.Valid.{IsValid, seats_to_run};
+ghost use Rattle.rd_calls.specs.Outcomes.{DoesCall, with_item_sent, with_item_taken};
+ghost use Rattle.rd_calls.specs.Outcomes.{send_outcome, receive_outcome};
 
 use crate::outcome::Outcome;
-use crate::room::{room_to_wait, room_to_wake};
+use crate::room::{list_has_room, ready_has_room};
 use crate::steps::set_bytes;
 use crate::waking::{block, wake_first};
 use rd_queue::item::Item;
@@ -21,11 +22,13 @@ use rd_state::saved::SavedBytes;
 use std::alloc::Global;
 
 // The task's data goes to the queue's back.
-fn put(alloc: Global, editing: &mut Editing, task: usize, queue: usize) -> Result<(), NoMemory>
+fn enqueue(alloc: Global, editing: &mut Editing, task: usize, queue: usize) -> Result<(), NoMemory>
     requires task { task < length editing.old.now.tasks }
     requires queue { queue < length editing.old.now.queues }
-    requires room { length (queue_at editing.old.now queue).items < (queue_at editing.old.now queue).capacity }
-    ensures ok { OnOk result (Comes editing.old editing.new (put editing.old.now task queue) 1) }
+    requires room { length (queue_at editing.old.now queue).items
+        < (queue_at editing.old.now queue).capacity }
+    ensures ok { OnOk result
+        (Reaches editing.old editing.new (with_item_sent editing.old.now task queue) 1) }
     ensures err { OnErr result (editing.new.base ≡ editing.old.base) }
 {
     editing.state().sizes();
@@ -36,11 +39,12 @@ fn put(alloc: Global, editing: &mut Editing, task: usize, queue: usize) -> Resul
 }
 
 // The queue's first item becomes the task's data.
-fn take(alloc: Global, editing: &mut Editing, task: usize, queue: usize) -> Result<(), NoMemory>
+fn dequeue(alloc: Global, editing: &mut Editing, task: usize, queue: usize) -> Result<(), NoMemory>
     requires task { task < length editing.old.now.tasks }
     requires queue { queue < length editing.old.now.queues }
     requires some { 0 < length (queue_at editing.old.now queue).items }
-    ensures ok { OnOk result (Comes editing.old editing.new (taken editing.old.now task queue) 322) }
+    ensures ok { OnOk result
+        (Reaches editing.old editing.new (with_item_taken editing.old.now task queue) 322) }
     ensures err { OnErr result (editing.new.base ≡ editing.old.base) }
 {
     editing.state().sizes();
@@ -60,7 +64,7 @@ pub fn send(
 ) -> Result<Outcome, NoMemory>
     requires valid { IsValid app.now editing.old.now }
     requires task { task < length editing.old.now.tasks }
-    requires runs { 1 ≤ places_to_run (task_at editing.old.now task).phase }
+    requires runs { 1 ≤ seats_to_run (task_at editing.old.now task).phase }
     requires queue { queue < length editing.old.now.queues }
     requires register { IsOperand wait }
     ensures ok { IfOk result (DoesCall editing.old editing.new
@@ -70,11 +74,11 @@ pub fn send(
     let full = Place::Send { queue };
     let waiting = Place::Receive { queue };
     if editing.state().queue(queue).spaces() == 0 {
-        room_to_wait(app, editing.state(), task, full);
+        list_has_room(app, editing.state(), task, full);
         return block(editing, app.priorities(), task, full, wait);
     }
-    room_to_wake(app, editing.state(), waiting);
-    put(alloc, editing, task, queue)?;
+    ready_has_room(app, editing.state(), waiting);
+    enqueue(alloc, editing, task, queue)?;
     wake_first(editing, app.priorities(), waiting)?;
     Ok(Outcome::Returns(1))
 }
@@ -90,7 +94,7 @@ pub fn receive(
 ) -> Result<Outcome, NoMemory>
     requires valid { IsValid app.now editing.old.now }
     requires task { task < length editing.old.now.tasks }
-    requires runs { 1 ≤ places_to_run (task_at editing.old.now task).phase }
+    requires runs { 1 ≤ seats_to_run (task_at editing.old.now task).phase }
     requires queue { queue < length editing.old.now.queues }
     requires register { IsOperand wait }
     ensures ok { IfOk result (DoesCall editing.old editing.new
@@ -100,11 +104,11 @@ pub fn receive(
     let empty = Place::Receive { queue };
     let waiting = Place::Send { queue };
     if editing.state().queue(queue).count() == 0 {
-        room_to_wait(app, editing.state(), task, empty);
+        list_has_room(app, editing.state(), task, empty);
         return block(editing, app.priorities(), task, empty, wait);
     }
-    room_to_wake(app, editing.state(), waiting);
-    take(alloc, editing, task, queue)?;
+    ready_has_room(app, editing.state(), waiting);
+    dequeue(alloc, editing, task, queue)?;
     wake_first(editing, app.priorities(), waiting)?;
     Ok(Outcome::Returns(1))
 }

@@ -1,7 +1,7 @@
 //! What a valid state says of tasks and of room in lists, said where a rule needs it.
 ghost use Rattle.std.specs.Prelude.{◌≡◌, ◌<◌, ◌≤◌, length, Some};
 ghost use Rattle.rd_state.specs.Snapshot.{task_at, core_at};
-ghost use Rattle.rd_state.specs.Valid.{IsValid, places_to_run};
+ghost use Rattle.rd_state.specs.Valid.{IsValid, seats_to_run};
 ghost use Rattle.rd_state.specs.Waiting.{HasPlace, waiting_at};
 ghost use Rattle.rd_calls.specs.Waking.{ReadyHasRoom};
 
@@ -10,12 +10,12 @@ use rd_script::phase::Place;
 use rd_state::state::State;
 
 /// A task on a core can run.
-pub fn runs(app: &App, state: &State, core: usize, task: usize)
+pub fn task_on_core_runs(app: &App, state: &State, core: usize, task: usize)
     requires valid { IsValid app.now state.now }
     requires core { core < length state.now.cores }
     requires task { core_at state.now core ≡ Some task }
     ensures task { task < length state.now.tasks }
-    ensures runs { 1 ≤ places_to_run (task_at state.now task).phase }
+    ensures runs { 1 ≤ seats_to_run (task_at state.now task).phase }
 {
     app.limits();
     state.sizes();
@@ -23,10 +23,10 @@ pub fn runs(app: &App, state: &State, core: usize, task: usize)
 }
 
 /// A task that can run waits nowhere, so each list of tasks that wait has room for it.
-pub fn room_to_wait(app: &App, state: &State, task: usize, place: Place)
+pub fn list_has_room(app: &App, state: &State, task: usize, place: Place)
     requires valid { IsValid app.now state.now }
     requires task { task < length state.now.tasks }
-    requires runs { 1 ≤ places_to_run (task_at state.now task).phase }
+    requires runs { 1 ≤ seats_to_run (task_at state.now task).phase }
     requires place { HasPlace state.now place }
     ensures { length (waiting_at state.now place) < length state.now.tasks }
 {
@@ -36,7 +36,7 @@ pub fn room_to_wait(app: &App, state: &State, task: usize, place: Place)
 }
 
 /// Where somebody waits, the ready list has room for one more.
-pub fn room_to_wake(app: &App, state: &State, place: Place)
+pub fn ready_has_room(app: &App, state: &State, place: Place)
     requires valid { IsValid app.now state.now }
     requires place { HasPlace state.now place }
     ensures { 0 < length (waiting_at state.now place) → ReadyHasRoom state.now }

@@ -1,7 +1,7 @@
 //! Single changes in the middle of a step.
 ghost use Rattle.std.specs.Prelude.{◌≡◌, ◌+◌, ◌<◌, ◌≤◌, length, IsOk, OnOk, OnErr};
 ghost use Rattle.rd_script.specs.declared.phase.Phase.TheVariants.{Run};
-ghost use Rattle.rd_state.specs.Edit.{Comes};
+ghost use Rattle.rd_state.specs.Edit.{Reaches};
 ghost use Rattle.rd_state.specs.Sizes.{IsSizedPhase};
 ghost use Rattle.rd_state.specs.Snapshot.{task_at};
 ghost use Rattle.rd_calls.specs.Tasks.{with_register, with_pc, with_bytes, with_phase, advanced};
@@ -23,7 +23,8 @@ pub fn set_register(
 ) -> Result<(), NoMemory>
     requires task { task < length editing.old.now.tasks }
     requires register { register < 8 }
-    ensures ok { OnOk result (Comes editing.old editing.new (with_register editing.old.now task register value) 1) }
+    ensures ok { OnOk result
+        (Reaches editing.old editing.new (with_register editing.old.now task register value) 1) }
     ensures err { OnErr result (editing.new.base ≡ editing.old.base) }
 {
     editing.change(Change::SetReg {
@@ -42,7 +43,8 @@ pub fn set_bytes(
 ) -> Result<(), NoMemory>
     requires task { task < length editing.old.now.tasks }
     requires few { length bytes.now ≤ 256 }
-    ensures ok { OnOk result (Comes editing.old editing.new (with_bytes editing.old.now task bytes.now) 257) }
+    ensures ok { OnOk result
+        (Reaches editing.old editing.new (with_bytes editing.old.now task bytes.now) 257) }
     ensures err { OnErr result (editing.new.base ≡ editing.old.base) }
 {
     editing.state().sizes();
@@ -50,10 +52,10 @@ pub fn set_bytes(
     editing.change(Change::SetData { task, bytes })
 }
 
-/// Moves a task to another place in its script.
+/// Moves a task to another instruction of its script.
 pub fn set_pc(editing: &mut Editing, task: usize, pc: usize) -> Result<(), NoMemory>
     requires { task < length editing.old.now.tasks }
-    ensures ok { OnOk result (Comes editing.old editing.new (with_pc editing.old.now task pc) 1) }
+    ensures ok { OnOk result (Reaches editing.old editing.new (with_pc editing.old.now task pc) 1) }
     ensures err { OnErr result (editing.new.base ≡ editing.old.base) }
 {
     editing.change(Change::SetPc { task, pc })
@@ -62,8 +64,8 @@ pub fn set_pc(editing: &mut Editing, task: usize, pc: usize) -> Result<(), NoMem
 /// Moves a task to its next instruction.
 pub fn advance(editing: &mut Editing, task: usize) -> Result<(), NoMemory>
     requires task { task < length editing.old.now.tasks }
-    requires place { (task_at editing.old.now task).pc < 256 }
-    ensures ok { OnOk result (Comes editing.old editing.new (advanced editing.old.now task) 1) }
+    requires pc { (task_at editing.old.now task).pc < 256 }
+    ensures ok { OnOk result (Reaches editing.old editing.new (advanced editing.old.now task) 1) }
     ensures err { OnErr result (editing.new.base ≡ editing.old.base) }
 {
     let pc = editing.state().task(task).pc();
@@ -74,7 +76,8 @@ pub fn advance(editing: &mut Editing, task: usize) -> Result<(), NoMemory>
 pub fn set_phase(editing: &mut Editing, task: usize, phase: Phase) -> Result<(), NoMemory>
     requires task { task < length editing.old.now.tasks }
     requires sized { IsSizedPhase (length editing.old.now.queues) phase }
-    ensures ok { OnOk result (Comes editing.old editing.new (with_phase editing.old.now task phase) 1) }
+    ensures ok { OnOk result
+        (Reaches editing.old editing.new (with_phase editing.old.now task phase) 1) }
     ensures err { OnErr result (editing.new.base ≡ editing.old.base) }
 {
     editing.change(Change::SetPhase { task, phase })
@@ -83,8 +86,9 @@ pub fn set_phase(editing: &mut Editing, task: usize, phase: Phase) -> Result<(),
 /// Ends a task's call: its answer stands in r0, and its script goes on.
 pub fn return_from(editing: &mut Editing, task: usize, answer: u32) -> Result<(), NoMemory>
     requires task { task < length editing.old.now.tasks }
-    requires place { (task_at editing.old.now task).pc < 256 }
-    ensures ok { OnOk result (Comes editing.old editing.new (returned editing.old.now task answer) 3) }
+    requires pc { (task_at editing.old.now task).pc < 256 }
+    ensures ok { OnOk result
+        (Reaches editing.old editing.new (returned editing.old.now task answer) 3) }
     ensures err { OnErr result (editing.new.base ≡ editing.old.base) }
 {
     let pc = editing.state().task(task).pc();
@@ -93,10 +97,12 @@ pub fn return_from(editing: &mut Editing, task: usize, answer: u32) -> Result<()
     set_pc(editing, task, pc + 1)
 }
 
-/// Gives the turn to this core. If it has the turn already, nothing changes, and no memory is taken.
+/// Gives the turn to this core. If it has the turn already,
+/// nothing changes, and no memory is taken.
 pub fn set_turn(editing: &mut Editing, turn: usize) -> Result<(), NoMemory>
     requires { turn ≤ length editing.old.now.cores }
-    ensures ok { OnOk result (Comes editing.old editing.new (record editing.old.now { turn = turn }) 1) }
+    ensures ok { OnOk result
+        (Reaches editing.old editing.new (record editing.old.now { turn = turn }) 1) }
     ensures has_it { editing.old.now.turn ≡ turn → IsOk result }
     ensures err { OnErr result (editing.new.base ≡ editing.old.base) }
 {

@@ -1,7 +1,7 @@
 //! The move of a tick in the middle.
 ghost use Rattle.std.specs.Prelude.{◌≡◌, ◌+◌, ◌*◌, ◌<◌, length, OnOk, OnErr};
 ghost use Rattle.rd_script.specs.Application.{priorities_of};
-ghost use Rattle.rd_state.specs.Edit.{Comes};
+ghost use Rattle.rd_state.specs.Edit.{Reaches};
 ghost use Rattle.rd_state.specs.Valid.{IsValid};
 ghost use Rattle.rd_calls.specs.Step.{ticked, tick_step, last_tick};
 
@@ -16,7 +16,8 @@ use rd_state::no_memory::NoMemory;
 fn begin_tick(app: &App, editing: &mut Editing, tick: u32) -> Result<(), NoMemory>
     requires valid { IsValid app.now editing.old.now }
     requires tick { tick ≡ editing.old.now.tick + 1 }
-    ensures ok { OnOk result (Comes editing.old editing.new (ticked (priorities_of app.now) editing.old.now)
+    ensures ok { OnOk result
+        (Reaches editing.old editing.new (ticked (priorities_of app.now) editing.old.now)
         (1 + 3 * length editing.old.now.tasks)) }
     ensures err { OnErr result (editing.new.base ≡ editing.old.base) }
 {
@@ -28,12 +29,12 @@ fn begin_tick(app: &App, editing: &mut Editing, tick: u32) -> Result<(), NoMemor
     Ok(())
 }
 
-/// A tick passes (`xTaskIncrementTick`): tasks whose time is up are woken, the scheduler runs, and then tasks of one
-/// priority take turns on core `tick % cores`.
+/// A tick passes (`xTaskIncrementTick`): tasks whose time is up are woken, the scheduler runs, and
+/// then tasks of one priority take turns on core `tick % cores`.
 pub fn move_tick(app: &App, editing: &mut Editing) -> Result<(), NoMemory>
     requires valid { IsValid app.now editing.old.now }
     requires later { editing.old.now.tick < last_tick }
-    ensures ok { OnOk result (Comes editing.old editing.new (tick_step app.now editing.old.now)
+    ensures ok { OnOk result (Reaches editing.old editing.new (tick_step app.now editing.old.now)
         (5 + 3 * length editing.old.now.tasks + 3 * length editing.old.now.cores)) }
     ensures err { OnErr result (editing.new.base ≡ editing.old.base) }
 {

@@ -1,13 +1,15 @@
 //! Block times: tasks that begin to wait, and tasks that are woken.
-ghost use Rattle.std.specs.Prelude.{◌≡◌, ◌<◌, ◌≤◌, [], None, false, length, nat_eq, position, IfOk, IsOk, OnOk, OnErr, IsTrue};
+ghost use Rattle.std.specs.Prelude.{◌≡◌, ◌<◌, ◌≤◌, [], None, false, length, nat_eq};
+ghost use Rattle.std.specs.Prelude.{position, IfOk, IsOk, OnOk, OnErr, IsTrue};
 ghost use Rattle.rd_script.specs.Application.{IsOperand};
-ghost use Rattle.rd_state.specs.Edit.{Comes};
+ghost use Rattle.rd_state.specs.Edit.{Reaches};
 ghost use Rattle.rd_state.specs.Sizes.{IsDeadline};
 ghost use Rattle.rd_state.specs.Snapshot.{task_at};
-ghost use Rattle.rd_state.specs.Valid.{is_ahead, places_to_run};
+ghost use Rattle.rd_state.specs.Valid.{is_ahead, seats_to_run};
 ghost use Rattle.rd_state.specs.Waiting.{HasPlace, waiting_at};
 ghost use Rattle.rd_calls.specs.Outcomes.{DoesCall, blocked};
-ghost use Rattle.rd_calls.specs.Waking.{value_of, deadline_after, deadline_of, may_wait, left, is_due};
+ghost use Rattle.rd_calls.specs.Waking.{value_of, deadline_after, deadline_of};
+ghost use Rattle.rd_calls.specs.Waking.{may_wait, without_waiter, is_due};
 ghost use Rattle.rd_calls.specs.Waking.{ReadyHasRoom, woken, woken_first, woken_if_due};
 
 use crate::outcome::Outcome;
@@ -66,8 +68,9 @@ fn is_ahead(tick: u32, deadline: Option<u64>) -> bool
     }
 }
 
-/// Ends a call that can't be done: its task waits at the place, where its block time lasts, and else the call fails.
-/// The task is the last of those of its priority there. A call that fails takes no memory.
+/// Ends a call that can't be done: its task waits at the place, where its block
+/// time lasts, and else the call fails. The task is the last of those of its
+/// priority there. A call that fails takes no memory.
 pub fn block(
     editing: &mut Editing,
     priorities: &[u8],
@@ -89,41 +92,45 @@ pub fn block(
     if !is_ahead(editing.state().tick(), deadline) {
         return Ok(Outcome::Returns(0));
     }
-    let at = editing
+    let index = editing
         .state()
         .waiting(place)
-        .place_of(priorities, priorities[task]);
-    editing.change(Change::InsWait { place, at, task })?;
+        .index_for(priorities, priorities[task]);
+    editing.change(Change::InsWait { place, index, task })?;
     Ok(Outcome::Waits { place, deadline })
 }
 
 // A task leaves the list of a place, if it stands there.
-fn leave(editing: &mut Editing, place: Place, task: usize) -> Result<(), NoMemory>
+fn leave_list(editing: &mut Editing, place: Place, task: usize) -> Result<(), NoMemory>
     requires { HasPlace editing.old.now place }
-    ensures ok { OnOk result (Comes editing.old editing.new (left editing.old.now place task) 1) }
-    ensures absent { position (λ member. nat_eq member task) (waiting_at editing.old.now place) ≡ None → IsOk result }
+    ensures ok { OnOk result
+        (Reaches editing.old editing.new (without_waiter editing.old.now place task) 1) }
+    ensures absent { position (λ member. nat_eq member task) (waiting_at editing.old.now place)
+        ≡ None → IsOk result }
     ensures err { OnErr result (editing.new.base ≡ editing.old.base) }
 {
     match editing.state().waiting(place).position(task) {
         None => Ok(()),
-        Some(at) => editing.change(Change::DelWait { place, at }),
+        Some(index) => editing.change(Change::DelWait { place, index }),
     }
 }
 
-/// Wakes a task that waits: it leaves its list, is to try its call again with its deadline, and joins the ready list.
-/// A task that doesn't wait stays as it is; where it can run, that takes no memory.
+/// Wakes a task that waits: it leaves its list, is to try its call
+/// again with its deadline, and joins the ready list. A task that
+/// doesn't wait stays as it is; where it can run, that takes no memory.
 pub fn wake(editing: &mut Editing, priorities: &[u8], task: usize) -> Result<(), NoMemory>
     requires task { task < length editing.old.now.tasks }
     requires room { ReadyHasRoom editing.old.now }
     requires priorities { length priorities.now ≡ length editing.old.now.tasks }
-    ensures ok { OnOk result (Comes editing.old editing.new (woken priorities.now editing.old.now task) 3) }
-    ensures awake { 1 ≤ places_to_run (task_at editing.old.now task).phase → IsOk result }
+    ensures ok { OnOk result
+        (Reaches editing.old editing.new (woken priorities.now editing.old.now task) 3) }
+    ensures awake { 1 ≤ seats_to_run (task_at editing.old.now task).phase → IsOk result }
     ensures err { OnErr result (editing.new.base ≡ editing.old.base) }
 {
     let Phase::Wait { place, deadline } = editing.state().phase(task) else {
         return Ok(());
     };
-    leave(editing, place, task)?;
+    leave_list(editing, place, task)?;
     set_phase(editing, task, Phase::Again { deadline })?;
     editing.join_ready(priorities, task)
 }
@@ -133,7 +140,8 @@ pub fn wake_first(editing: &mut Editing, priorities: &[u8], place: Place) -> Res
     requires place { HasPlace editing.old.now place }
     requires room { 0 < length (waiting_at editing.old.now place) → ReadyHasRoom editing.old.now }
     requires priorities { length priorities.now ≡ length editing.old.now.tasks }
-    ensures ok { OnOk result (Comes editing.old editing.new (woken_first priorities.now editing.old.now place) 3) }
+    ensures ok { OnOk result
+        (Reaches editing.old editing.new (woken_first priorities.now editing.old.now place) 3) }
     ensures nobody { waiting_at editing.old.now place ≡ [] → IsOk result }
     ensures err { OnErr result (editing.new.base ≡ editing.old.base) }
 {
@@ -157,10 +165,13 @@ fn is_due(editing: &Editing, task: usize) -> bool
 /// Wakes a task whose time is up; any other stays as it is, which takes no memory.
 pub fn wake_if_due(editing: &mut Editing, priorities: &[u8], task: usize) -> Result<(), NoMemory>
     requires task { task < length editing.old.now.tasks }
-    requires room { IsTrue (is_due editing.old.now.tick (task_at editing.old.now task).phase) → ReadyHasRoom editing.old.now }
+    requires room { IsTrue (is_due editing.old.now.tick (task_at editing.old.now task).phase)
+        → ReadyHasRoom editing.old.now }
     requires priorities { length priorities.now ≡ length editing.old.now.tasks }
-    ensures ok { OnOk result (Comes editing.old editing.new (woken_if_due priorities.now editing.old.now task) 3) }
-    ensures early { is_due editing.old.now.tick (task_at editing.old.now task).phase ≡ false → IsOk result }
+    ensures ok { OnOk result
+        (Reaches editing.old editing.new (woken_if_due priorities.now editing.old.now task) 3) }
+    ensures early { is_due editing.old.now.tick (task_at editing.old.now task).phase ≡ false
+        → IsOk result }
     ensures err { OnErr result (editing.new.base ≡ editing.old.base) }
 {
     if is_due(editing, task) {

@@ -17,16 +17,20 @@ use Rattle.rd_main.specs.Answers.{Adds, IsView, PutsPage, no_memory, number_name
 use Rattle.rd_main.specs.Replies.{line_of, PlaceIsNamed, WaitersAreNamed, SeatedAreNamed}
 
 -- What has a name is there.
-pub queue_there : (course : Course) (queue : ℕ) (name : List ℕ) → IsApplication course.app → IsValid course.app course.target → number_named name course.app.queue_names ≡ Some queue → queue < length course.target.queues
+pub queue_there : (course : Course) (queue : ℕ) (name : List ℕ) → IsApplication course.app → IsValid course.app course.target
+    → number_named name course.app.queue_names ≡ Some queue → queue < length course.target.queues
 queue_there course queue name limits valid found =
-    omega (arith, (position-Some (bytes_eq name) course.app.queue_names queue [] found).0, limits.queue_names, ap length valid.in_limits.queues, length-map course.target.queues shape_of)
+    let within = (position-Some (bytes_eq name) course.app.queue_names queue [] found).0 in
+    omega (arith, within, limits.queue_names, ap length valid.in_limits.queues, length-map course.target.queues shape_of)
 
-pub task_there : (course : Course) (task : ℕ) (name : List ℕ) → IsApplication course.app → IsValid course.app course.target → number_named name course.app.task_names ≡ Some task → task < length course.target.tasks
+pub task_there : (course : Course) (task : ℕ) (name : List ℕ) → IsApplication course.app → IsValid course.app course.target
+    → number_named name course.app.task_names ≡ Some task → task < length course.target.tasks
 task_there course task name limits valid found =
     omega (arith, (position-Some (bytes_eq name) course.app.task_names task [] found).0, limits.task_names, valid.in_limits.tasks)
 
 -- Who waits at a queue has a name.
-pub waiters_named : (course : Course) (queue : ℕ) → IsApplication course.app → IsValid course.app course.target → queue < length course.target.queues → WaitersAreNamed course.app.task_names (queue_at course.target queue)
+pub waiters_named : (course : Course) (queue : ℕ) → IsApplication course.app → IsValid course.app course.target
+    → queue < length course.target.queues → WaitersAreNamed course.app.task_names (queue_at course.target queue)
 waiters_named course queue limits valid there =
     let tasks : length course.target.tasks ≡ length course.app.task_names = omega (arith, limits.task_names, valid.in_limits.tasks) in
     let lists = All-get_or (HasSizedLists (length course.target.tasks)) course.target.queues queue no_queue there valid.in_limits.sized.lists in
@@ -36,9 +40,11 @@ waiters_named course queue limits valid there =
     }
 
 -- The place where a task waits has a name.
-pub place_named : (course : Course) (task : ℕ) → IsApplication course.app → IsValid course.app course.target → task < length course.target.tasks → PlaceIsNamed course.app.queue_names (task_at course.target task).phase
+pub place_named : (course : Course) (task : ℕ) → IsApplication course.app → IsValid course.app course.target
+    → task < length course.target.tasks → PlaceIsNamed course.app.queue_names (task_at course.target task).phase
 place_named course task limits valid there =
-    let queues : length course.target.queues ≡ length course.app.queue_names = omega (arith, limits.queue_names, ap length valid.in_limits.queues, length-map course.target.queues shape_of) in
+    let queues : length course.target.queues ≡ length course.app.queue_names =
+    omega (arith, limits.queue_names, ap length valid.in_limits.queues, length-map course.target.queues shape_of) in
     of_phase (length course.target.queues) course.app.queue_names (task_at course.target task).phase queues
     (All-get_or (λ (t : TaskSnapshot). IsSizedPhase (length course.target.queues) t.phase) course.target.tasks task no_task there valid.in_limits.sized.phases)
   where
@@ -58,7 +64,8 @@ seated_named course limits valid =
     }
 
 -- the page of a view, or that there was no memory for it
-pub page_view : {T E : Type 0} (shown : Result T E) (number : Option ℕ) (view : ℕ → List ℕ) (n : ℕ) (before after page : List ℕ) → number ≡ Some n → OnOk shown (page ≡ line_of (view n)) → PutsPage before shown page after
+pub page_view : {T E : Type 0} (shown : Result T E) (number : Option ℕ) (view : ℕ → List ℕ) (n : ℕ) (before after page : List ℕ)
+    → number ≡ Some n → OnOk shown (page ≡ line_of (view n)) → PutsPage before shown page after
     → Adds before after (IsView number view)
 page_view (Ok x) number view n before after page is text (inl put) = (page, put, subst (λ m. IsView m view page) (sym is) (inl text))
 page_view (Ok x) number view n before after page is text (inr put) = (no_memory, put, subst (λ m. IsView m view no_memory) (sym is) (inr refl))

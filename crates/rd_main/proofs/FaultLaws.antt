@@ -1,29 +1,97 @@
 -- What is loaded, and why nothing is.
-use Rattle.std.proofs.Common.{List, ℕ, Result, Ok, Err, IfOk, IfErr}
+use Rattle.std.proofs.Common.{◌≡◌, ◌∙◌, ◌<◌, ◌++◌, List, [], ℕ, length, take, option_map, Option, Some, None}
+use Rattle.std.proofs.Common.{Result, Ok, Err, IfOk, IfErr, IsOk, OnOk, IfSome, IsErrAnd, ap, inl, inr, arith, refl, subst}
+use Rattle.std.proofs.lemmas.Bool.{cases_lt}
+use Rattle.std.proofs.lemmas.List.{length-take, take_all}
+use Rattle.std.specs.IoError.{error_kind}
+use Rattle.std.specs.Io.Take.{take_inner, take_limit, take_remaining}
+use Rattle.std.specs.declared.io.Error.{Error}
+use Rattle.std.specs.declared.io.ErrorKind.{ErrorKind}
+use Rattle.std.specs.declared.io.Take.{Take}
 use Rattle.rd_script.specs.Application.{Application, IsApplication}
 use Rattle.rd_script.specs.Says.{FileSays}
 use Rattle.rd_main.specs.declared.fault.Fault.{Fault}
 use Rattle.rd_main.specs.declared.fault.Fault.TheVariants.{BadLine, CannotRead, App, NoMemory}
-use Rattle.rd_main.specs.Requests.{IsFile, IsLoadFault, IsOfAFile, IsReadFault, IsRefusalOf}
+use Rattle.rd_main.specs.Requests.{AreAllOf, IsFaultOf, IsFaultOfKind, IsFile, IsOfAFile, IsRefusalOf, IsSaidBy}
 
--- A file that can't be read isn't loaded.
-pub read_is_load : (fault : Fault) → IsReadFault fault → IsLoadFault fault
-read_is_load BadLine h = h
-read_is_load CannotRead h = tt
-read_is_load (App error) h = absurd h
-read_is_load NoMemory h = tt
+-- A file that can't be opened or read says nothing, whatever its bytes are.
+pub unread_is_fault : (known : Option (List ℕ)) (kind : ErrorKind) (fault : Fault) → IsFaultOfKind kind fault → IsFaultOf known fault
+unread_is_fault known kind BadLine h =
+    let unread : BadLine ≡ CannotRead = h.unread (λ e. let none = h.no_memory e in cc) in
+    absurd cc
+unread_is_fault known kind CannotRead h = tt
+unread_is_fault known kind (App error) h =
+    let unread : App error ≡ CannotRead = h.unread (λ e. let none = h.no_memory e in cc) in
+    absurd cc
+unread_is_fault known kind NoMemory h = tt
 
-refusal_is_load : (bytes : List ℕ) (fault : Fault) → IsFile bytes → IsRefusalOf bytes fault → IsLoadFault fault
-refusal_is_load bytes BadLine few h = h
-refusal_is_load bytes CannotRead few h = tt
-refusal_is_load bytes (App error) few h = (bytes, few, h)
-refusal_is_load bytes NoMemory few h = tt
+refusal_is_fault : (known : Option (List ℕ)) (bytes : List ℕ) (fault : Fault) → AreAllOf known bytes → IsFile bytes
+    → IsRefusalOf bytes fault → IsFaultOf known fault
+refusal_is_fault known bytes BadLine all few h = h
+refusal_is_fault known bytes CannotRead all few h = tt
+refusal_is_fault known bytes (App error) all few h = (bytes, all, few, h)
+refusal_is_fault known bytes NoMemory all few h = tt
 
--- The application of a file that was read, or why it isn't one.
-pub loaded : (result : Result Application Fault) (bytes : List ℕ) → IsFile bytes → IfOk result (λ app. FileSays bytes app × IsApplication app) → IfOk result IsOfAFile
-loaded (Ok app) bytes few h = (bytes, few, h.0, h.1)
-loaded (Err fault) bytes few h = h
+-- What was read, up to one byte more than a file may have, where all that there is was empty before.
+abbrev pub ReadsUpTo : {E : Type 0} → Option (List ℕ) → Result ℕ E → List ℕ → Type 0
+ReadsUpTo known read bytes = OnOk read (IfSome (option_map (take 1048577) known) (λ xs. bytes ≡ xs))
 
-pub not_loaded : (result : Result Application Fault) (bytes : List ℕ) → IsFile bytes → IfErr result (IsRefusalOf bytes) → IfErr result IsLoadFault
-not_loaded (Ok app) bytes few h = h
-not_loaded (Err fault) bytes few h = refusal_is_load bytes fault few h
+pub reads_up_to : {R E : Type 0} (remaining : R → Option (List ℕ)) (taken : Take R) (reader : R) (read : Result ℕ E) (before bytes : List ℕ)
+    → take_limit taken ≡ 1048577 → take_inner taken ≡ reader → before ≡ []
+    → OnOk read (IfSome (take_remaining remaining taken) (λ xs. bytes ≡ before ++ xs))
+    → ReadsUpTo (remaining reader) read bytes
+reads_up_to remaining taken reader read before bytes limit inner empty h = rw (limit, inner, empty) at h
+
+-- Bytes that are no more than a file may have are all.
+all_of_few : {E : Type 0} (known : Option (List ℕ)) (read : Result ℕ E) (bytes : List ℕ) → ReadsUpTo known read bytes → IsOk read
+    → IsFile bytes → AreAllOf known bytes
+all_of_few None read bytes up_to ok few = tt
+all_of_few (Some all) (Ok n) bytes up_to ok few =
+    let len = ap length up_to ∙ length-take 1048577 all in
+    up_to ∙ take_all 1048577 all (omega arith)
+all_of_few (Some all) (Err e) bytes up_to ok few = absurd cc
+
+-- The application of what was read, or why there is none.
+pub said : (known : Option (List ℕ)) (read : Result ℕ Error) (bytes : List ℕ) (result : Result Application Fault)
+    → ReadsUpTo known read bytes
+    → IfErr read (λ error. IsErrAnd result (IsFaultOfKind (error_kind error)))
+    → IfOk result (λ app. IsFile bytes × FileSays bytes app × IsApplication app)
+    → IfOk result (IsSaidBy known)
+said known (Ok n) bytes (Ok app) up_to failed h =
+    (bytes, all_of_few {E = Error} known (Ok n) bytes up_to refl h.0, h.0, h.1, h.2)
+said known (Err e) bytes (Ok app) up_to failed h = absurd failed
+said known read bytes (Err fault) up_to failed h = h
+
+-- A file that is too long says nothing.
+unread_is : (known : Option (List ℕ)) (fault : Fault) (result : Result Application Fault) → result ≡ Err fault
+    → result ≡ Err CannotRead → IsFaultOf known fault
+unread_is known fault result refused unread = let same : CannotRead ≡ fault = cc in subst (λ (f : Fault). IsFaultOf known f) same tt
+
+pub not_said : (known : Option (List ℕ)) (read : Result ℕ Error) (bytes : List ℕ) (result : Result Application Fault)
+    → ReadsUpTo known read bytes
+    → IfErr read (λ error. IsErrAnd result (IsFaultOfKind (error_kind error)))
+    → (IsOk read → 1048576 < length bytes → result ≡ Err CannotRead)
+    → (IsOk read → IsFile bytes → IfErr result (IsRefusalOf bytes))
+    → IfErr result (IsFaultOf known)
+not_said known read bytes (Ok app) up_to failed long refused = tt
+not_said known (Err e) bytes (Err fault) up_to failed long refused = unread_is_fault known (error_kind e) fault failed
+not_said known (Ok n) bytes (Err fault) up_to failed long refused = elim (cases_lt 1048576 (length bytes)) [
+  | inl lt ↦ unread_is known fault (Err fault) refl (long refl lt)
+  | inr few ↦ refusal_is_fault known bytes fault (all_of_few {E = Error} known (Ok n) bytes up_to refl few) few (refused refl few)
+]
+
+-- What is said by a file's bytes is said by some.
+pub of_a_file : (known : Option (List ℕ)) (result : Result Application Fault) → IfOk result (IsSaidBy known) → IfOk result IsOfAFile
+of_a_file known (Ok app) h = (h.0, h.2, h.3, h.4)
+of_a_file known (Err fault) h = h
+
+fault_of_some : (known : Option (List ℕ)) (fault : Fault) → IsFaultOf known fault → IsFaultOf None fault
+fault_of_some known BadLine h = h
+fault_of_some known CannotRead h = tt
+fault_of_some known (App error) h = (h.0, tt, h.2, h.3)
+fault_of_some known NoMemory h = tt
+
+pub not_of_a_file : (known : Option (List ℕ)) (result : Result Application Fault) → IfErr result (IsFaultOf known)
+    → IfErr result (IsFaultOf None)
+not_of_a_file known (Ok app) h = h
+not_of_a_file known (Err fault) h = fault_of_some known fault h

@@ -7,18 +7,21 @@ use Rattle.std.specs.Io.{ReadsAtMost}
 use Rattle.std.specs.Io.KnownBytes.{Consumes, ReadConsumes}
 use Rattle.std.specs.List.{copy_within}
 
--- what stood between two places stands in front
+-- what stood from `start` to `end` stands in front
 pub moved_to_front : (xs : List ℕ) (start end : ℕ) → start ≤ end → end ≤ length xs → take (end - start) (copy_within xs start end 0) ≡ drop start (take end xs)
 moved_to_front xs start end le within =
     let n = end - start in
     let front = take-paste xs 0 (drop start xs) n (omega arith) (omega (arith, length-drop start xs)) in
-    let behind = drop-take start n xs in
+    let back = drop-take start n xs in
     let none : 0 + n ≡ n = omega arith in
     let all : start + n ≡ end = omega arith in
-    ap (λ (k : ℕ). take k (copy_within xs start end 0)) (sym none) ∙ front ∙ sym behind ∙ ap (λ (k : ℕ). drop start (take k xs)) all
+    ap (λ (k : ℕ). take k (copy_within xs start end 0)) (sym none) ∙ front ∙ sym back ∙ ap (λ (k : ℕ). drop start (take k xs)) all
 
--- a read behind what was there adds what it gave
-pub read_adds : {E : Type 0} (r : Result ℕ E) (old new : Option (List ℕ)) (front buf before : List ℕ) (end : ℕ) → length front ≡ end → front ≡ before → ReadsAtMost r buf → ReadConsumes old new r buf → IfOk r (λ count. (more : List ℕ) × (length more ≡ count) × (take (end + count) (front ++ buf) ≡ before ++ more) × Consumes old new more)
+-- a read after what was there adds what it gave
+pub read_adds : {E : Type 0} (r : Result ℕ E) (old new : Option (List ℕ)) (front buf before : List ℕ) (end : ℕ)
+    → length front ≡ end → front ≡ before → ReadsAtMost r buf → ReadConsumes old new r buf
+    → IfOk r (λ count. (more : List ℕ) × (length more ≡ count)
+    × (take (end + count) (front ++ buf) ≡ before ++ more) × Consumes old new more)
 read_adds (Ok n) old new front buf before end len is most bytes =
     let joined = take-append-add front buf n in
     (take n buf, omega (arith, length-take n buf), rw (← len) (joined ∙ ap (λ (xs : List ℕ). xs ++ take n buf) is), bytes.0)

@@ -1,5 +1,6 @@
 -- A name is text.
-use Rattle.std.proofs.Common.{◌≡◌, ℕ, ◌<◌, ◌&&◌, Bool, true, false, zero, suc, List, [], ◌∷◌, get_or, length, slice_index, IsUtf8, nat_le, refl, inl, inr, arith}
+use Rattle.std.proofs.Common.{◌≡◌, ℕ, ◌<◌, ◌&&◌, Bool, true, false, zero, suc, List, [], ◌∷◌, get_or, length, slice_index}
+use Rattle.std.proofs.Common.{IsUtf8, nat_le, refl, inl, inr, arith}
 use Rattle.std.proofs.lemmas.Bool.{cases_lt}
 use Rattle.std.proofs.lemmas.Bool.Decides.{nat_tests}
 use Rattle.std.proofs.lemmas.List.{get_or_past}

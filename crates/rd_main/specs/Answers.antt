@@ -1,33 +1,37 @@
 -- What is answered to a command, and what becomes of the timeline.
-use Rattle.std.specs.Prelude.{ℕ, ◌≡◌, ◌-◌, ◌<◌, ◌≤◌, ◌⊎◌, List, [], ◌∷◌, ◌++◌, length, take, drop, Option, Some, None, Result, Ok, Err, position}
+use Rattle.std.specs.Prelude.{ℕ, ◌≡◌, ◌≢◌, ◌-◌, ◌<◌, ◌≤◌, ◌⊎◌, List, [], ◌∷◌, ◌++◌, length}
+use Rattle.std.specs.Prelude.{take, drop, position, Option, Some, None, Result, Ok, Err}
 use Rattle.std.specs.Str.{bytes_eq}
 use Rattle.rd_calls.specs.Step.{step}
 use Rattle.rd_calls.specs.declared.moves.Move.{Move}
 use Rattle.rd_calls.specs.declared.moves.Move.TheVariants as move
 use Rattle.rd_calls.specs.declared.moves.PlayError.TheVariants as play
 use Rattle.rd_state.specs.Snapshot.{queue_at, task_at}
-use Rattle.rd_timeline.specs.Course.{Course}
+use Rattle.rd_timeline.specs.Course.{CanGo, Course, IsFull, IsRefusedBy}
 use Rattle.rd_main.specs.Commands.{Asked, Step, Tick, Back, ShowQueue, ShowTask, ShowCores}
 use Rattle.rd_main.specs.Replies.{line_of, reply_text, queue_text, task_text, cores_text, is_task}
-use Rattle.rd_main.specs.declared.reply.Refusal.TheVariants.{NoTask, TickLimit, TooFar, MovesFull, NoSuch, NoMemory, Syntax}
+use Rattle.rd_main.specs.declared.reply.Refusal.TheVariants.{NoTask, TickLimit, TooFar, MovesFull}
+use Rattle.rd_main.specs.declared.reply.Refusal.TheVariants.{NoSuch, NoMemory, Syntax}
 use Rattle.rd_main.specs.declared.reply.Reply.{Reply}
 use Rattle.rd_main.specs.declared.reply.Reply.TheVariants.{Done, Refused}
 
--- The move is laid on the moves done, and the moves undone are forgotten.
+-- There is room for the move, which is laid on the moves done, and the moves undone are forgotten.
 pub record Goes (old : Course) (move : Move) (new : Course) : Type 0 where
+  pub room : length old.done ≢ old.limit
   pub step : step old.app old.target move ≡ Ok new.target
   pub done : new.done ≡ old.done ++ move ∷ []
   pub undone : new.undone ≡ []
   pub app : new.app ≡ old.app
   pub limit : new.limit ≡ old.limit
 
--- the answers to a move; a refusal leaves the timeline
+-- the answers to a move; a refusal leaves the timeline, and one for want of memory comes only where
+-- the move would be made
 abbrev pub MoveReply : Course → Move → Course → Reply → Type 0
 MoveReply old move new (Done at) = (at ≡ length new.done) × Goes old move new
-MoveReply old move new (Refused MovesFull) = (length old.done ≡ old.limit) × (new ≡ old)
-MoveReply old move new (Refused NoTask) = (step old.app old.target move ≡ Err play.NoTask) × (new ≡ old)
-MoveReply old move new (Refused TickLimit) = (step old.app old.target move ≡ Err play.TickLimit) × (new ≡ old)
-MoveReply old move new (Refused NoMemory) = new ≡ old
+MoveReply old move new (Refused MovesFull) = IsFull old × (new ≡ old)
+MoveReply old move new (Refused NoTask) = IsRefusedBy old move play.NoTask × (new ≡ old)
+MoveReply old move new (Refused TickLimit) = IsRefusedBy old move play.TickLimit × (new ≡ old)
+MoveReply old move new (Refused NoMemory) = CanGo old move × (new ≡ old)
 MoveReply old move new reply = ⊥
 
 -- the answers to `step`: there is no such core, or its move is made or refused
@@ -46,7 +50,8 @@ pub record GoesBack (old : Course) (count : ℕ) (new : Course) : Type 0 where
 -- the answers to `back`; a refusal leaves the timeline
 abbrev pub BackReply : Course → ℕ → Course → Reply → Type 0
 BackReply old count new (Done at) = (at ≡ length new.done) × GoesBack old count new
-BackReply old count new (Refused (TooFar done)) = (length old.done < count) × (done ≡ length old.done) × (new ≡ old)
+BackReply old count new (Refused (TooFar done)) =
+    (length old.done < count) × (done ≡ length old.done) × (new ≡ old)
 BackReply old count new reply = ⊥
 
 -- what was added meets this
@@ -79,20 +84,31 @@ abbrev pub number_named : List ℕ → List (List ℕ) → Option ℕ
 number_named name names = position (bytes_eq name) names
 
 abbrev pub QueueLine : Course → List ℕ → List ℕ → Type 0
-QueueLine course name line = IsView (number_named name course.app.queue_names) (λ queue. queue_text course.app.task_names name (queue_at course.target queue)) line
+QueueLine course name line =
+    IsView (number_named name course.app.queue_names)
+    (λ queue. queue_text course.app.task_names name (queue_at course.target queue))
+    line
 
 abbrev pub TaskLine : Course → List ℕ → List ℕ → Type 0
-TaskLine course name line = IsView (number_named name course.app.task_names) (λ task. task_text course.app.queue_names name (position (is_task task) course.target.cores) (task_at course.target task)) line
+TaskLine course name line =
+    IsView (number_named name course.app.task_names)
+    (λ task. task_text course.app.queue_names name (position (is_task task) course.target.cores)
+    (task_at course.target task))
+    line
 
 abbrev pub CoresLine : Course → List ℕ → Type 0
 CoresLine course line = IsShown (cores_text course.app.task_names course.target) line
 
+-- The line is the text of a reply that meets this.
+abbrev pub IsReplyLine : (Reply → Type 0) → List ℕ → Type 0
+IsReplyLine IsReply line = (reply : Reply) × (line ≡ line_of (reply_text reply)) × IsReply reply
+
 -- the answer to a line, by the command that it spells
 abbrev pub IsAnswer : Course → Option Asked → Course → List ℕ → Type 0
 IsAnswer old None new line = (line ≡ line_of (reply_text (Refused Syntax))) × (new ≡ old)
-IsAnswer old (Some (Step core)) new line = (reply : Reply) × (line ≡ line_of (reply_text reply)) × StepReply old core new reply
-IsAnswer old (Some Tick) new line = (reply : Reply) × (line ≡ line_of (reply_text reply)) × MoveReply old move.Tick new reply
-IsAnswer old (Some (Back count)) new line = (reply : Reply) × (line ≡ line_of (reply_text reply)) × BackReply old count new reply
+IsAnswer old (Some (Step core)) new line = IsReplyLine (StepReply old core new) line
+IsAnswer old (Some Tick) new line = IsReplyLine (MoveReply old move.Tick new) line
+IsAnswer old (Some (Back count)) new line = IsReplyLine (BackReply old count new) line
 IsAnswer old (Some (ShowQueue name)) new line = QueueLine old name line × (new ≡ old)
 IsAnswer old (Some (ShowTask name)) new line = TaskLine old name line × (new ≡ old)
 IsAnswer old (Some ShowCores) new line = CoresLine old line × (new ≡ old)

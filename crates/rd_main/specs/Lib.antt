@@ -1,3 +1,4 @@
+-- What the contracts of the program speak of.
 pub mod Answers
 pub mod Commands
 pub mod Lines

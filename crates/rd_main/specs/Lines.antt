@@ -1,5 +1,6 @@
 -- How bytes that were read are cut into lines.
-use Rattle.std.specs.Prelude.{ℕ, ◌==◌, ◌-◌, Bool, List, length, take, nat_lt, slice_index, if◌then◌else◌, ◌&&◌}
+use Rattle.std.specs.Prelude.{ℕ, ◌==◌, ◌-◌, ◌&&◌, Bool, List, length, take, nat_lt, slice_index}
+use Rattle.std.specs.Prelude.{if◌then◌else◌}
 use Rattle.std.specs.List.{position_or_len}
 use Rattle.rd_main.specs.declared.lines.Front.{Front}
 use Rattle.rd_main.specs.declared.lines.Front.TheVariants.{Line, TooLong, Part}
@@ -7,8 +8,8 @@ use Rattle.rd_main.specs.declared.lines.Front.TheVariants.{Line, TooLong, Part}
 abbrev pub is_feed : ℕ → Bool
 is_feed byte = byte == 10
 
--- What stands at the front: a whole line of at most 1,024 bytes before its LF, a line that has more, or
--- the beginning of a line.
+-- What stands at the front: a whole line of at most 1,024 bytes before its LF, a line that has
+-- more, or the beginning of a line.
 abbrev pub front_of : List ℕ → Front
 front_of bytes =
     let len = position_or_len is_feed bytes in

@@ -1,5 +1,6 @@
 -- The text of replies.
-use Rattle.std.specs.Prelude.{ℕ, ◌==◌, ◌<◌, Bool, false, codes, decimal, List, [], ◌∷◌, ◌++◌, length, slice_index_or, All, Option, Some, None}
+use Rattle.std.specs.Prelude.{ℕ, ◌==◌, ◌<◌, Bool, false, codes, decimal, List, [], ◌∷◌, ◌++◌}
+use Rattle.std.specs.Prelude.{length, slice_index_or, All, Option, Some, None}
 use Rattle.std.specs.List.{flat_map}
 use Rattle.hex.specs.Hex.{encode_lower}
 use Rattle.rd_notify.specs.declared.notes.Entry.{Entry}
@@ -14,7 +15,8 @@ use Rattle.rd_state.specs.Sizes.{IsTaskOrIdle}
 use Rattle.rd_state.specs.Snapshot.{Snapshot, TaskSnapshot}
 use Rattle.rd_state.specs.Waiting.{IsPlace}
 use Rattle.rd_main.specs.declared.reply.Refusal.{Refusal}
-use Rattle.rd_main.specs.declared.reply.Refusal.TheVariants.{NoTask, TickLimit, TooFar, MovesFull, NoSuch, NoMemory, Syntax, LineTooLong}
+use Rattle.rd_main.specs.declared.reply.Refusal.TheVariants.{NoTask, TickLimit, TooFar, MovesFull}
+use Rattle.rd_main.specs.declared.reply.Refusal.TheVariants.{NoSuch, NoMemory, Syntax, LineTooLong}
 use Rattle.rd_main.specs.declared.reply.Reply.{Reply}
 use Rattle.rd_main.specs.declared.reply.Reply.TheVariants.{Done, Refused}
 
@@ -72,7 +74,8 @@ place_text queues (Send queue) = codes "send:" ++ name_at queues queue
 abbrev pub phase_text : List (List ℕ) → Phase → List ℕ
 phase_text queues Run = codes "run"
 phase_text queues (Again deadline) = codes "again:" ++ deadline_text deadline
-phase_text queues (Wait place deadline) = codes "wait:" ++ place_text queues place ++ codes ":" ++ deadline_text deadline
+phase_text queues (Wait place deadline) =
+    codes "wait:" ++ place_text queues place ++ codes ":" ++ deadline_text deadline
 phase_text queues Ended = codes "ended"
 
 -- The place where a task waits, if it waits, has a name.
@@ -96,9 +99,9 @@ is_task task None = false
 is_task task (Some running) = running == task
 
 -- the core's number; `-` for none
-abbrev pub core_text : Option ℕ → List ℕ
-core_text None = codes "-"
-core_text (Some core) = decimal core
+abbrev pub running_core_text : Option ℕ → List ℕ
+running_core_text None = codes "-"
+running_core_text (Some core) = decimal core
 
 -- ---- views
 
@@ -109,12 +112,14 @@ counts_text queue = decimal (length queue.items) ++ codes "/" ++ decimal queue.c
 -- who waits to receive and to send, by the tasks' names; the queue is in no set
 abbrev pub waiting_text : List (List ℕ) → QueueSnapshot → List ℕ
 waiting_text names queue =
-    codes " recv " ++ list_text (name_at names) queue.receiving ++ codes " send " ++ list_text (name_at names) queue.sending
-    ++ codes " set -"
+    codes " recv " ++ list_text (name_at names) queue.receiving
+    ++ codes " send " ++ list_text (name_at names) queue.sending ++ codes " set -"
 
 -- what a queue has, from its amounts on
 abbrev pub amounts_text : List (List ℕ) → QueueSnapshot → List ℕ
-amounts_text names queue = counts_text queue ++ codes " items " ++ list_text bytes_text queue.items ++ waiting_text names queue
+amounts_text names queue =
+    counts_text queue ++ codes " items " ++ list_text bytes_text queue.items
+    ++ waiting_text names queue
 
 -- a queue, by the tasks' names and its own
 abbrev pub queue_text : List (List ℕ) → List ℕ → QueueSnapshot → List ℕ
@@ -135,7 +140,9 @@ ticks_text s = codes " tick " ++ decimal s.tick ++ codes " turn " ++ decimal s.t
 
 -- who runs and who is ready, by the tasks' names, with the tick and the turn
 abbrev pub cores_text : List (List ℕ) → Snapshot → List ℕ
-cores_text names s = codes "cores " ++ list_text (seat_text names) s.cores ++ codes " ready " ++ list_text (name_at names) s.ready ++ ticks_text s
+cores_text names s =
+    codes "cores " ++ list_text (seat_text names) s.cores
+    ++ codes " ready " ++ list_text (name_at names) s.ready ++ ticks_text s
 
 -- Those who run and those who are ready have a name.
 pub record SeatedAreNamed (names : List (List ℕ)) (s : Snapshot) : Type 0 where
@@ -151,5 +158,6 @@ state_text task =
 -- a task that runs on that core, if on any, by the queues' names and its own
 abbrev pub task_text : List (List ℕ) → List ℕ → Option ℕ → TaskSnapshot → List ℕ
 task_text queues name core task =
-    codes "task " ++ name ++ codes " core " ++ core_text core ++ codes " pc " ++ decimal task.pc
-    ++ codes " phase " ++ phase_text queues task.phase ++ state_text task
+    codes "task " ++ name ++ codes " core " ++ running_core_text core
+    ++ codes " pc " ++ decimal task.pc ++ codes " phase " ++ phase_text queues task.phase
+    ++ state_text task

@@ -1,13 +1,16 @@
 //! The answer to each command.
 
-ghost use Rattle.std.specs.Prelude.{◌≡◌, OnOk};
+ghost use Rattle.std.specs.Prelude.{◌≡◌, ◌+◌, ◌≤◌, IsOk, OnErr, OnOk, vec_capacity, vec_len};
 ghost use Rattle.rd_calls.specs.Step.{IsMoveOf};
 ghost use Rattle.rd_script.specs.Words.{words_of};
 ghost use Rattle.rd_main.specs.Commands.{command_of};
-ghost use Rattle.rd_main.specs.Answers.{MoveReply, StepReply, BackReply, QueueLine, TaskLine, CoresLine, IsAnswer, Adds, PutsPage};
+ghost use Rattle.rd_main.specs.Answers.{MoveReply, StepReply, BackReply, IsAnswer, Adds, PutsPage};
+ghost use Rattle.rd_main.specs.Answers.{QueueLine, TaskLine, CoresLine};
 
 use crate::command::{Command, parse_line};
-use crate::reply::{Refusal, Reply, core_of, put_reply, show_cores, show_queue, show_task};
+use crate::reply::{
+    MAX_REPLY, Refusal, Reply, append_reply_reserved, core_of, show_cores, show_queue, show_task,
+};
 use rd_calls::moves::Move;
 use rd_script::app::Kind;
 use rd_timeline::timeline;
@@ -55,88 +58,92 @@ fn refused(refusal: Refusal) -> Reply
 }
 
 // Appends what stands on the page, or that there was no memory for it.
-fn put_page(
-    answers: &mut Vec<u8>,
-    page: &[u8],
-    shown: Result<(), AllocError>,
-) -> Result<(), AllocError>
-    ensures { OnOk result (PutsPage answers.old.items shown page.now answers.new.items) }
+fn put_page(answers: &mut Vec<u8>, page: &[u8], shown: Result<(), AllocError>)
+    requires { vec_len answers.old + MAX_REPLY ≤ vec_capacity answers.old }
+    ensures { PutsPage answers.old.items shown page.now answers.new.items }
 {
-    if shown.is_ok() && answers.extend_from_slice(page).is_ok() {
-        return Ok(());
+    if shown.is_err() || answers.extend_from_slice(page).is_err() {
+        append_reply_reserved(answers, refused(Refusal::NoMemory));
     }
-    put_reply(answers, refused(Refusal::NoMemory))
 }
 
 // Appends the view of the queue of that name.
-fn put_queue(
-    timeline: &Timeline,
-    page: &mut Vec<u8>,
-    answers: &mut Vec<u8>,
-    name: &str,
-) -> Result<(), AllocError>
-    ensures { OnOk result (Adds answers.old.items answers.new.items (QueueLine timeline.now name.now)) }
+fn put_queue(timeline: &Timeline, page: &mut Vec<u8>, answers: &mut Vec<u8>, name: &str)
+    requires { vec_len answers.old + MAX_REPLY ≤ vec_capacity answers.old }
+    ensures { Adds answers.old.items answers.new.items (QueueLine timeline.now name.now) }
 {
     let Some(queue) = timeline.app().find(Kind::Queue, name) else {
-        return put_reply(answers, refused(Refusal::NoSuch));
+        return append_reply_reserved(answers, refused(Refusal::NoSuch));
     };
     timeline.app().limits();
     timeline.keeps();
     let shown = show_queue(page, timeline.app(), name, timeline.target().queue(queue));
-    put_page(answers, page.as_slice(), shown)
+    put_page(answers, page.as_slice(), shown);
 }
 
 // Appends the view of the task of that name.
-fn put_task(
-    timeline: &Timeline,
-    page: &mut Vec<u8>,
-    answers: &mut Vec<u8>,
-    name: &str,
-) -> Result<(), AllocError>
-    ensures { OnOk result (Adds answers.old.items answers.new.items (TaskLine timeline.now name.now)) }
+fn put_task(timeline: &Timeline, page: &mut Vec<u8>, answers: &mut Vec<u8>, name: &str)
+    requires { vec_len answers.old + MAX_REPLY ≤ vec_capacity answers.old }
+    ensures { Adds answers.old.items answers.new.items (TaskLine timeline.now name.now) }
 {
     let Some(task) = timeline.app().find(Kind::Task, name) else {
-        return put_reply(answers, refused(Refusal::NoSuch));
+        return append_reply_reserved(answers, refused(Refusal::NoSuch));
     };
     timeline.app().limits();
     timeline.keeps();
     let target = timeline.target();
     let core = core_of(target.cores(), task);
     let shown = show_task(page, timeline.app(), name, core, target.task(task));
-    put_page(answers, page.as_slice(), shown)
+    put_page(answers, page.as_slice(), shown);
 }
 
 // Appends the view of the cores.
-fn put_cores(
-    timeline: &Timeline,
-    page: &mut Vec<u8>,
-    answers: &mut Vec<u8>,
-) -> Result<(), AllocError>
-    ensures { OnOk result (Adds answers.old.items answers.new.items (CoresLine timeline.now)) }
+fn put_cores(timeline: &Timeline, page: &mut Vec<u8>, answers: &mut Vec<u8>)
+    requires { vec_len answers.old + MAX_REPLY ≤ vec_capacity answers.old }
+    ensures { Adds answers.old.items answers.new.items (CoresLine timeline.now) }
 {
     timeline.app().limits();
     timeline.keeps();
     let shown = show_cores(page, timeline.app(), timeline.target());
-    put_page(answers, page.as_slice(), shown)
+    put_page(answers, page.as_slice(), shown);
 }
 
-/// Appends the answer to a line.
+// Appends the answer to a line, where there is room for a reply.
+fn put_reserved(timeline: &mut Timeline, page: &mut Vec<u8>, answers: &mut Vec<u8>, line: &[u8])
+    requires { vec_len answers.old + MAX_REPLY ≤ vec_capacity answers.old }
+    ensures { Adds answers.old.items answers.new.items
+        (IsAnswer timeline.old (command_of (words_of line.now)) timeline.new) }
+{
+    match parse_line(line) {
+        Ok(Command::Step { core }) => append_reply_reserved(answers, step(timeline, core as usize)),
+        Ok(Command::Tick) => append_reply_reserved(answers, make(timeline, Move::Tick)),
+        Ok(Command::Back { count }) => {
+            append_reply_reserved(answers, back(timeline, count as usize));
+        }
+        Ok(Command::ShowQueue { name }) => put_queue(timeline, page, answers, name),
+        Ok(Command::ShowTask { name }) => put_task(timeline, page, answers, name),
+        Ok(Command::ShowCores) => put_cores(timeline, page, answers),
+        Err(_) => append_reply_reserved(answers, refused(Refusal::Syntax)),
+    }
+}
+
+/// Does what the line asks for, if it is a command, and appends the answer. A view is written on
+/// the page first, in place of what was there. Where there is no memory for a move or a view, the
+/// answer says so. An `Err` says that there is no memory for any answer, and then nothing was done;
+/// it comes only where the answers have no room for `MAX_REPLY` bytes more.
 pub fn put_answer(
     timeline: &mut Timeline,
     page: &mut Vec<u8>,
     answers: &mut Vec<u8>,
     line: &[u8],
 ) -> Result<(), AllocError>
-    ensures { OnOk result (Adds answers.old.items answers.new.items
+    ensures answer { OnOk result (Adds answers.old.items answers.new.items
         (IsAnswer timeline.old (command_of (words_of line.now)) timeline.new)) }
+    ensures err { OnErr result ((timeline.new ≡ timeline.old)
+        × (answers.new.items ≡ answers.old.items)) }
+    ensures room { vec_len answers.old + MAX_REPLY ≤ vec_capacity answers.old → IsOk result }
 {
-    match parse_line(line) {
-        Ok(Command::Step { core }) => put_reply(answers, step(timeline, core as usize)),
-        Ok(Command::Tick) => put_reply(answers, make(timeline, Move::Tick)),
-        Ok(Command::Back { count }) => put_reply(answers, back(timeline, count as usize)),
-        Ok(Command::ShowQueue { name }) => put_queue(timeline, page, answers, name),
-        Ok(Command::ShowTask { name }) => put_task(timeline, page, answers, name),
-        Ok(Command::ShowCores) => put_cores(timeline, page, answers),
-        Err(_) => put_reply(answers, refused(Refusal::Syntax)),
-    }
+    answers.reserve(MAX_REPLY)?;
+    put_reserved(timeline, page, answers, line);
+    Ok(())
 }

@@ -4,7 +4,9 @@ ghost use Rattle.std.specs.Prelude.{◌≡◌, option_map};
 ghost use Rattle.std.specs.Result.{result_ok};
 ghost use Rattle.std.specs.Option.{option_copied};
 ghost use Rattle.rd_script.specs.Words.{words_of};
-ghost use Rattle.rd_main.specs.Commands.{asked, count_of, name_of, lone, lone_view, numbered, pair_of, view_of, command_of};
+ghost use Rattle.rd_main.specs.Commands.{asked, command_of, count_of, name_of};
+ghost use Rattle.rd_main.specs.Commands.{single_word_command, two_word_command, numbered_command};
+ghost use Rattle.rd_main.specs.Commands.{view_without_name, named_view};
 
 use rd_script::words::{Words, is_name, number};
 use std::str;
@@ -35,38 +37,40 @@ pub enum Command<'a> {
 #[error("not a command")]
 pub struct Syntax;
 
-/// Reads a command from its line.
+/// Reads a command from its line. `Syntax` exactly where the words of the line spell none.
 pub fn parse_line(line: &[u8]) -> Result<Command<'_>, Syntax>
     ensures { option_map asked (result_ok result) ≡ command_of (words_of line.now) }
 {
     let mut words = words_in(line);
     let command = match (words.next(), words.next(), words.next(), words.next()) {
-        (Some(verb), None, _, _) => lone(verb),
-        (Some(verb), Some(word), None, _) => pair_of(verb, word),
-        (Some(b"show"), Some(kind), Some(name), None) => view_of(kind, name),
+        (Some(verb), None, _, _) => single_word_command(verb),
+        (Some(verb), Some(word), None, _) => two_word_command(verb, word),
+        (Some(b"show"), Some(kind), Some(name), None) => named_view(kind, name),
         _ => None,
     };
     command.ok_or(Syntax)
 }
 
-// The words of a line, of which only that matters here.
+// The words of a line. Of the reader's contract only this matters here.
 fn words_in(line: &[u8]) -> Words<'_>
     ensures { result ≡ words_of line.now }
 {
     Words::new(line)
 }
 
-fn pair_of<'a>(verb: &[u8], word: &'a [u8]) -> Option<Command<'a>>
-    ensures { option_map asked result ≡ pair_of verb.now word.now }
+// `step N`, `back COUNT` or `show cores`.
+fn two_word_command<'a>(verb: &[u8], word: &'a [u8]) -> Option<Command<'a>>
+    ensures { option_map asked result ≡ two_word_command verb.now word.now }
 {
     match verb {
-        b"show" => lone_view(word),
-        _ => numbered(verb, word),
+        b"show" => view_without_name(word),
+        _ => numbered_command(verb, word),
     }
 }
 
-fn lone_view<'a>(kind: &[u8]) -> Option<Command<'a>>
-    ensures { option_map asked result ≡ lone_view kind.now }
+// `show cores`.
+fn view_without_name<'a>(kind: &[u8]) -> Option<Command<'a>>
+    ensures { option_map asked result ≡ view_without_name kind.now }
 {
     match kind {
         b"cores" => Some(Command::ShowCores),
@@ -74,8 +78,9 @@ fn lone_view<'a>(kind: &[u8]) -> Option<Command<'a>>
     }
 }
 
-fn lone<'a>(verb: &[u8]) -> Option<Command<'a>>
-    ensures { option_map asked result ≡ lone verb.now }
+// `tick`.
+fn single_word_command<'a>(verb: &[u8]) -> Option<Command<'a>>
+    ensures { option_map asked result ≡ single_word_command verb.now }
 {
     match verb {
         b"tick" => Some(Command::Tick),
@@ -83,8 +88,9 @@ fn lone<'a>(verb: &[u8]) -> Option<Command<'a>>
     }
 }
 
-fn numbered<'a>(verb: &[u8], word: &'a [u8]) -> Option<Command<'a>>
-    ensures { option_map asked result ≡ numbered verb.now word.now }
+// `step N` or `back COUNT`.
+fn numbered_command<'a>(verb: &[u8], word: &'a [u8]) -> Option<Command<'a>>
+    ensures { option_map asked result ≡ numbered_command verb.now word.now }
 {
     match verb {
         b"step" => Some(Command::Step {
@@ -97,8 +103,9 @@ fn numbered<'a>(verb: &[u8], word: &'a [u8]) -> Option<Command<'a>>
     }
 }
 
-fn view_of<'a>(kind: &[u8], word: &'a [u8]) -> Option<Command<'a>>
-    ensures { option_map asked result ≡ view_of kind.now word.now }
+// `show queue Q` or `show task K`.
+fn named_view<'a>(kind: &[u8], word: &'a [u8]) -> Option<Command<'a>>
+    ensures { option_map asked result ≡ named_view kind.now word.now }
 {
     match kind {
         b"queue" => Some(Command::ShowQueue {
@@ -111,12 +118,14 @@ fn view_of<'a>(kind: &[u8], word: &'a [u8]) -> Option<Command<'a>>
     }
 }
 
+// A number of moves.
 fn count_of(word: &[u8]) -> Option<u32>
     ensures { result ≡ count_of word.now }
 {
     number(word).filter(|count| (1..=MAX_COUNT).contains(count))
 }
 
+// A word that has the form of a name.
 fn name_of(word: &[u8]) -> Option<&str>
     ensures { option_copied result ≡ name_of word.now }
 {

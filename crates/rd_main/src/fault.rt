@@ -1,7 +1,8 @@
 //! Why the program ends with another status than 0.
 
 ghost use Rattle.std.specs.Prelude.{◌≡◌, ◌≢◌};
-ghost use Rattle.rd_main.specs.Requests.{IsReadFault};
+ghost use Rattle.std.specs.IoError.{error_kind};
+ghost use Rattle.rd_main.specs.Requests.{IsFaultOfKind};
 ghost use Rattle.rd_main.specs.declared.fault.Fault.TheVariants.{BadLine, NoMemory};
 
 use rd_script::error::AppError;
@@ -46,7 +47,7 @@ impl From<no_memory::NoMemory> for Fault {
 
 // What was met where a file is opened or read.
 impl From<io::Error> for Fault {
-    ghost from_gives = { λ _ fault. IsReadFault fault };
+    ghost from_gives = { λ error fault. IsFaultOfKind (error_kind error) fault };
 
     fn from(error: io::Error) -> Fault {
         if error.kind() == ErrorKind::OutOfMemory {

@@ -1,37 +1,25 @@
 //! Reads an application from a file.
 
-ghost use Rattle.std.specs.Prelude.{◌≡◌, IfOk, IfErr, IsNone, IsSome};
+ghost use Rattle.std.specs.Prelude.{◌≡◌, ◌<◌, length, None, IsNone, IsSome, IfSome};
+ghost use Rattle.std.specs.Prelude.{IfErr, IfOk, IsErr, IsErrAnd, IsOk};
+ghost use Rattle.std.specs.IoError.{error_kind};
 ghost use Rattle.rd_script.specs.Builtin.{builtin};
 ghost use Rattle.rd_script.specs.Application.{IsApplication};
 ghost use Rattle.rd_script.specs.Says.{FileSays};
-ghost use Rattle.rd_main.specs.Requests.{IsFile, IsOfAFile, IsReadFault, IsRefusalOf, IsLoadFault};
-ghost use Rattle.rd_main.specs.declared.fault.Fault.TheVariants.{NoMemory};
+ghost use Rattle.rd_main.specs.Requests.{IsFile, IsOfAFile, IsFaultOf, IsFaultOfKind};
+ghost use Rattle.rd_main.specs.Requests.{IsRefusalOf, IsSaidBy};
+ghost use Rattle.rd_main.specs.declared.fault.Fault.TheVariants.{CannotRead, NoMemory};
 
 use crate::fault::Fault;
 use rd_script::app::App;
 use rd_script::app::file::read_app;
 use std::alloc::{AllocGlobal, Global};
-use std::fs;
 use std::io::Read;
 use std::rt::Files;
+use std::{fs, io};
 
 /// How many bytes a file has at the most.
 pub const MAX_FILE: usize = 1_048_576;
-
-// The bytes of a file.
-fn read_file<H: Files + AllocGlobal>(handle: &H, path: &str) -> Result<Vec<u8>, Fault>
-    ensures len { IfOk result (λ bytes. IsFile bytes.items) }
-    ensures fault { IfErr result IsReadFault }
-{
-    let mut bytes = Vec::new(handle.alloc());
-    let file = fs::open(handle, path)?;
-    // (one byte more shows that the file is too long)
-    file.take(MAX_FILE as u64 + 1).read_to_end(&mut bytes)?;
-    if bytes.len() > MAX_FILE {
-        return Err(Fault::CannotRead);
-    }
-    Ok(bytes)
-}
 
 // The application that a file's bytes say.
 fn app_of(alloc: Global, bytes: &[u8]) -> Result<App, Fault>
@@ -44,19 +32,50 @@ fn app_of(alloc: Global, bytes: &[u8]) -> Result<App, Fault>
     }
 }
 
-/// The application of the file at the path, or the built-in one where no file is named. `CannotRead` where the file
-/// can't be opened or read or has more than 1,048,576 bytes, `App` where it is refused, `NoMemory` where there is none.
+/// The application that bytes say which were read, by how reading them ended: `CannotRead` where it
+/// failed or where there are more than 1,048,576 bytes, `NoMemory` where it failed for want of
+/// memory, `App` where the bytes are refused.
+pub fn app_of_read(alloc: Global, read: io::Result<usize>, bytes: &[u8]) -> Result<App, Fault>
+    ensures failed { IfErr read (λ error. IsErrAnd result (IsFaultOfKind (error_kind error))) }
+    ensures long { IsOk read → 1048576 < length bytes.now → result ≡ Err CannotRead }
+    ensures app { IfOk result (λ app. IsFile bytes.now × FileSays bytes.now app
+        × IsApplication app) }
+    ensures fault { IsOk read → IsFile bytes.now → IfErr result (IsRefusalOf bytes.now) }
+{
+    read?;
+    if bytes.len() > MAX_FILE {
+        return Err(Fault::CannotRead);
+    }
+    app_of(alloc, bytes)
+}
+
+/// The application that a reader's bytes say, up to the reader's end. `CannotRead` where there are
+/// more than 1,048,576 bytes or a read fails, `App` where the bytes are refused, `NoMemory` where
+/// there is no memory to read them.
+pub fn read_application<R: Read + Drop>(alloc: Global, reader: R) -> Result<App, Fault>
+    ensures app { IfOk result (IsSaidBy (R.remaining reader)) }
+    ensures long { IfSome (R.remaining reader) (λ bytes. 1048576 < length bytes → IsErr result) }
+    ensures fault { IfErr result (IsFaultOf (R.remaining reader)) }
+{
+    let mut bytes = Vec::new(alloc);
+    // (one byte more shows that there are too many)
+    let read = reader.take(MAX_FILE as u64 + 1).read_to_end(&mut bytes);
+    app_of_read(alloc, read, bytes.as_slice())
+}
+
+/// The application of the file at the path, or the built-in one where no file is named.
+/// `CannotRead` where the file can't be opened or read or has more than 1,048,576 bytes, `App`
+/// where it is refused, `NoMemory` where there is none.
 pub fn load<H: Files + AllocGlobal>(handle: &H, path: Option<&str>) -> Result<App, Fault>
     // With no path, the built-in application, but for want of memory.
     ensures builtin { IsNone path.entry → IfOk result (λ app. app ≡ builtin) }
     ensures no_file { IsNone path.entry → IfErr result (λ fault. fault ≡ NoMemory) }
     // With a path, what a file says.
     ensures app { IsSome path.entry → IfOk result IsOfAFile }
-    ensures fault { IfErr result IsLoadFault }
+    ensures fault { IfErr result (IsFaultOf None) }
 {
     let Some(path) = path else {
         return Ok(App::builtin(handle.alloc())?);
     };
-    let bytes = read_file(handle, path)?;
-    app_of(handle.alloc(), bytes.as_slice())
+    read_application(handle.alloc(), fs::open(handle, path)?)
 }

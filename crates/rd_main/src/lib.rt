@@ -5,14 +5,14 @@ ghost use Rattle.std.specs.Prelude.{◌≡◌, ◌≢◌, ◌≤◌, length, IfE
 ghost use Rattle.std.specs.IoError.{error_kind};
 ghost use Rattle.rd_main.specs.declared.fault.Fault.TheVariants.{BadLine};
 
-mod answer;
-mod command;
-mod fault;
-mod file;
-mod lines;
-mod options;
-mod reply;
-mod session;
+pub mod answer;
+pub mod command;
+pub mod fault;
+pub mod file;
+pub mod lines;
+pub mod options;
+pub mod reply;
+pub mod session;
 
 use crate::fault::Fault;
 use crate::file::load;
@@ -27,9 +27,9 @@ use std::rt::Files;
 // The exit status at the end of a session, and after help.
 const DONE: u8 = 0;
 
-/// Runs the program on the words of its command line, without its own name, and answers its exit status: 0 at the
-/// end of the session and after help, 2 for a bad command line, 1 where no session begins for another cause. It is
-/// said in one line on `errors`.
+/// Runs the program on the words of its command line, without its own name, and answers its exit
+/// status: 0 at the end of the session and after help, 2 for a bad command line, 1 where no session
+/// begins for another cause. The cause is said in one line on `errors`.
 pub fn run_main<H: Files + AllocGlobal, R: Read, W: Write, E: Write>(
     handle: &H,
     words: &[String],
@@ -46,8 +46,8 @@ pub fn run_main<H: Files + AllocGlobal, R: Read, W: Write, E: Write>(
     }
 }
 
-/// Says why the words of the command line couldn't be had: one is no text, or there is no memory. Answers the
-/// exit status.
+/// Says why the words of the command line couldn't be had: one is no text, or there is no memory.
+/// Answers the exit status: 2 for a word that is no text, else 1.
 pub fn refuse_words<E: Write>(errors: &mut E, error: &io::Error) -> u8
     ensures no_text { error_kind error.now ≡ ErrorKind.InvalidData → result ≡ 2 }
     ensures others { error_kind error.now ≢ ErrorKind.InvalidData → result ≡ 1 }
@@ -59,7 +59,8 @@ pub fn refuse_words<E: Write>(errors: &mut E, error: &io::Error) -> u8
     }
 }
 
-// Says what is wrong, and answers the exit status. There is nobody left to be told that the saying failed.
+// Says what is wrong, and answers the exit status. There is nobody left to be told that the saying
+// failed.
 fn report<E: Write>(errors: &mut E, fault: &Fault) -> u8
     ensures bad_line { fault.now ≡ BadLine → result ≡ 2 }
     ensures others { fault.now ≢ BadLine → result ≡ 1 }

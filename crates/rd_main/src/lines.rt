@@ -1,6 +1,7 @@
 //! Lines from a reader, without memory for each.
 
-ghost use Rattle.std.specs.Prelude.{◌≡◌, ◌+◌, ◌-◌, ◌<◌, ◌≤◌, ◌++◌, ℕ, List, [], length, take, drop, IfOk, OnErr};
+ghost use Rattle.std.specs.Prelude.{◌≡◌, ◌+◌, ◌-◌, ◌<◌, ◌≤◌, ◌++◌, ℕ, List, [], length, take, drop};
+ghost use Rattle.std.specs.Prelude.{IfOk, OnErr};
 ghost use Rattle.std.specs.List.{position_or_len};
 ghost use Rattle.std.specs.Io.KnownBytes.{Consumes, IsAtEnd, Keeps};
 ghost use Rattle.rd_main.specs.Lines.{is_feed, front_of, without_return};
@@ -46,7 +47,7 @@ impl Model for Lines {
 }
 
 impl Lines {
-    /// No bytes yet. All memory is taken here.
+    /// No bytes yet. All memory is taken here; an `Err` says that there is none.
     pub fn new(alloc: Global) -> Result<Lines, AllocError>
         ensures { IfOk result (λ lines. lines ≡ []) }
     {
@@ -80,7 +81,7 @@ impl Lines {
         }
     }
 
-    /// The first `len` bytes, without one CR at their end.
+    /// The first `len` bytes, without one CR at their end. There are so many.
     pub fn line(&self, len: usize) -> &[u8]
         requires { len ≤ length self.now }
         ensures { result.now ≡ without_return (take len self.now) }
@@ -88,7 +89,7 @@ impl Lines {
         without_return(&self.rest()[..len])
     }
 
-    /// Drops the first `count` bytes.
+    /// Drops the first `count` bytes. There are so many.
     pub fn advance(&mut self, count: usize)
         requires { count ≤ length self.old }
         ensures { self.new ≡ drop count self.old }
@@ -96,18 +97,22 @@ impl Lines {
         self.start += count;
     }
 
-    /// Reads once, behind the bytes that are there. Nothing comes only at the end of the input.
+    /// Reads once, after the bytes that are there, at most 1,024, and answers how many have come;
+    /// none come only at the end of the input. An `Err` is the reader's, and leaves the bytes as
+    /// they were.
     pub fn read_from<R: Read>(&mut self, reader: &mut R) -> io::Result<usize>
         requires { length self.old ≤ 1024 }
-        ensures ok { IfOk result (λ count. (more : List ℕ) × (length more ≡ count) × (self.new ≡ self.old ++ more)
+        ensures ok { IfOk result (λ count. (more : List ℕ) × (length more ≡ count)
+            × (self.new ≡ self.old ++ more)
             × Consumes (R.remaining reader.old) (R.remaining reader.new) more) }
         ensures end { IfOk result (λ count. count ≡ 0 → IsAtEnd (R.remaining reader.new)) }
-        ensures err { OnErr result ((self.new ≡ self.old) × Keeps (R.remaining reader.old) (R.remaining reader.new)) }
+        ensures err { OnErr result ((self.new ≡ self.old)
+            × Keeps (R.remaining reader.old) (R.remaining reader.new)) }
     {
         move_to_front(&mut self.buffer, self.start, self.end);
         self.end -= self.start;
         self.start = 0;
-        let count = read_behind(reader, &mut self.buffer, self.end)?;
+        let count = read_after(reader, &mut self.buffer, self.end)?;
         self.end += count;
         Ok(count)
     }
@@ -121,7 +126,7 @@ fn line_len(bytes: &[u8]) -> usize
     bytes.iter().take_while(|byte| **byte != b'\n').count()
 }
 
-// Moves the bytes between two places to the front.
+// Moves the bytes from `start` to `end` to the front.
 fn move_to_front(buffer: &mut [u8], start: usize, end: usize)
     requires start { start ≤ end }
     requires end { end ≤ length buffer.old }
@@ -130,8 +135,8 @@ fn move_to_front(buffer: &mut [u8], start: usize, end: usize)
     buffer.copy_within(start..end, 0);
 }
 
-// Reads once, behind the first `end` bytes, which stay.
-fn read_behind<R: Read>(reader: &mut R, buffer: &mut [u8], end: usize) -> io::Result<usize>
+// Reads once, after the first `end` bytes, which stay.
+fn read_after<R: Read>(reader: &mut R, buffer: &mut [u8], end: usize) -> io::Result<usize>
     requires { end < length buffer.old }
     ensures ok { IfOk result (λ count. (more : List ℕ) × (length more ≡ count)
         × (take (end + count) buffer.new ≡ take end buffer.old ++ more)

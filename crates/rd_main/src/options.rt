@@ -1,7 +1,9 @@
 //! The command line.
 
-ghost use Rattle.std.specs.Prelude.{◌≡◌, None, Ok, length, IfOk, IfSome};
-ghost use Rattle.rd_main.specs.Requests.{IsWithinLimits, IsRequestWithinLimits};
+ghost use Rattle.std.specs.Prelude.{◌≡◌, ◌≢◌, None, Ok, length, IfOk, IfErr, IsErr, IfSome};
+ghost use Rattle.clap.specs.Values.{kind_of};
+ghost use Rattle.rd_main.specs.Requests.{IsHelp, IsRequestWithinLimits, IsWithinLimits};
+ghost use Rattle.rd_main.specs.declared.fault.Fault.TheVariants.{BadLine, NoMemory};
 ghost use Rattle.rd_main.specs.declared.options.Request.TheVariants.{Run};
 
 use crate::fault::Fault;
@@ -10,10 +12,13 @@ use clap::{Arg, ArgMatches, Command, value_parser};
 use std::alloc::{AllocError, Global};
 
 /// How many moves may be done at a time, where nothing else is asked.
-pub const MOVES: usize = 100_000;
+pub const DEFAULT_MOVES: usize = 100_000;
+
+// The same as a word of the command line.
+const DEFAULT_MOVES_WORD: &str = "100000";
 
 /// How many moves may be asked for at the most.
-pub const MOST_MOVES: usize = 1_000_000;
+pub const MAX_MOVES: usize = 1_000_000;
 
 /// The settings of a session.
 #[derive(Clone, Copy, Debug, PartialEq, Eq)]
@@ -42,8 +47,8 @@ fn command<'a>(alloc: Global) -> Result<Command<'a>, AllocError> {
     let moves = Arg::new(alloc, "moves")
         .long("moves")
         .value_name("COUNT")
-        .value_parser(value_parser!(usize).range(1..=1_000_000))
-        .default_value("100000")
+        .value_parser(value_parser!(usize).range(1..=MAX_MOVES as i64))
+        .default_value(DEFAULT_MOVES_WORD)
         .help("How many moves may be done at a time, 1 to 1000000");
     let run = Command::new(alloc, "run")
         .about("Answers commands from standard input")
@@ -57,14 +62,14 @@ fn command<'a>(alloc: Global) -> Result<Command<'a>, AllocError> {
         .subcommand(run)
 }
 
-// The settings that were found behind `run`.
+// The settings that were found after `run`.
 fn settings_of<'a>(matches: &ArgMatches<'a>) -> Option<Settings<'a>>
     ensures { IfSome result IsWithinLimits }
 {
     let (_, run) = matches.subcommand()?;
     let app = run.get_str("app");
     let moves = run.get_one::<usize>("moves")?;
-    if (1..=MOST_MOVES).contains(&moves) {
+    if (1..=MAX_MOVES).contains(&moves) {
         Some(Settings { app, moves })
     } else {
         None
@@ -73,7 +78,13 @@ fn settings_of<'a>(matches: &ArgMatches<'a>) -> Option<Settings<'a>>
 
 // What becomes of words that gave no settings: help is one of clap's errors.
 fn without_settings<'a>(alloc: Global, error: &clap::Error) -> Result<Request<'a>, Fault>
-    ensures { IfOk result IsRequestWithinLimits }
+    ensures help { kind_of error.now ≡ ErrorKind.DisplayHelp → IfOk result IsHelp }
+    ensures untold { kind_of error.now ≡ ErrorKind.DisplayHelp
+        → IfErr result (λ fault. fault ≡ NoMemory) }
+    ensures no_memory { kind_of error.now ≡ ErrorKind.OutOfMemory → result ≡ Err NoMemory }
+    ensures bad_line { kind_of error.now ≢ ErrorKind.DisplayHelp
+        → kind_of error.now ≢ ErrorKind.OutOfMemory → result ≡ Err BadLine }
+    ensures limits { IfOk result IsRequestWithinLimits }
 {
     match error.kind() {
         ErrorKind::DisplayHelp => Ok(Request::Help {
@@ -84,16 +95,19 @@ fn without_settings<'a>(alloc: Global, error: &clap::Error) -> Result<Request<'a
     }
 }
 
-/// What the words of the command line ask for, without the program's own name. No words at all are `run`. `BadLine`
-/// where `clap` doesn't take them, `NoMemory` where there is none for it.
+/// What the words of the command line ask for, without the program's own name: a session, by
+/// `run [--app FILE] [--moves COUNT]` or no words at all, with 1 to 1,000,000 moves, or help.
+/// `BadLine` where the words are no such line, `NoMemory` where there is no memory to read them or
+/// for the text of help.
 pub fn options<'a>(alloc: Global, words: &'a [String]) -> Result<Request<'a>, Fault>
     ensures limits { IfOk result IsRequestWithinLimits }
-    ensures no_words { length words.entry.now ≡ 0 → result ≡ Ok (Run (record { app = None; moves = 100000 })) }
+    ensures no_words { length words.entry.now ≡ 0
+        → result ≡ Ok (Run (record { app = None; moves = 100000 })) }
 {
     if words.is_empty() {
         let settings = Settings {
             app: None,
-            moves: MOVES,
+            moves: DEFAULT_MOVES,
         };
         return Ok(Request::Run { settings });
     }

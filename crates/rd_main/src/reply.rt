@@ -1,15 +1,22 @@
 //! The text of replies.
 
-ghost use Rattle.std.specs.Prelude.{◌≡◌, ◌++◌, ◌<◌, ◌≤◌, ◌∷◌, [], decimal, length, position, All, OnOk};
+ghost use Rattle.std.specs.Prelude.{◌≡◌, ◌+◌, ◌++◌, ◌<◌, ◌≤◌, ◌∷◌, [], decimal, length, position};
+ghost use Rattle.std.specs.Prelude.{All, IsOk, OnErr, OnOk, vec_capacity, vec_len};
 ghost use Rattle.rd_state.specs.Sizes.{IsTaskOrIdle};
 ghost use Rattle.rd_state.specs.Waiting.{IsPlace};
-ghost use Rattle.rd_main.specs.Replies.{line_of, refusal_text, reply_text, list_text, bytes_text, phase_text, entry_text, core_text, counts_text, amounts_text, waiting_text, queue_text, name_at, task_text, state_text, seat_text, deadline_text, place_text, cores_text, ticks_text, is_task, PlaceIsNamed, WaitersAreNamed, SeatedAreNamed};
+ghost use Rattle.rd_main.specs.Replies.{line_of, refusal_text, reply_text, list_text, bytes_text};
+ghost use Rattle.rd_main.specs.Replies.{name_at, deadline_text, place_text, phase_text, entry_text};
+ghost use Rattle.rd_main.specs.Replies.{counts_text, waiting_text, amounts_text, queue_text};
+ghost use Rattle.rd_main.specs.Replies.{running_core_text, state_text, task_text, is_task};
+ghost use Rattle.rd_main.specs.Replies.{seat_text, ticks_text, cores_text};
+ghost use Rattle.rd_main.specs.Replies.{PlaceIsNamed, WaitersAreNamed, SeatedAreNamed};
 
 use itoa::{Buffer, Integer};
 use rd_notify::notes::{Entry, EntryState};
 use rd_queue::queue::Queue;
 use rd_queue::waiting_list::WaitingList;
 use rd_script::app::{App, Kind};
+use rd_script::bytes::MAX_BYTES;
 use rd_script::phase::{Phase, Place};
 use rd_state::state::State;
 use rd_state::task::Task;
@@ -45,322 +52,387 @@ pub enum Reply {
     Refused { refusal: Refusal },
 }
 
-// The text of what is appended to a page.
-type Put = Result<(), AllocError>;
+/// How many bytes the line of a reply has at the most: `no TooFar 18446744073709551615` and its LF.
+pub const MAX_REPLY: usize = 31;
 
-fn put(page: &mut Vec<u8>, text: &[u8]) -> Put
+// How many digits a `usize` has at the most.
+const MAX_DIGITS: usize = 20;
+
+// Whether there was memory for what is appended to a page.
+type Appended = Result<(), AllocError>;
+
+// Appends a text. The functions below append to a page in the same way what their name says.
+fn append(page: &mut Vec<u8>, text: &[u8]) -> Appended
     ensures { OnOk result (page.new.items ≡ page.old.items ++ text.now) }
 {
     page.extend_from_slice(text)
 }
 
-fn put_number<I: Integer>(page: &mut Vec<u8>, number: I) -> Put
+fn append_number<I: Integer>(page: &mut Vec<u8>, number: I) -> Appended
     ensures { OnOk result (page.new.items ≡ page.old.items ++ I.text number) }
 {
-    put(page, Buffer::new().format(number).as_bytes())
+    append(page, Buffer::new().format(number).as_bytes())
 }
 
-fn put_refusal(page: &mut Vec<u8>, refusal: Refusal) -> Put
-    ensures { OnOk result (page.new.items ≡ page.old.items ++ refusal_text refusal) }
+// Appends a text that there is room for.
+fn append_reserved(page: &mut Vec<u8>, text: &[u8])
+    requires { vec_len page.old + length text.now ≤ vec_capacity page.old }
+    ensures text { page.new.items ≡ page.old.items ++ text.now }
+    ensures len { vec_len page.new ≡ vec_len page.old + length text.now }
+    ensures room { vec_capacity page.old ≤ vec_capacity page.new }
+{
+    page.extend_from_slice(text).unwrap();
+}
+
+fn append_number_reserved(page: &mut Vec<u8>, number: usize)
+    requires { vec_len page.old + MAX_DIGITS ≤ vec_capacity page.old }
+    ensures text { page.new.items ≡ page.old.items ++ decimal number }
+    ensures len { vec_len page.new ≤ vec_len page.old + MAX_DIGITS }
+    ensures room { vec_capacity page.old ≤ vec_capacity page.new }
+{
+    append_reserved(page, Buffer::new().format(number).as_bytes());
+}
+
+// The longest refusal is `TooFar ` with its number.
+fn append_refusal_reserved(page: &mut Vec<u8>, refusal: Refusal)
+    requires { vec_len page.old + 7 + MAX_DIGITS ≤ vec_capacity page.old }
+    ensures text { page.new.items ≡ page.old.items ++ refusal_text refusal }
+    ensures len { vec_len page.new ≤ vec_len page.old + 7 + MAX_DIGITS }
+    ensures room { vec_capacity page.old ≤ vec_capacity page.new }
 {
     match refusal {
-        Refusal::NoTask => put(page, b"NoTask"),
-        Refusal::TickLimit => put(page, b"TickLimit"),
+        Refusal::NoTask => append_reserved(page, b"NoTask"),
+        Refusal::TickLimit => append_reserved(page, b"TickLimit"),
         Refusal::TooFar { done } => {
-            put(page, b"TooFar ")?;
-            put_number(page, done)
+            append_reserved(page, b"TooFar ");
+            append_number_reserved(page, done);
         }
-        Refusal::MovesFull => put(page, b"MovesFull"),
-        Refusal::NoSuch => put(page, b"NoSuch"),
-        Refusal::NoMemory => put(page, b"NoMemory"),
-        Refusal::Syntax => put(page, b"Syntax"),
-        Refusal::LineTooLong => put(page, b"LineTooLong"),
+        Refusal::MovesFull => append_reserved(page, b"MovesFull"),
+        Refusal::NoSuch => append_reserved(page, b"NoSuch"),
+        Refusal::NoMemory => append_reserved(page, b"NoMemory"),
+        Refusal::Syntax => append_reserved(page, b"Syntax"),
+        Refusal::LineTooLong => append_reserved(page, b"LineTooLong"),
     }
 }
 
-/// Appends the line of a reply.
-pub fn put_reply(page: &mut Vec<u8>, reply: Reply) -> Put
-    ensures { OnOk result (page.new.items ≡ page.old.items ++ line_of (reply_text reply)) }
+/// Appends the line of a reply, which there is room for.
+pub fn append_reply_reserved(page: &mut Vec<u8>, reply: Reply)
+    requires { vec_len page.old + MAX_REPLY ≤ vec_capacity page.old }
+    ensures { page.new.items ≡ page.old.items ++ line_of (reply_text reply) }
 {
     match reply {
         Reply::Done { at } => {
-            put(page, b"ok at ")?;
-            put_number(page, at)?;
+            append_reserved(page, b"ok at ");
+            append_number_reserved(page, at);
         }
         Reply::Refused { refusal } => {
-            put(page, b"no ")?;
-            put_refusal(page, refusal)?;
+            append_reserved(page, b"no ");
+            append_refusal_reserved(page, refusal);
         }
     }
-    put(page, b"\n")
+    append_reserved(page, b"\n");
 }
 
-fn put_bytes(page: &mut Vec<u8>, bytes: &[u8]) -> Put
-    requires { length bytes.now ≤ 256 }
+/// Appends the line of a reply. An `Err` says that there is no memory for it, and leaves the page
+/// as it was; it comes only where the page has no room for `MAX_REPLY` bytes more.
+pub fn append_reply(page: &mut Vec<u8>, reply: Reply) -> Result<(), AllocError>
+    ensures text { OnOk result (page.new.items ≡ page.old.items ++ line_of (reply_text reply)) }
+    ensures err { OnErr result (page.new.items ≡ page.old.items) }
+    ensures room { vec_len page.old + MAX_REPLY ≤ vec_capacity page.old → IsOk result }
+{
+    page.reserve(MAX_REPLY)?;
+    append_reply_reserved(page, reply);
+    Ok(())
+}
+
+// Two digits a byte; `-` for none.
+fn append_bytes(page: &mut Vec<u8>, bytes: &[u8]) -> Appended
+    requires { length bytes.now ≤ MAX_BYTES }
     ensures { OnOk result (page.new.items ≡ page.old.items ++ bytes_text bytes.now) }
 {
     if bytes.is_empty() {
-        return put(page, b"-");
+        return append(page, b"-");
     }
-    let mut digits = [0; 512];
+    let mut digits = [0; 2 * MAX_BYTES];
     let digits = &mut digits[..2 * bytes.len()];
     hex::encode_to_slice(bytes, digits).unwrap();
-    put(page, digits)
+    append(page, digits)
 }
 
-// A `,` before each member but the first.
-fn put_comma(page: &mut Vec<u8>, place: usize) -> Put
-    ensures first { place ≡ 0 → OnOk result (page.new.items ≡ page.old.items) }
-    ensures later { 1 ≤ place → OnOk result (page.new.items ≡ page.old.items ++ 44 ∷ []) }
+// A `,` before each member but the first, which has the index 0.
+fn append_comma(page: &mut Vec<u8>, index: usize) -> Appended
+    ensures first { index ≡ 0 → OnOk result (page.new.items ≡ page.old.items) }
+    ensures later { 1 ≤ index → OnOk result (page.new.items ≡ page.old.items ++ 44 ∷ []) }
 {
-    if place > 0 {
-        put(page, b",")?;
+    if index > 0 {
+        append(page, b",")?;
     }
     Ok(())
 }
 
-fn put_items(page: &mut Vec<u8>, queue: &Queue) -> Put
-    ensures { OnOk result (page.new.items ≡ page.old.items ++ list_text bytes_text queue.now.items) }
+fn append_items(page: &mut Vec<u8>, queue: &Queue) -> Appended
+    ensures { OnOk result (page.new.items
+        ≡ page.old.items ++ list_text bytes_text queue.now.items) }
 {
     if queue.count() == 0 {
-        return put(page, b"-");
+        return append(page, b"-");
     }
-    for place in 0..queue.count() {
-        put_comma(page, place)?;
-        put_bytes(page, queue.item(place))?;
+    for index in 0..queue.count() {
+        append_comma(page, index)?;
+        append_bytes(page, queue.item(index))?;
     }
     Ok(())
 }
 
-fn put_numbers(page: &mut Vec<u8>, numbers: &[u32]) -> Put
+fn append_number_list(page: &mut Vec<u8>, numbers: &[u32]) -> Appended
     ensures { OnOk result (page.new.items ≡ page.old.items ++ list_text decimal numbers.now) }
 {
     if numbers.is_empty() {
-        return put(page, b"-");
+        return append(page, b"-");
     }
-    for (place, number) in numbers.iter().enumerate() {
-        put_comma(page, place)?;
-        put_number(page, *number)?;
+    for (index, number) in numbers.iter().enumerate() {
+        append_comma(page, index)?;
+        append_number(page, *number)?;
     }
     Ok(())
 }
 
 // The names of tasks.
-fn put_tasks(page: &mut Vec<u8>, app: &App, tasks: &[usize]) -> Put
+fn append_task_names(page: &mut Vec<u8>, app: &App, tasks: &[usize]) -> Appended
     requires { All (λ task. task < length app.now.task_names) tasks.now }
-    ensures { OnOk result (page.new.items ≡ page.old.items ++ list_text (name_at app.now.task_names) tasks.now) }
+    ensures { OnOk result (page.new.items
+        ≡ page.old.items ++ list_text (name_at app.now.task_names) tasks.now) }
 {
     if tasks.is_empty() {
-        return put(page, b"-");
+        return append(page, b"-");
     }
-    for (place, task) in tasks.iter().enumerate() {
-        put_comma(page, place)?;
-        put(page, app.name(Kind::Task, *task).as_bytes())?;
+    for (index, task) in tasks.iter().enumerate() {
+        append_comma(page, index)?;
+        append(page, app.name(Kind::Task, *task).as_bytes())?;
     }
     Ok(())
 }
 
-fn put_seat(page: &mut Vec<u8>, app: &App, running: Option<usize>) -> Put
+// The name of the task that runs on a core; `-` for none.
+fn append_seat(page: &mut Vec<u8>, app: &App, running: Option<usize>) -> Appended
     requires { IsTaskOrIdle (length app.now.task_names) running }
-    ensures { OnOk result (page.new.items ≡ page.old.items ++ seat_text app.now.task_names running) }
+    ensures { OnOk result (page.new.items
+        ≡ page.old.items ++ seat_text app.now.task_names running) }
 {
     match running {
-        Some(task) => put(page, app.name(Kind::Task, task).as_bytes()),
-        None => put(page, b"-"),
+        Some(task) => append(page, app.name(Kind::Task, task).as_bytes()),
+        None => append(page, b"-"),
     }
 }
 
-fn put_seats(page: &mut Vec<u8>, app: &App, cores: &[Option<usize>]) -> Put
+fn append_seat_list(page: &mut Vec<u8>, app: &App, cores: &[Option<usize>]) -> Appended
     requires { All (IsTaskOrIdle (length app.now.task_names)) cores.now }
-    ensures { OnOk result (page.new.items ≡ page.old.items ++ list_text (seat_text app.now.task_names) cores.now) }
+    ensures { OnOk result (page.new.items
+        ≡ page.old.items ++ list_text (seat_text app.now.task_names) cores.now) }
 {
     if cores.is_empty() {
-        return put(page, b"-");
+        return append(page, b"-");
     }
-    for (place, running) in cores.iter().enumerate() {
-        put_comma(page, place)?;
-        put_seat(page, app, *running)?;
+    for (index, running) in cores.iter().enumerate() {
+        append_comma(page, index)?;
+        append_seat(page, app, *running)?;
     }
     Ok(())
 }
 
-fn put_entry(page: &mut Vec<u8>, entry: Entry) -> Put
+fn append_entry(page: &mut Vec<u8>, entry: Entry) -> Appended
     ensures { OnOk result (page.new.items ≡ page.old.items ++ entry_text entry) }
 {
-    put_number(page, entry.value)?;
+    append_number(page, entry.value)?;
     match entry.state {
-        EntryState::Idle => put(page, b":idle"),
-        EntryState::Waiting => put(page, b":waiting"),
-        EntryState::Received => put(page, b":received"),
+        EntryState::Idle => append(page, b":idle"),
+        EntryState::Waiting => append(page, b":waiting"),
+        EntryState::Received => append(page, b":received"),
     }
 }
 
-fn put_entries(page: &mut Vec<u8>, entries: &[Entry]) -> Put
+fn append_entry_list(page: &mut Vec<u8>, entries: &[Entry]) -> Appended
     ensures { OnOk result (page.new.items ≡ page.old.items ++ list_text entry_text entries.now) }
 {
     if entries.is_empty() {
-        return put(page, b"-");
+        return append(page, b"-");
     }
-    for (place, entry) in entries.iter().enumerate() {
-        put_comma(page, place)?;
-        put_entry(page, *entry)?;
+    for (index, entry) in entries.iter().enumerate() {
+        append_comma(page, index)?;
+        append_entry(page, *entry)?;
     }
     Ok(())
 }
 
 // A deadline's tick; `max` for none.
-fn put_deadline(page: &mut Vec<u8>, deadline: Option<u64>) -> Put
+fn append_deadline(page: &mut Vec<u8>, deadline: Option<u64>) -> Appended
     ensures { OnOk result (page.new.items ≡ page.old.items ++ deadline_text deadline) }
 {
     match deadline {
-        Some(tick) => put_number(page, tick),
-        None => put(page, b"max"),
+        Some(tick) => append_number(page, tick),
+        None => append(page, b"max"),
     }
 }
 
 // A place where tasks wait.
-fn put_place(page: &mut Vec<u8>, app: &App, place: Place) -> Put
+fn append_place(page: &mut Vec<u8>, app: &App, place: Place) -> Appended
     requires { IsPlace (length app.now.queue_names) place }
-    ensures { OnOk result (page.new.items ≡ page.old.items ++ place_text app.now.queue_names place) }
+    ensures { OnOk result (page.new.items
+        ≡ page.old.items ++ place_text app.now.queue_names place) }
 {
     match place {
         Place::Receive { queue } => {
-            put(page, b"recv:")?;
-            put(page, app.name(Kind::Queue, queue).as_bytes())
+            append(page, b"recv:")?;
+            append(page, app.name(Kind::Queue, queue).as_bytes())
         }
         Place::Send { queue } => {
-            put(page, b"send:")?;
-            put(page, app.name(Kind::Queue, queue).as_bytes())
+            append(page, b"send:")?;
+            append(page, app.name(Kind::Queue, queue).as_bytes())
         }
     }
 }
 
-fn put_phase(page: &mut Vec<u8>, app: &App, phase: Phase) -> Put
+fn append_phase(page: &mut Vec<u8>, app: &App, phase: Phase) -> Appended
     requires { PlaceIsNamed app.now.queue_names phase }
-    ensures { OnOk result (page.new.items ≡ page.old.items ++ phase_text app.now.queue_names phase) }
+    ensures { OnOk result (page.new.items
+        ≡ page.old.items ++ phase_text app.now.queue_names phase) }
 {
     match phase {
-        Phase::Run => put(page, b"run"),
+        Phase::Run => append(page, b"run"),
         Phase::Again { deadline } => {
-            put(page, b"again:")?;
-            put_deadline(page, deadline)
+            append(page, b"again:")?;
+            append_deadline(page, deadline)
         }
         Phase::Wait { place, deadline } => {
-            put(page, b"wait:")?;
-            put_place(page, app, place)?;
-            put(page, b":")?;
-            put_deadline(page, deadline)
+            append(page, b"wait:")?;
+            append_place(page, app, place)?;
+            append(page, b":")?;
+            append_deadline(page, deadline)
         }
-        Phase::Ended => put(page, b"ended"),
+        Phase::Ended => append(page, b"ended"),
     }
 }
 
-fn put_core(page: &mut Vec<u8>, core: Option<usize>) -> Put
-    ensures { OnOk result (page.new.items ≡ page.old.items ++ core_text core) }
+// The core that a task runs on; `-` for none.
+fn append_running_core(page: &mut Vec<u8>, core: Option<usize>) -> Appended
+    ensures { OnOk result (page.new.items ≡ page.old.items ++ running_core_text core) }
 {
     match core {
-        Some(core) => put_number(page, core),
-        None => put(page, b"-"),
+        Some(core) => append_number(page, core),
+        None => append(page, b"-"),
     }
 }
 
-/// Writes the view of a queue onto the page, in the place of what was there.
-pub fn show_queue(page: &mut Vec<u8>, app: &App, name: &str, queue: &Queue) -> Put
+/// Writes the view of a queue onto the page, in place of what was there. An `Err` says that
+/// there is no memory for it; the page then has some beginning of the view.
+pub fn show_queue(page: &mut Vec<u8>, app: &App, name: &str, queue: &Queue) -> Appended
     requires { WaitersAreNamed app.now.task_names queue.now }
-    ensures { OnOk result (page.new.items ≡ line_of (queue_text app.now.task_names name.now queue.now)) }
+    ensures { OnOk result (page.new.items
+        ≡ line_of (queue_text app.now.task_names name.now queue.now)) }
 {
     page.clear();
-    put(page, b"queue ")?;
-    put(page, name.as_bytes())?;
-    put(page, b" ")?;
-    put_amounts(page, app, queue)
+    append(page, b"queue ")?;
+    append(page, name.as_bytes())?;
+    append(page, b" ")?;
+    append_amounts(page, app, queue)
 }
 
 // How many items there are, and how many there is room for.
-fn put_counts(page: &mut Vec<u8>, queue: &Queue) -> Put
+fn append_counts(page: &mut Vec<u8>, queue: &Queue) -> Appended
     ensures { OnOk result (page.new.items ≡ page.old.items ++ counts_text queue.now) }
 {
-    put_number(page, queue.count())?;
-    put(page, b"/")?;
-    put_number(page, queue.capacity())
+    append_number(page, queue.count())?;
+    append(page, b"/")?;
+    append_number(page, queue.capacity())
 }
 
 // The rest of a queue's view, from its amounts on.
-fn put_amounts(page: &mut Vec<u8>, app: &App, queue: &Queue) -> Put
+fn append_amounts(page: &mut Vec<u8>, app: &App, queue: &Queue) -> Appended
     requires { WaitersAreNamed app.now.task_names queue.now }
-    ensures { OnOk result (page.new.items ≡ page.old.items ++ line_of (amounts_text app.now.task_names queue.now)) }
+    ensures { OnOk result (page.new.items
+        ≡ page.old.items ++ line_of (amounts_text app.now.task_names queue.now)) }
 {
-    put_counts(page, queue)?;
-    put(page, b" items ")?;
-    put_items(page, queue)?;
-    put_waiting(page, app, queue)?;
-    put(page, b"\n")
+    append_counts(page, queue)?;
+    append(page, b" items ")?;
+    append_items(page, queue)?;
+    append_waiting(page, app, queue)?;
+    append(page, b"\n")
 }
 
 // Who waits at a queue.
-fn put_waiting(page: &mut Vec<u8>, app: &App, queue: &Queue) -> Put
+fn append_waiting(page: &mut Vec<u8>, app: &App, queue: &Queue) -> Appended
     requires { WaitersAreNamed app.now.task_names queue.now }
-    ensures { OnOk result (page.new.items ≡ page.old.items ++ waiting_text app.now.task_names queue.now) }
+    ensures { OnOk result (page.new.items
+        ≡ page.old.items ++ waiting_text app.now.task_names queue.now) }
 {
-    put(page, b" recv ")?;
-    put_tasks(page, app, queue.waiting(WaitingList::Receiving).as_slice())?;
-    put(page, b" send ")?;
-    put_tasks(page, app, queue.waiting(WaitingList::Sending).as_slice())?;
-    put(page, b" set -")
+    append(page, b" recv ")?;
+    append_task_names(page, app, queue.waiting(WaitingList::Receiving).as_slice())?;
+    append(page, b" send ")?;
+    append_task_names(page, app, queue.waiting(WaitingList::Sending).as_slice())?;
+    append(page, b" set -")
 }
 
-/// Writes the view of a task onto the page, in the place of what was there.
-pub fn show_task(page: &mut Vec<u8>, app: &App, name: &str, core: Option<usize>, task: &Task) -> Put
+/// Writes the view of a task onto the page, in place of what was there. An `Err` says that
+/// there is no memory for it; the page then has some beginning of the view.
+pub fn show_task(
+    page: &mut Vec<u8>,
+    app: &App,
+    name: &str,
+    core: Option<usize>,
+    task: &Task,
+) -> Appended
     requires { PlaceIsNamed app.now.queue_names task.now.phase }
-    ensures { OnOk result (page.new.items ≡ line_of (task_text app.now.queue_names name.now core task.now)) }
+    ensures { OnOk result (page.new.items
+        ≡ line_of (task_text app.now.queue_names name.now core task.now)) }
 {
     page.clear();
-    put(page, b"task ")?;
-    put(page, name.as_bytes())?;
-    put(page, b" core ")?;
-    put_core(page, core)?;
-    put(page, b" pc ")?;
-    put_number(page, task.pc())?;
-    put(page, b" phase ")?;
-    put_phase(page, app, task.phase())?;
-    put_state(page, task)
+    append(page, b"task ")?;
+    append(page, name.as_bytes())?;
+    append(page, b" core ")?;
+    append_running_core(page, core)?;
+    append(page, b" pc ")?;
+    append_number(page, task.pc())?;
+    append(page, b" phase ")?;
+    append_phase(page, app, task.phase())?;
+    append_state(page, task)
 }
 
 // The rest of a task's view, from its registers on.
-fn put_state(page: &mut Vec<u8>, task: &Task) -> Put
+fn append_state(page: &mut Vec<u8>, task: &Task) -> Appended
     ensures { OnOk result (page.new.items ≡ page.old.items ++ line_of (state_text task.now)) }
 {
-    put(page, b" regs ")?;
-    put_numbers(page, task.registers())?;
-    put(page, b" data ")?;
-    put_bytes(page, task.bytes())?;
-    put(page, b" notes ")?;
-    put_entries(page, task.notes().as_slice())?;
-    put(page, b"\n")
+    append(page, b" regs ")?;
+    append_number_list(page, task.registers())?;
+    append(page, b" data ")?;
+    append_bytes(page, task.bytes())?;
+    append(page, b" notes ")?;
+    append_entry_list(page, task.notes().as_slice())?;
+    append(page, b"\n")
 }
 
-/// Writes the view of the cores onto the page, in the place of what was there.
-pub fn show_cores(page: &mut Vec<u8>, app: &App, state: &State) -> Put
+/// Writes the view of the cores onto the page, in place of what was there. An `Err` says that
+/// there is no memory for it; the page then has some beginning of the view.
+pub fn show_cores(page: &mut Vec<u8>, app: &App, state: &State) -> Appended
     requires { SeatedAreNamed app.now.task_names state.now }
     ensures { OnOk result (page.new.items ≡ line_of (cores_text app.now.task_names state.now)) }
 {
     page.clear();
-    put(page, b"cores ")?;
-    put_seats(page, app, state.cores())?;
-    put(page, b" ready ")?;
-    put_tasks(page, app, state.ready().as_slice())?;
-    put_ticks(page, state)
+    append(page, b"cores ")?;
+    append_seat_list(page, app, state.cores())?;
+    append(page, b" ready ")?;
+    append_task_names(page, app, state.ready().as_slice())?;
+    append_ticks(page, state)
 }
 
 // The rest of the cores' view, from the tick on.
-fn put_ticks(page: &mut Vec<u8>, state: &State) -> Put
+fn append_ticks(page: &mut Vec<u8>, state: &State) -> Appended
     ensures { OnOk result (page.new.items ≡ page.old.items ++ line_of (ticks_text state.now)) }
 {
-    put(page, b" tick ")?;
-    put_number(page, state.tick())?;
-    put(page, b" turn ")?;
-    put_number(page, state.turn())?;
-    put(page, b"\n")
+    append(page, b" tick ")?;
+    append_number(page, state.tick())?;
+    append(page, b" turn ")?;
+    append_number(page, state.turn())?;
+    append(page, b"\n")
 }
 
 /// The core that the task runs on, if it runs.

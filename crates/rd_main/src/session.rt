@@ -5,7 +5,7 @@ ghost use Rattle.std.specs.Io.KnownBytes.{Appends};
 
 use crate::answer::put_answer;
 use crate::lines::{Front, Lines};
-use crate::reply::{Refusal, Reply, put_reply};
+use crate::reply::{Refusal, Reply, append_reply};
 use rd_timeline::timeline::Timeline;
 use std::alloc::{AllocError, Global};
 use std::io::{ErrorKind, Read, Write};
@@ -16,9 +16,6 @@ pub const MAX_READS: u32 = 16_777_216;
 
 // Answers are written once they have come to so many bytes.
 const FULL: usize = 32_768;
-
-// More than an answer to a move or a refusal has.
-const MARGIN: usize = 64;
 
 // The session has ended.
 #[derive(Debug, Drop)]
@@ -48,7 +45,8 @@ impl Model for Session {
 
 // Writes the answers.
 fn send<W: Write>(answers: &mut Vec<u8>, writer: &mut W) -> Result<(), Ended>
-    ensures written { OnOk result (Appends (W.contents writer.old) (W.contents writer.new) answers.old.items) }
+    ensures written { OnOk result
+        (Appends (W.contents writer.old) (W.contents writer.new) answers.old.items) }
     ensures emptied { OnOk result (answers.new.items ≡ []) }
 {
     if writer.write_all(answers.as_slice()).is_err() || writer.flush().is_err() {
@@ -59,7 +57,8 @@ fn send<W: Write>(answers: &mut Vec<u8>, writer: &mut W) -> Result<(), Ended>
 }
 
 impl Session {
-    /// A session that has read nothing. All its memory is taken here, but for views of more than 32,768 bytes.
+    /// A session that has read nothing. All its memory is taken here, but for views of more than
+    /// 32,768 bytes. An `Err` says that there is none.
     pub fn new(alloc: Global) -> Result<Session, AllocError>
         ensures { IfOk result (λ session. session ≡ record { held = []; pending = [] }) }
     {
@@ -70,7 +69,10 @@ impl Session {
         })
     }
 
-    /// Answers the reader's lines until its end, a fault on either side, or a line that is too long.
+    /// Answers the reader's lines until its end, a fault on either side, a line that is too long,
+    /// which is answered, or `MAX_READS` reads. What stands after the last LF is a line only at the
+    /// end of the input. Answers are written when no whole line is left, or when there are 32,768
+    /// bytes of them.
     pub fn serve<R: Read, W: Write>(
         &mut self,
         timeline: &mut Timeline,
@@ -125,7 +127,7 @@ impl Session {
                 }
                 Front::TooLong => {
                     let refusal = Refusal::LineTooLong;
-                    put_reply(&mut self.answers, Reply::Refused { refusal })?;
+                    append_reply(&mut self.answers, Reply::Refused { refusal })?;
                     send(&mut self.answers, writer)?;
                     return Err(Ended);
                 }
@@ -134,7 +136,7 @@ impl Session {
         }
     }
 
-    // Answers what stands behind the last LF, if there is something. It is the last line.
+    // Answers what stands after the last LF, if there is something. It is the last line.
     fn answer_rest<W: Write>(
         &mut self,
         timeline: &mut Timeline,

@@ -1,1 +1,2 @@
+-- The files of definitions of rd_notify.
 pub mod Entries

@@ -1,3 +1,5 @@
+//! The notification entries of a task.
+
 ghost use Rattle.std.specs.Prelude.{◌≡◌, ◌↔◌, IsTrue, ◌<◌, ◌≤◌, length, replicate, slice_get, Some};
 ghost use Rattle.rd_notify.specs.Entries.{idle_entry};
 

@@ -1,0 +1,1 @@
+-- The files of lemmas of rd_queue.

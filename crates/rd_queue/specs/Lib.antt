@@ -1,2 +1,3 @@
+-- The files of definitions of rd_queue.
 pub mod QueueSnapshot
 pub mod Queues

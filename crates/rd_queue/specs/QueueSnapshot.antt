@@ -1,8 +1,9 @@
 -- What a contract sees of a queue.
 use Rattle.std.specs.Prelude.{ℕ, List}
 
--- the items, front first, each a list of bytes; for how many there is room; how many bytes an item has;
--- the tasks that wait to receive and to send, by their numbers; for how many there is room in each list
+-- the items, front first, each a list of bytes; how many of them there is room for; how many bytes
+-- each has; the tasks that wait to receive, and to send, by number; how many of them there is room
+-- for in each list
 pub record QueueSnapshot : Type 0 where
   pub items : List (List ℕ)
   pub capacity : ℕ

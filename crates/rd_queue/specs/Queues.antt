@@ -4,18 +4,25 @@ use Rattle.rd_queue.specs.declared.waiting_list.WaitingList.{WaitingList}
 use Rattle.rd_queue.specs.declared.waiting_list.WaitingList.TheVariants.{Receiving, Sending}
 use Rattle.rd_queue.specs.QueueSnapshot.{QueueSnapshot}
 
--- a new queue, at which so many tasks could wait in each list
+-- a new queue, at which that many tasks can wait in each list
 abbrev pub empty_queue : ℕ → ℕ → ℕ → QueueSnapshot
-empty_queue capacity item_size tasks = record { items = []; capacity = capacity; item_size = item_size; receiving = []; sending = []; tasks = tasks }
+empty_queue capacity item_size tasks = record {
+  items = [];
+  capacity = capacity;
+  item_size = item_size;
+  receiving = [];
+  sending = [];
+  tasks = tasks;
+}
 
 -- the queue with these items in place of its own
 abbrev pub with_items : QueueSnapshot → List (List ℕ) → QueueSnapshot
 with_items queue items = record queue { items = items }
 
 -- the tasks of a list
-abbrev pub waiting_in : WaitingList → QueueSnapshot → List ℕ
-waiting_in Receiving queue = queue.receiving
-waiting_in Sending queue = queue.sending
+abbrev pub tasks_in_list : WaitingList → QueueSnapshot → List ℕ
+tasks_in_list Receiving queue = queue.receiving
+tasks_in_list Sending queue = queue.sending
 
 -- who waits to receive, and to send, once these tasks have taken the place of a list's own
 abbrev receiving_then : WaitingList → List ℕ → QueueSnapshot → List ℕ
@@ -28,8 +35,11 @@ sending_then Sending tasks queue = tasks
 
 -- the queue with these tasks in a list, in place of its own
 abbrev pub with_waiting : WaitingList → List ℕ → QueueSnapshot → QueueSnapshot
-with_waiting list tasks queue = record queue { receiving = receiving_then list tasks queue; sending = sending_then list tasks queue }
+with_waiting list tasks queue = record queue {
+  receiving = receiving_then list tasks queue;
+  sending = sending_then list tasks queue;
+}
 
--- the bytes cut, or filled up with zero bytes, to that many: what a send makes of the sender's bytes
+-- the bytes cut, or filled up with zero bytes, to that size: what a send makes of its task's data
 abbrev pub fitted : ℕ → List ℕ → List ℕ
 fitted size bytes = take size (bytes ++ replicate size 0)

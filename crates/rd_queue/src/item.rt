@@ -1,3 +1,5 @@
+//! Items of a queue, by value.
+
 ghost use Rattle.std.specs.Prelude.{◌≡◌, ◌↔◌, ◌≤◌, length, IsTrue};
 ghost use Rattle.rd_queue.specs.Queues.{fitted};
 
@@ -38,8 +40,8 @@ impl Item {
         ensures { result ≡ fitted size bytes.now }
     {
         let mut item = ArrayVec::new();
-        for place in 0..size {
-            item.push(bytes.get(place).copied().unwrap_or(0));
+        for index in 0..size {
+            item.push(bytes.get(index).copied().unwrap_or(0));
         }
         Item { bytes: item }
     }

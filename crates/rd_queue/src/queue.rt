@@ -1,5 +1,9 @@
-ghost use Rattle.std.specs.Prelude.{◌≡◌, ◌+◌, ◌-◌, ◌<◌, ◌≤◌, ◌↔◌, [], ◌∷◌, ◌++◌, length, take, drop, insert, remove, slice_get, slice_index_or, Some, IsTrue, IsErr, IfOk, OnOk, OnErr};
-ghost use Rattle.rd_queue.specs.Queues.{empty_queue, with_items, waiting_in, with_waiting};
+//! A queue of items, and the tasks that wait at it.
+
+ghost use Rattle.std.specs.Prelude.{◌≡◌, ◌+◌, ◌-◌, ◌<◌, ◌≤◌, ◌↔◌, [], ◌∷◌, ◌++◌, length};
+ghost use Rattle.std.specs.Prelude.{take, drop, insert, remove, slice_get, slice_index_or};
+ghost use Rattle.std.specs.Prelude.{Some, IsTrue, IsErr, IfOk, OnOk, OnErr};
+ghost use Rattle.rd_queue.specs.Queues.{empty_queue, with_items, tasks_in_list, with_waiting};
 
 use crate::item::Item;
 use crate::waiting_list::WaitingList;
@@ -9,7 +13,7 @@ use std::collections::VecDeque;
 use std::marker::Model;
 use thiserror::Error;
 
-/// The queue has no free place.
+/// The queue has no free slot.
 #[derive(Debug, Drop, Error)]
 #[error("the queue is full")]
 pub struct Full;
@@ -19,8 +23,8 @@ pub struct Full;
 #[error("the queue is empty")]
 pub struct Empty;
 
-/// A queue with room for `capacity` items of `item_size` bytes each, and the tasks that wait at it. All its
-/// memory is taken by `new`.
+/// A queue with room for `capacity` items of `item_size` bytes each, and the tasks that wait at it.
+/// All its memory is taken by `new`.
 #[derive(Drop)]
 pub struct Queue {
     items: VecDeque<Item>,
@@ -46,9 +50,12 @@ impl Model for Queue {
       tasks = q.receiving.room;
     } };
 
-    // The items fit in the room, each has the size, and the room is reserved. Both lists have the same room.
-    ghost invariant = { λ q. (length q.items.items ≤ q.capacity) × All (λ item. length item ≡ q.item_size) q.items.items
-        × (q.capacity ≤ deque_capacity q.items) × (q.item_size ≤ 64) × (q.sending.room ≡ q.receiving.room) };
+    // The items fit in the room, each has the size, and the room is reserved. Both lists have the
+    // same room.
+    ghost invariant = { λ q. (length q.items.items ≤ q.capacity)
+        × All (λ item. length item ≡ q.item_size) q.items.items
+        × (q.capacity ≤ deque_capacity q.items) × (q.item_size ≤ 64)
+        × (q.sending.room ≡ q.receiving.room) };
 }
 
 // Whether the items are equal, one by one.
@@ -58,8 +65,8 @@ fn same_items(items: &VecDeque<Item>, others: &VecDeque<Item>) -> bool
     if items.len() != others.len() {
         return false;
     }
-    for place in 0..items.len() {
-        if !items[place].same(&others[place]) {
+    for index in 0..items.len() {
+        if !items[index].same(&others[index]) {
             return false;
         }
     }
@@ -67,8 +74,8 @@ fn same_items(items: &VecDeque<Item>, others: &VecDeque<Item>) -> bool
 }
 
 impl Queue {
-    /// An empty queue with room for `capacity` items of `item_size` bytes, at most 64 (`xQueueCreate`), at
-    /// which `tasks` tasks can wait in each list.
+    /// An empty queue with room for `capacity` items of `item_size` bytes, at most 64
+    /// (`xQueueCreate`), at which `tasks` tasks can wait in each list.
     pub fn new(
         alloc: Global,
         capacity: usize,
@@ -93,8 +100,8 @@ impl Queue {
         ensures { IfOk result (λ queue. queue ≡ self.now) }
     {
         let mut items = VecDeque::with_capacity(alloc, self.capacity)?;
-        for place in 0..self.items.len() {
-            items.push_back_reserved(Item::new(self.item(place)));
+        for index in 0..self.items.len() {
+            items.push_back_reserved(Item::new(self.item(index)));
         }
         Ok(Queue {
             items,
@@ -105,8 +112,8 @@ impl Queue {
         })
     }
 
-    /// Whether the other queue has the same items, the same room and the same item size, and the same tasks
-    /// wait at it.
+    /// Whether the other queue has the same items, the same room and the same item size, and the
+    /// same tasks wait at it.
     pub fn same(&self, other: &Queue) -> bool
         ensures { IsTrue result ↔ (self.now ≡ other.now) }
     {
@@ -125,7 +132,7 @@ impl Queue {
         self.items.len()
     }
 
-    /// How many places are free (`uxQueueSpacesAvailable`).
+    /// How many slots are free (`uxQueueSpacesAvailable`).
     pub fn spaces(&self) -> usize
         ensures { result + length self.now.items ≡ self.now.capacity }
     {
@@ -147,13 +154,13 @@ impl Queue {
         self.item_size
     }
 
-    /// The item at a place, 0 the front.
-    pub fn item(&self, place: usize) -> &[u8]
-        requires { place < length self.now.items }
-        ensures item { result.now ≡ slice_index_or self.now.items place [] }
+    /// The item at `index`, 0 the front.
+    pub fn item(&self, index: usize) -> &[u8]
+        requires { index < length self.now.items }
+        ensures item { result.now ≡ slice_index_or self.now.items index [] }
         ensures short { length result.now ≤ 64 }
     {
-        let item = &self.items[place];
+        let item = &self.items[index];
         item.as_slice()
     }
 
@@ -179,7 +186,8 @@ impl Queue {
     pub fn put_back(&mut self, item: &[u8]) -> Result<(), Full>
         requires { length item.now ≡ self.old.item_size }
         ensures full { IsErr result ↔ (length self.old.items ≡ self.old.capacity) }
-        ensures ok { OnOk result (self.new ≡ with_items self.old (self.old.items ++ item.now ∷ [])) }
+        ensures ok { OnOk result
+            (self.new ≡ with_items self.old (self.old.items ++ item.now ∷ [])) }
         ensures err { OnErr result (self.new ≡ self.old) }
     {
         if self.items.len() == self.capacity {
@@ -212,14 +220,15 @@ impl Queue {
     pub fn unput(&mut self) -> Item
         requires { 0 < length self.old.items }
         ensures item { slice_get self.old.items (length self.old.items - 1) ≡ Some result }
-        ensures rest { self.new ≡ with_items self.old (take (length self.old.items - 1) self.old.items) }
+        ensures rest { self.new
+            ≡ with_items self.old (take (length self.old.items - 1) self.old.items) }
     {
         self.items.pop_back().unwrap()
     }
 
     /// The tasks that wait to receive, or to send.
     pub fn waiting(&self, list: WaitingList) -> &PrioList
-        ensures tasks { result.now.tasks ≡ waiting_in list self.now }
+        ensures tasks { result.now.tasks ≡ tasks_in_list list self.now }
         ensures room { result.now.room ≡ self.now.tasks }
     {
         match list {
@@ -228,27 +237,29 @@ impl Queue {
         }
     }
 
-    /// Puts a task into a waiting list at `place`.
-    pub fn insert(&mut self, list: WaitingList, place: usize, task: usize)
-        requires within { place ≤ length (waiting_in list self.old) }
-        requires room { length (waiting_in list self.old) < self.old.tasks }
-        ensures { self.new ≡ with_waiting list (insert (waiting_in list self.old) place task) self.old }
+    /// Puts a task into a waiting list at `index`.
+    pub fn insert(&mut self, list: WaitingList, index: usize, task: usize)
+        requires within { index ≤ length (tasks_in_list list self.old) }
+        requires room { length (tasks_in_list list self.old) < self.old.tasks }
+        ensures { self.new
+            ≡ with_waiting list (insert (tasks_in_list list self.old) index task) self.old }
     {
         match list {
-            WaitingList::Receiving => self.receiving.insert_at(place, task),
-            WaitingList::Sending => self.sending.insert_at(place, task),
+            WaitingList::Receiving => self.receiving.insert_at(index, task),
+            WaitingList::Sending => self.sending.insert_at(index, task),
         }
     }
 
-    /// Takes the task at `place` out of a waiting list.
-    pub fn remove(&mut self, list: WaitingList, place: usize) -> usize
-        requires { place < length (waiting_in list self.old) }
-        ensures task { slice_get (waiting_in list self.old) place ≡ Some result }
-        ensures rest { self.new ≡ with_waiting list (remove (waiting_in list self.old) place) self.old }
+    /// Takes the task at `index` out of a waiting list.
+    pub fn remove(&mut self, list: WaitingList, index: usize) -> usize
+        requires { index < length (tasks_in_list list self.old) }
+        ensures task { slice_get (tasks_in_list list self.old) index ≡ Some result }
+        ensures rest { self.new
+            ≡ with_waiting list (remove (tasks_in_list list self.old) index) self.old }
     {
         match list {
-            WaitingList::Receiving => self.receiving.remove_at(place),
-            WaitingList::Sending => self.sending.remove_at(place),
+            WaitingList::Receiving => self.receiving.remove_at(index),
+            WaitingList::Sending => self.sending.remove_at(index),
         }
     }
 }

@@ -1,3 +1,5 @@
+//! Which tasks wait at a queue.
+
 /// The two lists of tasks that wait at a queue.
 #[derive(Clone, Copy, Debug, PartialEq, Eq)]
 pub enum WaitingList {

@@ -2,6 +2,8 @@
 #![tactic(auto)]
 
 #[cfg(test)]
+mod applications;
+#[cfg(test)]
 mod memory;
 #[cfg(test)]
 mod parts;
@@ -9,5 +11,9 @@ mod parts;
 mod programs;
 #[cfg(test)]
 mod rows;
+#[cfg(test)]
+mod runs;
+#[cfg(test)]
+mod streams;
 #[cfg(test)]
 mod tasks;

@@ -3,7 +3,7 @@
 use std::io;
 use std::io::{ErrorKind, Read, Write};
 
-/// Gives `step` bytes a read. After so many reads it fails.
+/// Gives `step` bytes a read. After `reads` reads it fails.
 #[derive(Drop)]
 pub struct Source<'a> {
     pub rest: &'a [u8],
@@ -36,12 +36,12 @@ impl Read for Source<'_> {
     }
 }
 
-/// Keeps what is written, and counts the writes. After so many writes it fails.
+/// Keeps what is written, and counts the writes. It fails when no writes are left.
 #[derive(Drop)]
 pub struct Target {
     pub bytes: Vec<u8>,
     pub writes: usize,
-    pub left: usize,
+    pub writes_left: usize,
 }
 
 impl Target {
@@ -50,7 +50,7 @@ impl Target {
         Target {
             bytes,
             writes: 0,
-            left: usize::MAX,
+            writes_left: usize::MAX,
         }
     }
 
@@ -59,7 +59,7 @@ impl Target {
         let Target {
             bytes,
             writes: _,
-            left: _,
+            writes_left: _,
         } = self;
         bytes
     }
@@ -67,10 +67,10 @@ impl Target {
 
 impl Write for Target {
     fn write(&mut self, buffer: &[u8]) -> io::Result<usize> {
-        let Some(left) = self.left.checked_sub(1) else {
+        let Some(writes_left) = self.writes_left.checked_sub(1) else {
             return Err(io::Error::from(ErrorKind::BrokenPipe));
         };
-        self.left = left;
+        self.writes_left = writes_left;
         self.writes = self.writes.saturating_add(1);
         self.bytes.extend_from_slice(buffer)?;
         Ok(buffer.len())

@@ -15,7 +15,7 @@ use std::alloc::Global;
 use std::process::Abort;
 use std::test::Fail;
 
-fn step(rt: &impl Abort, timeline: &mut Timeline) -> Result<usize, Refusal> {
+fn step_core_0(rt: &impl Abort, timeline: &mut Timeline) -> Result<usize, Refusal> {
     assert!(rt; timeline.app().cores() > 0);
     timeline.go(Move::Core { core: 0 })
 }
@@ -24,7 +24,7 @@ fn step(rt: &impl Abort, timeline: &mut Timeline) -> Result<usize, Refusal> {
 fn goes_back_to_boot(rt: &impl Abort, alloc: Global, timeline: &mut Timeline) -> Result<(), Fail> {
     let boot = timeline.target().copy(alloc)?;
     for at in 1..=4 {
-        assert_eq!(rt; step(rt, timeline), Ok(at));
+        assert_eq!(rt; step_core_0(rt, timeline), Ok(at));
     }
     assert!(rt; !timeline.target().same(&boot));
     assert_eq!(rt; timeline.back(4), Ok(0));
@@ -50,15 +50,15 @@ fn undo_to_boot(rt: HostRuntime) -> Result<(), Fail> {
 // A refused move leaves the target, the moves done and the moves undone.
 fn stops_at_the_limit(rt: &impl Abort, alloc: Global, timeline: &mut Timeline) -> Result<(), Fail> {
     for at in 1..=3 {
-        assert_eq!(rt; step(rt, timeline), Ok(at));
+        assert_eq!(rt; step_core_0(rt, timeline), Ok(at));
     }
     let last = timeline.target().copy(alloc)?;
-    assert_eq!(rt; step(rt, timeline), Err(Refusal::MovesFull));
+    assert_eq!(rt; step_core_0(rt, timeline), Err(Refusal::MovesFull));
     assert!(rt; timeline.target().same(&last));
     assert_eq!(rt; timeline.at(), 3);
     assert_eq!(rt; timeline.left(), 0);
     assert_eq!(rt; timeline.back(1), Ok(2));
-    assert_eq!(rt; step(rt, timeline), Ok(3));
+    assert_eq!(rt; step_core_0(rt, timeline), Ok(3));
     assert_eq!(rt; timeline.left(), 0);
     Ok(())
 }
@@ -112,13 +112,13 @@ fn waiting_lists(rt: HostRuntime) -> Result<(), Fail> {
 }
 
 // A task is put to wait at a queue. Only that list changes.
-fn waits(rt: &impl Abort, editing: &mut Editing) -> Result<(), Fail> {
+fn puts_to_wait(rt: &impl Abort, editing: &mut Editing) -> Result<(), Fail> {
     let place = Place::Send { queue: 0 };
     assert!(rt; editing.state().queue_count() > 0);
     assert!(rt; editing.state().task_count() > 0);
     assert!(rt; editing.state().waiting(place).as_slice().is_empty());
-    let (at, task) = (0, 0);
-    editing.change(Change::InsWait { place, at, task })?;
+    let (index, task) = (0, 0);
+    editing.change(Change::InsWait { place, index, task })?;
     assert!(rt; editing.state().queue_count() > 0);
     let sending = editing.state().waiting(place).as_slice();
     assert_eq!(rt; sending, [0].as_slice());
@@ -132,7 +132,7 @@ fn waiting_is_undone(rt: HostRuntime) -> Result<(), Fail> {
     let alloc = rt.alloc();
     let boot = State::boot(alloc, &App::builtin(alloc)?)?;
     let mut editing = Editing::begin(alloc, boot.copy(alloc)?);
-    let result = waits(&rt, &mut editing);
+    let result = puts_to_wait(&rt, &mut editing);
     let differs = !editing.state().same(&boot);
     let mut state = State::hollow(alloc);
     editing.roll_back(&mut state);

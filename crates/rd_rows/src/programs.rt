@@ -1,4 +1,5 @@
-//! Runs of the program with words: its exit status, and what it writes to its reader and to its errors.
+//! Runs of the program with words: its exit status, and what it writes to its reader and to its
+//! errors.
 
 use crate::memory::Target;
 use rd_main::run_main;
@@ -61,7 +62,7 @@ pub fn run_file<H: Files + AllocGlobal>(
 }
 
 /// Fails unless the run ended so, and wrote nothing else.
-pub fn ends(rt: &impl Abort, ending: &Ending, status: u8, output: &str, errors: &str) {
+pub fn assert_ending(rt: &impl Abort, ending: &Ending, status: u8, output: &str, errors: &str) {
     assert_eq!(rt; ending.status, status);
     assert_eq!(rt; ending.output.as_slice(), output.as_bytes());
     assert_eq!(rt; ending.errors.as_slice(), errors.as_bytes());
@@ -86,7 +87,7 @@ fn bad_command_line(rt: HostRuntime) -> Result<(), Fail> {
     for words in lines {
         let words: &[&str] = words;
         let ending = run(&rt, words, "step 0\n")?;
-        ends(&rt, &ending, 2, "", "rdbg: bad command line\n");
+        assert_ending(&rt, &ending, 2, "", "rdbg: bad command line\n");
     }
     Ok(())
 }
@@ -96,7 +97,7 @@ fn run_is_the_default(rt: HostRuntime) -> Result<(), Fail> {
     for words in [[].as_slice(), &["run"], &["run", "--moves", "1000000"]] {
         let words: &[&str] = words;
         let ending = run(&rt, words, "step 0\nback 1\n")?;
-        ends(&rt, &ending, 0, "ok at 1\nok at 0\n", "");
+        assert_ending(&rt, &ending, 0, "ok at 1\nok at 0\n", "");
     }
     Ok(())
 }
@@ -106,7 +107,7 @@ fn moves_are_limited(rt: HostRuntime) -> Result<(), Fail> {
     let commands = "step 0\nstep 0\nback 1\nstep 0\n";
     for moves in ["--moves=1", "--moves=+1", "--moves=01"] {
         let ending = run(&rt, &["run", moves], commands)?;
-        ends(
+        assert_ending(
             &rt,
             &ending,
             0,
@@ -144,12 +145,12 @@ fn help(rt: HostRuntime) -> Result<(), Fail> {
     for words in [["--help"].as_slice(), &["-h"], &["help"]] {
         let words: &[&str] = words;
         let ending = run(&rt, words, "step 0\n")?;
-        ends(&rt, &ending, 0, HELP, "");
+        assert_ending(&rt, &ending, 0, HELP, "");
     }
     for words in [["run", "--help"].as_slice(), &["help", "run"]] {
         let words: &[&str] = words;
         let ending = run(&rt, words, "step 0\n")?;
-        ends(&rt, &ending, 0, HELP_OF_RUN, "");
+        assert_ending(&rt, &ending, 0, HELP_OF_RUN, "");
     }
     Ok(())
 }
@@ -158,7 +159,7 @@ fn help(rt: HostRuntime) -> Result<(), Fail> {
 fn missing_file(rt: HostRuntime) -> Result<(), Fail> {
     for path in ["nowhere.json", "", "."] {
         let ending = run(&rt, &["run", "--app", path], "step 0\n")?;
-        ends(&rt, &ending, 1, "", "rdbg: cannot read the file\n");
+        assert_ending(&rt, &ending, 1, "", "rdbg: cannot read the file\n");
     }
     Ok(())
 }
@@ -168,20 +169,23 @@ fn missing_file(rt: HostRuntime) -> Result<(), Fail> {
 fn long_files(rt: HostRuntime) -> Result<(), Fail> {
     let mut text = vec![in rt.alloc(); b' '; 1_048_576]?;
     let read = run_file(&rt, "long.json", text.as_slice(), &[], "")?;
-    ends(&rt, &read, 1, "", "rdbg: application refused: L1 NotJson\n");
+    assert_ending(&rt, &read, 1, "", "rdbg: application refused: L1 NotJson\n");
     text.push(b' ')?;
     let unread = run_file(&rt, "long.json", text.as_slice(), &[], "")?;
-    ends(&rt, &unread, 1, "", "rdbg: cannot read the file\n");
+    assert_ending(&rt, &unread, 1, "", "rdbg: cannot read the file\n");
     Ok(())
 }
 
 // Faults are found in the order command line, file, application.
 #[test]
 fn refused_files(rt: HostRuntime) -> Result<(), Fail> {
-    let no_room =
-        br#"{"profile":1,"cores":1,"queues":[{"name":"q0","length":0,"item":1}],"tasks":[{"name":"t0","priority":1,"code":["end"]}]}"#;
+    let no_room = concat!(
+        r#"{"profile":1,"cores":1,"queues":[{"name":"q0","length":0,"item":1}],"#,
+        r#""tasks":[{"name":"t0","priority":1,"code":["end"]}]}"#,
+    )
+    .as_bytes();
     let refused = run_file(&rt, "refused.json", no_room, &[], "step 0\n")?;
-    ends(
+    assert_ending(
         &rt,
         &refused,
         1,
@@ -189,18 +193,22 @@ fn refused_files(rt: HostRuntime) -> Result<(), Fail> {
         "rdbg: application refused: L3 Limit\n",
     );
     let bad = run_file(&rt, "refused.json", no_room, &["--moves", "0"], "")?;
-    ends(&rt, &bad, 2, "", "rdbg: bad command line\n");
+    assert_ending(&rt, &bad, 2, "", "rdbg: bad command line\n");
     Ok(())
 }
 
 #[test]
 fn pack_and_unpack(rt: HostRuntime) -> Result<(), Fail> {
-    let app =
-        br#"{"profile":1,"cores":1,"tasks":[{"name":"t0","priority":1,"code":["set r1 258","pack r1","unpack r2","end"]}]}"#;
+    let app = concat!(
+        r#"{"profile":1,"cores":1,"#,
+        r#""tasks":[{"name":"t0","priority":1,"#,
+        r#""code":["set r1 258","pack r1","unpack r2","end"]}]}"#,
+    )
+    .as_bytes();
     let commands = "step 0\nstep 0\nstep 0\nshow task t0\n";
     let ending = run_file(&rt, "pack.json", app, &[], commands)?;
     let expected = "ok at 1\nok at 2\nok at 3\n\
          task t0 core 0 pc 3 phase run regs 0,258,258,0,0,0,0,0 data 02010000 notes 0:idle\n";
-    ends(&rt, &ending, 0, expected, "");
+    assert_ending(&rt, &ending, 0, expected, "");
     Ok(())
 }

@@ -26,7 +26,7 @@ fn answers<H: Files + AllocGlobal + Abort>(rt: &H, mut source: Source<'_>) -> Ve
 }
 
 // So many `x`, and then these bytes.
-fn long(alloc: Global, len: usize, end: &[u8]) -> Result<Vec<u8>, AllocError> {
+fn padded_line(alloc: Global, len: usize, end: &[u8]) -> Result<Vec<u8>, AllocError> {
     let mut bytes = vec![in alloc; b'x'; len]?;
     bytes.extend_from_slice(end)?;
     Ok(bytes)
@@ -77,13 +77,16 @@ fn rows(rt: HostRuntime) -> Result<(), Fail> {
         ),
         (
             "numbers at their ends",
-            "back 1000000\nback 1000001\nback 0\nstep 4294967296\nstep 00000000000\nstep 0000000000\n",
+            "back 1000000\nback 1000001\nback 0\nstep 4294967296\nstep 00000000000\n\
+             step 0000000000\n",
             "no TooFar 0\nno Syntax\nno Syntax\nno Syntax\nno Syntax\nok at 1\n",
         ),
         (
             "no commands",
-            "step\nstep 0 0\nSTEP 0\nstep -1\nstep\t0\nback\nshow\nshow queue\nshow queue Q0\nshow queue q0 q0\nshow core q0\nshow task 0t\n",
-            "no Syntax\nno Syntax\nno Syntax\nno Syntax\nno Syntax\nno Syntax\nno Syntax\nno Syntax\nno Syntax\nno Syntax\nno Syntax\nno Syntax\n",
+            "step\nstep 0 0\nSTEP 0\nstep -1\nstep\t0\nback\nshow\nshow queue\nshow queue Q0\n\
+             show queue q0 q0\nshow core q0\nshow task 0t\n",
+            "no Syntax\nno Syntax\nno Syntax\nno Syntax\nno Syntax\nno Syntax\nno Syntax\n\
+             no Syntax\nno Syntax\nno Syntax\nno Syntax\nno Syntax\n",
         ),
         (
             "spaces",
@@ -127,7 +130,7 @@ fn long_lines(rt: HostRuntime) -> Result<(), Fail> {
     ];
     for (len, end, expected) in cases {
         for step in [1, 1000, usize::MAX] {
-            let bytes = long(alloc, len, end.as_bytes())?;
+            let bytes = padded_line(alloc, len, end.as_bytes())?;
             let mut source = Source::new(bytes.as_slice());
             source.step = step;
             let written = answers(&rt, source);
@@ -184,7 +187,7 @@ fn faults(rt: HostRuntime) -> Result<(), Fail> {
     let mut source = Source::new(b"step 0\nshow queue q0\nstep 0\n");
     source.step = 7;
     let mut target = Target::new(Vec::new(alloc));
-    target.left = 1;
+    target.writes_left = 1;
     run(&rt, &mut source, &mut target);
     assert_eq!(rt; target.bytes.as_slice(), b"ok at 1\n".as_slice());
     assert_eq!(rt; target.writes, 1);

@@ -1,6 +1,7 @@
-//! Runs of applications with several tasks and cores: the file, what the program is asked, and what it answers.
+//! Runs of applications with several tasks and cores: the file, what the program is asked, and what
+//! it answers.
 
-use crate::programs::{ends, run_file};
+use crate::programs::{assert_ending, run_file};
 use rd_calls::moves::Move;
 use rd_calls::policy::policy;
 use rd_script::app::file::read_app;
@@ -17,8 +18,11 @@ struct Row {
     replies: &'static str,
 }
 
-const ROUND_ROBIN: &str =
-    r#"{"profile":1,"cores":1,"tasks":[{"name":"t0","priority":1,"code":["jump 0"]},{"name":"t1","priority":1,"code":["jump 0"]}]}"#;
+const ROUND_ROBIN: &str = concat!(
+    r#"{"profile":1,"cores":1,"#,
+    r#""tasks":[{"name":"t0","priority":1,"code":["jump 0"]},"#,
+    r#"{"name":"t1","priority":1,"code":["jump 0"]}]}"#,
+);
 
 const ROWS: [Row; 9] = [
     Row {
@@ -30,14 +34,23 @@ const ROWS: [Row; 9] = [
     },
     Row {
         name: "full_history",
-        app: r#"{"profile":1,"cores":1,"tick":4294967295,"tasks":[{"name":"t0","priority":1,"code":["jump 0"]}]}"#,
+        app: concat!(
+            r#"{"profile":1,"cores":1,"tick":4294967295,"#,
+            r#""tasks":[{"name":"t0","priority":1,"code":["jump 0"]}]}"#,
+        ),
         commands: "tick\nshow cores\n",
         replies: "no TickLimit\ncores t0 ready - tick 4294967295 turn 0\n",
     },
     Row {
         name: "two cores",
-        app: r#"{"profile":1,"cores":2,"tasks":[{"name":"t0","priority":2,"code":["end"]},{"name":"t1","priority":3,"code":["end"]},{"name":"t2","priority":1,"code":["end"]}]}"#,
-        commands: "show cores\nstep 0\nshow cores\nstep 1\nshow cores\nstep 0\nshow cores\nstep 0\nstep 2\nback 3\nshow cores\n",
+        app: concat!(
+            r#"{"profile":1,"cores":2,"#,
+            r#""tasks":[{"name":"t0","priority":2,"code":["end"]},"#,
+            r#"{"name":"t1","priority":3,"code":["end"]},"#,
+            r#"{"name":"t2","priority":1,"code":["end"]}]}"#,
+        ),
+        commands: "show cores\nstep 0\nshow cores\nstep 1\nshow cores\nstep 0\nshow cores\nstep 0\n\
+                   step 2\nback 3\nshow cores\n",
         replies: "cores t1,t0 ready t2 tick 0 turn 0\n\
                   ok at 1\ncores t2,t0 ready - tick 0 turn 1\n\
                   ok at 2\ncores t2,- ready - tick 0 turn 2\n\
@@ -47,7 +60,12 @@ const ROWS: [Row; 9] = [
     },
     Row {
         name: "turns on the core of the new tick",
-        app: r#"{"profile":1,"cores":2,"tasks":[{"name":"t0","priority":1,"code":["jump 0"]},{"name":"t1","priority":1,"code":["jump 0"]},{"name":"t2","priority":1,"code":["jump 0"]}]}"#,
+        app: concat!(
+            r#"{"profile":1,"cores":2,"#,
+            r#""tasks":[{"name":"t0","priority":1,"code":["jump 0"]},"#,
+            r#"{"name":"t1","priority":1,"code":["jump 0"]},"#,
+            r#"{"name":"t2","priority":1,"code":["jump 0"]}]}"#,
+        ),
         commands: "tick\nshow cores\ntick\nshow cores\nback 1\nshow cores\n",
         replies: "ok at 1\ncores t0,t2 ready t1 tick 1 turn 0\n\
                   ok at 2\ncores t1,t2 ready t0 tick 2 turn 0\n\
@@ -55,7 +73,12 @@ const ROWS: [Row; 9] = [
     },
     Row {
         name: "woken_receiver_loses_the_item",
-        app: r#"{"profile":1,"cores":2,"queues":[{"name":"q0","length":1,"item":1}],"tasks":[{"name":"t0","priority":2,"code":["recv q0 max","end"]},{"name":"t1","priority":3,"code":["recv q0 10","end"]},{"name":"t2","priority":1,"code":["send q0 0","recv q0 0","end"]}]}"#,
+        app: concat!(
+            r#"{"profile":1,"cores":2,"queues":[{"name":"q0","length":1,"item":1}],"#,
+            r#""tasks":[{"name":"t0","priority":2,"code":["recv q0 max","end"]},"#,
+            r#"{"name":"t1","priority":3,"code":["recv q0 10","end"]},"#,
+            r#"{"name":"t2","priority":1,"code":["send q0 0","recv q0 0","end"]}]}"#,
+        ),
         commands: "show cores\nstep 0\nstep 1\nshow queue q0\nshow cores\n\
                    step 0\nshow queue q0\nshow task t1\nstep 0\nshow queue q0\n\
                    step 1\nshow task t1\nshow queue q0\nback 5\nshow cores\nshow queue q0\n",
@@ -64,47 +87,76 @@ const ROWS: [Row; 9] = [
                   ok at 3\nqueue q0 1/1 items 00 recv t0 send - set -\n\
                   task t1 core 1 pc 0 phase again:10 regs 0,0,0,0,0,0,0,0 data - notes 0:idle\n\
                   ok at 4\nqueue q0 0/1 items - recv t0 send - set -\n\
-                  ok at 5\ntask t1 core - pc 0 phase wait:recv:q0:10 regs 0,0,0,0,0,0,0,0 data - notes 0:idle\n\
+                  ok at 5\n\
+                  task t1 core - pc 0 phase wait:recv:q0:10 regs 0,0,0,0,0,0,0,0 data - \
+                  notes 0:idle\n\
                   queue q0 0/1 items - recv t1,t0 send - set -\n\
-                  ok at 0\ncores t1,t0 ready t2 tick 0 turn 0\nqueue q0 0/1 items - recv - send - set -\n",
+                  ok at 0\ncores t1,t0 ready t2 tick 0 turn 0\n\
+                  queue q0 0/1 items - recv - send - set -\n",
     },
     Row {
         name: "timeout_keeps_the_waiting_order",
-        app: r#"{"profile":1,"cores":3,"queues":[{"name":"q0","length":1,"item":1}],"tasks":[{"name":"t0","priority":1,"code":["recv q0 max","end"]},{"name":"t1","priority":1,"code":["recv q0 1","end"]},{"name":"t2","priority":1,"code":["recv q0 max","end"]}]}"#,
+        app: concat!(
+            r#"{"profile":1,"cores":3,"queues":[{"name":"q0","length":1,"item":1}],"#,
+            r#""tasks":[{"name":"t0","priority":1,"code":["recv q0 max","end"]},"#,
+            r#"{"name":"t1","priority":1,"code":["recv q0 1","end"]},"#,
+            r#"{"name":"t2","priority":1,"code":["recv q0 max","end"]}]}"#,
+        ),
         commands: "step 0\nstep 1\nstep 2\ntick\nshow queue q0\nshow cores\nshow task t1\n\
                    back 1\nshow queue q0\nshow task t1\ntick\nstep 0\nshow task t1\n",
         replies: "ok at 1\nok at 2\nok at 3\nok at 4\n\
-                  queue q0 0/1 items - recv t0,t2 send - set -\ncores t1,-,- ready - tick 1 turn 0\n\
+                  queue q0 0/1 items - recv t0,t2 send - set -\n\
+                  cores t1,-,- ready - tick 1 turn 0\n\
                   task t1 core 0 pc 0 phase again:1 regs 0,0,0,0,0,0,0,0 data - notes 0:idle\n\
                   ok at 3\nqueue q0 0/1 items - recv t0,t1,t2 send - set -\n\
-                  task t1 core - pc 0 phase wait:recv:q0:1 regs 0,0,0,0,0,0,0,0 data - notes 0:idle\n\
-                  ok at 4\nok at 5\ntask t1 core 0 pc 1 phase run regs 0,0,0,0,0,0,0,0 data - notes 0:idle\n",
+                  task t1 core - pc 0 phase wait:recv:q0:1 regs 0,0,0,0,0,0,0,0 data - \
+                  notes 0:idle\n\
+                  ok at 4\nok at 5\n\
+                  task t1 core 0 pc 1 phase run regs 0,0,0,0,0,0,0,0 data - notes 0:idle\n",
     },
     Row {
         name: "timeouts by rising number",
-        app: r#"{"profile":1,"cores":2,"queues":[{"name":"q0","length":1,"item":1}],"tasks":[{"name":"t0","priority":1,"code":["recv q0 1","end"]},{"name":"t1","priority":1,"code":["recv q0 1","end"]}]}"#,
+        app: concat!(
+            r#"{"profile":1,"cores":2,"queues":[{"name":"q0","length":1,"item":1}],"#,
+            r#""tasks":[{"name":"t0","priority":1,"code":["recv q0 1","end"]},"#,
+            r#"{"name":"t1","priority":1,"code":["recv q0 1","end"]}]}"#,
+        ),
         commands: "step 1\nstep 0\nshow queue q0\ntick\nshow cores\n",
         replies: "ok at 1\nok at 2\nqueue q0 0/1 items - recv t1,t0 send - set -\n\
                   ok at 3\ncores t0,t1 ready - tick 1 turn 0\n",
     },
     Row {
         name: "a full queue",
-        app: r#"{"profile":1,"cores":2,"queues":[{"name":"q0","length":1,"item":1}],"tasks":[{"name":"t0","priority":1,"code":["send q0 0","send q0 max","end"]},{"name":"t1","priority":1,"code":["recv q0 0","end"]}]}"#,
-        commands: "step 0\nstep 0\nshow queue q0\nshow task t0\nstep 1\nshow task t0\nstep 0\nshow queue q0\nshow task t0\n",
+        app: concat!(
+            r#"{"profile":1,"cores":2,"queues":[{"name":"q0","length":1,"item":1}],"#,
+            r#""tasks":[{"name":"t0","priority":1,"code":["send q0 0","send q0 max","end"]},"#,
+            r#"{"name":"t1","priority":1,"code":["recv q0 0","end"]}]}"#,
+        ),
+        commands: "step 0\nstep 0\nshow queue q0\nshow task t0\nstep 1\nshow task t0\nstep 0\n\
+                   show queue q0\nshow task t0\n",
         replies: "ok at 1\nok at 2\nqueue q0 1/1 items 00 recv - send t0 set -\n\
-                  task t0 core - pc 1 phase wait:send:q0:max regs 1,0,0,0,0,0,0,0 data - notes 0:idle\n\
-                  ok at 3\ntask t0 core 0 pc 1 phase again:max regs 1,0,0,0,0,0,0,0 data - notes 0:idle\n\
+                  task t0 core - pc 1 phase wait:send:q0:max regs 1,0,0,0,0,0,0,0 data - \
+                  notes 0:idle\n\
+                  ok at 3\n\
+                  task t0 core 0 pc 1 phase again:max regs 1,0,0,0,0,0,0,0 data - notes 0:idle\n\
                   ok at 4\nqueue q0 1/1 items 00 recv - send - set -\n\
                   task t0 core 0 pc 2 phase run regs 1,0,0,0,0,0,0,0 data - notes 0:idle\n",
     },
     Row {
         name: "a block time in a register",
-        app: r#"{"profile":1,"cores":1,"queues":[{"name":"q0","length":1,"item":1}],"tasks":[{"name":"t0","priority":1,"code":["set r1 2","recv q0 r1","end"]}]}"#,
-        commands: "step 0\nstep 0\nshow task t0\nstep 0\ntick\nshow cores\ntick\nshow cores\nstep 0\nshow task t0\n",
+        app: concat!(
+            r#"{"profile":1,"cores":1,"queues":[{"name":"q0","length":1,"item":1}],"#,
+            r#""tasks":[{"name":"t0","priority":1,"code":["set r1 2","recv q0 r1","end"]}]}"#,
+        ),
+        commands: "step 0\nstep 0\nshow task t0\nstep 0\ntick\nshow cores\ntick\nshow cores\n\
+                   step 0\nshow task t0\n",
         replies: "ok at 1\nok at 2\n\
-                  task t0 core - pc 1 phase wait:recv:q0:2 regs 0,2,0,0,0,0,0,0 data - notes 0:idle\n\
-                  no NoTask\nok at 3\ncores - ready - tick 1 turn 0\nok at 4\ncores t0 ready - tick 2 turn 0\n\
-                  ok at 5\ntask t0 core 0 pc 2 phase run regs 0,2,0,0,0,0,0,0 data - notes 0:idle\n",
+                  task t0 core - pc 1 phase wait:recv:q0:2 regs 0,2,0,0,0,0,0,0 data - \
+                  notes 0:idle\n\
+                  no NoTask\nok at 3\ncores - ready - tick 1 turn 0\nok at 4\n\
+                  cores t0 ready - tick 2 turn 0\n\
+                  ok at 5\n\
+                  task t0 core 0 pc 2 phase run regs 0,2,0,0,0,0,0,0 data - notes 0:idle\n",
     },
 ];
 
@@ -113,12 +165,12 @@ fn rows(rt: HostRuntime) -> Result<(), Fail> {
     for row in &ROWS {
         let row: &Row = row;
         let ending = run_file(&rt, "row.json", row.app.as_bytes(), &[], row.commands)?;
-        ends(&rt, &ending, 0, row.replies, "");
+        assert_ending(&rt, &ending, 0, row.replies, "");
     }
     Ok(())
 }
 
-// The core, a tick since the turn is behind the last core, and the core again.
+// The core, a tick since the turn is after the last core, and the core again.
 fn goes_by_policy(rt: &impl Abort, timeline: &mut Timeline) {
     for at in 1..=3 {
         assert!(rt; timeline.app().cores() == 1);

@@ -1,27 +1,32 @@
 -- An application that is read is what its file says, within the limits.
-use Rattle.std.proofs.Common.{IfOk, ◌≡◌, ◌∙◌, ℕ, suc, ◌-◌, ◌^◌, ◌≤◌, true, codes, List, [], ◌∷◌, length, Option, Some, None, IsUtf8, cond, false, Result, Ok, Err, ok_or, refl, sym, ap, subst, arith}
+use Rattle.std.proofs.Common.{IfOk, IsOkAnd, inl, inr, ◌∷◌, ◌<◌, ◌≡◌, ◌∙◌, ℕ, suc, ◌-◌, ◌^◌, ◌≤◌, true, codes, List, [], length, Option}
+use Rattle.std.proofs.Common.{Some, None, IsUtf8, cond, false, Result, Ok, Err, ok_or, refl, sym, ap, subst, arith}
 use Rattle.std.proofs.lemmas.List.Elements.{All-from_recursion, recursion_from_All}
 use Rattle.std.proofs.lemmas.Str.{IsUtf8-from_is_utf8, is_utf8-from_IsUtf8}
 use Rattle.std.specs.Str.{is_utf8}
 use Rattle.serde_json.specs.Read.{read}
+use Rattle.serde_json.proofs.OnLiterals.{serde_json_on_literals}
 use Rattle.serde_json.specs.Data.{Data, number, unsigned, array, Items, no_items, item}
 use Rattle.serde_json.specs.Events.{items_len}
 use Rattle.serde_json.specs.Find.{get}
-use Rattle.rd_script.specs.declared.app.file.TheConstants as limit
 use Rattle.rd_script.specs.declared.app.QueueShape.{QueueShape}
 use Rattle.rd_script.specs.declared.error.AppError.{AppError}
 use Rattle.rd_script.specs.declared.error.AppError.TheVariants as fault
 use Rattle.rd_script.specs.Spelling.{◌>>=◌}
 use Rattle.rd_script.specs.Application.{Application, IsApplication, IsQueueShape, IsScript, AreNames}
-use Rattle.rd_script.specs.File.{Draft, object_with, field, number_in, number_or, array_in, array_or_empty, queues_after, tasks_after, scripts_after, file_keys, app_of, file_of, GivesOrNoMemory}
+use Rattle.rd_script.specs.File.{TaskDraft, object_with, field, number_in, number_or, array_in, array_or_empty, queues_after, tasks_after}
+use Rattle.rd_script.specs.File.{scripts_after, file_keys, AppDraft, draft_of, with_scripts, app_of, text_of, file_of, checked}
+use Rattle.rd_script.specs.File.{GivesFaultFirst, GivesOrNoMemory}
 use Rattle.rd_script.specs.Says.{IsNumberOr, IsArrayOrEmpty, AreQueues, Says, FileSays}
+use Rattle.rd_script.specs.TaskScript.{TaskScript}
 use Rattle.rd_script.proofs.Steps.{bind_ok, ok_or_ok, then_is, chosen}
 use Rattle.rd_script.proofs.Values.{object_ok, field_ok, number_ok, array_ok, object_again, field_again, number_again, array_again, limits_again}
 use Rattle.rd_script.proofs.QueueLaws as queue
 use Rattle.rd_script.proofs.ScriptLaws.{AreScripts, scripts_take, scripts_again}
 use Rattle.rd_script.proofs.TaskLaws as task
 
-number_or_ok : (otherwise least most : ℕ) (o : Option Data) (n : ℕ) → least ≤ otherwise → otherwise ≤ most → number_or otherwise least most o ≡ Ok n → IsNumberOr otherwise o n × (least ≤ n) × (n ≤ most)
+number_or_ok : (otherwise least most : ℕ) (o : Option Data) (n : ℕ) → least ≤ otherwise → otherwise ≤ most → number_or otherwise least most o ≡ Ok n
+    → IsNumberOr otherwise o n × (least ≤ n) × (n ≤ most)
 number_or_ok otherwise least most None n low high e = let is : otherwise ≡ n = cc in (sym is, omega arith, omega arith)
 number_or_ok otherwise least most (Some d) n low high e = number_ok least most d n e
 
@@ -29,7 +34,8 @@ array_or_ok : (most : ℕ) (o : Option Data) (ds : Items) → array_or_empty mos
 array_or_ok most None ds e = let is : no_items ≡ ds = cc in (sym is, omega (arith, ap items_len is))
 array_or_ok most (Some d) ds e = let a = array_ok 0 most d ds e in (a.0, a.2)
 
-length_queues : (ds : Items) (names : List (List ℕ)) (shapes : List QueueShape) → AreQueues ds names shapes → (length names ≡ items_len ds) × (length shapes ≡ items_len ds)
+length_queues : (ds : Items) (names : List (List ℕ)) (shapes : List QueueShape) → AreQueues ds names shapes
+    → (length names ≡ items_len ds) × (length shapes ≡ items_len ds)
 length_queues no_items [] [] h = (refl, refl)
 length_queues no_items [] (s ∷ shapes) h = absurd h
 length_queues no_items (n ∷ names) shapes h = absurd h
@@ -37,7 +43,7 @@ length_queues (item d ds) [] shapes h = absurd h
 length_queues (item d ds) (n ∷ names) [] h = absurd h
 length_queues (item d ds) (n ∷ names) (s ∷ shapes) h = let rest = length_queues ds names shapes h.1 in (ap suc rest.0, ap suc rest.1)
 
-length_drafts : (ds : Items) (names : List (List ℕ)) (drafts : List Draft) → task.AreDrafts ds names drafts → length names ≡ items_len ds
+length_drafts : (ds : Items) (names : List (List ℕ)) (drafts : List TaskDraft) → task.AreDrafts ds names drafts → length names ≡ items_len ds
 length_drafts no_items [] [] h = refl
 length_drafts no_items [] (s ∷ drafts) h = absurd h
 length_drafts no_items (n ∷ names) drafts h = absurd h
@@ -46,37 +52,42 @@ length_drafts (item d ds) (n ∷ names) [] h = absurd h
 length_drafts (item d ds) (n ∷ names) (s ∷ drafts) h = ap suc (length_drafts ds names drafts h.1)
 
 -- the application was read so
-pub record IsRead (d : Data) (app : Application) (profile cores tasks : Data) (queue_items task_items : Items) (drafts : List Draft) : Type 0 where
+pub record IsRead (d : Data) (app : Application) (profile cores tasks : Data) (queue_items task_items : Items) (drafts : List TaskDraft) : Type 0 where
   pub keys : object_with file_keys d ≡ Ok tt
   pub profile_at : field (codes "profile") d ≡ Ok profile
   pub cores_at : field (codes "cores") d ≡ Ok cores
   pub tasks_at : field (codes "tasks") d ≡ Ok tasks
   pub one : number_in 1 1 profile ≡ Ok 1
-  pub core_count : number_in 1 limit.MAX_CORES cores ≡ Ok app.cores
+  pub core_count : number_in 1 8 cores ≡ Ok app.cores
   pub notes : number_or 1 1 4 (get (codes "notes") d) ≡ Ok app.notes
   pub tick : number_or 0 0 (2 ^ 32 - 1) (get (codes "tick") d) ≡ Ok app.tick
   pub queue_array : array_or_empty 32 (get (codes "queues") d) ≡ Ok queue_items
   pub queues : queues_after [] [] queue_items ≡ Ok (app.queue_names, app.queues)
-  pub task_array : array_in 1 limit.MAX_TASKS tasks ≡ Ok task_items
+  pub task_array : array_in 1 32 tasks ≡ Ok task_items
   pub drafts_are : tasks_after [] [] task_items ≡ Ok (app.task_names, drafts)
   pub scripts : scripts_after app.queue_names [] drafts ≡ Ok app.scripts
 
 no_names : AreNames []
 no_names = record { named = refl; distinct = refl }
 
-pub read_takes : (d : Data) (app : Application) (profile cores tasks : Data) (queue_items task_items : Items) (drafts : List Draft) → IsRead d app profile cores tasks queue_items task_items drafts → Says d app queue_items task_items × IsApplication app
+pub read_takes : (d : Data) (app : Application) (profile cores tasks : Data) (queue_items task_items : Items) (drafts : List TaskDraft)
+    → IsRead d app profile cores tasks queue_items task_items drafts → Says d app queue_items task_items × IsApplication app
 read_takes d app profile cores tasks queue_items task_items drafts read =
     let one = number_ok 1 1 profile 1 read.one in
-    let core_count = number_ok 1 limit.MAX_CORES cores app.cores read.core_count in
+    let core_count = number_ok 1 8 cores app.cores read.core_count in
     let notes = number_or_ok 1 1 4 (get (codes "notes") d) app.notes (omega arith) (omega arith) read.notes in
     let tick = number_or_ok 0 0 (2 ^ 32 - 1) (get (codes "tick") d) app.tick (omega arith) (omega arith) read.tick in
     let queue_array = array_or_ok 32 (get (codes "queues") d) queue_items read.queue_array in
-    let task_array = array_ok 1 limit.MAX_TASKS tasks task_items read.task_array in
+    let task_array = array_ok 1 32 tasks task_items read.task_array in
     let queues = queue.queues_take queue_items [] [] (app.queue_names, app.queues) read.queues (record { are_names = no_names; are_shapes = tt }) in
     let taken = task.tasks_take task_items [] [] (app.task_names, drafts) read.drafts_are (record { are_names = no_names; are_drafts = tt }) in
     let scripts = scripts_take app.queue_names drafts [] app.scripts read.scripts in
-    let names_said : AreQueues queue_items app.queue_names app.queues = subst (λ (ns : List (List ℕ)). AreQueues queue_items ns app.queues) (sym queues.2.names_are) (subst (AreQueues queue_items queues.0) (sym queues.2.shapes_are) queues.2.said) in
-    let drafts_said : task.AreDrafts task_items app.task_names drafts = subst (λ (ns : List (List ℕ)). task.AreDrafts task_items ns drafts) (sym taken.2.names_are) (subst (task.AreDrafts task_items taken.0) (sym taken.2.drafts_are) taken.2.said) in
+    let names_said : AreQueues queue_items app.queue_names app.queues =
+    subst (λ (ns : List (List ℕ)). AreQueues queue_items ns app.queues) (sym queues.2.names_are)
+    (subst (AreQueues queue_items queues.0) (sym queues.2.shapes_are) queues.2.said) in
+    let drafts_said : task.AreDrafts task_items app.task_names drafts =
+    subst (λ (ns : List (List ℕ)). task.AreDrafts task_items ns drafts) (sym taken.2.names_are)
+    (subst (task.AreDrafts task_items taken.0) (sym taken.2.drafts_are) taken.2.said) in
     let scripts_said : AreScripts app.queue_names drafts app.scripts = subst (AreScripts app.queue_names drafts) (sym scripts.1) scripts.2 in
     let tasks_said = task.tasks_said app.queue_names task_items app.task_names drafts app.scripts drafts_said scripts_said in
     let sizes = length_queues queue_items app.queue_names app.queues names_said in
@@ -124,24 +135,48 @@ done x = Ok x
 ok_is : {A : Type 0} (x y : A) → done x ≡ done y → x ≡ y
 ok_is x y e = cc
 
-pub app_takes : (d : Data) (app : Application) → app_of d ≡ Ok app → (queue_items : Items) × (task_items : Items) × Says d app queue_items task_items × IsApplication app
-unfolding app_of
+-- a draft with its scripts
+abbrev app_with : AppDraft → List TaskScript → Application
+app_with draft scripts = record {
+  cores = draft.cores;
+  notes = draft.notes;
+  tick = draft.tick;
+  queues = draft.queues;
+  queue_names = draft.queue_names;
+  scripts = scripts;
+  task_names = draft.task_names;
+}
+
+pub app_takes : (d : Data) (app : Application) → app_of d ≡ Ok app
+    → (queue_items : Items) × (task_items : Items) × Says d app queue_items task_items × IsApplication app
+unfolding draft_of
 app_takes d app e =
-    let keys = bind_ok (object_with file_keys d) _ app e in
-    let profile = bind_ok (field (codes "profile") d) _ app keys.2 in
-    let cores = bind_ok (field (codes "cores") d) _ app profile.2 in
-    let tasks = bind_ok (field (codes "tasks") d) _ app cores.2 in
-    let one = bind_ok (number_in 1 1 profile.0) _ app tasks.2 in
-    let core_count = bind_ok (number_in 1 limit.MAX_CORES cores.0) _ app one.2 in
-    let notes = bind_ok (number_or 1 1 4 (get (codes "notes") d)) _ app core_count.2 in
-    let tick = bind_ok (number_or 0 0 (2 ^ 32 - 1) (get (codes "tick") d)) _ app notes.2 in
-    let queue_items = bind_ok (array_or_empty 32 (get (codes "queues") d)) _ app tick.2 in
-    let queues = bind_ok (queues_after [] [] queue_items.0) _ app queue_items.2 in
-    let task_items = bind_ok (array_in 1 limit.MAX_TASKS tasks.0) _ app queues.2 in
-    let drafts = bind_ok (tasks_after [] [] task_items.0) _ app task_items.2 in
-    let scripts = bind_ok (scripts_after queues.0.0 [] drafts.0.1) _ app drafts.2 in
-    let made : Application = record { cores = core_count.0; notes = notes.0; tick = tick.0; queues = queues.0.1; queue_names = queues.0.0; scripts = scripts.0; task_names = drafts.0.0 } in
-    let is : made ≡ app = ok_is made app scripts.2 in
+    let drafted = bind_ok (draft_of d) with_scripts app e in
+    let scripts = bind_ok (scripts_after drafted.0.queue_names [] drafted.0.tasks) _ app drafted.2 in
+    let keys = bind_ok (object_with file_keys d) _ drafted.0 drafted.1 in
+    let profile = bind_ok (field (codes "profile") d) _ drafted.0 keys.2 in
+    let cores = bind_ok (field (codes "cores") d) _ drafted.0 profile.2 in
+    let tasks = bind_ok (field (codes "tasks") d) _ drafted.0 cores.2 in
+    let one = bind_ok (number_in 1 1 profile.0) _ drafted.0 tasks.2 in
+    let core_count = bind_ok (number_in 1 8 cores.0) _ drafted.0 one.2 in
+    let notes = bind_ok (number_or 1 1 4 (get (codes "notes") d)) _ drafted.0 core_count.2 in
+    let tick = bind_ok (number_or 0 0 (2 ^ 32 - 1) (get (codes "tick") d)) _ drafted.0 notes.2 in
+    let queue_items = bind_ok (array_or_empty 32 (get (codes "queues") d)) _ drafted.0 tick.2 in
+    let queues = bind_ok (queues_after [] [] queue_items.0) _ drafted.0 queue_items.2 in
+    let task_items = bind_ok (array_in 1 32 tasks.0) _ drafted.0 queues.2 in
+    let drafts = bind_ok (tasks_after [] [] task_items.0) _ drafted.0 task_items.2 in
+    let draft : AppDraft = record {
+      cores = core_count.0;
+      notes = notes.0;
+      tick = tick.0;
+      queues = queues.0.1;
+      queue_names = queues.0.0;
+      tasks = drafts.0.1;
+      task_names = drafts.0.0;
+    } in
+    let draft_is : draft ≡ drafted.0 = ok_is draft drafted.0 drafts.2 in
+    let made = app_with draft scripts.0 in
+    let is : made ≡ app = ap (λ (draft : AppDraft). app_with draft scripts.0) draft_is ∙ ok_is _ app scripts.2 in
     let all = read_takes d made profile.0 cores.0 tasks.0 queue_items.0 task_items.0 drafts.0.1 (record {
       keys = keys.1;
       profile_at = profile.1;
@@ -155,13 +190,14 @@ app_takes d app e =
       queues = queues.1;
       task_array = task_items.1;
       drafts_are = drafts.1;
-      scripts = scripts.1;
+      scripts = ap (λ (draft : AppDraft). scripts_after draft.queue_names [] draft.tasks) draft_is ∙ scripts.1;
     }) in
     (queue_items.0, task_items.0, subst (λ (app : Application). Says d app queue_items.0 task_items.0) is all.0, subst IsApplication is all.1)
 
 -- ---- what a file says is read
 
-number_or_again : (otherwise least most : ℕ) (o : Option Data) (n : ℕ) → IsNumberOr otherwise o n → least ≤ n → n ≤ most → number_or otherwise least most o ≡ Ok n
+number_or_again : (otherwise least most : ℕ) (o : Option Data) (n : ℕ) → IsNumberOr otherwise o n → least ≤ n → n ≤ most
+    → number_or otherwise least most o ≡ Ok n
 number_or_again otherwise least most None n h low high = ap Ok (sym h)
 number_or_again otherwise least most (Some d) n h low high = number_again least most d n h low high
 
@@ -169,24 +205,42 @@ array_or_again : (most : ℕ) (o : Option Data) (ds : Items) → IsArrayOrEmpty 
 array_or_again most None ds h few = ap Ok (sym h)
 array_or_again most (Some d) ds h few = array_again 0 most d ds h (omega arith) few
 
+-- the draft of an application whose scripts are those of drafts
+abbrev draft_from : Application → List TaskDraft → AppDraft
+draft_from app drafts = record {
+  cores = app.cores;
+  notes = app.notes;
+  tick = app.tick;
+  queues = app.queues;
+  queue_names = app.queue_names;
+  tasks = drafts;
+  task_names = app.task_names;
+}
+
 -- what was read so is the answer
-app_read : (d : Data) (app : Application) (profile cores tasks : Data) (queue_items task_items : Items) (drafts : List Draft) → IsRead d app profile cores tasks queue_items task_items drafts → app_of d ≡ Ok app
-unfolding app_of
-app_read d app profile cores tasks queue_items task_items drafts read =
+draft_read : (d : Data) (app : Application) (profile cores tasks : Data) (queue_items task_items : Items) (drafts : List TaskDraft)
+    → IsRead d app profile cores tasks queue_items task_items drafts → draft_of d ≡ Ok (draft_from app drafts)
+unfolding draft_of
+draft_read d app profile cores tasks queue_items task_items drafts read =
     then_is (object_with file_keys d) _ tt _ read.keys
     (then_is (field (codes "profile") d) _ profile _ read.profile_at
     (then_is (field (codes "cores") d) _ cores _ read.cores_at
     (then_is (field (codes "tasks") d) _ tasks _ read.tasks_at
     (then_is (number_in 1 1 profile) _ 1 _ read.one
-    (then_is (number_in 1 limit.MAX_CORES cores) _ app.cores _ read.core_count
+    (then_is (number_in 1 8 cores) _ app.cores _ read.core_count
     (then_is (number_or 1 1 4 (get (codes "notes") d)) _ app.notes _ read.notes
     (then_is (number_or 0 0 (2 ^ 32 - 1) (get (codes "tick") d)) _ app.tick _ read.tick
     (then_is (array_or_empty 32 (get (codes "queues") d)) _ queue_items _ read.queue_array
     (then_is (queues_after [] [] queue_items) _ (app.queue_names, app.queues) _ read.queues
-    (then_is (array_in 1 limit.MAX_TASKS tasks) _ task_items _ read.task_array
+    (then_is (array_in 1 32 tasks) _ task_items _ read.task_array
     (then_is (tasks_after [] [] task_items) _ (app.task_names, drafts) _ read.drafts_are
-    (then_is (scripts_after app.queue_names [] drafts) _ app.scripts _ read.scripts
-    refl))))))))))))
+    refl)))))))))))
+
+app_read : (d : Data) (app : Application) (profile cores tasks : Data) (queue_items task_items : Items) (drafts : List TaskDraft)
+    → IsRead d app profile cores tasks queue_items task_items drafts → app_of d ≡ Ok app
+app_read d app profile cores tasks queue_items task_items drafts read =
+    then_is (draft_of d) with_scripts (draft_from app drafts) _ (draft_read d app profile cores tasks queue_items task_items drafts read)
+    (then_is (scripts_after app.queue_names [] drafts) _ app.scripts _ read.scripts refl)
 
 pub app_again : (d : Data) (app : Application) (queue_items task_items : Items) → Says d app queue_items task_items → IsApplication app → app_of d ≡ Ok app
 app_again d app queue_items task_items says limits =
@@ -201,12 +255,13 @@ app_again d app queue_items task_items says limits =
       cores_at = field_again (codes "cores") d _ says.cores_at;
       tasks_at = field_again (codes "tasks") d _ says.tasks_at;
       one = refl;
-      core_count = limits_again 1 limit.MAX_CORES app.cores (omega (arith, limits.some_cores)) limits.few_cores;
+      core_count = limits_again 1 8 app.cores (omega (arith, limits.some_cores)) limits.few_cores;
       notes = number_or_again 1 1 4 (get (codes "notes") d) app.notes says.notes_at (omega (arith, limits.some_notes)) limits.few_notes;
       tick = number_or_again 0 0 (2 ^ 32 - 1) (get (codes "tick") d) app.tick says.tick_at (omega arith) (omega (arith, limits.tick));
       queue_array = array_or_again 32 (get (codes "queues") d) queue_items says.queues_at (omega (arith, sizes, limits.few_queues));
       queues = queue.queues_again queue_items [] [] app.queue_names app.queues says.queues limits.named_queues shapes;
-      task_array = array_again 1 limit.MAX_TASKS (array task_items) task_items refl (omega (arith, count, limits.some_tasks, limits.task_names)) (omega (arith, count, limits.few_tasks, limits.task_names));
+      task_array = array_again 1 32 (array task_items) task_items refl (omega (arith, count, limits.some_tasks, limits.task_names))
+          (omega (arith, count, limits.few_tasks, limits.task_names));
       drafts_are = task.tasks_again task_items [] [] app.task_names split.0 split.1 limits.named_tasks split.2;
       scripts = scripts_again app.queue_names split.0 [] app.scripts split.3;
     })
@@ -220,19 +275,55 @@ file_takes bytes app e =
     let taken = app_takes d.0 app d.2 in
     ((d.0, IsUtf8-from_is_utf8 bytes text.0, ok_or_ok (read bytes) d.0 _ d.1, taken.0, taken.1, taken.2), taken.3)
 
-pub file_of_read : (bytes : List ℕ) (d : Data) → IsUtf8 bytes → read bytes ≡ Some d → file_of bytes ≡ app_of d
-file_of_read bytes d text is = rw (is_utf8-from_IsUtf8 bytes text) (then_is (ok_or (read bytes) fault.NotJson) app_of d _ (ap (λ o. ok_or o fault.NotJson) is) refl)
+-- the JSON value of a text decides
+pub text_is_file : (text : List ℕ) (d : Data) → read text ≡ Some d → text_of text ≡ app_of d
+text_is_file text d is = then_is (ok_or (read text) fault.NotJson) app_of d _ (ap (λ o. ok_or o fault.NotJson) is) refl
 
-pub file_of_none : (bytes : List ℕ) → (IsUtf8 bytes → read bytes ≡ None) → file_of bytes ≡ Err fault.NotJson
-file_of_none bytes none =
-    elim (is_utf8 bytes) as (λ b. (is_utf8 bytes ≡ b) → cond b (ok_or (read bytes) fault.NotJson >>= app_of) (Err fault.NotJson) ≡ Err fault.NotJson) [
-      | true ↦ λ e. ap (λ o. ok_or o fault.NotJson >>= app_of) (none (IsUtf8-from_is_utf8 bytes e))
+pub text_is_none : (text : List ℕ) → read text ≡ None → text_of text ≡ Err fault.NotJson
+text_is_none text none = ap (λ o. ok_or o fault.NotJson >>= app_of) none
+
+-- no text is no JSON
+pub text_is_some : (text : List ℕ) (d : Data) → read text ≡ Some d → 0 < length text
+unfolding serde_json_on_literals
+text_is_some [] d is = absurd cc
+text_is_some (byte ∷ text) d is = omega arith
+
+-- the bytes of a text
+pub utf8_read : (bytes text : List ℕ) (r : Result Application AppError) → text ≡ bytes → IsUtf8 bytes
+    → GivesOrNoMemory (λ app. app) r (text_of text) → GivesOrNoMemory (λ app. app) r (file_of bytes)
+utf8_read bytes text r same utf8 h = rw (is_utf8-from_IsUtf8 bytes utf8, ← same) h
+
+-- bytes of no text
+pub not_utf8 : (bytes : List ℕ) → ¬ IsUtf8 bytes → file_of bytes ≡ Err fault.NotJson
+not_utf8 bytes none =
+    elim (is_utf8 bytes) as (λ b. (is_utf8 bytes ≡ b) → cond b (text_of bytes) (Err fault.NotJson) ≡ Err fault.NotJson) [
+      | true ↦ λ e. absurd (none (IsUtf8-from_is_utf8 bytes e))
       | false ↦ λ e. refl
     ] refl
 
-pub file_again : (bytes : List ℕ) (app : Application) → FileSays bytes app → IsApplication app → file_of bytes ≡ Ok app
-file_again bytes app says limits = file_of_read bytes says.0 says.1 says.2 ∙ app_again says.0 app says.3 says.4 says.5 limits
+-- where a fault comes first, memory runs out nowhere else
+pub at_any : (r : Result Application AppError) (read : Result Application AppError) → GivesFaultFirst (λ app. app) r read → GivesOrNoMemory (λ app. app) r read
+at_any (Ok app) read h = h
+at_any (Err e) read h = λ other. elim h [ inl is ↦ is | inr memory ↦ absurd (other memory.0) ]
 
-pub is_accepted : (bytes : List ℕ) (r : Result Application AppError) → GivesOrNoMemory (λ app. app) r (file_of bytes) → IfOk r (λ app. FileSays bytes app × IsApplication app)
+kept_app : (d : Data) (draft : AppDraft) (r : Result (List TaskScript) AppError) → draft_of d ≡ Ok draft → scripts_after draft.queue_names [] draft.tasks ≡ r
+    → checked r ≡ Ok tt
+    → IsOkAnd (r >>= λ scripts. Ok (app_with draft scripts)) IsApplication
+kept_app d draft (Ok scripts) drafted e h =
+    (app_takes d (app_with draft scripts)
+    (then_is (draft_of d) with_scripts draft _ drafted (then_is (scripts_after draft.queue_names [] draft.tasks) _ scripts _ e refl))).3
+kept_app d draft (Err x) drafted e h = absurd cc
+
+-- a draft whose scripts were checked is an application within the limits
+pub checked_app : (d : Data) (draft : AppDraft) → draft_of d ≡ Ok draft → checked (scripts_after draft.queue_names [] draft.tasks) ≡ Ok tt
+    → IsOkAnd (with_scripts draft) IsApplication
+checked_app d draft drafted h = kept_app d draft (scripts_after draft.queue_names [] draft.tasks) drafted refl h
+
+pub file_again : (bytes : List ℕ) (app : Application) → FileSays bytes app → IsApplication app → file_of bytes ≡ Ok app
+file_again bytes app says limits =
+    rw (is_utf8-from_IsUtf8 bytes says.1) (text_is_file bytes says.0 says.2) ∙ app_again says.0 app says.3 says.4 says.5 limits
+
+pub is_accepted : (bytes : List ℕ) (r : Result Application AppError) → GivesOrNoMemory (λ app. app) r (file_of bytes)
+    → IfOk r (λ app. FileSays bytes app × IsApplication app)
 is_accepted bytes (Ok app) e = file_takes bytes app e
 is_accepted bytes (Err d) e = tt

@@ -1,23 +1,24 @@
 -- Values, keys and names, in the words of the collections that hold them.
-use Rattle.std.proofs.Common.{◌≡◌, ◌∙◌, ℕ, ◌+◌, ◌<◌, ◌&&◌, ◌||◌, Bool, false, List, [], ◌∷◌, ◌++◌, length, map, get_or, drop, refl, sym, ap, string_bytes, string_eq, String, Global, Ok, add-one, drop-cons}
+use Rattle.std.proofs.Common.{◌≡◌, ◌∙◌, ℕ, ◌+◌, ◌<◌, ◌&&◌, ◌||◌, Bool, false, List, [], ◌∷◌, ◌++◌, length, map, get_or, drop, refl, sym, ap}
+use Rattle.std.proofs.Common.{string_bytes, string_eq, String, Global, add-one, drop-cons}
 use Rattle.std.proofs.lemmas.List.{map-append}
 use Rattle.std.specs.Str.{bytes_eq}
 use Rattle.indexmap.specs.IndexSet.{insert_key}
 use Rattle.serde_json.specs.Data.{item}
-use Rattle.rd_script.specs.declared.app.QueueShape.{QueueShape}
 use Rattle.std.specs.List.{list_all, list_any}
 use Rattle.serde_json.specs.View.{view, items_view, members_view}
 use Rattle.serde_json.specs.declared.value.Value.{Value}
 use Rattle.serde_json.specs.Events.{items_len}
 use Rattle.serde_json.proofs.Views.{items_len-items_view}
-use Rattle.rd_script.specs.File.{keys_of, queue_of, queues_after, Draft, task_of, tasks_after}
+use Rattle.rd_script.specs.File.{keys_of}
 
 pub list_any-map : {X Y : Type 0} (p : Y → Bool) (f : X → Y) (xs : List X) → list_any p (map f xs) ≡ list_any (λ x. p (f x)) xs
 list_any-map p f [] = refl
 list_any-map p f (x ∷ xs) = ap (λ b. p (f x) || b) (list_any-map p f xs)
 
 -- the keys of a map, all tested
-pub keys_all : (p : List ℕ → Bool) (es : List (String Global × Value)) → list_all p (keys_of (members_view es)) ≡ list_all (λ key. p (string_bytes key)) (map (λ e. e.0) es)
+pub keys_all : (p : List ℕ → Bool) (es : List (String Global × Value))
+    → list_all p (keys_of (members_view es)) ≡ list_all (λ key. p (string_bytes key)) (map (λ e. e.0) es)
 keys_all p [] = refl
 keys_all p (e ∷ es) = ap (λ b. p (string_bytes e.0) && b) (keys_all p es)
 
@@ -25,19 +26,14 @@ pub items_count : (vs : List Value) → items_len (items_view vs) ≡ length vs
 items_count vs = items_len-items_view vs
 
 -- a new name goes last
-pub names_insert : (keys : List (String Global)) (s : String Global) (name : List ℕ) → string_bytes s ≡ name → list_any (bytes_eq name) (map string_bytes keys) ≡ false → map string_bytes (insert_key string_eq keys s) ≡ map string_bytes keys ++ name ∷ []
+pub names_insert : (keys : List (String Global)) (s : String Global) (name : List ℕ) → string_bytes s ≡ name
+    → list_any (bytes_eq name) (map string_bytes keys) ≡ false → map string_bytes (insert_key string_eq keys s) ≡ map string_bytes keys ++ name ∷ []
 names_insert keys s name is fresh =
-    let absent : list_any (λ key. bytes_eq (string_bytes s) (string_bytes key)) keys ≡ false = rw is (sym (list_any-map (bytes_eq name) string_bytes keys) ∙ fresh) in
+    let absent : list_any (λ key. bytes_eq (string_bytes s) (string_bytes key)) keys ≡ false =
+    rw is (sym (list_any-map (bytes_eq name) string_bytes keys) ∙ fresh) in
     rw absent (map-append string_bytes keys (s ∷ []) ∙ ap (λ (n : List ℕ). map string_bytes keys ++ n ∷ []) is)
 
--- the values from a place on
-pub items_from : (vs : List Value) (i : ℕ) (v : Value) → i < length vs → v ≡ get_or vs i v → items_view (drop i vs) ≡ item (view v) (items_view (drop (i + 1) vs))
+-- the values from an index on
+pub items_from : (vs : List Value) (i : ℕ) (v : Value) → i < length vs → v ≡ get_or vs i v
+    → items_view (drop i vs) ≡ item (view v) (items_view (drop (i + 1) vs))
 items_from vs i v lt is = rw (drop-cons vs i v, ← is, add-one i) refl
-
-pub queues_step : (names : List (List ℕ)) (shapes : List QueueShape) (vs : List Value) (i : ℕ) (v : Value) (name : List ℕ) (shape : QueueShape) → i < length vs → v ≡ get_or vs i v → queue_of names (view v) ≡ Ok (name, shape)
-    → queues_after (names ++ name ∷ []) (shapes ++ shape ∷ []) (items_view (drop (i + 1) vs)) ≡ queues_after names shapes (items_view (drop i vs))
-queues_step names shapes vs i v name shape lt is read = sym (ap (queues_after names shapes) (items_from vs i v lt is) ∙ rw read refl)
-
-pub tasks_step : (names : List (List ℕ)) (drafts : List Draft) (vs : List Value) (i : ℕ) (v : Value) (name : List ℕ) (draft : Draft) → i < length vs → v ≡ get_or vs i v → task_of names (view v) ≡ Ok (name, draft)
-    → tasks_after (names ++ name ∷ []) (drafts ++ draft ∷ []) (items_view (drop (i + 1) vs)) ≡ tasks_after names drafts (items_view (drop i vs))
-tasks_step names drafts vs i v name draft lt is read = sym (ap (tasks_after names drafts) (items_from vs i v lt is) ∙ rw read refl)

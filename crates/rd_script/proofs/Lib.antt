@@ -1,3 +1,4 @@
+-- The lemmas of this crate.
 pub mod NameLemmas
 pub mod WordLemmas
 pub mod FileLemmas
@@ -8,3 +9,5 @@ pub mod QueueLaws
 pub mod ScriptLaws
 pub mod TaskLaws
 pub mod AppLaws
+pub mod CheckLaws
+pub mod SetLemmas

@@ -1,5 +1,6 @@
 -- Names by their bytes.
-use Rattle.std.proofs.Common.{◌≡◌, ℕ, ◌+◌, ◌<◌, ◌&&◌, Bool, true, List, [], ◌∷◌, cond, map, not, refl, ap, position, IsUtf8, length, slice_index, nat_le, inl, inr, arith}
+use Rattle.std.proofs.Common.{◌≡◌, ℕ, ◌+◌, ◌<◌, ◌&&◌, Bool, true, List, [], ◌∷◌, cond, map, not, refl, ap, position, IsUtf8, length}
+use Rattle.std.proofs.Common.{slice_index, nat_le, inl, inr, arith}
 use Rattle.std.specs.List.{list_all}
 use Rattle.std.proofs.lemmas.List.{get_or_past}
 use Rattle.std.proofs.lemmas.Bool.{cases_lt}

@@ -20,7 +20,8 @@ pub record IsNewName (names : List (List ℕ)) (name : List ℕ) : Type 0 where
   pub named : is_name name ≡ true
   pub fresh : list_any (bytes_eq name) names ≡ false
 
-pub queue_takes : (names : List (List ℕ)) (d : Data) (q : List ℕ × QueueShape) → queue_of names d ≡ Ok q → IsQueue d q.0 q.1 × IsNewName names q.0 × IsQueueShape q.1
+pub queue_takes : (names : List (List ℕ)) (d : Data) (q : List ℕ × QueueShape) → queue_of names d ≡ Ok q
+    → IsQueue d q.0 q.1 × IsNewName names q.0 × IsQueueShape q.1
 unfolding queue_of
 queue_takes names d q e =
     let keys = bind_ok (object_with queue_keys d) _ q e in
@@ -60,7 +61,8 @@ or_false : (a b : Bool) → (a || b) ≡ false → (a ≡ false) × (b ≡ false
 or_false true b e = absurd cc
 or_false false b e = (refl, e)
 
-distinct_more : (names : List (List ℕ)) (name : List ℕ) → are_distinct names ≡ true → list_any (bytes_eq name) names ≡ false → are_distinct (names ++ name ∷ []) ≡ true
+distinct_more : (names : List (List ℕ)) (name : List ℕ) → are_distinct names ≡ true → list_any (bytes_eq name) names ≡ false
+    → are_distinct (names ++ name ∷ []) ≡ true
 distinct_more [] name d f = refl
 distinct_more (n ∷ names) name d f =
     let parts = or_false (bytes_eq name n) (list_any (bytes_eq name) names) f in
@@ -85,13 +87,15 @@ pub record AreKept (names : List (List ℕ)) (shapes : List QueueShape) : Type 0
   pub are_shapes : AllByRecursion IsQueueShape shapes
 
 -- the queues that an array adds
-pub record Adds (ds : Items) (names : List (List ℕ)) (shapes : List QueueShape) (q : List (List ℕ) × List QueueShape) (more : List (List ℕ)) (others : List QueueShape) : Type 0 where
+pub record Adds (ds : Items) (names : List (List ℕ)) (shapes : List QueueShape) (q : List (List ℕ) × List QueueShape) (more : List (List ℕ))
+    (others : List QueueShape) : Type 0 where
   pub names_are : q.0 ≡ names ++ more
   pub shapes_are : q.1 ≡ shapes ++ others
   pub said : AreQueues ds more others
   pub kept : AreKept q.0 q.1
 
-pub queues_take : (ds : Items) (names : List (List ℕ)) (shapes : List QueueShape) (q : List (List ℕ) × List QueueShape) → queues_after names shapes ds ≡ Ok q → AreKept names shapes → (more : List (List ℕ)) × (others : List QueueShape) × Adds ds names shapes q more others
+pub queues_take : (ds : Items) (names : List (List ℕ)) (shapes : List QueueShape) (q : List (List ℕ) × List QueueShape) → queues_after names shapes ds ≡ Ok q
+    → AreKept names shapes → (more : List (List ℕ)) × (others : List QueueShape) × Adds ds names shapes q more others
 queues_take no_items names shapes q e kept =
     let is : (names, shapes) ≡ q = cc in (
       [],
@@ -106,7 +110,11 @@ queues_take no_items names shapes q e kept =
 queues_take (item d ds) names shapes q e kept =
     let first = bind_ok (queue_of names d) _ q e in
     let taken = queue_takes names d first.0 first.1 in
-    let rest = queues_take ds (names ++ first.0.0 ∷ []) (shapes ++ first.0.1 ∷ []) q first.2 (record { are_names = AreNames-push names first.0.0 kept.are_names taken.1; are_shapes = AllByRecursion-push IsQueueShape shapes first.0.1 kept.are_shapes taken.2 }) in (
+    let rest =
+    queues_take ds (names ++ first.0.0 ∷ []) (shapes ++ first.0.1 ∷ []) q first.2 (record {
+      are_names = AreNames-push names first.0.0 kept.are_names taken.1;
+      are_shapes = AllByRecursion-push IsQueueShape shapes first.0.1 kept.are_shapes taken.2;
+    }) in (
       first.0.0 ∷ rest.0,
       first.0.1 ∷ rest.1,
       record {
@@ -119,7 +127,8 @@ queues_take (item d ds) names shapes q e kept =
 
 -- ---- what spells a queue is read
 
-pub queue_again : (names : List (List ℕ)) (d : Data) (name : List ℕ) (shape : QueueShape) → IsQueue d name shape → IsNewName names name → IsQueueShape shape → queue_of names d ≡ Ok (name, shape)
+pub queue_again : (names : List (List ℕ)) (d : Data) (name : List ℕ) (shape : QueueShape) → IsQueue d name shape → IsNewName names name → IsQueueShape shape
+    → queue_of names d ≡ Ok (name, shape)
 unfolding queue_of
 queue_again names d name shape h new limits =
     then_is (object_with queue_keys d) _ tt _ (object_again queue_keys d h.keys)
@@ -134,22 +143,26 @@ queue_again names d name shape h new limits =
 or_both : (a b : Bool) → a ≡ false → b ≡ false → (a || b) ≡ false
 or_both a b e f = rw (e, f) refl
 
--- a name that stands behind others that are distinct is none of them
-behind_fresh : (names : List (List ℕ)) (name : List ℕ) (rest : List (List ℕ)) → are_distinct (names ++ name ∷ rest) ≡ true → list_any (bytes_eq name) names ≡ false
+-- a name that stands after others, all of them distinct, is none of them
+pub behind_fresh : (names : List (List ℕ)) (name : List ℕ) (rest : List (List ℕ)) → are_distinct (names ++ name ∷ rest) ≡ true
+    → list_any (bytes_eq name) names ≡ false
 behind_fresh [] name rest d = refl
 behind_fresh (n ∷ names) name rest d =
     let alone : list_any (bytes_eq n) (names ++ name ∷ rest) ≡ false = not_true _ (and_left _ _ d) in
     let parts = or_false (list_any (bytes_eq n) names) (list_any (bytes_eq n) (name ∷ rest)) (sym (list_any-append (bytes_eq n) names (name ∷ rest)) ∙ alone) in
     let other = (or_false (bytes_eq n name) (list_any (bytes_eq n) rest) parts.1).0 in
-    or_both (bytes_eq name n) (list_any (bytes_eq name) names) (apart n name other) (behind_fresh names name rest (and_right (not (list_any (bytes_eq n) (names ++ name ∷ rest))) _ d))
+    or_both (bytes_eq name n) (list_any (bytes_eq name) names) (apart n name other)
+    (behind_fresh names name rest (and_right (not (list_any (bytes_eq n) (names ++ name ∷ rest))) _ d))
 
 named_behind : (names : List (List ℕ)) (name : List ℕ) (rest : List (List ℕ)) → list_all is_name (names ++ name ∷ rest) ≡ true → is_name name ≡ true
-named_behind names name rest h = and_left (is_name name) (list_all is_name rest) (and_right (list_all is_name names) _ (sym (list_all-append is_name names (name ∷ rest)) ∙ h))
+named_behind names name rest h =
+    and_left (is_name name) (list_all is_name rest) (and_right (list_all is_name names) _ (sym (list_all-append is_name names (name ∷ rest)) ∙ h))
 
 pub IsNewName-behind : (names : List (List ℕ)) (name : List ℕ) (rest : List (List ℕ)) → AreNames (names ++ name ∷ rest) → IsNewName names name
 IsNewName-behind names name rest are = record { named = named_behind names name rest are.named; fresh = behind_fresh names name rest are.distinct }
 
-pub queues_again : (ds : Items) (names : List (List ℕ)) (shapes : List QueueShape) (more : List (List ℕ)) (others : List QueueShape) → AreQueues ds more others → AreNames (names ++ more) → AllByRecursion IsQueueShape others → queues_after names shapes ds ≡ Ok (names ++ more, shapes ++ others)
+pub queues_again : (ds : Items) (names : List (List ℕ)) (shapes : List QueueShape) (more : List (List ℕ)) (others : List QueueShape) → AreQueues ds more others
+    → AreNames (names ++ more) → AllByRecursion IsQueueShape others → queues_after names shapes ds ≡ Ok (names ++ more, shapes ++ others)
 queues_again no_items names shapes [] [] h are limits = rw (append-nil names, append-nil shapes) refl
 queues_again no_items names shapes [] (s ∷ others) h are limits = absurd h
 queues_again no_items names shapes (n ∷ more) others h are limits = absurd h
@@ -158,4 +171,5 @@ queues_again (item d ds) names shapes (n ∷ more) [] h are limits = absurd h
 queues_again (item d ds) names shapes (n ∷ more) (s ∷ others) h are limits =
     let all : AreNames ((names ++ n ∷ []) ++ more) = subst AreNames (sym (append_assoc names (n ∷ []) more)) are in
     then_is (queue_of names d) _ (n, s) _ (queue_again names d n s h.0 (IsNewName-behind names n more are) limits.0)
-    (queues_again ds (names ++ n ∷ []) (shapes ++ s ∷ []) more others h.1 all limits.1 ∙ rw (append_assoc names (n ∷ []) more, append_assoc shapes (s ∷ []) others) refl)
+    (queues_again ds (names ++ n ∷ []) (shapes ++ s ∷ []) more others h.1 all limits.1
+    ∙ rw (append_assoc names (n ∷ []) more, append_assoc shapes (s ∷ []) others) refl)

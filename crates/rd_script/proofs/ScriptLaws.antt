@@ -1,5 +1,7 @@
 -- Scripts that are read are spelled by their texts, and what spells a script is read.
-use Rattle.std.proofs.Common.{◌≡◌, ◌∙◌, ℕ, zero, suc, ◌-◌, ◌<◌, ◌≤◌, ◌&&◌, ◌==◌, Bool, true, false, cond, codes, List, [], ◌∷◌, ◌++◌, length, slice_index, Option, Some, None, Result, Ok, Err, nat_le, nat_lt, ok_or, position, refl, sym, ap, subst, append_assoc, arith}
+use Rattle.std.proofs.Common.{◌≡◌, ◌∙◌, ℕ, zero, suc, ◌-◌, ◌<◌, ◌≤◌, ◌&&◌, ◌==◌, Bool, true, false, cond, codes, List, [], ◌∷◌, ◌++◌}
+use Rattle.std.proofs.Common.{length, slice_index, Option, Some, None, Result, Ok, Err, nat_le, nat_lt, ok_or, position, refl, sym, ap}
+use Rattle.std.proofs.Common.{subst, append_assoc, arith}
 use Rattle.std.specs.Str.{bytes_eq}
 use Rattle.std.proofs.lemmas.Bool.Decides.{nat_tests}
 use Rattle.std.proofs.lemmas.List.Quantifiers.{position-Some}
@@ -20,7 +22,7 @@ use Rattle.std.specs.Option.{option_or}
 use Rattle.std.specs.Prelude.{option_map, unwrap_or, slice_index_or}
 use Rattle.std.proofs.lemmas.List.{append-nil}
 use Rattle.std.proofs.lemmas.List.Elements.{All-from_recursion}
-use Rattle.rd_script.specs.File.{Draft, line_of, lines_after, ends, code_of, scripts_after}
+use Rattle.rd_script.specs.File.{TaskDraft, line_of, lines_after, ends, code_of, scripts_after}
 use Rattle.rd_script.specs.Says.{IsLine, AreLines, IsCode}
 use Rattle.rd_script.specs.Spells.{queue_named, Spells}
 use Rattle.rd_script.specs.TaskScript.{TaskScript}
@@ -36,8 +38,11 @@ some_if false x y e = absurd cc
 
 register_small : (word : List ℕ) (register : ℕ) → register_of word ≡ Some register → register < 8
 register_small word register e =
-    let h = some_if (length word == 2 && slice_index word 0 == 114 && nat_le 48 (slice_index word 1) && nat_le (slice_index word 1) 55) (slice_index word 1 - 48) register e in
-    let last : nat_le (slice_index word 1) 55 ≡ true = and_right (length word == 2 && slice_index word 0 == 114 && nat_le 48 (slice_index word 1)) (nat_le (slice_index word 1) 55) h.0 in
+    let h =
+    some_if (length word == 2 && slice_index word 0 == 114 && nat_le 48 (slice_index word 1) && nat_le (slice_index word 1) 55)
+    (slice_index word 1 - 48) register e in
+    let last : nat_le (slice_index word 1) 55 ≡ true =
+    and_right (length word == 2 && slice_index word 0 == 114 && nat_le 48 (slice_index word 1)) (nat_le (slice_index word 1) 55) h.0 in
     let small : slice_index word 1 ≤ 55 = grind (arith, nat_tests) in
     omega (arith, h.1)
 
@@ -74,13 +79,15 @@ none_few bytes e = let is : [] ≡ bytes = cc in omega (arith, ap length is)
 
 bytes_few : (word bytes : List ℕ) → bytes_of word ≡ Some bytes → length bytes ≤ 256
 bytes_few word bytes =
-    elim (bytes_eq word (codes "-")) as (λ b. cond b (Some []) (cond (is_some_word word && nat_le (length word) 512) (result_ok (decode_of word)) None) ≡ Some bytes → length bytes ≤ 256) [
+    elim (bytes_eq word (codes "-")) as
+    (λ b. cond b (Some []) (cond (is_some_word word && nat_le (length word) 512) (result_ok (decode_of word)) None) ≡ Some bytes → length bytes ≤ 256) [
       | true ↦ none_few bytes
       | false ↦ decoded_few word bytes
     ]
 
 -- an operand that is a register, or otherwise a number
-either_there : (register value : Option ℕ) (o : Operand) → ((r : ℕ) → register ≡ Some r → r < 8) → option_or (option_map operand.Register register) (option_map operand.Number value) ≡ Some o → IsOperand o
+either_there : (register value : Option ℕ) (o : Operand) → ((r : ℕ) → register ≡ Some r → r < 8)
+    → option_or (option_map operand.Register register) (option_map operand.Number value) ≡ Some o → IsOperand o
 either_there (Some r) value o small e = let is : operand.Register r ≡ o = cc in subst IsOperand is (small r refl)
 either_there None (Some n) o small e = let is : operand.Number n ≡ o = cc in subst IsOperand is tt
 either_there None None o small e = absurd cc
@@ -95,7 +102,8 @@ time_there word wait =
       | false ↦ either_there (register_of word) (number_of word) wait (register_small word)
     ]
 
-pub spells_within : (app : Application) (queues : List (List ℕ)) (len : ℕ) (words : List (List ℕ)) (i : Instr) → length app.queues ≡ length queues → Spells queues len words i → IsWithin app len i
+pub spells_within : (app : Application) (queues : List (List ℕ)) (len : ℕ) (words : List (List ℕ)) (i : Instr) → length app.queues ≡ length queues
+    → Spells queues len words i → IsWithin app len i
 spells_within app queues len words (instr.Set a b) sizes h = register_small h.0 a h.3
 spells_within app queues len words (instr.Add a b) sizes h = register_small h.0 a h.3
 spells_within app queues len words (instr.Move a b) sizes h = (register_small h.0 a h.3, register_small h.1 b h.4)
@@ -126,14 +134,16 @@ line_takes queues len d i e =
 line_again : (queues : List (List ℕ)) (len : ℕ) (d : Data) (i : Instr) → IsLine queues len d i → line_of queues len d ≡ Ok i
 line_again queues len d i h = ap (line_of queues len) h.1 ∙ instr_again queues len (words_of h.0) i h.2
 
-lines_take : (queues : List (List ℕ)) (len : ℕ) (ds : Items) (before code : List Instr) → lines_after queues len before ds ≡ Ok code → (more : List Instr) × (code ≡ before ++ more) × AreLines queues len ds more
+lines_take : (queues : List (List ℕ)) (len : ℕ) (ds : Items) (before code : List Instr) → lines_after queues len before ds ≡ Ok code
+    → (more : List Instr) × (code ≡ before ++ more) × AreLines queues len ds more
 lines_take queues len no_items before code e = let is : before ≡ code = cc in ([], sym is ∙ sym (append-nil before), tt)
 lines_take queues len (item d ds) before code e =
     let first = bind_ok (line_of queues len d) _ code e in
     let rest = lines_take queues len ds (before ++ first.0 ∷ []) code first.2 in
     (first.0 ∷ rest.0, rest.1 ∙ append_assoc before (first.0 ∷ []) rest.0, (line_takes queues len d first.0 first.1, rest.2))
 
-lines_again : (queues : List (List ℕ)) (len : ℕ) (ds : Items) (before more : List Instr) → AreLines queues len ds more → lines_after queues len before ds ≡ Ok (before ++ more)
+lines_again : (queues : List (List ℕ)) (len : ℕ) (ds : Items) (before more : List Instr) → AreLines queues len ds more
+    → lines_after queues len before ds ≡ Ok (before ++ more)
 lines_again queues len no_items before [] h = ap Ok (sym (append-nil before))
 lines_again queues len no_items before (i ∷ more) h = absurd h
 lines_again queues len (item d ds) before [] h = absurd h
@@ -147,11 +157,13 @@ length_lines queues len no_items (i ∷ code) h = absurd h
 length_lines queues len (item d ds) [] h = absurd h
 length_lines queues len (item d ds) (i ∷ code) h = ap suc (length_lines queues len ds code h.1)
 
-within_lines : (app : Application) (queues : List (List ℕ)) (len : ℕ) (ds : Items) (code : List Instr) → length app.queues ≡ length queues → AreLines queues len ds code → AllByRecursion (IsWithin app len) code
+within_lines : (app : Application) (queues : List (List ℕ)) (len : ℕ) (ds : Items) (code : List Instr) → length app.queues ≡ length queues
+    → AreLines queues len ds code → AllByRecursion (IsWithin app len) code
 within_lines app queues len no_items [] sizes h = tt
 within_lines app queues len no_items (i ∷ code) sizes h = absurd h
 within_lines app queues len (item d ds) [] sizes h = absurd h
-within_lines app queues len (item d ds) (i ∷ code) sizes h = (spells_within app queues len (words_of h.0.0) i sizes h.0.2, within_lines app queues len ds code sizes h.1)
+within_lines app queues len (item d ds) (i ∷ code) sizes h =
+    (spells_within app queues len (words_of h.0.0) i sizes h.0.2, within_lines app queues len ds code sizes h.1)
 
 pub code_takes : (queues : List (List ℕ)) (lines : Items) (code : List Instr) → code_of queues lines ≡ Ok code → IsCode queues lines code
 unfolding code_of
@@ -159,19 +171,22 @@ code_takes queues lines code e =
     let all = bind_ok (lines_after queues (items_len lines) [] lines) _ code e in
     let taken = lines_take queues (items_len lines) lines [] all.0 all.1 in
     let end = guard_ok (ends all.0) all.0 code _ all.2 in
-    subst (λ (code : List Instr). AreLines queues (items_len lines) lines code × (ends code ≡ true)) end.1 (subst (AreLines queues (items_len lines) lines) (sym taken.1) taken.2, end.0)
+    subst (λ (code : List Instr). AreLines queues (items_len lines) lines code × (ends code ≡ true)) end.1
+    (subst (AreLines queues (items_len lines) lines) (sym taken.1) taken.2, end.0)
 
 pub code_again : (queues : List (List ℕ)) (lines : Items) (code : List Instr) → IsCode queues lines code → code_of queues lines ≡ Ok code
 unfolding code_of
 code_again queues lines code h = rw (lines_again queues (items_len lines) lines [] code h.0, h.1) refl
 
 -- the scripts of drafts
-abbrev pub AreScripts : List (List ℕ) → List Draft → List TaskScript → Type 0
+abbrev pub AreScripts : List (List ℕ) → List TaskDraft → List TaskScript → Type 0
 AreScripts queues [] [] = Unit {0}
-AreScripts queues (draft ∷ drafts) (script ∷ scripts) = (draft.priority ≡ script.priority) × IsCode queues draft.lines script.code × AreScripts queues drafts scripts
+AreScripts queues (draft ∷ drafts) (script ∷ scripts) =
+    (draft.priority ≡ script.priority) × IsCode queues draft.lines script.code × AreScripts queues drafts scripts
 AreScripts queues _ _ = ⊥
 
-pub scripts_take : (queues : List (List ℕ)) (drafts : List Draft) (before scripts : List TaskScript) → scripts_after queues before drafts ≡ Ok scripts → (more : List TaskScript) × (scripts ≡ before ++ more) × AreScripts queues drafts more
+pub scripts_take : (queues : List (List ℕ)) (drafts : List TaskDraft) (before scripts : List TaskScript) → scripts_after queues before drafts ≡ Ok scripts
+    → (more : List TaskScript) × (scripts ≡ before ++ more) × AreScripts queues drafts more
 scripts_take queues [] before scripts e = let is : before ≡ scripts = cc in ([], sym is ∙ sym (append-nil before), tt)
 scripts_take queues (draft ∷ drafts) before scripts e =
     let code = bind_ok (code_of queues draft.lines) _ scripts e in
@@ -179,13 +194,15 @@ scripts_take queues (draft ∷ drafts) before scripts e =
     let rest = scripts_take queues drafts (before ++ script ∷ []) scripts code.2 in
     (script ∷ rest.0, rest.1 ∙ append_assoc before (script ∷ []) rest.0, (refl, code_takes queues draft.lines code.0 code.1, rest.2))
 
-pub scripts_again : (queues : List (List ℕ)) (drafts : List Draft) (before more : List TaskScript) → AreScripts queues drafts more → scripts_after queues before drafts ≡ Ok (before ++ more)
+pub scripts_again : (queues : List (List ℕ)) (drafts : List TaskDraft) (before more : List TaskScript) → AreScripts queues drafts more
+    → scripts_after queues before drafts ≡ Ok (before ++ more)
 scripts_again queues [] before [] h = ap Ok (sym (append-nil before))
 scripts_again queues [] before (s ∷ more) h = absurd h
 scripts_again queues (draft ∷ drafts) before [] h = absurd h
 scripts_again queues (draft ∷ drafts) before (script ∷ more) h =
     let same : record { priority = draft.priority; code = script.code } ≡ script = ap (λ (p : ℕ). record { priority = p; code = script.code }) h.0 in
-    ap (λ r. r >>= λ code. scripts_after queues (before ++ record { priority = draft.priority; code = code } ∷ []) drafts) (code_again queues draft.lines script.code h.1)
+    ap (λ r. r >>= λ code. scripts_after queues (before ++ record { priority = draft.priority; code = code } ∷ []) drafts)
+    (code_again queues draft.lines script.code h.1)
     ∙ ap (λ (s : TaskScript). scripts_after queues (before ++ s ∷ []) drafts) same
     ∙ scripts_again queues drafts (before ++ script ∷ []) more h.2 ∙ ap Ok (append_assoc before (script ∷ []) more)
 
@@ -194,7 +211,8 @@ last_final [] k e = refl
 last_final (i ∷ code) zero e = e
 last_final (i ∷ code) (suc k) e = last_final code k e
 
-pub is_script : (app : Application) (queues : List (List ℕ)) (lines : Items) (script : TaskScript) → length app.queues ≡ length queues → script.priority ≤ 31 → 1 ≤ items_len lines → items_len lines ≤ 256 → IsCode queues lines script.code → IsScript app script
+pub is_script : (app : Application) (queues : List (List ℕ)) (lines : Items) (script : TaskScript) → length app.queues ≡ length queues → script.priority ≤ 31
+    → 1 ≤ items_len lines → items_len lines ≤ 256 → IsCode queues lines script.code → IsScript app script
 is_script app queues lines script sizes low some few h =
     let len = length_lines queues (items_len lines) lines script.code h.0 in
     let within = within_lines app queues (items_len lines) lines script.code sizes h.0 in
@@ -202,6 +220,7 @@ is_script app queues lines script sizes low some few h =
       priority = low;
       some = omega arith;
       few = omega arith;
-      within = All-from_recursion (IsWithin app (length script.code)) script.code (subst (λ (n : ℕ). AllByRecursion (IsWithin app n) script.code) (sym len) within);
+      within = All-from_recursion (IsWithin app (length script.code)) script.code
+          (subst (λ (n : ℕ). AllByRecursion (IsWithin app n) script.code) (sym len) within);
       ends = last_final script.code (length script.code - 1) h.1;
     }

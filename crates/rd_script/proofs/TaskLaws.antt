@@ -9,25 +9,26 @@ use Rattle.rd_script.specs.declared.instr.Instr.{Instr}
 use Rattle.rd_script.specs.Application.{Application, AreNames, IsScript}
 use Rattle.rd_script.specs.Says.{AreTasks, AreLines}
 use Rattle.rd_script.specs.TaskScript.{TaskScript}
-use Rattle.rd_script.specs.File.{is_object_with, object_with, field, number_in, array_in, new_name, are_texts, Draft, task_keys, task_of, tasks_after}
+use Rattle.rd_script.specs.File.{is_object_with, object_with, field, number_in, array_in, new_name, are_texts, TaskDraft, task_keys, task_of, tasks_after}
 use Rattle.rd_script.proofs.Steps.{bind_ok, guard_ok, then_is}
 use Rattle.rd_script.proofs.Values.{object_again, field_again, name_again, array_again, limits_again, object_ok, field_ok, number_ok, array_ok, name_ok}
 use Rattle.rd_script.proofs.QueueLaws.{IsNewName, IsNewName-behind, AreNames-push, AllByRecursion-push}
 use Rattle.rd_script.proofs.ScriptLaws.{AreScripts, is_script, length_lines}
 
 -- what a value says of a task
-pub record IsDraft (d : Data) (name : List ℕ) (draft : Draft) : Type 0 where
+pub record IsDraft (d : Data) (name : List ℕ) (draft : TaskDraft) : Type 0 where
   pub keys : is_object_with task_keys d ≡ true
   pub name_at : get (codes "name") d ≡ Some (string name)
   pub priority_at : get (codes "priority") d ≡ Some (number (unsigned draft.priority))
   pub code_at : get (codes "code") d ≡ Some (array draft.lines)
 
-pub record IsDraftInLimits (draft : Draft) : Type 0 where
+pub record IsDraftInLimits (draft : TaskDraft) : Type 0 where
   pub priority : draft.priority ≤ 31
   pub some : 1 ≤ items_len draft.lines
   pub few : items_len draft.lines ≤ 256
 
-pub task_takes : (names : List (List ℕ)) (d : Data) (t : List ℕ × Draft) → task_of names d ≡ Ok t → IsDraft d t.0 t.1 × IsNewName names t.0 × IsDraftInLimits t.1
+pub task_takes : (names : List (List ℕ)) (d : Data) (t : List ℕ × TaskDraft) → task_of names d ≡ Ok t
+    → IsDraft d t.0 t.1 × IsNewName names t.0 × IsDraftInLimits t.1
 unfolding task_of
 task_takes names d t e =
     let keys = bind_ok (object_with task_keys d) _ t e in
@@ -37,12 +38,12 @@ task_takes names d t e =
     let text = bind_ok (new_name names name.0) _ t code.2 in
     let level = bind_ok (number_in 0 31 priority.0) _ t text.2 in
     let lines = bind_ok (array_in 1 256 code.0) _ t level.2 in
-    let made : List ℕ × Draft = (text.0, record { priority = level.0; lines = lines.0 }) in
+    let made : List ℕ × TaskDraft = (text.0, record { priority = level.0; lines = lines.0 }) in
     let is = (guard_ok (are_texts lines.0) made t _ lines.2).1 in
     let named = name_ok names name.0 text.0 text.1 in
     let first = number_ok 0 31 priority.0 level.0 level.1 in
     let second = array_ok 1 256 code.0 lines.0 lines.1 in
-    subst (λ (t : List ℕ × Draft). IsDraft d t.0 t.1 × IsNewName names t.0 × IsDraftInLimits t.1) is (
+    subst (λ (t : List ℕ × TaskDraft). IsDraft d t.0 t.1 × IsNewName names t.0 × IsDraftInLimits t.1) is (
       record {
         keys = object_ok task_keys d keys.0 keys.1;
         name_at = field_ok (codes "name") d name.0 name.1 ∙ ap Some named.0;
@@ -55,38 +56,44 @@ task_takes names d t e =
 
 -- ---- the tasks of an array
 
-abbrev pub AreDrafts : Items → List (List ℕ) → List Draft → Type 0
+abbrev pub AreDrafts : Items → List (List ℕ) → List TaskDraft → Type 0
 AreDrafts no_items [] [] = Unit {0}
 AreDrafts (item d ds) (name ∷ names) (draft ∷ drafts) = IsDraft d name draft × AreDrafts ds names drafts
 AreDrafts _ _ _ = ⊥
 
-pub record AreKept (names : List (List ℕ)) (drafts : List Draft) : Type 0 where
+pub record AreKept (names : List (List ℕ)) (drafts : List TaskDraft) : Type 0 where
   pub are_names : AreNames names
   pub are_drafts : AllByRecursion IsDraftInLimits drafts
 
 -- the tasks that an array adds
-pub record Adds (ds : Items) (names : List (List ℕ)) (drafts : List Draft) (t : List (List ℕ) × List Draft) (more : List (List ℕ)) (others : List Draft) : Type 0 where
+pub record Adds (ds : Items) (names : List (List ℕ)) (drafts : List TaskDraft) (t : List (List ℕ) × List TaskDraft) (more : List (List ℕ))
+    (others : List TaskDraft) : Type 0 where
   pub names_are : t.0 ≡ names ++ more
   pub drafts_are : t.1 ≡ drafts ++ others
   pub said : AreDrafts ds more others
   pub kept : AreKept t.0 t.1
 
-pub tasks_take : (ds : Items) (names : List (List ℕ)) (drafts : List Draft) (t : List (List ℕ) × List Draft) → tasks_after names drafts ds ≡ Ok t → AreKept names drafts → (more : List (List ℕ)) × (others : List Draft) × Adds ds names drafts t more others
+pub tasks_take : (ds : Items) (names : List (List ℕ)) (drafts : List TaskDraft) (t : List (List ℕ) × List TaskDraft) → tasks_after names drafts ds ≡ Ok t
+    → AreKept names drafts → (more : List (List ℕ)) × (others : List TaskDraft) × Adds ds names drafts t more others
 tasks_take no_items names drafts t e kept =
     let is : (names, drafts) ≡ t = cc in (
       [],
       [],
       record {
-        names_are = ap (λ (t : List (List ℕ) × List Draft). t.0) (sym is) ∙ sym (append-nil names);
-        drafts_are = ap (λ (t : List (List ℕ) × List Draft). t.1) (sym is) ∙ sym (append-nil drafts);
+        names_are = ap (λ (t : List (List ℕ) × List TaskDraft). t.0) (sym is) ∙ sym (append-nil names);
+        drafts_are = ap (λ (t : List (List ℕ) × List TaskDraft). t.1) (sym is) ∙ sym (append-nil drafts);
         said = tt;
-        kept = subst (λ (t : List (List ℕ) × List Draft). AreKept t.0 t.1) is kept;
+        kept = subst (λ (t : List (List ℕ) × List TaskDraft). AreKept t.0 t.1) is kept;
       },
     )
 tasks_take (item d ds) names drafts t e kept =
     let first = bind_ok (task_of names d) _ t e in
     let taken = task_takes names d first.0 first.1 in
-    let rest = tasks_take ds (names ++ first.0.0 ∷ []) (drafts ++ first.0.1 ∷ []) t first.2 (record { are_names = AreNames-push names first.0.0 kept.are_names taken.1; are_drafts = AllByRecursion-push IsDraftInLimits drafts first.0.1 kept.are_drafts taken.2 }) in (
+    let rest =
+    tasks_take ds (names ++ first.0.0 ∷ []) (drafts ++ first.0.1 ∷ []) t first.2 (record {
+      are_names = AreNames-push names first.0.0 kept.are_names taken.1;
+      are_drafts = AllByRecursion-push IsDraftInLimits drafts first.0.1 kept.are_drafts taken.2;
+    }) in (
       first.0.0 ∷ rest.0,
       first.0.1 ∷ rest.1,
       record {
@@ -98,7 +105,8 @@ tasks_take (item d ds) names drafts t e kept =
     )
 
 -- drafts and their scripts are tasks
-pub tasks_said : (queues : List (List ℕ)) (ds : Items) (names : List (List ℕ)) (drafts : List Draft) (scripts : List TaskScript) → AreDrafts ds names drafts → AreScripts queues drafts scripts → AreTasks queues ds names scripts × (length names ≡ length scripts)
+pub tasks_said : (queues : List (List ℕ)) (ds : Items) (names : List (List ℕ)) (drafts : List TaskDraft) (scripts : List TaskScript) → AreDrafts ds names drafts
+    → AreScripts queues drafts scripts → AreTasks queues ds names scripts × (length names ≡ length scripts)
 tasks_said queues no_items [] [] [] a b = (tt, refl)
 tasks_said queues no_items [] [] (s ∷ scripts) a b = absurd b
 tasks_said queues no_items [] (draft ∷ drafts) scripts a b = absurd a
@@ -124,16 +132,21 @@ tasks_said queues (item d ds) (n ∷ names) (draft ∷ drafts) (s ∷ scripts) a
       ap suc rest.1,
     )
 
-pub scripts_in_limits : (app : Application) (queues : List (List ℕ)) (drafts : List Draft) (scripts : List TaskScript) → length app.queues ≡ length queues → AllByRecursion IsDraftInLimits drafts → AreScripts queues drafts scripts → AllByRecursion (IsScript app) scripts
+pub scripts_in_limits : (app : Application) (queues : List (List ℕ)) (drafts : List TaskDraft) (scripts : List TaskScript) → length app.queues ≡ length queues
+    → AllByRecursion IsDraftInLimits drafts → AreScripts queues drafts scripts → AllByRecursion (IsScript app) scripts
 scripts_in_limits app queues [] [] sizes a b = tt
 scripts_in_limits app queues [] (s ∷ scripts) sizes a b = absurd b
 scripts_in_limits app queues (draft ∷ drafts) [] sizes a b = absurd b
-scripts_in_limits app queues (draft ∷ drafts) (s ∷ scripts) sizes a b =
-    (is_script app queues draft.lines s sizes (omega (arith, b.0, a.0.priority)) a.0.some a.0.few b.1, scripts_in_limits app queues drafts scripts sizes a.1 b.2)
+scripts_in_limits app queues (draft ∷ drafts) (s ∷ scripts) sizes a b = (
+  is_script app queues draft.lines s sizes
+      (omega (arith, b.0, a.0.priority)) a.0.some a.0.few b.1,
+  scripts_in_limits app queues drafts scripts sizes a.1 b.2,
+)
 
 -- ---- what spells a task is read
 
-pub task_again : (names : List (List ℕ)) (d : Data) (name : List ℕ) (draft : Draft) → IsDraft d name draft → IsNewName names name → IsDraftInLimits draft → are_texts draft.lines ≡ true → task_of names d ≡ Ok (name, draft)
+pub task_again : (names : List (List ℕ)) (d : Data) (name : List ℕ) (draft : TaskDraft) → IsDraft d name draft → IsNewName names name → IsDraftInLimits draft
+    → are_texts draft.lines ≡ true → task_of names d ≡ Ok (name, draft)
 unfolding task_of
 task_again names d name draft h new limits texts =
     then_is (object_with task_keys d) _ tt _ (object_again task_keys d h.keys)
@@ -146,11 +159,12 @@ task_again names d name draft h new limits texts =
     (rw texts refl)))))))
 
 -- drafts that can be read
-pub record IsReadable (draft : Draft) : Type 0 where
+pub record IsReadable (draft : TaskDraft) : Type 0 where
   pub in_limits : IsDraftInLimits draft
   pub texts : are_texts draft.lines ≡ true
 
-pub tasks_again : (ds : Items) (names : List (List ℕ)) (drafts : List Draft) (more : List (List ℕ)) (others : List Draft) → AreDrafts ds more others → AreNames (names ++ more) → AllByRecursion IsReadable others → tasks_after names drafts ds ≡ Ok (names ++ more, drafts ++ others)
+pub tasks_again : (ds : Items) (names : List (List ℕ)) (drafts : List TaskDraft) (more : List (List ℕ)) (others : List TaskDraft) → AreDrafts ds more others
+    → AreNames (names ++ more) → AllByRecursion IsReadable others → tasks_after names drafts ds ≡ Ok (names ++ more, drafts ++ others)
 tasks_again no_items names drafts [] [] h are limits = rw (append-nil names, append-nil drafts) refl
 tasks_again no_items names drafts [] (s ∷ others) h are limits = absurd h
 tasks_again no_items names drafts (n ∷ more) others h are limits = absurd h
@@ -159,7 +173,8 @@ tasks_again (item d ds) names drafts (n ∷ more) [] h are limits = absurd h
 tasks_again (item d ds) names drafts (n ∷ more) (s ∷ others) h are limits =
     let all : AreNames ((names ++ n ∷ []) ++ more) = subst AreNames (sym (append_assoc names (n ∷ []) more)) are in
     then_is (task_of names d) _ (n, s) _ (task_again names d n s h.0 (IsNewName-behind names n more are) limits.0.in_limits limits.0.texts)
-    (tasks_again ds (names ++ n ∷ []) (drafts ++ s ∷ []) more others h.1 all limits.1 ∙ rw (append_assoc names (n ∷ []) more, append_assoc drafts (s ∷ []) others) refl)
+    (tasks_again ds (names ++ n ∷ []) (drafts ++ s ∷ []) more others h.1 all limits.1
+    ∙ rw (append_assoc names (n ∷ []) more, append_assoc drafts (s ∷ []) others) refl)
 
 texts_said : (queues : List (List ℕ)) (len : ℕ) (lines : Items) (code : List Instr) → AreLines queues len lines code → are_texts lines ≡ true
 texts_said queues len no_items [] h = refl
@@ -168,7 +183,9 @@ texts_said queues len (item d ds) [] h = absurd h
 texts_said queues len (item d ds) (i ∷ code) h = rw h.0.1 (texts_said queues len ds code h.1)
 
 -- tasks are drafts and their scripts
-pub tasks_split : (app : Application) (queues : List (List ℕ)) (ds : Items) (names : List (List ℕ)) (scripts : List TaskScript) → AreTasks queues ds names scripts → AllByRecursion (IsScript app) scripts → (drafts : List Draft) × AreDrafts ds names drafts × AllByRecursion IsReadable drafts × AreScripts queues drafts scripts
+pub tasks_split : (app : Application) (queues : List (List ℕ)) (ds : Items) (names : List (List ℕ)) (scripts : List TaskScript)
+    → AreTasks queues ds names scripts → AllByRecursion (IsScript app) scripts
+    → (drafts : List TaskDraft) × AreDrafts ds names drafts × AllByRecursion IsReadable drafts × AreScripts queues drafts scripts
 tasks_split app queues no_items [] [] h limits = ([], tt, tt, tt)
 tasks_split app queues no_items [] (s ∷ scripts) h limits = absurd h
 tasks_split app queues no_items (n ∷ names) scripts h limits = absurd h
@@ -179,7 +196,7 @@ tasks_split app queues (item d ds) (n ∷ names) (s ∷ scripts) h limits =
     let said = h.0.1 in
     let rest = tasks_split app queues ds names scripts h.1 limits.1 in
     let len = length_lines queues (items_len lines) lines s.code said.code.0 in
-    let draft : Draft = record { priority = s.priority; lines = lines } in (
+    let draft : TaskDraft = record { priority = s.priority; lines = lines } in (
       draft ∷ rest.0,
       (record { keys = said.keys; name_at = said.name_at; priority_at = said.priority_at; code_at = said.code_at }, rest.1),
       (

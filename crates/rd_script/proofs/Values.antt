@@ -54,7 +54,8 @@ pub not_true : (b : Bool) → not b ≡ true → b ≡ false
 not_true true e = sym e
 not_true false e = refl
 
-pub name_ok : (names : List (List ℕ)) (d : Data) (name : List ℕ) → new_name names d ≡ Ok name → (d ≡ string name) × (is_name name ≡ true) × (list_any (bytes_eq name) names ≡ false)
+pub name_ok : (names : List (List ℕ)) (d : Data) (name : List ℕ) → new_name names d ≡ Ok name
+    → (d ≡ string name) × (is_name name ≡ true) × (list_any (bytes_eq name) names ≡ false)
 name_ok names null name e = absurd cc
 name_ok names (boolean b) name e = absurd cc
 name_ok names (number n) name e = absurd cc
@@ -78,7 +79,11 @@ pub number_again : (least most : ℕ) (d : Data) (n : ℕ) → d ≡ number (uns
 number_again least most d n e low high = ap (number_in least most) e ∙ limits_again least most n low high
 
 pub array_again : (least most : ℕ) (d : Data) (ds : Items) → d ≡ array ds → least ≤ items_len ds → items_len ds ≤ most → array_in least most d ≡ Ok ds
-array_again least most d ds e low high = ap (array_in least most) e ∙ then_is (in_limits least most (items_len ds)) _ (items_len ds) _ (limits_again least most (items_len ds) low high) refl
+array_again least most d ds e low high =
+    ap (array_in least most) e ∙ then_is (in_limits least most (items_len ds)) _ (items_len ds) _ (limits_again least most (items_len ds) low high) refl
 
-pub name_again : (names : List (List ℕ)) (d : Data) (name : List ℕ) → d ≡ string name → is_name name ≡ true → list_any (bytes_eq name) names ≡ false → new_name names d ≡ Ok name
-name_again names d name e named fresh = ap (new_name names) e ∙ ap (λ b. cond (b && not (list_any (bytes_eq name) names)) (Ok name) (Err fault.Name)) named ∙ ap (λ b. cond (true && not b) (Ok name) (Err fault.Name)) fresh
+pub name_again : (names : List (List ℕ)) (d : Data) (name : List ℕ) → d ≡ string name → is_name name ≡ true → list_any (bytes_eq name) names ≡ false
+    → new_name names d ≡ Ok name
+name_again names d name e named fresh =
+    ap (new_name names) e ∙ ap (λ b. cond (b && not (list_any (bytes_eq name) names)) (Ok name) (Err fault.Name)) named
+    ∙ ap (λ b. cond (true && not b) (Ok name) (Err fault.Name)) fresh

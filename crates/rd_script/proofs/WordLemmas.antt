@@ -1,5 +1,6 @@
 -- The words of a line, from the first on.
-use Rattle.std.proofs.Common.{◌≡◌, ◌∙◌, ℕ, zero, suc, ◌+◌, ◌-◌, ◌<◌, ◌≤◌, ◌++◌, ◌&&◌, Bool, true, false, cond, List, [], ◌∷◌, get_or, length, take, drop, filter, not, refl, sym, ap, subst, inl, inr, arith}
+use Rattle.std.proofs.Common.{◌≡◌, ◌∙◌, ℕ, zero, suc, ◌+◌, ◌-◌, ◌<◌, ◌≤◌, ◌++◌, ◌&&◌, Bool, true, false, cond, List, [], ◌∷◌, get_or}
+use Rattle.std.proofs.Common.{length, take, drop, filter, not, refl, sym, ap, subst, inl, inr, arith}
 use Rattle.std.proofs.lemmas.Bool.{lt-ltb, cases_lt}
 use Rattle.std.proofs.lemmas.Bool.Decides.{nat_tests}
 use Rattle.std.proofs.lemmas.List.{length-take, length-drop, take_at, drop_at, append-nil, take-append-drop, nil_from_length}
@@ -11,7 +12,7 @@ use Rattle.rd_script.specs.Words.{is_solid, is_word, ends_word, AreWords, is_spa
 one_more : (n : ℕ) → 1 + n ≡ suc n
 one_more n = omega arith
 
--- the parts behind the first one
+-- the parts after the first one
 abbrev parts_after : List ℕ → List (List ℕ)
 parts_after [] = []
 parts_after (y ∷ ys) = slice_split is_space ys
@@ -21,17 +22,20 @@ split_first : (xs : List ℕ) → slice_split is_space xs ≡ take (prefix_len i
 split_first [] = refl
 split_first (x ∷ xs) =
     let rest = split_first xs in
-    elim (is_space x) as (λ b. cond b ([] ∷ slice_split is_space xs) (onto_first x (slice_split is_space xs)) ≡ take (cond (not b) (1 + prefix_len is_solid xs) 0) (x ∷ xs) ∷ parts_after (drop (cond (not b) (1 + prefix_len is_solid xs) 0) (x ∷ xs))) [
+    elim (is_space x) as (λ b. cond b ([] ∷ slice_split is_space xs) (onto_first x (slice_split is_space xs)) ≡ take
+    (cond (not b) (1 + prefix_len is_solid xs) 0) (x ∷ xs) ∷ parts_after (drop (cond (not b) (1 + prefix_len is_solid xs) 0) (x ∷ xs))) [
       | true ↦ refl
       | false ↦ rw (one_more (prefix_len is_solid xs)) (ap (onto_first x) rest)
     ]
 
--- behind the first part: nothing, or a space and more parts
+-- after the first part: nothing, or a space and more parts
 parts_behind : (xs : List ℕ) → filter is_some_word (parts_after (drop (prefix_len is_solid xs) xs)) ≡ words_of (drop (prefix_len is_solid xs) xs)
 parts_behind [] = refl
 parts_behind (x ∷ xs) =
     let rest = parts_behind xs in
-    elim (is_space x) as (λ b. (is_space x ≡ b) → filter is_some_word (parts_after (drop (cond (not b) (1 + prefix_len is_solid xs) 0) (x ∷ xs))) ≡ words_of (drop (cond (not b) (1 + prefix_len is_solid xs) 0) (x ∷ xs))) [
+    elim (is_space x) as (λ b. (is_space x ≡ b)
+    → filter is_some_word (parts_after (drop (cond (not b) (1 + prefix_len is_solid xs) 0) (x ∷ xs))) ≡ words_of
+    (drop (cond (not b) (1 + prefix_len is_solid xs) 0) (x ∷ xs))) [
       | true ↦ λ e. rw e refl
       | false ↦ λ e. rw (one_more (prefix_len is_solid xs)) rest
     ] refl
@@ -46,18 +50,19 @@ words-spaces (x ∷ xs) =
       | false ↦ λ e. refl
     ] refl
 
--- the first word, where there is one, and those behind it
+-- the first word, where there is one, and those after it
 words_from : (xs : List ℕ) → words_of xs ≡ filter is_some_word (take (prefix_len is_solid xs) xs ∷ []) ++ words_of (drop (prefix_len is_solid xs) xs)
 words_from xs =
     let part = take (prefix_len is_solid xs) xs in
     let later = parts_behind xs in
     ap (filter is_some_word) (split_first xs)
-    ∙ elim (is_some_word part) as (λ b. cond b (part ∷ filter is_some_word (parts_after (drop (prefix_len is_solid xs) xs))) (filter is_some_word (parts_after (drop (prefix_len is_solid xs) xs))) ≡ cond b (part ∷ []) [] ++ words_of (drop (prefix_len is_solid xs) xs)) [
+    ∙ elim (is_some_word part) as (λ b. cond b (part ∷ filter is_some_word (parts_after (drop (prefix_len is_solid xs) xs)))
+    (filter is_some_word (parts_after (drop (prefix_len is_solid xs) xs))) ≡ cond b (part ∷ []) [] ++ words_of (drop (prefix_len is_solid xs) xs)) [
       | true ↦ ap (λ (ws : List (List ℕ)). part ∷ ws) later
       | false ↦ later
     ]
 
--- the line behind the spaces that it begins with
+-- the line after the spaces that it begins with
 abbrev pub unspaced : List ℕ → List ℕ
 unspaced line = drop (prefix_len is_space line) line
 
@@ -65,12 +70,13 @@ unspaced line = drop (prefix_len is_space line) line
 stuck : (x : ℕ) (xs : List ℕ) → is_space x ≡ false → prefix_len is_solid (x ∷ xs) ≡ 0 → ⊥
 stuck x xs e h = let one : 1 + prefix_len is_solid xs ≡ 0 = rw e at h in omega arith
 
--- where no word begins behind the spaces, nothing is there
+-- where no word begins after the spaces, nothing is there
 no_word : (line : List ℕ) → prefix_len is_solid (unspaced line) ≡ 0 → unspaced line ≡ []
 no_word [] = λ e. refl
 no_word (x ∷ xs) =
     let rest = no_word xs in
-    elim (is_space x) as (λ b. (is_space x ≡ b) → prefix_len is_solid (drop (cond b (1 + prefix_len is_space xs) 0) (x ∷ xs)) ≡ 0 → drop (cond b (1 + prefix_len is_space xs) 0) (x ∷ xs) ≡ []) [
+    elim (is_space x) as (λ b. (is_space x ≡ b) → prefix_len is_solid (drop (cond b (1 + prefix_len is_space xs) 0) (x ∷ xs)) ≡ 0
+    → drop (cond b (1 + prefix_len is_space xs) 0) (x ∷ xs) ≡ []) [
       | true ↦ λ e. rw (one_more (prefix_len is_space xs)) rest
       | false ↦ λ e. λ h. absurd (stuck x xs e h)
     ] refl
@@ -81,7 +87,8 @@ pub record IsCut (line word rest : List ℕ) : Type 0 where
   pub later : rest ≡ drop (prefix_len is_solid (unspaced line)) (unspaced line)
 
 length_first : (line word rest : List ℕ) → IsCut line word rest → length word ≡ prefix_len is_solid (unspaced line)
-length_first line word rest cut = rw cut.first (omega (arith, length-take (prefix_len is_solid (unspaced line)) (unspaced line), prefix_len-le-length is_solid (unspaced line)))
+length_first line word rest cut =
+    rw cut.first (omega (arith, length-take (prefix_len is_solid (unspaced line)) (unspaced line), prefix_len-le-length is_solid (unspaced line)))
 
 pub cut_none : (line word rest : List ℕ) → IsCut line word rest → length word ≡ 0 → (words_of line ≡ []) × (words_of rest ≡ [])
 cut_none line word rest cut e =
@@ -174,18 +181,26 @@ cut_of line = record { first = refl; later = refl }
 both_hold : (a b : Bool) → a ≡ true → b ≡ true → (a && b) ≡ true
 both_hold a b e f = rw (e, f) refl
 
-line_parts : (line : List ℕ) → line ≡ take (prefix_len is_space line) line ++ (take (prefix_len is_solid (unspaced line)) (unspaced line) ++ drop (prefix_len is_solid (unspaced line)) (unspaced line))
-line_parts line = sym (ap (λ (r : List ℕ). take (prefix_len is_space line) line ++ r) (take-append-drop (prefix_len is_solid (unspaced line)) (unspaced line)) ∙ take-append-drop (prefix_len is_space line) line)
+line_parts : (line : List ℕ)
+    → line ≡ take (prefix_len is_space line) line ++
+    (take (prefix_len is_solid (unspaced line)) (unspaced line) ++ drop (prefix_len is_solid (unspaced line)) (unspaced line))
+line_parts line =
+    sym (ap (λ (r : List ℕ). take (prefix_len is_space line) line ++ r) (take-append-drop (prefix_len is_solid (unspaced line)) (unspaced line))
+    ∙ take-append-drop (prefix_len is_space line) line)
 
 no_words : (line : List ℕ) → prefix_len is_solid (unspaced line) ≡ 0 → AreWords (words_of line) line
 no_words line e =
     let ended = no_word line e in
     let none : words_of line ≡ [] = words-spaces line ∙ ap words_of ended in
-    let whole : line ≡ take (prefix_len is_space line) line = sym (take-append-drop (prefix_len is_space line) line) ∙ ap (λ (r : List ℕ). take (prefix_len is_space line) line ++ r) ended ∙ append-nil (take (prefix_len is_space line) line) in
+    let whole : line ≡ take (prefix_len is_space line) line =
+    sym (take-append-drop (prefix_len is_space line) line) ∙ ap (λ (r : List ℕ). take (prefix_len is_space line) line ++ r) ended
+    ∙ append-nil (take (prefix_len is_space line) line) in
     let blank : list_all is_space line ≡ true = ap (list_all is_space) whole ∙ prefix_passes is_space line in
     subst (λ (ws : List (List ℕ)). AreWords ws line) (sym none) blank
 
-some_words : (line : List ℕ) → 0 < prefix_len is_solid (unspaced line) → AreWords (words_of (drop (prefix_len is_solid (unspaced line)) (unspaced line))) (drop (prefix_len is_solid (unspaced line)) (unspaced line)) → AreWords (words_of line) line
+some_words : (line : List ℕ) → 0 < prefix_len is_solid (unspaced line)
+    → AreWords (words_of (drop (prefix_len is_solid (unspaced line)) (unspaced line))) (drop (prefix_len is_solid (unspaced line)) (unspaced line))
+    → AreWords (words_of line) line
 some_words line lt others =
     let from = unspaced line in
     let word = take (prefix_len is_solid from) from in
@@ -194,7 +209,8 @@ some_words line lt others =
     let some : is_some_word word ≡ true = lt-ltb _ _ (omega (arith, len)) in
     let solid = prefix_passes is_solid from in
     let first = cut_some line word rest (cut_of line) (omega (arith, len)) in
-    subst (λ (ws : List (List ℕ)). AreWords ws line) (sym first) (take (prefix_len is_space line) line, rest, line_parts line, prefix_passes is_space line, both_hold _ _ some solid, ends_prefix from, others)
+    subst (λ (ws : List (List ℕ)). AreWords ws line) (sym first)
+    (take (prefix_len is_space line) line, rest, line_parts line, prefix_passes is_space line, both_hold _ _ some solid, ends_prefix from, others)
 
 words_up_to : (n : ℕ) (line : List ℕ) → length line ≤ n → AreWords (words_of line) line
 words_up_to zero line h =

@@ -1,5 +1,6 @@
 -- An application: what a contract sees of an `App`, and the limits that each keeps.
-use Rattle.std.specs.Prelude.{ℕ, ◌≡◌, ◌-◌, ◌^◌, ◌<◌, ◌≤◌, Bool, true, false, List, [], ◌∷◌, length, map, slice_index_or, All, not, ◌&&◌}
+use Rattle.std.specs.Prelude.{ℕ, ◌≡◌, ◌-◌, ◌^◌, ◌<◌, ◌≤◌, Bool, true, false, not, ◌&&◌}
+use Rattle.std.specs.Prelude.{List, [], ◌∷◌, length, map, slice_index_or, All}
 use Rattle.std.specs.List.{list_all, list_any}
 use Rattle.std.specs.Str.{bytes_eq}
 use Rattle.rd_script.specs.declared.app.QueueShape.{QueueShape}
@@ -8,11 +9,12 @@ use Rattle.rd_script.specs.declared.app.Kind.TheVariants.{Queue, Task}
 use Rattle.rd_script.specs.declared.instr.Operand.{Operand}
 use Rattle.rd_script.specs.declared.instr.Operand.TheVariants.{Number, Register}
 use Rattle.rd_script.specs.declared.instr.Instr.{Instr}
-use Rattle.rd_script.specs.declared.instr.Instr.TheVariants.{Set, Add, Move, Data, Pack, Unpack, Jump, JumpZero, End, Send, Receive}
+use Rattle.rd_script.specs.declared.instr.Instr.TheVariants.{Set, Add, Move, Data, Pack, Unpack}
+use Rattle.rd_script.specs.declared.instr.Instr.TheVariants.{Jump, JumpZero, End, Send, Receive}
 use Rattle.rd_script.specs.TaskScript.{TaskScript}
 use Rattle.rd_script.specs.Words.{is_name}
 
--- Names and what they stand for go by number: the place in these lists.
+-- Names and what they stand for go by number: the index in these lists.
 pub record Application : Type 0 where
   pub cores : ℕ
   pub notes : ℕ
@@ -35,7 +37,7 @@ script_of app task = slice_index_or app.scripts task (record { priority = 0; cod
 abbrev pub code_of : Application → ℕ → List Instr
 code_of app task = (script_of app task).code
 
--- the instruction of a task at a place
+-- the instruction of a task at a number
 abbrev pub instr_at : Application → ℕ → ℕ → Instr
 instr_at app task pc = slice_index_or (code_of app task) pc End
 
@@ -52,7 +54,7 @@ abbrev pub IsOperand : Operand → Type 0
 IsOperand (Number value) = Unit {0}
 IsOperand (Register register) = register < 8
 
--- Registers, places in the script and objects are there.
+-- Registers, instructions of the script and objects are there.
 abbrev pub IsWithin : Application → ℕ → Instr → Type 0
 IsWithin app len (Set register value) = register < 8
 IsWithin app len (Add register value) = register < 8
@@ -72,7 +74,7 @@ is_final (Jump target) = true
 is_final End = true
 is_final _ = false
 
--- does none of the names stand again behind its place?
+-- does none of the names stand again later?
 abbrev pub are_distinct : List (List ℕ) → Bool
 are_distinct [] = true
 are_distinct (name ∷ names) = not (list_any (bytes_eq name) names) && are_distinct names
@@ -83,7 +85,11 @@ pub record AreNames (names : List (List ℕ)) : Type 0 where
   pub distinct : are_distinct names ≡ true
 
 abbrev pub IsQueueShape : QueueShape → Type 0
-IsQueueShape queue = (0 < queue.capacity) × (queue.capacity ≤ 64) × (0 < queue.item_size) × (queue.item_size ≤ 64)
+IsQueueShape queue =
+    (0 < queue.capacity)
+    × (queue.capacity ≤ 64)
+    × (0 < queue.item_size)
+    × (queue.item_size ≤ 64)
 
 pub record IsScript (app : Application) (script : TaskScript) : Type 0 where
   pub priority : script.priority ≤ 31

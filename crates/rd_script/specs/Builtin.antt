@@ -11,6 +11,15 @@ builtin = record {
   tick = 0;
   queues = record { capacity = 2; item_size = 1 } ∷ [];
   queue_names = codes "q0" ∷ [];
-  scripts = record { priority = 1; code = Data (65 ∷ []) ∷ Send 0 (Number 0) ∷ Send 0 (Number 0) ∷ Send 0 (Number 0) ∷ End ∷ [] } ∷ [];
+  scripts = record {
+    priority = 1;
+    code =
+        Data (65 ∷ [])
+        ∷ Send 0 (Number 0)
+        ∷ Send 0 (Number 0)
+        ∷ Send 0 (Number 0)
+        ∷ End
+        ∷ [];
+  } ∷ [];
   task_names = codes "t0" ∷ [];
 }

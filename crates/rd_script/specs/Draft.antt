@@ -1,7 +1,21 @@
--- What a contract sees of a task that is not read to its end.
+-- What a contract sees of tasks and of an application that are not read to their end.
+use Rattle.std.specs.Prelude.{map}
 use Rattle.serde_json.specs.View.{items_view}
-use Rattle.rd_script.specs.declared.app.file.Draft.{Draft}
+use Rattle.rd_script.specs.declared.app.file.AppDraft.{AppDraft}
+use Rattle.rd_script.specs.declared.app.file.TaskDraft.{TaskDraft}
 use Rattle.rd_script.specs.File as file
+use Rattle.rd_script.specs.Words.{texts}
 
-abbrev pub draft_view : Draft → file.Draft
-draft_view draft = record { priority = draft.priority; lines = items_view draft.lines.now }
+abbrev pub task_draft_view : TaskDraft → file.TaskDraft
+task_draft_view draft = record { priority = draft.priority; lines = items_view draft.lines.now }
+
+abbrev pub app_draft_view : AppDraft → file.AppDraft
+app_draft_view draft = record {
+  cores = draft.cores;
+  notes = draft.notes;
+  tick = draft.tick;
+  queues = draft.queues.shapes.items;
+  queue_names = texts draft.queues.names.items;
+  tasks = map task_draft_view draft.tasks.drafts.items;
+  task_names = texts draft.tasks.names.items;
+}

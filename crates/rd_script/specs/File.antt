@@ -1,13 +1,15 @@
--- The application of a file's JSON value, or the first fault that is met: of an object first its keys, and then what
--- stands at them, in the order below.
-use Rattle.std.specs.Prelude.{ℕ, ◌≡◌, ◌≢◌, ◌-◌, ◌^◌, ◌&&◌, is_some, Bool, true, false, not, codes, List, [], ◌∷◌, ◌++◌, length, slice_get, nat_le, if◌then◌else◌, Option, Some, None, Result, Ok, Err, ok_or, option_map, option_and_then, unwrap_or, ⊤}
+-- The application of a file's JSON value, or the first fault that is met: of an object first its
+-- keys, and then what stands at them, in the order below.
+use Rattle.std.specs.Prelude.{ℕ, ◌≡◌, ◌≢◌, ◌-◌, ◌^◌, ◌&&◌, ◌⊎◌, Bool, true, false, not, codes}
+use Rattle.std.specs.Prelude.{List, [], ◌∷◌, ◌++◌, length, slice_get, nat_le, if◌then◌else◌}
+use Rattle.std.specs.Prelude.{Option, Some, None, is_some, option_map, option_and_then, unwrap_or}
+use Rattle.std.specs.Prelude.{Result, Ok, Err, IsOk, ok_or, ⊤}
 use Rattle.std.specs.List.{list_all, list_any}
 use Rattle.std.specs.Str.{bytes_eq, is_utf8}
 use Rattle.serde_json.specs.Data.{Data, Items, no_items, item, Members, no_members, member}
 use Rattle.serde_json.specs.Events.{items_len}
 use Rattle.serde_json.specs.Find.{get, as_number, as_u64, as_str, as_array, as_object}
 use Rattle.serde_json.specs.Read.{read}
-use Rattle.rd_script.specs.declared.app.file.TheConstants as limit
 use Rattle.rd_script.specs.declared.app.QueueShape.{QueueShape}
 use Rattle.rd_script.specs.declared.error.AppError.{AppError}
 use Rattle.rd_script.specs.declared.error.AppError.TheVariants as fault
@@ -24,7 +26,7 @@ keys_of no_members = []
 keys_of (member key d ms) = key ∷ keys_of ms
 
 abbrev pub has_only : List (List ℕ) → Members → Bool
-has_only known ms = list_all (λ key. list_any (λ name. bytes_eq name key) known) (keys_of ms)
+has_only known ms = list_all (λ key. list_any (bytes_eq key) known) (keys_of ms)
 
 -- is it an object with no other keys than these?
 abbrev pub is_object_with : List (List ℕ) → Data → Bool
@@ -83,7 +85,8 @@ queue_of names d = do
   Ok (name, record { capacity = capacity; item_size = item_size })
 
 -- those before, and those of the array
-abbrev pub queues_after : List (List ℕ) → List QueueShape → Items → Result (List (List ℕ) × List QueueShape) AppError
+abbrev pub queues_after : List (List ℕ) → List QueueShape → Items
+    → Result (List (List ℕ) × List QueueShape) AppError
 queues_after names shapes no_items = Ok (names, shapes)
 queues_after names shapes (item d ds) = do
   queue ← queue_of names d
@@ -92,7 +95,7 @@ queues_after names shapes (item d ds) = do
 -- ---- tasks
 
 -- a task's priority and the texts of its instructions
-pub record Draft : Type 0 where
+pub record TaskDraft : Type 0 where
   pub priority : ℕ
   pub lines : Items
 
@@ -104,7 +107,7 @@ abbrev pub are_texts : Items → Bool
 are_texts no_items = true
 are_texts (item d ds) = is_some (as_str d) && are_texts ds
 
-unfoldable pub task_of : List (List ℕ) → Data → Result (List ℕ × Draft) AppError
+unfoldable pub task_of : List (List ℕ) → Data → Result (List ℕ × TaskDraft) AppError
 task_of names d = do
   _ ← object_with task_keys d
   name ← field (codes "name") d
@@ -113,19 +116,30 @@ task_of names d = do
   name ← new_name names name
   priority ← number_in 0 31 priority
   lines ← array_in 1 256 code
-  if are_texts lines then Ok (name, record { priority = priority; lines = lines }) else Err fault.Shape
+  if are_texts lines
+      then Ok (name, record { priority = priority; lines = lines })
+      else Err fault.Shape
 
-abbrev pub tasks_after : List (List ℕ) → List Draft → Items → Result (List (List ℕ) × List Draft) AppError
+abbrev pub tasks_after : List (List ℕ) → List TaskDraft → Items
+    → Result (List (List ℕ) × List TaskDraft) AppError
 tasks_after names drafts no_items = Ok (names, drafts)
 tasks_after names drafts (item d ds) = do
   task ← task_of names d
   tasks_after (names ++ task.0 ∷ []) (drafts ++ task.1 ∷ []) ds
+
+-- ---- scripts
 
 -- the instruction of a value, in a script of that length
 abbrev pub line_of : List (List ℕ) → ℕ → Data → Result Instr AppError
 line_of queues len d = do
   text ← ok_or (as_str d) fault.Shape
   instr_of queues len (words_of text)
+
+-- does the script never go on after the instruction of a value?
+abbrev pub line_ends : List (List ℕ) → ℕ → Data → Result Bool AppError
+line_ends queues len d = do
+  instr ← line_of queues len d
+  Ok (is_final instr)
 
 -- the instructions before, and those of the values
 abbrev pub lines_after : List (List ℕ) → ℕ → List Instr → Items → Result (List Instr) AppError
@@ -144,7 +158,9 @@ code_of queues lines = do
   code ← lines_after queues (items_len lines) [] lines
   if ends code then Ok code else Err fault.Instr
 
-abbrev pub scripts_after : List (List ℕ) → List TaskScript → List Draft → Result (List TaskScript) AppError
+-- the scripts before, and those of the drafts
+abbrev pub scripts_after : List (List ℕ) → List TaskScript → List TaskDraft
+    → Result (List TaskScript) AppError
 scripts_after queues scripts [] = Ok scripts
 scripts_after queues scripts (draft ∷ drafts) = do
   code ← code_of queues draft.lines
@@ -153,45 +169,89 @@ scripts_after queues scripts (draft ∷ drafts) = do
 -- ---- the file
 
 abbrev pub file_keys : List (List ℕ)
-file_keys = codes "profile" ∷ codes "cores" ∷ codes "notes" ∷ codes "tick" ∷ codes "queues" ∷ codes "tasks" ∷ []
+file_keys =
+    codes "profile" ∷ codes "cores" ∷ codes "notes" ∷ codes "tick" ∷ codes "queues" ∷ codes "tasks"
+    ∷ []
 
-unfoldable pub app_of : Data → Result Application AppError
-app_of d = do
+-- what a file says, its scripts not read yet
+pub record AppDraft : Type 0 where
+  pub cores : ℕ
+  pub notes : ℕ
+  pub tick : ℕ
+  pub queues : List QueueShape
+  pub queue_names : List (List ℕ)
+  pub tasks : List TaskDraft
+  pub task_names : List (List ℕ)
+
+unfoldable pub draft_of : Data → Result AppDraft AppError
+draft_of d = do
   _ ← object_with file_keys d
   profile ← field (codes "profile") d
   cores ← field (codes "cores") d
   tasks ← field (codes "tasks") d
   _ ← number_in 1 1 profile
-  cores ← number_in 1 limit.MAX_CORES cores
+  cores ← number_in 1 8 cores
   notes ← number_or 1 1 4 (get (codes "notes") d)
   tick ← number_or 0 0 (2 ^ 32 - 1) (get (codes "tick") d)
   queues ← array_or_empty 32 (get (codes "queues") d)
   queues ← queues_after [] [] queues
-  tasks ← array_in 1 limit.MAX_TASKS tasks
+  tasks ← array_in 1 32 tasks
   tasks ← tasks_after [] [] tasks
-  scripts ← scripts_after queues.0 [] tasks.1
   Ok (record {
     cores = cores;
     notes = notes;
     tick = tick;
     queues = queues.1;
     queue_names = queues.0;
-    scripts = scripts;
+    tasks = tasks.1;
     task_names = tasks.0;
   })
 
+-- the application of a draft
+abbrev pub with_scripts : AppDraft → Result Application AppError
+with_scripts draft = do
+  scripts ← scripts_after draft.queue_names [] draft.tasks
+  Ok (record {
+    cores = draft.cores;
+    notes = draft.notes;
+    tick = draft.tick;
+    queues = draft.queues;
+    queue_names = draft.queue_names;
+    scripts = scripts;
+    task_names = draft.task_names;
+  })
+
+abbrev pub app_of : Data → Result Application AppError
+app_of d = draft_of d >>= with_scripts
+
+-- the application of a text, or the first fault
+abbrev pub text_of : List ℕ → Result Application AppError
+text_of text = ok_or (read text) fault.NotJson >>= app_of
+
 -- the application of a file's bytes, or the first fault
 abbrev pub file_of : List ℕ → Result Application AppError
-file_of bytes = if is_utf8 bytes then ok_or (read bytes) fault.NotJson >>= app_of else Err fault.NotJson
+file_of bytes = if is_utf8 bytes then text_of bytes else Err fault.NotJson
 
 -- ---- what the code gives
+
+-- only whether there is a fault, and which
+abbrev pub checked : {X : Type 0} → Result X AppError → Result ⊤ AppError
+checked (Ok x) = Ok tt
+checked (Err e) = Err e
 
 -- What was returned, seen by view, is what reading gives.
 abbrev pub Gives : {X Y : Type 0} → (X → Y) → Result X AppError → Result Y AppError → Type 0
 Gives view (Ok x) read = read ≡ Ok (view x)
 Gives view (Err e) read = read ≡ Err e
 
--- The same, unless memory ran out.
-abbrev pub GivesOrNoMemory : {X Y : Type 0} → (X → Y) → Result X AppError → Result Y AppError → Type 0
+-- The same, unless memory ran out, which it does only where there is no fault.
+abbrev pub GivesFaultFirst : {X Y : Type 0} → (X → Y) → Result X AppError → Result Y AppError
+    → Type 0
+GivesFaultFirst view (Ok x) read = read ≡ Ok (view x)
+GivesFaultFirst view (Err e) read = (read ≡ Err e) ⊎ ((e ≡ fault.Memory) × IsOk read)
+
+-- The same, unless memory ran out, which it may do anywhere.
+abbrev pub GivesOrNoMemory : {X Y : Type 0} → (X → Y) → Result X AppError → Result Y AppError
+    → Type 0
 GivesOrNoMemory view (Ok x) read = read ≡ Ok (view x)
 GivesOrNoMemory view (Err e) read = e ≢ fault.Memory → read ≡ Err e

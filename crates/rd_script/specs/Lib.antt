@@ -1,3 +1,4 @@
+-- What the contracts of this crate cite.
 pub mod Words
 pub mod Spelling
 pub mod Spells

@@ -21,23 +21,32 @@ pub record IsQueue (d : Data) (name : List ℕ) (shape : QueueShape) : Type 0 wh
 -- one after another
 abbrev pub AreQueues : Items → List (List ℕ) → List QueueShape → Type 0
 AreQueues no_items [] [] = Unit {0}
-AreQueues (item d ds) (name ∷ names) (shape ∷ shapes) = IsQueue d name shape × AreQueues ds names shapes
+AreQueues (item d ds) (name ∷ names) (shape ∷ shapes) =
+    IsQueue d name shape × AreQueues ds names shapes
 AreQueues _ _ _ = ⊥
 
 -- a text whose words spell the instruction
 abbrev pub IsLine : List (List ℕ) → ℕ → Data → Instr → Type 0
-IsLine queues len d instr = (text : List ℕ) × (d ≡ string text) × Spells queues len (words_of text) instr
+IsLine queues len d instr =
+    (text : List ℕ) × (d ≡ string text) × Spells queues len (words_of text) instr
 
 abbrev pub AreLines : List (List ℕ) → ℕ → Items → List Instr → Type 0
 AreLines queues len no_items [] = Unit {0}
-AreLines queues len (item d ds) (instr ∷ code) = IsLine queues len d instr × AreLines queues len ds code
+AreLines queues len (item d ds) (instr ∷ code) =
+    IsLine queues len d instr × AreLines queues len ds code
 AreLines queues len _ _ = ⊥
 
--- the texts spell the script, which never goes on behind its last instruction
+-- the texts spell the script, which never goes on after its last instruction
 abbrev pub IsCode : List (List ℕ) → Items → List Instr → Type 0
 IsCode queues lines code = AreLines queues (items_len lines) lines code × (ends code ≡ true)
 
-pub record IsTask (queues : List (List ℕ)) (d : Data) (name : List ℕ) (script : TaskScript) (lines : Items) : Type 0 where
+pub record IsTask
+    (queues : List (List ℕ))
+    (d : Data)
+    (name : List ℕ)
+    (script : TaskScript)
+    (lines : Items)
+    : Type 0 where
   pub keys : is_object_with task_keys d ≡ true
   pub name_at : get (codes "name") d ≡ Some (string name)
   pub priority_at : get (codes "priority") d ≡ Some (number (unsigned script.priority))
@@ -46,7 +55,8 @@ pub record IsTask (queues : List (List ℕ)) (d : Data) (name : List ℕ) (scrip
 
 abbrev pub AreTasks : List (List ℕ) → Items → List (List ℕ) → List TaskScript → Type 0
 AreTasks queues no_items [] [] = Unit {0}
-AreTasks queues (item d ds) (name ∷ names) (script ∷ scripts) = ((lines : Items) × IsTask queues d name script lines) × AreTasks queues ds names scripts
+AreTasks queues (item d ds) (name ∷ names) (script ∷ scripts) =
+    ((lines : Items) × IsTask queues d name script lines) × AreTasks queues ds names scripts
 AreTasks queues _ _ _ = ⊥
 
 -- what stands at a key, or what it means to leave the key out
@@ -71,4 +81,10 @@ pub record Says (d : Data) (app : Application) (queue_items task_items : Items) 
 
 -- the bytes are JSON whose value says the application
 abbrev pub FileSays : List ℕ → Application → Type 0
-FileSays bytes app = (d : Data) × IsUtf8 bytes × (read bytes ≡ Some d) × (queue_items : Items) × (task_items : Items) × Says d app queue_items task_items
+FileSays bytes app =
+    (d : Data)
+    × IsUtf8 bytes
+    × (read bytes ≡ Some d)
+    × (queue_items : Items)
+    × (task_items : Items)
+    × Says d app queue_items task_items

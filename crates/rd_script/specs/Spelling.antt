@@ -1,5 +1,8 @@
 -- How an instruction is spelled.
-use Rattle.std.specs.Prelude.{ℕ, ◌≡◌, ◌-◌, ◌&&◌, ◌==◌, codes, List, [], ◌∷◌, length, slice_index, nat_lt, nat_le, if◌then◌else◌, Option, Some, None, Result, Ok, Err, ok_or, option_map, option_and_then, position, ⊤}
+use Rattle.std.specs.Prelude.{ℕ, ◌≡◌, ◌-◌, ◌&&◌, ◌==◌, nat_lt, nat_le, if◌then◌else◌}
+use Rattle.std.specs.Prelude.{List, [], ◌∷◌, codes, length, slice_index, position}
+use Rattle.std.specs.Prelude.{Option, Some, None, option_map, option_and_then}
+use Rattle.std.specs.Prelude.{Result, Ok, Err, ok_or, ⊤}
 use Rattle.std.specs.Option.{option_or}
 use Rattle.std.specs.Str.{bytes_eq}
 use Rattle.rd_script.specs.declared.error.AppError.{AppError}
@@ -9,7 +12,9 @@ use Rattle.rd_script.specs.declared.instr.Operand.TheVariants.{Number, Register}
 use Rattle.rd_script.specs.declared.instr.Instr.{Instr}
 use Rattle.rd_script.specs.declared.instr.Instr.TheVariants as instr
 use Rattle.rd_script.specs.declared.spelling.Keyword.{Keyword}
-use Rattle.rd_script.specs.declared.spelling.Keyword.TheVariants.{Set, Add, Move, Data, Pack, Unpack, Jump, JumpZero, End, Send, Receive}
+use Rattle.rd_script.specs.declared.spelling.Keyword.TheVariants.{Set, Add, Move, Data, Pack}
+use Rattle.rd_script.specs.declared.spelling.Keyword.TheVariants.{Unpack, Jump, JumpZero, End}
+use Rattle.rd_script.specs.declared.spelling.Keyword.TheVariants.{Send, Receive}
 use Rattle.rd_script.specs.Application.{max_delay}
 use Rattle.rd_script.specs.Words.{number_of, bytes_of, is_name}
 
@@ -31,20 +36,25 @@ keyword_of word =
 -- `r0` to `r7`
 abbrev pub register_of : List ℕ → Option ℕ
 register_of word =
-    if length word == 2 && slice_index word 0 == 114 && nat_le 48 (slice_index word 1) && nat_le (slice_index word 1) 55
+    if length word == 2
+    && slice_index word 0 == 114
+    && nat_le 48 (slice_index word 1)
+    && nat_le (slice_index word 1) 55
     then Some (slice_index word 1 - 48)
     else None
 
--- the place of an instruction in a script of that length
+-- the number of an instruction in a script of that length
 abbrev pub target_of : ℕ → List ℕ → Option ℕ
-target_of len word = option_and_then (λ target. if nat_lt target len then Some target else None) (number_of word)
+target_of len word =
+    option_and_then (λ target. if nat_lt target len then Some target else None) (number_of word)
 
 abbrev pub name_of : List ℕ → Option (List ℕ)
 name_of word = if is_name word then Some word else None
 
 -- a number, or the value of a register
 abbrev pub operand_of : List ℕ → Option Operand
-operand_of word = option_or (option_map Register (register_of word)) (option_map Number (number_of word))
+operand_of word =
+    option_or (option_map Register (register_of word)) (option_map Number (number_of word))
 
 -- a block time: `max` is the number 4,294,967,295
 abbrev pub time_of : List ℕ → Option Operand
@@ -60,82 +70,88 @@ abbrev pub ◌>>=◌ : {A B : Type 0} → Result A AppError → (A → Result B 
 (Ok x) >>= f = f x
 (Err e) >>= f = Err e
 
--- the next word, as what it stands for, and the words behind it
-abbrev pub operand : {X : Type 0} → (List ℕ → Option X) → List (List ℕ) → Result (X × List (List ℕ)) AppError
-operand read [] = Err fault.Instr
-operand read (word ∷ words) = ok_or (option_map (λ x. (x, words)) (read word)) fault.Instr
+-- the next word, as what it stands for, and the words after it
+abbrev pub next_as : {X : Type 0} → (List ℕ → Option X) → List (List ℕ)
+    → Result (X × List (List ℕ)) AppError
+next_as read [] = Err fault.Instr
+next_as read (word ∷ words) = ok_or (option_map (λ x. (x, words)) (read word)) fault.Instr
 
-abbrev pub ended : List (List ℕ) → Result ⊤ AppError
-ended [] = Ok tt
-ended (word ∷ words) = Err fault.Instr
+abbrev pub no_more_words : List (List ℕ) → Result ⊤ AppError
+no_more_words [] = Ok tt
+no_more_words (word ∷ words) = Err fault.Instr
 
 -- What was read, and the words that are left, are what reading gives.
-abbrev pub TakesBy : {X Y : Type 0} → (X → Y) → Result X AppError → List (List ℕ) → Result (Y × List (List ℕ)) AppError → Type 0
+abbrev pub TakesBy : {X Y : Type 0} → (X → Y) → Result X AppError → List (List ℕ)
+    → Result (Y × List (List ℕ)) AppError
+    → Type 0
 TakesBy view (Ok x) left read = read ≡ Ok (view x, left)
 TakesBy view (Err e) left read = read ≡ Err e
 
-abbrev pub Takes : {X : Type 0} → Result X AppError → List (List ℕ) → Result (X × List (List ℕ)) AppError → Type 0
+abbrev pub Takes : {X : Type 0} → Result X AppError → List (List ℕ)
+    → Result (X × List (List ℕ)) AppError
+    → Type 0
 Takes result left read = TakesBy (λ x. x) result left read
 
 -- a queue's name and a block time, and no more
-unfoldable pub object_at : List (List ℕ) → List (List ℕ) → Result (ℕ × Operand) AppError
-object_at queues words = do
-  name ← operand name_of words
-  wait ← operand time_of name.1
-  _ ← ended wait.1
+unfoldable pub queue_and_wait : List (List ℕ) → List (List ℕ) → Result (ℕ × Operand) AppError
+queue_and_wait queues words = do
+  name ← next_as name_of words
+  wait ← next_as time_of name.1
+  _ ← no_more_words wait.1
   queue ← queue_of queues name.0
   Ok (queue, wait.0)
 
--- the words behind the first
+-- the words after the first
 unfoldable pub operation_of : List (List ℕ) → ℕ → Keyword → List (List ℕ) → Result Instr AppError
 operation_of queues len Set words = do
-  register ← operand register_of words
-  value ← operand number_of register.1
-  _ ← ended value.1
+  register ← next_as register_of words
+  value ← next_as number_of register.1
+  _ ← no_more_words value.1
   Ok (instr.Set register.0 value.0)
 operation_of queues len Add words = do
-  register ← operand register_of words
-  value ← operand number_of register.1
-  _ ← ended value.1
+  register ← next_as register_of words
+  value ← next_as number_of register.1
+  _ ← no_more_words value.1
   Ok (instr.Add register.0 value.0)
 operation_of queues len Move words = do
-  into ← operand register_of words
-  from ← operand register_of into.1
-  _ ← ended from.1
+  into ← next_as register_of words
+  from ← next_as register_of into.1
+  _ ← no_more_words from.1
   Ok (instr.Move into.0 from.0)
 operation_of queues len Data words = do
-  bytes ← operand bytes_of words
-  _ ← ended bytes.1
+  bytes ← next_as bytes_of words
+  _ ← no_more_words bytes.1
   Ok (instr.Data bytes.0)
 operation_of queues len Pack words = do
-  register ← operand register_of words
-  _ ← ended register.1
+  register ← next_as register_of words
+  _ ← no_more_words register.1
   Ok (instr.Pack register.0)
 operation_of queues len Unpack words = do
-  register ← operand register_of words
-  _ ← ended register.1
+  register ← next_as register_of words
+  _ ← no_more_words register.1
   Ok (instr.Unpack register.0)
 operation_of queues len Jump words = do
-  target ← operand (target_of len) words
-  _ ← ended target.1
+  target ← next_as (target_of len) words
+  _ ← no_more_words target.1
   Ok (instr.Jump target.0)
 operation_of queues len JumpZero words = do
-  register ← operand register_of words
-  target ← operand (target_of len) register.1
-  _ ← ended target.1
+  register ← next_as register_of words
+  target ← next_as (target_of len) register.1
+  _ ← no_more_words target.1
   Ok (instr.JumpZero register.0 target.0)
 operation_of queues len End words = do
-  _ ← ended words
+  _ ← no_more_words words
   Ok instr.End
 operation_of queues len Send words = do
-  object ← object_at queues words
-  Ok (instr.Send object.0 object.1)
+  call ← queue_and_wait queues words
+  Ok (instr.Send call.0 call.1)
 operation_of queues len Receive words = do
-  object ← object_at queues words
-  Ok (instr.Receive object.0 object.1)
+  call ← queue_and_wait queues words
+  Ok (instr.Receive call.0 call.1)
 
--- the instruction of a text's words, or its fault: one in the form of a word comes before an unknown name
+-- the instruction of a text's words, or its fault: one in the form of a word comes before an
+-- unknown name
 unfoldable pub instr_of : List (List ℕ) → ℕ → List (List ℕ) → Result Instr AppError
 instr_of queues len words = do
-  keyword ← operand keyword_of words
+  keyword ← next_as keyword_of words
   operation_of queues len keyword.0 keyword.1

@@ -1,7 +1,12 @@
-ghost use Rattle.std.specs.Prelude.{◌≡◌, ◌<◌, ◌∷◌, [], length, map, position, slice_get, string_bytes, Some, IfOk};
+//! An application: its cores, its queues, its tasks with their scripts, and their names.
+
+ghost use Rattle.std.specs.Prelude.{◌≡◌, ◌<◌, true, length, map, position, slice_get};
+ghost use Rattle.std.specs.Prelude.{string_bytes, Some, IfOk};
 ghost use Rattle.std.specs.Str.{bytes_eq};
-ghost use Rattle.rd_script.specs.Application.{names_of, code_of, priorities_of, IsApplication};
+ghost use Rattle.rd_script.specs.Application.{IsApplication, are_distinct, names_of, code_of};
+ghost use Rattle.rd_script.specs.Application.{priorities_of};
 ghost use Rattle.rd_script.specs.Builtin.{builtin};
+ghost use Rattle.rd_script.specs.Words.{texts};
 
 use crate::bytes::Bytes;
 use crate::instr::{Instr, Operand};
@@ -10,8 +15,6 @@ use std::alloc::{AllocError, Global};
 use std::marker::Model;
 
 pub mod file;
-#[cfg(test)]
-mod tests;
 
 /// What kind of thing a name stands for.
 #[derive(Clone, Copy, Debug, PartialEq, Eq)]
@@ -21,7 +24,7 @@ pub enum Kind {
 }
 
 /// A queue to be made: room for 1 to 64 items of 1 to 64 bytes each.
-#[derive(Clone, Copy, Debug, PartialEq, Eq)]
+#[derive(Clone, Copy, Debug, Default, PartialEq, Eq)]
 pub struct QueueShape {
     pub capacity: usize,
     pub item_size: usize,
@@ -65,16 +68,21 @@ impl Model for App {
 
     ghost view = { application_of };
 
-    ghost invariant = { λ a. IsApplication (application_of a) × (a.priorities.items ≡ priorities_of (application_of a)) };
+    ghost invariant = { λ a.
+        IsApplication (application_of a)
+        × (a.priorities.items ≡ priorities_of (application_of a)) };
 }
 
-// The set of one name.
-fn lone_name(alloc: Global, name: &str) -> Result<IndexSet<String>, AllocError>
-    ensures { IfOk result (λ names. map string_bytes names.keys ≡ name.now ∷ []) }
+// The set of these names, in their order.
+fn set_of(alloc: Global, names: &[&str]) -> Result<IndexSet<String>, AllocError>
+    requires { are_distinct (texts names.now) ≡ true }
+    ensures { IfOk result (λ set. map string_bytes set.keys ≡ texts names.now) }
 {
-    let mut names = IndexSet::new(alloc);
-    names.insert(String::from_str(alloc, name)?)?;
-    Ok(names)
+    let mut set = IndexSet::new(alloc);
+    for name in names {
+        set.insert(String::from_str(alloc, name)?)?;
+    }
+    Ok(set)
 }
 
 impl App {
@@ -101,9 +109,9 @@ impl App {
             notes: 1,
             tick: 0,
             queues: vec![in alloc; queue]?,
-            queue_names: lone_name(alloc, "q0")?,
+            queue_names: set_of(alloc, &["q0"])?,
             scripts: vec![in alloc; Script { priority: 1, code }]?,
-            task_names: lone_name(alloc, "t0")?,
+            task_names: set_of(alloc, &["t0"])?,
             priorities: vec![in alloc; 1]?,
         })
     }

@@ -1,3 +1,5 @@
+//! The data of a task, which lies in the value itself.
+
 ghost use Rattle.std.specs.Prelude.{◌≡◌, ◌↔◌, ◌≤◌, IsTrue, [], length};
 
 use arrayvec::ArrayVec;

@@ -1,3 +1,5 @@
+//! Why a file is no application.
+
 ghost use Rattle.std.specs.Prelude.{◌≡◌};
 ghost use Rattle.rd_script.specs.declared.error.AppError.TheVariants.{Memory};
 
@@ -19,7 +21,7 @@ pub enum AppError {
     /// A text is no name, stands twice in its kind, or names nothing.
     #[error("L4 Name")]
     Name,
-    /// A text is no instruction, or the script could go on behind its last one.
+    /// A text is no instruction, or the script could go on after its last one.
     #[error("L5 Instr")]
     Instr,
     /// A queue that is overwritten has room for more than one item.

@@ -1,3 +1,5 @@
+//! The instructions of a task's script.
+
 use crate::bytes::Bytes;
 
 /// How many registers a task has.
@@ -15,8 +17,8 @@ pub enum Operand {
     Register { register: usize },
 }
 
-/// One instruction of a task's script. Registers are 0 to 7; queues and places in the script are
-/// counted from 0.
+/// One instruction of a task's script. Registers are 0 to 7; queues and the
+/// instructions of a script are counted from 0.
 #[derive(Drop)]
 pub enum Instr {
     /// `set R N`: the register becomes the value.

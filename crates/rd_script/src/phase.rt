@@ -1,3 +1,5 @@
+//! What a task is doing, and where it can wait.
+
 /// What a task is doing.
 #[derive(Clone, Copy, Debug, PartialEq, Eq)]
 pub enum Phase {
@@ -17,6 +19,6 @@ pub enum Phase {
 pub enum Place {
     /// For an item of the queue.
     Receive { queue: usize },
-    /// For a free place in the queue.
+    /// For room in the queue.
     Send { queue: usize },
 }

@@ -1,14 +1,16 @@
 //! Reads an instruction from its words.
 
-ghost use Rattle.std.specs.Prelude.{◌≡◌, map, string_bytes};
-ghost use Rattle.rd_script.specs.Spelling.{Takes, TakesBy, operand, keyword_of, register_of, target_of, operand_of, time_of, name_of, ended, queue_of, object_at, operation_of, instr_of};
-ghost use Rattle.rd_script.specs.Words.{words_of, number_of, bytes_of};
+ghost use Rattle.std.specs.Prelude.{◌≡◌};
+ghost use Rattle.rd_script.specs.Spelling.{Takes, TakesBy, next_as, no_more_words};
+ghost use Rattle.rd_script.specs.Spelling.{keyword_of, register_of, target_of, operand_of, time_of};
+ghost use Rattle.rd_script.specs.Spelling.{name_of, queue_of, queue_and_wait};
+ghost use Rattle.rd_script.specs.Spelling.{operation_of, instr_of};
+ghost use Rattle.rd_script.specs.Words.{texts, words_of, number_of, bytes_of};
 
 use crate::bytes::Bytes;
 use crate::error::AppError;
 use crate::instr::{Instr, MAX_DELAY, Operand};
 use crate::words::{Words, bytes, is_name, number};
-use indexmap::IndexSet;
 
 /// The first word of an instruction.
 #[derive(Clone, Copy, Debug, PartialEq, Eq)]
@@ -77,33 +79,33 @@ fn time_of(word: &[u8]) -> Option<Operand>
     }
 }
 
-// The next word, as what it stands for.
-fn register(words: &mut Words<'_>) -> Result<usize, AppError>
-    ensures { Takes result words.new (operand register_of words.old) }
+// The next word, as a register.
+fn next_register(words: &mut Words<'_>) -> Result<usize, AppError>
+    ensures { Takes result words.new (next_as register_of words.old) }
 {
     let word = words.next().ok_or(AppError::Instr)?;
     register_of(word).ok_or(AppError::Instr)
 }
 
-fn value(words: &mut Words<'_>) -> Result<u32, AppError>
-    ensures { Takes result words.new (operand number_of words.old) }
+fn next_number(words: &mut Words<'_>) -> Result<u32, AppError>
+    ensures { Takes result words.new (next_as number_of words.old) }
 {
     let word = words.next().ok_or(AppError::Instr)?;
     number(word).ok_or(AppError::Instr)
 }
 
-fn data(words: &mut Words<'_>) -> Result<Bytes, AppError>
-    ensures { Takes result words.new (operand bytes_of words.old) }
+fn next_bytes(words: &mut Words<'_>) -> Result<Bytes, AppError>
+    ensures { Takes result words.new (next_as bytes_of words.old) }
 {
     let word = words.next().ok_or(AppError::Instr)?;
     bytes(word).ok_or(AppError::Instr)
 }
 
-// The place of an instruction of a script of that length.
-fn target(words: &mut Words<'_>, len: usize) -> Result<usize, AppError>
-    ensures { Takes result words.new (operand (target_of len) words.old) }
+// The next word, as the number of an instruction of a script of that length.
+fn next_target(words: &mut Words<'_>, len: usize) -> Result<usize, AppError>
+    ensures { Takes result words.new (next_as (target_of len) words.old) }
 {
-    let target = value(words)? as usize;
+    let target = next_number(words)? as usize;
     if target < len {
         Ok(target)
     } else {
@@ -111,9 +113,9 @@ fn target(words: &mut Words<'_>, len: usize) -> Result<usize, AppError>
     }
 }
 
-// The name of an object.
-fn name<'a>(words: &mut Words<'a>) -> Result<&'a str, AppError>
-    ensures { TakesBy (λ name. name.now) result words.new (operand name_of words.old) }
+// The next word, as a name.
+fn next_name<'a>(words: &mut Words<'a>) -> Result<&'a str, AppError>
+    ensures { TakesBy (λ name. name.now) result words.new (next_as name_of words.old) }
 {
     let word = words.next().ok_or(AppError::Instr)?;
     if !is_name(word) {
@@ -122,16 +124,16 @@ fn name<'a>(words: &mut Words<'a>) -> Result<&'a str, AppError>
     Ok(str::from_utf8(word).unwrap())
 }
 
-fn time(words: &mut Words<'_>) -> Result<Operand, AppError>
-    ensures { Takes result words.new (operand time_of words.old) }
+fn next_time(words: &mut Words<'_>) -> Result<Operand, AppError>
+    ensures { Takes result words.new (next_as time_of words.old) }
 {
     let word = words.next().ok_or(AppError::Instr)?;
     time_of(word).ok_or(AppError::Instr)
 }
 
 // No word is left.
-fn end(words: &mut Words<'_>) -> Result<(), AppError>
-    ensures { result ≡ ended words.old }
+fn no_more_words(words: &mut Words<'_>) -> Result<(), AppError>
+    ensures { result ≡ no_more_words words.old }
 {
     match words.next() {
         None => Ok(()),
@@ -139,21 +141,26 @@ fn end(words: &mut Words<'_>) -> Result<(), AppError>
     }
 }
 
-fn queue_of(name: &str, queues: &IndexSet<String>) -> Result<usize, AppError>
-    ensures { result ≡ queue_of (map string_bytes queues.now.keys) name.now }
+fn queue_of(name: &str, queues: &[&str]) -> Result<usize, AppError>
+    ensures { result ≡ queue_of (texts queues.now) name.now }
 {
-    queues.get_index_of(name).ok_or(AppError::Name)
+    for (index, queue) in queues.iter().enumerate() {
+        if name == *queue {
+            return Ok(index);
+        }
+    }
+    Err(AppError::Name)
 }
 
-// The queue and the block time of a call. A fault in the form of a word comes before a name that
-// nothing has.
-#[tactic(auto, unfolding(crate::specs::Spelling::object_at))]
-fn object(words: &mut Words<'_>, queues: &IndexSet<String>) -> Result<(usize, Operand), AppError>
-    ensures { result ≡ object_at (map string_bytes queues.now.keys) words.old }
+// The queue and the block time of a call, and no more words. A fault in the form of a word comes
+// before a name that nothing has.
+#[tactic(auto, unfolding(crate::specs::Spelling::queue_and_wait))]
+fn queue_and_wait(words: &mut Words<'_>, queues: &[&str]) -> Result<(usize, Operand), AppError>
+    ensures { result ≡ queue_and_wait (texts queues.now) words.old }
 {
-    let name = name(words)?;
-    let wait = time(words)?;
-    end(words)?;
+    let name = next_name(words)?;
+    let wait = next_time(words)?;
+    no_more_words(words)?;
     Ok((queue_of(name, queues)?, wait))
 }
 
@@ -161,62 +168,58 @@ fn object(words: &mut Words<'_>, queues: &IndexSet<String>) -> Result<(usize, Op
 fn operation(
     keyword: Keyword,
     words: &mut Words<'_>,
-    queues: &IndexSet<String>,
+    queues: &[&str],
     len: usize,
 ) -> Result<Instr, AppError>
-    ensures { result ≡ operation_of (map string_bytes queues.now.keys) len keyword words.old }
+    ensures { result ≡ operation_of (texts queues.now) len keyword words.old }
 {
     let instr = match keyword {
         Keyword::Set => Instr::Set {
-            register: register(words)?,
-            value: value(words)?,
+            register: next_register(words)?,
+            value: next_number(words)?,
         },
         Keyword::Add => Instr::Add {
-            register: register(words)?,
-            value: value(words)?,
+            register: next_register(words)?,
+            value: next_number(words)?,
         },
         Keyword::Move => Instr::Move {
-            into: register(words)?,
-            from: register(words)?,
+            into: next_register(words)?,
+            from: next_register(words)?,
         },
         Keyword::Data => Instr::Data {
-            bytes: data(words)?,
+            bytes: next_bytes(words)?,
         },
         Keyword::Pack => Instr::Pack {
-            register: register(words)?,
+            register: next_register(words)?,
         },
         Keyword::Unpack => Instr::Unpack {
-            register: register(words)?,
+            register: next_register(words)?,
         },
         Keyword::Jump => Instr::Jump {
-            target: target(words, len)?,
+            target: next_target(words, len)?,
         },
         Keyword::JumpZero => Instr::JumpZero {
-            register: register(words)?,
-            target: target(words, len)?,
+            register: next_register(words)?,
+            target: next_target(words, len)?,
         },
         Keyword::End => Instr::End,
         Keyword::Send => {
-            let (queue, wait) = object(words, queues)?;
+            let (queue, wait) = queue_and_wait(words, queues)?;
             return Ok(Instr::Send { queue, wait });
         }
         Keyword::Receive => {
-            let (queue, wait) = object(words, queues)?;
+            let (queue, wait) = queue_and_wait(words, queues)?;
             return Ok(Instr::Receive { queue, wait });
         }
     };
-    end(words)?;
+    no_more_words(words)?;
     Ok(instr)
 }
 
 /// The instruction of a text, in a script of that length over those queues.
 #[tactic(auto, unfolding(crate::specs::Spelling::instr_of))]
-pub(crate) fn read_instr(
-    text: &[u8],
-    queues: &IndexSet<String>,
-    len: usize,
-) -> Result<Instr, AppError>
-    ensures { result ≡ instr_of (map string_bytes queues.now.keys) len (words_of text.now) }
+pub(crate) fn read_instr(text: &[u8], queues: &[&str], len: usize) -> Result<Instr, AppError>
+    ensures { result ≡ instr_of (texts queues.now) len (words_of text.now) }
 {
     let mut words = Words::new(text);
     let word = words.next().ok_or(AppError::Instr)?;

@@ -5,7 +5,8 @@ ghost use Rattle.std.specs.Char.{is_ascii_digit};
 ghost use Rattle.std.specs.List.{list_all, prefix_len};
 ghost use Rattle.std.specs.Str.Parse.{digits_value};
 ghost use Rattle.std.specs.Iterator.{YieldsFirstBy, item_count};
-ghost use Rattle.rd_script.specs.Words.{AreWords, is_space, words_of, number_of, is_name, is_name_byte, bytes_of};
+ghost use Rattle.rd_script.specs.Words.{AreWords, is_space, words_of};
+ghost use Rattle.rd_script.specs.Words.{number_of, is_name, is_name_byte, bytes_of};
 
 use crate::bytes::{Bytes, MAX_BYTES};
 use std::marker::Model;

@@ -8,53 +8,56 @@ use Rattle.std.proofs.lemmas.Bool.Decides.{nat_tests}
 use Rattle.rd_notify.specs.Entries.{idle_entry}
 use Rattle.rd_queue.specs.declared.waiting_list.WaitingList.{WaitingList}
 use Rattle.rd_queue.specs.declared.waiting_list.WaitingList.TheVariants.{Receiving, Sending}
-use Rattle.rd_queue.specs.Queues.{waiting_in}
+use Rattle.rd_queue.specs.Queues.{tasks_in_list}
 use Rattle.rd_script.specs.declared.app.QueueShape.{QueueShape}
 use Rattle.rd_script.specs.declared.phase.Place.{Place}
 use Rattle.rd_script.specs.declared.phase.Place.TheVariants.{Receive, Send}
 use Rattle.rd_script.specs.Application.{Application, IsApplication, IsScript, instr_at, priorities_of}
 use Rattle.rd_wait.specs.Joined.{IsInOrder}
 use Rattle.rd_wait.proofs.JoinedLaws.{IsInOrder-joined}
-use Rattle.rd_state.specs.Boot.{all_joined, before_scheduling, boot_of, fresh_task, new_queue}
+use Rattle.rd_state.specs.Boot.{all_joined, before_scheduling, boot_of, fresh_task, queue_of_shape}
 use Rattle.rd_state.specs.Settled.{seating_of, IsSettled}
 use Rattle.rd_state.specs.Sizes.{IsSized}
 use Rattle.rd_state.specs.Snapshot.{Snapshot, TaskSnapshot, no_queue, no_task, task_at}
-use Rattle.rd_state.specs.Valid.{IsNotWaiting, IsValid, StandsAtCall, WaitsAhead, is_on, places_to_run, shape_of, times, times_on, waits_at}
+use Rattle.rd_state.specs.Valid.{IsNotWaiting, IsValid, PhaseFitsCall, HasTimeLeft, is_on, seats_to_run}
+use Rattle.rd_state.specs.Valid.{shape_of, times_in_list, times_on_cores, times_waiting_at}
 use Rattle.rd_state.specs.Waiting.{waiting_at}
-use Rattle.rd_state.proofs.EndLaws.{settles}
-use Rattle.rd_state.proofs.ScheduleLaws.{SeatsKept, kept_settled, one_if, times-joined}
+use Rattle.rd_state.proofs.EndLaws.{scheduling_settles}
+use Rattle.rd_state.proofs.ScheduleLaws.{SeatsKept, SeatsKept-settled, one_if, times_in_list-joined}
 
 -- Each of the tasks so far stands once in the list of all that joined, and no other does.
-times-all_joined : (priorities : List ℕ) (n task : ℕ) → (task < n → times task (all_joined priorities n) ≡ 1) × (n ≤ task → times task (all_joined priorities n) ≡ 0)
-times-all_joined priorities zero task = (λ h. absurd (omega (arith, h)), λ h. refl)
-times-all_joined priorities (suc n) task =
-    let before = times-all_joined priorities n task in
-    let joins = times-joined priorities (all_joined priorities n) task n in
+times_in_list-all_joined : (priorities : List ℕ) (n task : ℕ)
+    → (task < n → times_in_list task (all_joined priorities n) ≡ 1) × (n ≤ task → times_in_list task (all_joined priorities n) ≡ 0)
+times_in_list-all_joined priorities zero task = (λ h. absurd (omega (arith, h)), λ h. refl)
+times_in_list-all_joined priorities (suc n) task =
+    let before = times_in_list-all_joined priorities n task in
+    let joins = times_in_list-joined priorities (all_joined priorities n) task n in
     (λ h. grind (arith, nat_tests, joins, before.0, before.1), λ h. grind (arith, nat_tests, joins, before.0, before.1))
 
-times_on-idle : (task n : ℕ) → times_on task (replicate n None) ≡ 0
-times_on-idle task zero = refl
-times_on-idle task (suc n) = omega (arith, sum_by-cons (λ r. one_if (is_on task r)) None (replicate n None), times_on-idle task n)
+times_on_cores-idle : (task n : ℕ) → times_on_cores task (replicate n None) ≡ 0
+times_on_cores-idle task zero = refl
+times_on_cores-idle task (suc n) = omega (arith, sum_by-cons (λ r. one_if (is_on task r)) None (replicate n None), times_on_cores-idle task n)
 
-in_order : (priorities : List ℕ) (n : ℕ) → IsInOrder priorities (all_joined priorities n)
-in_order priorities zero = tt
-in_order priorities (suc n) = IsInOrder-joined priorities (all_joined priorities n) n (in_order priorities n)
+IsInOrder-all_joined : (priorities : List ℕ) (n : ℕ) → IsInOrder priorities (all_joined priorities n)
+IsInOrder-all_joined priorities zero = tt
+IsInOrder-all_joined priorities (suc n) = IsInOrder-joined priorities (all_joined priorities n) n (IsInOrder-all_joined priorities n)
 
-same_shapes : (n : ℕ) (shapes : List QueueShape) → map shape_of (map (new_queue n) shapes) ≡ shapes
-same_shapes n [] = refl
-same_shapes n (shape ∷ shapes) = ap (λ rest. shape ∷ rest) (same_shapes n shapes)
+shape_of-queue_of_shape : (n : ℕ) (shapes : List QueueShape) → map shape_of (map (queue_of_shape n) shapes) ≡ shapes
+shape_of-queue_of_shape n [] = refl
+shape_of-queue_of_shape n (shape ∷ shapes) = ap (λ rest. shape ∷ rest) (shape_of-queue_of_shape n shapes)
 
 -- nobody waits in either list of a new queue
-none_waiting : (n : ℕ) (shapes : List QueueShape) (queue : ℕ) (list : WaitingList) → waiting_in list (get_or (map (new_queue n) shapes) queue no_queue) ≡ []
-none_waiting n [] queue Receiving = refl
-none_waiting n [] queue Sending = refl
-none_waiting n (shape ∷ shapes) zero Receiving = refl
-none_waiting n (shape ∷ shapes) zero Sending = refl
-none_waiting n (shape ∷ shapes) (suc queue) list = none_waiting n shapes queue list
+tasks_in_list-queues_of_shapes : (n : ℕ) (shapes : List QueueShape) (queue : ℕ) (list : WaitingList)
+    → tasks_in_list list (get_or (map (queue_of_shape n) shapes) queue no_queue) ≡ []
+tasks_in_list-queues_of_shapes n [] queue Receiving = refl
+tasks_in_list-queues_of_shapes n [] queue Sending = refl
+tasks_in_list-queues_of_shapes n (shape ∷ shapes) zero Receiving = refl
+tasks_in_list-queues_of_shapes n (shape ∷ shapes) zero Sending = refl
+tasks_in_list-queues_of_shapes n (shape ∷ shapes) (suc queue) list = tasks_in_list-queues_of_shapes n shapes queue list
 
-nobody_waits : (app : Application) (place : Place) → waiting_at (before_scheduling app) place ≡ []
-nobody_waits app (Receive queue) = none_waiting (length app.scripts) app.queues queue Receiving
-nobody_waits app (Send queue) = none_waiting (length app.scripts) app.queues queue Sending
+waiting_at-before_scheduling : (app : Application) (place : Place) → waiting_at (before_scheduling app) place ≡ []
+waiting_at-before_scheduling app (Receive queue) = tasks_in_list-queues_of_shapes (length app.scripts) app.queues queue Receiving
+waiting_at-before_scheduling app (Send queue) = tasks_in_list-queues_of_shapes (length app.scripts) app.queues queue Sending
 
 idle_is_not_waiting : IsNotWaiting idle_entry
 idle_is_not_waiting h = cc
@@ -65,31 +68,42 @@ IsValid-boot app s limits sized e =
     let n = length app.scripts in
     let before = before_scheduling app in
     let cores : length before.cores ≡ app.cores = length-replicate app.cores None in
-    let kept : SeatsKept priorities (seating_of before) (seating_of (boot_of app)) = kept_settled priorities before (omega (arith, cores, limits.some_cores)) in
+    let kept : SeatsKept priorities (seating_of before) (seating_of (boot_of app)) =
+    SeatsKept-settled priorities before (omega (arith, cores, limits.some_cores)) in
     let tasks : length before.tasks ≡ n = length-replicate n (fresh_task app.notes) in
-    let there : (task : ℕ) → task < length before.tasks → task_at before task ≡ fresh_task app.notes = λ task h. get_or-replicate n task (fresh_task app.notes) no_task (omega (arith, h, tasks)) in
+    let there : (task : ℕ) → task < length before.tasks → task_at before task ≡ fresh_task app.notes =
+    λ task h. get_or-replicate n task (fresh_task app.notes) no_task (omega (arith, h, tasks)) in
     let valid : IsSized (boot_of app) → IsValid app (boot_of app) = λ z. record {
       in_limits = record {
         sized = z;
         cores = kept.cores ∙ cores;
         tasks = tasks;
-        places = λ task h.
-            let script : IsScript app (get_or app.scripts task (record { priority = 0; code = [] })) = All-get_or (IsScript app) app.scripts task (record { priority = 0; code = [] }) (omega (arith, h, tasks)) limits.scripts in
+        pcs = λ task h.
+            let script : IsScript app (get_or app.scripts task (record { priority = 0; code = [] })) =
+            All-get_or (IsScript app) app.scripts task (record { priority = 0; code = [] }) (omega (arith, h, tasks)) limits.scripts in
             omega (arith, ap (λ (t : TaskSnapshot). t.pc) (there task h), script.some);
         entries = All-replicate (λ (task : TaskSnapshot). length task.entries ≡ app.notes) n (fresh_task app.notes) (length-replicate app.notes idle_entry);
-        queues = same_shapes n app.queues;
+        queues = shape_of-queue_of_shape n app.queues;
       };
       placed_once = λ task h.
-          omega (arith, kept.seats task, (times-all_joined priorities n task).0 (omega (arith, h, tasks)), times_on-idle task app.cores, ap (λ (t : TaskSnapshot). places_to_run t.phase) (there task h));
+          omega (
+            arith,
+            kept.seats task,
+            (times_in_list-all_joined priorities n task).0 (omega (arith, h, tasks)),
+            times_on_cores-idle task app.cores,
+            ap (λ (t : TaskSnapshot). seats_to_run t.phase) (there task h),
+          );
       waiting_lists = record {
-        ready = kept.order (in_order priorities n);
-        waiting = λ place. subst (IsInOrder priorities) (sym (nobody_waits app place)) tt;
+        ready = kept.order (IsInOrder-all_joined priorities n);
+        waiting = λ place. subst (IsInOrder priorities) (sym (waiting_at-before_scheduling app place)) tt;
       };
       places = λ place task h.
-          ap (times task) (nobody_waits app place) ∙ sym (ap (λ (t : TaskSnapshot). waits_at place t.phase) (there task h));
-      calls = λ task h. subst (λ (t : TaskSnapshot). StandsAtCall t.phase (instr_at app task t.pc)) (sym (there task h)) tt;
-      deadlines = λ task h. subst (λ (t : TaskSnapshot). WaitsAhead app.tick t.phase) (sym (there task h)) tt;
-      entries = All-replicate (λ (task : TaskSnapshot). All IsNotWaiting task.entries) n (fresh_task app.notes) (All-replicate IsNotWaiting app.notes idle_entry idle_is_not_waiting);
+          ap (times_in_list task) (waiting_at-before_scheduling app place) ∙ sym (ap (λ (t : TaskSnapshot). times_waiting_at place t.phase) (there task h));
+      calls = λ task h. subst (λ (t : TaskSnapshot). PhaseFitsCall t.phase (instr_at app task t.pc)) (sym (there task h)) tt;
+      deadlines = λ task h. subst (λ (t : TaskSnapshot). HasTimeLeft app.tick t.phase) (sym (there task h)) tt;
+      entries =
+          All-replicate (λ (task : TaskSnapshot). All IsNotWaiting task.entries) n (fresh_task app.notes)
+          (All-replicate IsNotWaiting app.notes idle_entry idle_is_not_waiting);
     } in
     subst (λ (t : Snapshot). IsSized t → IsValid app t) (sym e) valid sized
 
@@ -97,5 +111,7 @@ pub IsSettled-boot : (app : Application) (s : Snapshot) → IsApplication app �
 IsSettled-boot app s limits e =
     let priorities = priorities_of app in
     let cores : length (before_scheduling app).cores ≡ app.cores = length-replicate app.cores None in
-    let settled_now = (settles priorities (before_scheduling app) (omega (arith, cores, limits.some_cores)) (in_order priorities (length app.scripts))).settled_now in
+    let settled_now =
+    (scheduling_settles priorities (before_scheduling app) (omega (arith, cores, limits.some_cores)) (IsInOrder-all_joined priorities (length
+    app.scripts))).settled_now in
     subst (IsSettled priorities) (sym e) settled_now

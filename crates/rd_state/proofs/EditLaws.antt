@@ -4,13 +4,14 @@ use Rattle.std.proofs.lemmas.List.{length-set}
 use Rattle.std.proofs.lemmas.List.Sums.{sum_by_push}
 use Rattle.std.specs.Prelude.{Result, Ok, Err, OnOk, OnErr}
 use Rattle.rd_state.specs.declared.change.Change.{Change}
-use Rattle.rd_state.specs.declared.change.Change.TheVariants.{SetTick, SetTurn, SetCore, SetPc, SetReg, SetPhase, SetData, InsReady, DelReady, InsWait, DelWait, PutBack, TakeBack, PutFront, TakeFront}
+use Rattle.rd_state.specs.declared.change.Change.TheVariants.{SetTick, SetTurn, SetCore, SetPc, SetReg, SetPhase, SetData, InsReady}
+use Rattle.rd_state.specs.declared.change.Change.TheVariants.{DelReady, InsWait, DelWait, PutBack, TakeBack, PutFront, TakeFront}
 use Rattle.rd_script.specs.declared.phase.Place.{Place}
 use Rattle.rd_script.specs.declared.phase.Place.TheVariants.{Receive, Send}
 use Rattle.rd_state.specs.Snapshot.{Snapshot}
 use Rattle.rd_state.specs.Waiting.{queues_then}
 use Rattle.rd_state.specs.Change.{applied, inverse_of, cost_of, weight_of, Fits}
-use Rattle.rd_state.specs.Edit.{Edit, SameShape, Comes}
+use Rattle.rd_state.specs.Edit.{Edit, SameShape, Reaches}
 use Rattle.rd_state.specs.Sizes.{IsSized}
 use Rattle.rd_state.specs.Undoing.{undone, CanUndo}
 use Rattle.rd_state.proofs.UndoLaws.{each_is_undone, undone-push, CanUndo-push}
@@ -28,22 +29,23 @@ shape-applied s (SetPc task pc) = record { cores = refl; tasks = length-set s.ta
 shape-applied s (SetReg task register value) = record { cores = refl; tasks = length-set s.tasks task _; queues = refl }
 shape-applied s (SetPhase task phase) = record { cores = refl; tasks = length-set s.tasks task _; queues = refl }
 shape-applied s (SetData task bytes) = record { cores = refl; tasks = length-set s.tasks task _; queues = refl }
-shape-applied s (InsReady place task) = record { cores = refl; tasks = refl; queues = refl }
-shape-applied s (DelReady place) = record { cores = refl; tasks = refl; queues = refl }
-shape-applied s (InsWait place at task) = record { cores = refl; tasks = refl; queues = length-queues_then s place _ }
-shape-applied s (DelWait place at) = record { cores = refl; tasks = refl; queues = length-queues_then s place _ }
+shape-applied s (InsReady index task) = record { cores = refl; tasks = refl; queues = refl }
+shape-applied s (DelReady index) = record { cores = refl; tasks = refl; queues = refl }
+shape-applied s (InsWait place index task) = record { cores = refl; tasks = refl; queues = length-queues_then s place _ }
+shape-applied s (DelWait place index) = record { cores = refl; tasks = refl; queues = length-queues_then s place _ }
 shape-applied s (PutBack queue item) = record { cores = refl; tasks = refl; queues = length-set s.queues queue _ }
 shape-applied s (TakeBack queue) = record { cores = refl; tasks = refl; queues = length-set s.queues queue _ }
 shape-applied s (PutFront queue item) = record { cores = refl; tasks = refl; queues = length-set s.queues queue _ }
 shape-applied s (TakeFront queue) = record { cores = refl; tasks = refl; queues = length-set s.queues queue _ }
 
-abbrev pub edit : Snapshot → List Change → Edit
-edit s changes = record { now = s; base = undone s changes; weight = weight_of changes }
+abbrev pub edit_of : Snapshot → List Change → Edit
+edit_of s changes = record { now = s; base = undone s changes; weight = weight_of changes }
 
 -- what `act` makes of a state and its record
-pub Comes-act : (s s' : Snapshot) (changes changes' : List Change) (change : Change) → IsSized s → Fits s change → s' ≡ applied s change → changes' ≡ changes ++ inverse_of s change ∷ []
-    → Comes (edit s changes) (edit s' changes') (applied s change) (cost_of (inverse_of s change))
-Comes-act s s' changes changes' change sized fits e f =
+pub Reaches-act : (s s' : Snapshot) (changes changes' : List Change) (change : Change) → IsSized s → Fits s change → s' ≡ applied s change
+    → changes' ≡ changes ++ inverse_of s change ∷ []
+    → Reaches (edit_of s changes) (edit_of s' changes') (applied s change) (cost_of (inverse_of s change))
+Reaches-act s s' changes changes' change sized fits e f =
     let law = each_is_undone s change sized fits in
     rw (e, f) (record {
       now = refl;
@@ -52,26 +54,33 @@ Comes-act s s' changes changes' change sized fits e f =
       shape = shape-applied s change;
     })
 
-pub CanUndo-act : (s s' : Snapshot) (changes changes' : List Change) (change : Change) → IsSized s → Fits s change → s' ≡ applied s change → changes' ≡ changes ++ inverse_of s change ∷ []
+pub CanUndo-act : (s s' : Snapshot) (changes changes' : List Change) (change : Change) → IsSized s → Fits s change → s' ≡ applied s change
+    → changes' ≡ changes ++ inverse_of s change ∷ []
     → CanUndo s changes → CanUndo s' changes'
 CanUndo-act s s' changes changes' change sized fits e f can =
     let law = each_is_undone s change sized fits in
     rw (e, f) (CanUndo-push (applied s change) changes (inverse_of s change) law.fits (subst (λ (t : Snapshot). CanUndo t changes) (sym law.back) can))
 
 -- the same, seen by what `act` answers
-pub Comes-from_act : {T E : Type 0} (r : Result T E) (old : Edit) (s s' : Snapshot) (changes changes' : List Change) (change : Change) → edit s changes ≡ old → IsSized s → Fits old.now change
+pub Reaches-from_act : {T E : Type 0} (r : Result T E) (old : Edit) (s s' : Snapshot) (changes changes' : List Change) (change : Change)
+    → edit_of s changes ≡ old → IsSized s → Fits old.now change
     → OnOk r (s' ≡ applied s change) → OnOk r (changes' ≡ changes ++ inverse_of s change ∷ [])
-    → OnOk r (Comes old (edit s' changes') (applied old.now change) (cost_of (inverse_of old.now change)))
-Comes-from_act r old s s' changes changes' change e sized =
+    → OnOk r (Reaches old (edit_of s' changes') (applied old.now change) (cost_of (inverse_of old.now change)))
+Reaches-from_act r old s s' changes changes' change e sized =
     let P : Edit → Type 0 = λ f. Fits f.now change → OnOk r (s' ≡ applied s change) → OnOk r (changes' ≡ changes ++ inverse_of s change ∷ [])
-    → OnOk r (Comes f (edit s' changes') (applied f.now change) (cost_of (inverse_of f.now change))) in
-    subst P e (λ fits. elim r as (λ q. OnOk q (s' ≡ applied s change) → OnOk q (changes' ≡ changes ++ inverse_of s change ∷ []) → OnOk q (Comes (edit s changes) (edit s' changes') (applied s change) (cost_of (inverse_of s change))))
-    [ Ok x ↦ λ f g. Comes-act s s' changes changes' change sized fits f g | Err y ↦ λ f g. tt ])
+    → OnOk r (Reaches f (edit_of s' changes') (applied f.now change) (cost_of (inverse_of f.now change))) in
+    subst P e
+    (λ fits.
+    elim r as (λ q. OnOk q (s' ≡ applied s change) → OnOk q (changes' ≡ changes ++ inverse_of s change ∷ [])
+    → OnOk q (Reaches (edit_of s changes) (edit_of s' changes') (applied s change) (cost_of (inverse_of s change))))
+    [ Ok x ↦ λ f g. Reaches-act s s' changes changes' change sized fits f g | Err y ↦ λ f g. tt ])
 
-pub CanUndo-from_act : {T E : Type 0} (r : Result T E) (old : Edit) (s s' : Snapshot) (changes changes' : List Change) (change : Change) → edit s changes ≡ old → IsSized s → Fits old.now change → CanUndo s changes
+pub CanUndo-from_act : {T E : Type 0} (r : Result T E) (old : Edit) (s s' : Snapshot) (changes changes' : List Change) (change : Change)
+    → edit_of s changes ≡ old → IsSized s → Fits old.now change → CanUndo s changes
     → OnOk r (s' ≡ applied s change) → OnOk r (changes' ≡ changes ++ inverse_of s change ∷ []) → OnErr r ((s' ≡ s) × (changes' ≡ changes))
     → CanUndo s' changes'
 CanUndo-from_act r old s s' changes changes' change e sized fits can =
     let fits_here = subst (λ (f : Edit). Fits f.now change) (sym e) fits in
-    elim r as (λ q. OnOk q (s' ≡ applied s change) → OnOk q (changes' ≡ changes ++ inverse_of s change ∷ []) → OnErr q ((s' ≡ s) × (changes' ≡ changes)) → CanUndo s' changes')
+    elim r as (λ q. OnOk q (s' ≡ applied s change) → OnOk q (changes' ≡ changes ++ inverse_of s change ∷ []) → OnErr q ((s' ≡ s) × (changes' ≡ changes))
+    → CanUndo s' changes')
     [ Ok x ↦ λ f g h. CanUndo-act s s' changes changes' change sized fits_here f g can | Err y ↦ λ f g h. rw (h.0, h.1) can ]

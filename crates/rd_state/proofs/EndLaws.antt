@@ -1,5 +1,6 @@
 -- Scheduling ends: each round that changes something leaves one core less that a ready task could take.
-use Rattle.std.proofs.Common.{◌≡◌, ◌∙◌, ℕ, zero, suc, ◌+◌, ◌-◌, ◌<◌, ◌≤◌, Bool, true, cond, List, [], ◌∷◌, length, set, drop, Option, Some, None, refl, ap, subst, sym, arith, ◌⊎◌, inl, inr}
+use Rattle.std.proofs.Common.{◌≡◌, ◌∙◌, ℕ, zero, suc, ◌+◌, ◌-◌, ◌<◌, ◌≤◌, Bool, true, cond, List, [], ◌∷◌, length}
+use Rattle.std.proofs.Common.{set, drop, Option, Some, None, refl, ap, subst, sym, arith, ◌⊎◌, inl, inr}
 use Rattle.std.specs.Prelude.{All, count_by, slice_index, nat_eq, nat_lt, ◌&&◌}
 use Rattle.std.specs.List.{prefix_len, AllByRecursion}
 use Rattle.std.proofs.Math.Dec.{leb}
@@ -9,10 +10,11 @@ use Rattle.std.proofs.lemmas.Bool.{cases_lt, le-leb}
 use Rattle.std.proofs.lemmas.Bool.Decides.{eqb_tells, leb_tells, nat_tests}
 use Rattle.rd_wait.specs.Joined.{is_at_least, IsInOrder}
 use Rattle.rd_wait.proofs.ListLaws.{All-insert, AllByRecursion-insert}
-use Rattle.rd_state.specs.Settled.{Seating, running_on, rank_of, weakest_to, weakest_of, head_of, with_displaced, with_seats, seated_on, seated_once, seated_rounds, seating_of, settled, rotated, IsSettled, SchedulingSettles}
+use Rattle.rd_state.specs.Settled.{Seating, running_on, rank_of, weakest_up_to, weakest_of, head_of, with_displaced, with_seats, seated_on}
+use Rattle.rd_state.specs.Settled.{after_one_round, after_rounds, seating_of, settled, rotated, IsSettled, SchedulingSettles}
 use Rattle.rd_state.specs.Snapshot.{Snapshot}
-use Rattle.rd_state.proofs.ScheduleLaws.{kept_once, kept_rounds, one_if, weakest_of-lt}
-use Rattle.rd_state.proofs.SettleLaws.{seated_rounds-still, settled_in-still}
+use Rattle.rd_state.proofs.ScheduleLaws.{SeatsKept-after_one_round, SeatsKept-after_rounds, one_if, weakest_of-lt}
+use Rattle.rd_state.proofs.SettleLaws.{after_rounds-still, settled_in-still}
 
 -- one above the head's priority, or 0 where nobody is ready
 abbrev level_of : List ℕ → List ℕ → ℕ
@@ -27,48 +29,56 @@ abbrev weak_cores : List ℕ → Seating → ℕ
 weak_cores priorities seats = count_by (is_weak priorities (level_of priorities seats.ready)) seats.cores
 
 -- the lowest rank is the weakest core's
-weakest_to-least : (priorities : List ℕ) (cores : List (Option ℕ)) (n core : ℕ) → core ≤ n → rank_of priorities (running_on cores (weakest_to priorities cores n)) ≤ rank_of priorities (running_on cores core)
-weakest_to-least priorities cores zero core h = let same : core ≡ 0 = omega (arith, h) in rw same (omega arith)
-weakest_to-least priorities cores (suc n) core h =
+weakest_up_to-least : (priorities : List ℕ) (cores : List (Option ℕ)) (n core : ℕ) → core ≤ n
+    → rank_of priorities (running_on cores (weakest_up_to priorities cores n)) ≤ rank_of priorities (running_on cores core)
+weakest_up_to-least priorities cores zero core h = let same : core ≡ 0 = omega (arith, h) in rw same (omega arith)
+weakest_up_to-least priorities cores (suc n) core h =
     let rank : ℕ → ℕ = λ k. rank_of priorities (running_on cores k) in
-    let best = weakest_to priorities cores n in
+    let best = weakest_up_to priorities cores n in
     elim (leb_tells (suc (rank (suc n))) (rank best)) [
       | inl w ↦ subst (λ (b : Bool). rank (cond b (suc n) best) ≤ rank core) (sym w.0)
           (elim (cases_lt core (suc n)) [
-            | inl lt ↦ omega (arith, w.1, weakest_to-least priorities cores n core (omega (arith, lt)))
+            | inl lt ↦ omega (arith, w.1, weakest_up_to-least priorities cores n core (omega (arith, lt)))
             | inr ge ↦ let same : core ≡ suc n = omega (arith, h, ge) in rw same (omega arith)
           ])
       | inr w ↦ subst (λ (b : Bool). rank (cond b (suc n) best) ≤ rank core) (sym w.0)
           (elim (cases_lt core (suc n)) [
-            | inl lt ↦ weakest_to-least priorities cores n core (omega (arith, lt))
+            | inl lt ↦ weakest_up_to-least priorities cores n core (omega (arith, lt))
             | inr ge ↦ let same : core ≡ suc n = omega (arith, h, ge) in rw same (omega (arith, w.1))
           ])
     ]
 
 -- Where no member is above a priority, the level isn't either.
-level-le : (priorities tasks : List ℕ) (priority : ℕ) → AllByRecursion (λ task. slice_index priorities task ≤ priority) tasks → level_of priorities tasks ≤ priority + 1
+level-le : (priorities tasks : List ℕ) (priority : ℕ) → AllByRecursion (λ task. slice_index priorities task ≤ priority) tasks
+    → level_of priorities tasks ≤ priority + 1
 level-le priorities [] priority h = omega arith
 level-le priorities (first ∷ rest) priority h = omega (arith, h.0)
 
-below_displaced : (priorities tasks : List ℕ) (running : Option ℕ) (priority : ℕ) → AllByRecursion (λ task. slice_index priorities task ≤ priority) tasks → rank_of priorities running ≤ priority
+below_displaced : (priorities tasks : List ℕ) (running : Option ℕ) (priority : ℕ) → AllByRecursion (λ task. slice_index priorities task ≤ priority) tasks
+    → rank_of priorities running ≤ priority
     → AllByRecursion (λ task. slice_index priorities task ≤ priority) (with_displaced priorities tasks running)
 below_displaced priorities tasks None priority h weak = h
 below_displaced priorities tasks (Some displaced) priority h weak =
-    AllByRecursion-insert (λ task. slice_index priorities task ≤ priority) tasks (prefix_len (is_at_least priorities (slice_index priorities displaced)) tasks) displaced h (omega (arith, weak))
+    AllByRecursion-insert (λ task. slice_index priorities task ≤ priority) tasks (prefix_len (is_at_least priorities (slice_index priorities displaced)) tasks)
+    displaced h (omega (arith, weak))
 
 -- a seating that changes something
-fewer_weak : (priorities : List ℕ) (seats : Seating) (core : ℕ) → core < length seats.cores → IsInOrder priorities seats.ready → rank_of priorities (running_on seats.cores core) < level_of priorities seats.ready
+fewer_weak : (priorities : List ℕ) (seats : Seating) (core : ℕ) → core < length seats.cores → IsInOrder priorities seats.ready
+    → rank_of priorities (running_on seats.cores core) < level_of priorities seats.ready
     → weak_cores priorities (seated_on priorities seats core) + 1 ≤ weak_cores priorities seats
 fewer_weak priorities seats core there order weak = fewer seats.cores seats.ready there order weak
   where
-    fewer : (cores : List (Option ℕ)) (ready : List ℕ) → core < length cores → IsInOrder priorities ready → rank_of priorities (running_on cores core) < level_of priorities ready
-        → weak_cores priorities (seated_on priorities (record { cores = cores; ready = ready }) core) + 1 ≤ weak_cores priorities (record { cores = cores; ready = ready })
+    fewer : (cores : List (Option ℕ)) (ready : List ℕ) → core < length cores → IsInOrder priorities ready
+        → rank_of priorities (running_on cores core) < level_of priorities ready
+        → weak_cores priorities (seated_on priorities (record { cores = cores; ready = ready }) core) + 1 ≤ weak_cores priorities
+        (record { cores = cores; ready = ready })
     fewer cores [] there order weak = absurd (omega (arith, weak))
     fewer cores (first ∷ rest) there order weak =
         let priority = slice_index priorities first in
         let now = with_displaced priorities rest (running_on cores core) in
         let level = level_of priorities now in
-        let lower : level ≤ priority + 1 = level-le priorities now priority (below_displaced priorities rest (running_on cores core) priority order.0 (omega (arith, weak))) in
+        let lower : level ≤ priority + 1 =
+        level-le priorities now priority (below_displaced priorities rest (running_on cores core) priority order.0 (omega (arith, weak))) in
         let old : Option ℕ → ℕ = λ r. one_if (is_weak priorities (priority + 1) r) in
         let new : Option ℕ → ℕ = λ r. one_if (is_weak priorities level r) in
         let sum = sum_by-set old cores core (Some first) None there in
@@ -78,14 +88,18 @@ fewer_weak priorities seats core there order weak = fewer seats.cores seats.read
         omega (arith, sum, was, is, sum_by-le-sum_by new old (set cores core (Some first)) under)
 
 -- A round leaves everything where the weakest core outranks all who are ready, and else seats the head there.
-abbrev Leaves : List ℕ → Seating → Type 0
-Leaves priorities seats = (seated_once priorities seats ≡ seats) × (level_of priorities seats.ready ≤ rank_of priorities (running_on seats.cores (weakest_of priorities seats.cores)))
+abbrev RoundLeaves : List ℕ → Seating → Type 0
+RoundLeaves priorities seats =
+    (after_one_round priorities seats ≡ seats)
+    × (level_of priorities seats.ready ≤ rank_of priorities (running_on seats.cores (weakest_of priorities seats.cores)))
 
-abbrev Seats : List ℕ → Seating → Type 0
-Seats priorities seats =
-    (seated_once priorities seats ≡ seated_on priorities seats (weakest_of priorities seats.cores)) × (rank_of priorities (running_on seats.cores (weakest_of priorities seats.cores)) < level_of priorities seats.ready)
+abbrev RoundSeats : List ℕ → Seating → Type 0
+RoundSeats priorities seats =
+    (after_one_round priorities seats ≡ seated_on priorities seats (weakest_of priorities seats.cores))
+    × (rank_of priorities (running_on seats.cores (weakest_of priorities seats.cores)) < level_of priorities seats.ready)
 
-round_cases : (priorities : List ℕ) (cores : List (Option ℕ)) (ready : List ℕ) → Leaves priorities (record { cores = cores; ready = ready }) ⊎ Seats priorities (record { cores = cores; ready = ready })
+round_cases : (priorities : List ℕ) (cores : List (Option ℕ)) (ready : List ℕ)
+    → RoundLeaves priorities (record { cores = cores; ready = ready }) ⊎ RoundSeats priorities (record { cores = cores; ready = ready })
 round_cases priorities cores [] = inl (refl, omega arith)
 round_cases priorities cores (first ∷ rest) =
     let seats : Seating = record { cores = cores; ready = first ∷ rest } in
@@ -99,7 +113,8 @@ round_cases priorities cores (first ∷ rest) =
     ]
 
 -- the weakest core counts, if it is weak
-some_weak : (priorities : List ℕ) (seats : Seating) → 0 < length seats.cores → rank_of priorities (running_on seats.cores (weakest_of priorities seats.cores)) < level_of priorities seats.ready → 1 ≤ weak_cores priorities seats
+some_weak : (priorities : List ℕ) (seats : Seating) → 0 < length seats.cores
+    → rank_of priorities (running_on seats.cores (weakest_of priorities seats.cores)) < level_of priorities seats.ready → 1 ≤ weak_cores priorities seats
 some_weak priorities seats some weak =
     let core = weakest_of priorities seats.cores in
     let count : Option ℕ → ℕ = λ r. one_if (is_weak priorities (level_of priorities seats.ready) r) in
@@ -107,61 +122,70 @@ some_weak priorities seats some weak =
     omega (arith, get_or-le-sum_by count seats.cores core None (weakest_of-lt priorities seats.cores some), one)
 
 -- With no more weak cores than rounds, the last round leaves everything.
-last_round : (priorities : List ℕ) (rounds : ℕ) (seats : Seating) → 0 < length seats.cores → IsInOrder priorities seats.ready → weak_cores priorities seats ≤ rounds
-    → seated_once priorities (seated_rounds priorities rounds seats) ≡ seated_rounds priorities rounds seats
+last_round : (priorities : List ℕ) (rounds : ℕ) (seats : Seating) → 0 < length seats.cores → IsInOrder priorities seats.ready
+    → weak_cores priorities seats ≤ rounds
+    → after_one_round priorities (after_rounds priorities rounds seats) ≡ after_rounds priorities rounds seats
 last_round priorities zero seats some order few =
     elim (round_cases priorities seats.cores seats.ready) [
       | inl leaves ↦ leaves.0
       | inr takes ↦ absurd (omega (arith, few, some_weak priorities seats some takes.1))
     ]
 last_round priorities (suc rounds) seats some order few =
-    let next = seated_once priorities seats in
+    let next = after_one_round priorities seats in
     elim (round_cases priorities seats.cores seats.ready) [
-      | inl leaves ↦ let still = seated_rounds-still priorities (suc rounds) seats leaves.0 in
-          ap (seated_once priorities) still ∙ leaves.0 ∙ sym still
-      | inr takes ↦ let kept = kept_once priorities seats some in
+      | inl leaves ↦ let still = after_rounds-still priorities (suc rounds) seats leaves.0 in
+          ap (after_one_round priorities) still ∙ leaves.0 ∙ sym still
+      | inr takes ↦ let kept = SeatsKept-after_one_round priorities seats some in
           let fewer = fewer_weak priorities seats (weakest_of priorities seats.cores) (weakest_of-lt priorities seats.cores some) order takes.1 in
-          let same : weak_cores priorities next ≡ weak_cores priorities (seated_on priorities seats (weakest_of priorities seats.cores)) = ap (weak_cores priorities) takes.0 in
+          let same : weak_cores priorities next ≡ weak_cores priorities (seated_on priorities seats (weakest_of priorities seats.cores)) =
+          ap (weak_cores priorities) takes.0 in
           last_round priorities rounds next (omega (arith, kept.cores, some)) (kept.order order) (omega (arith, few, fewer, same))
     ]
 
 -- Where a round leaves everything, the weakest core outranks all who are ready.
-outranks : (priorities : List ℕ) (seats : Seating) → 0 < length seats.cores → IsInOrder priorities seats.ready → seated_once priorities seats ≡ seats
+outranks : (priorities : List ℕ) (seats : Seating) → 0 < length seats.cores → IsInOrder priorities seats.ready → after_one_round priorities seats ≡ seats
     → level_of priorities seats.ready ≤ rank_of priorities (running_on seats.cores (weakest_of priorities seats.cores))
 outranks priorities seats some order still =
     elim (round_cases priorities seats.cores seats.ready) [
       | inl leaves ↦ leaves.1
       | inr takes ↦
           let fewer = fewer_weak priorities seats (weakest_of priorities seats.cores) (weakest_of-lt priorities seats.cores some) order takes.1 in
-          let same : weak_cores priorities seats ≡ weak_cores priorities (seated_on priorities seats (weakest_of priorities seats.cores)) = ap (weak_cores priorities) (sym still ∙ takes.0) in
+          let same : weak_cores priorities seats ≡ weak_cores priorities (seated_on priorities seats (weakest_of priorities seats.cores)) =
+          ap (weak_cores priorities) (sym still ∙ takes.0) in
           absurd (omega (arith, fewer, same))
     ]
 
 all_outranked : (priorities : List ℕ) (cores : List (Option ℕ)) (ready : List ℕ) → 0 < length cores → IsInOrder priorities ready
     → level_of priorities ready ≤ rank_of priorities (running_on cores (weakest_of priorities cores))
     → All (λ task. All (λ running. slice_index priorities task < rank_of priorities running) cores) ready
-all_outranked priorities cores [] some order low = All-from_recursion (λ task. All (λ running. slice_index priorities task < rank_of priorities running) cores) [] tt
+all_outranked priorities cores [] some order low =
+    All-from_recursion (λ task. All (λ running. slice_index priorities task < rank_of priorities running) cores) [] tt
 all_outranked priorities cores (first ∷ rest) some order low =
     let top = slice_index priorities first in
-    let at_most : All (λ task. slice_index priorities task ≤ top) (first ∷ rest) = All-from_recursion (λ task. slice_index priorities task ≤ top) (first ∷ rest) (omega arith, order.0) in
+    let at_most : All (λ task. slice_index priorities task ≤ top) (first ∷ rest) =
+    All-from_recursion (λ task. slice_index priorities task ≤ top) (first ∷ rest) (omega arith, order.0) in
     All-weaker (λ task. slice_index priorities task ≤ top) (λ task. All (λ running. slice_index priorities task < rank_of priorities running) cores)
     (λ task below. All-from_get_or (λ running. slice_index priorities task < rank_of priorities running) cores None
-    (λ core there. omega (arith, below, low, weakest_to-least priorities cores (length cores - 1) core (omega (arith, there)))))
+    (λ core there. omega (arith, below, low, weakest_up_to-least priorities cores (length cores - 1) core (omega (arith, there)))))
     (first ∷ rest) at_most
 
-pub settles : SchedulingSettles
-settles priorities s some order =
+pub scheduling_settles : SchedulingSettles
+scheduling_settles priorities s some order =
     let seats = seating_of s in
-    let end = seated_rounds priorities (length s.cores) seats in
-    let kept = kept_rounds priorities (length s.cores) seats some in
-    let still : seated_once priorities end ≡ end = last_round priorities (length s.cores) seats some order (count_by-le-length (is_weak priorities (level_of priorities s.ready)) s.cores) in
+    let end = after_rounds priorities (length s.cores) seats in
+    let kept = SeatsKept-after_rounds priorities (length s.cores) seats some in
+    let still : after_one_round priorities end ≡ end =
+    last_round priorities (length s.cores) seats some order (count_by-le-length (is_weak priorities (level_of priorities s.ready)) s.cores) in
     record {
-      settled_now = all_outranked priorities end.cores end.ready (omega (arith, kept.cores, some)) (kept.order order) (outranks priorities end (omega (arith, kept.cores, some)) (kept.order order) still);
+      settled_now =
+          all_outranked priorities end.cores end.ready (omega (arith, kept.cores, some)) (kept.order order)
+          (outranks priorities end (omega (arith, kept.cores, some)) (kept.order order) still);
       stays = settled_in-still priorities (length end.cores) (settled priorities s) still;
     }
 
--- a task that no running one is outranked by, once the head of the ready list runs in the place of its equal
-below_all : (priorities : List ℕ) (seats : Seating) (core task : ℕ) → slice_index priorities task ≤ slice_index priorities (head_of seats.ready) → All (λ running. slice_index priorities task < rank_of priorities running) seats.cores
+-- a task that no running one is outranked by, once the head of the ready list runs instead of its equal
+below_all : (priorities : List ℕ) (seats : Seating) (core task : ℕ) → slice_index priorities task ≤ slice_index priorities (head_of seats.ready)
+    → All (λ running. slice_index priorities task < rank_of priorities running) seats.cores
     → All (λ running. slice_index priorities task < rank_of priorities running) (set seats.cores core (Some (head_of seats.ready)))
 below_all priorities seats core task low all =
     All-set (λ running. slice_index priorities task < rank_of priorities running) seats.cores core (Some (head_of seats.ready)) (omega (arith, low)) all
@@ -172,22 +196,30 @@ displaced_below priorities cores ready None P all one = all
 displaced_below priorities cores ready (Some task) P all one = All-insert P ready _ task all (one task refl)
 
 -- Taking turns among equals leaves a settled state settled.
-rotated_settled : (priorities : List ℕ) (cores : List (Option ℕ)) (ready : List ℕ) (core : ℕ) → core < length cores → 0 < length ready → rank_of priorities (running_on cores core) ≡ slice_index priorities (head_of ready) + 1
+rotated_settled : (priorities : List ℕ) (cores : List (Option ℕ)) (ready : List ℕ) (core : ℕ) → core < length cores → 0 < length ready
+    → rank_of priorities (running_on cores core) ≡ slice_index priorities (head_of ready) + 1
     → All (λ task. All (λ running. slice_index priorities task < rank_of priorities running) cores) ready
-    → All (λ task. All (λ running. slice_index priorities task < rank_of priorities running) (set cores core (Some (head_of ready)))) (with_displaced priorities (drop 1 ready) (running_on cores core))
+    → All (λ task. All (λ running. slice_index priorities task < rank_of priorities running) (set cores core (Some (head_of ready))))
+    (with_displaced priorities (drop 1 ready) (running_on cores core))
 rotated_settled priorities cores [] core there some equal all = absurd (omega (arith, some))
 rotated_settled priorities cores (head ∷ rest) core there some equal all =
     let seats : Seating = record { cores = cores; ready = head ∷ rest } in
     let Outranked : ℕ → Type 0 = λ task. All (λ running. slice_index priorities task < rank_of priorities running) cores in
     let Below : ℕ → Type 0 = λ task. All (λ running. slice_index priorities task < rank_of priorities running) (set cores core (Some head)) in
     let top : Outranked head = All-get_or Outranked (head ∷ rest) 0 0 (omega arith) all in
-    let behind : All Outranked rest = All-drop Outranked 1 (head ∷ rest) all in
-    let others : All Below rest = All-weaker Outranked Below (λ task above. below_all priorities seats core task (omega (arith, All-get_or (λ running. slice_index priorities task < rank_of priorities running) cores core None there above, equal)) above) rest behind in
+    let later : All Outranked rest = All-drop Outranked 1 (head ∷ rest) all in
+    let others : All Below rest =
+    All-weaker Outranked Below
+    (λ task above. below_all priorities seats core task
+    (omega (arith, All-get_or (λ running. slice_index priorities task < rank_of priorities running) cores core None there above, equal)) above) rest later in
     displaced_below priorities cores rest (running_on cores core) Below others
     (λ task e. let same : slice_index priorities task + 1 ≡ slice_index priorities head + 1 = sym (ap (rank_of priorities) e) ∙ equal in
-    below_all priorities seats core task (omega (arith, same)) (All-weaker (λ running. slice_index priorities head < rank_of priorities running) (λ running. slice_index priorities task < rank_of priorities running) (λ running above. omega (arith, same, above)) cores top))
+    below_all priorities seats core task (omega (arith, same))
+    (All-weaker (λ running. slice_index priorities head < rank_of priorities running) (λ running. slice_index priorities task < rank_of priorities running)
+    (λ running above. omega (arith, same, above)) cores top))
 
-pub stays_settled : (priorities : List ℕ) (core : ℕ) (s : Snapshot) → core < length s.cores → IsSettled priorities s → IsSettled priorities (rotated priorities core s)
+pub stays_settled : (priorities : List ℕ) (core : ℕ) (s : Snapshot) → core < length s.cores → IsSettled priorities s
+    → IsSettled priorities (rotated priorities core s)
 stays_settled priorities core s there settled_now =
     let seats = seating_of s in
     let shares = nat_eq (rank_of priorities (running_on seats.cores core)) (slice_index priorities (head_of seats.ready) + 1) in

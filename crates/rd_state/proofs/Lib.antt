@@ -1,3 +1,4 @@
+-- The files of lemmas of rd_state.
 pub mod SizeLaws
 pub mod UndoLaws
 pub mod EditLaws

@@ -1,5 +1,5 @@
--- The state at boot: every task is ready at its first instruction, every object is empty, and then the
--- scheduler runs.
+-- The state at boot: every task is ready at its first instruction, every object is empty, and
+-- then the scheduler runs.
 use Rattle.std.specs.Prelude.{ℕ, zero, suc, List, [], length, map, replicate, None}
 use Rattle.rd_notify.specs.Entries.{idle_entry}
 use Rattle.rd_queue.specs.QueueSnapshot.{QueueSnapshot}
@@ -11,13 +11,19 @@ use Rattle.rd_wait.specs.Joined.{joined}
 use Rattle.rd_state.specs.Snapshot.{Snapshot, TaskSnapshot}
 use Rattle.rd_state.specs.Settled.{settled}
 
--- a task at its first instruction, with as many notification entries
+-- a task at its first instruction, with that many notification entries
 abbrev pub fresh_task : ℕ → TaskSnapshot
-fresh_task notes = record { pc = 0; registers = replicate 8 0; bytes = []; phase = Run; entries = replicate notes idle_entry }
+fresh_task notes = record {
+  pc = 0;
+  registers = replicate 8 0;
+  bytes = [];
+  phase = Run;
+  entries = replicate notes idle_entry;
+}
 
--- a queue with nothing in it, at which so many tasks could wait
-abbrev pub new_queue : ℕ → QueueShape → QueueSnapshot
-new_queue tasks shape = empty_queue shape.capacity shape.item_size tasks
+-- a queue with nothing in it, at which that many tasks can wait
+abbrev pub queue_of_shape : ℕ → QueueShape → QueueSnapshot
+queue_of_shape tasks shape = empty_queue shape.capacity shape.item_size tasks
 
 -- the first n tasks, joined by rising number
 abbrev pub all_joined : List ℕ → ℕ → List ℕ
@@ -31,7 +37,7 @@ before_scheduling app = record {
   cores = replicate app.cores None;
   ready = all_joined (priorities_of app) (length app.scripts);
   tasks = replicate (length app.scripts) (fresh_task app.notes);
-  queues = map (new_queue (length app.scripts)) app.queues;
+  queues = map (queue_of_shape (length app.scripts)) app.queues;
 }
 
 abbrev pub boot_of : Application → Snapshot

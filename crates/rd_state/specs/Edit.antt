@@ -1,4 +1,5 @@
--- A step in the middle: the state now, the state that its record leads back to, and the record's weight.
+-- A step in the middle: the state now, the state that its record leads back to, and the weight of
+-- the record.
 use Rattle.std.specs.Prelude.{ℕ, ◌≡◌, ◌+◌, ◌≤◌, length}
 use Rattle.rd_state.specs.Snapshot.{Snapshot}
 
@@ -7,14 +8,14 @@ pub record Edit : Type 0 where
   pub base : Snapshot
   pub weight : ℕ
 
--- as many cores, tasks and queues
+-- the same numbers of cores, tasks and queues
 pub record SameShape (old new : Snapshot) : Type 0 where
   pub cores : length new.cores ≡ length old.cores
   pub tasks : length new.tasks ≡ length old.tasks
   pub queues : length new.queues ≡ length old.queues
 
 -- The state has become the target, at that cost at the most; the record leads back to where it did.
-pub record Comes (old new : Edit) (target : Snapshot) (cost : ℕ) : Type 0 where
+pub record Reaches (old new : Edit) (target : Snapshot) (cost : ℕ) : Type 0 where
   pub now : new.now ≡ target
   pub base : new.base ≡ old.base
   pub weight : new.weight ≤ old.weight + cost

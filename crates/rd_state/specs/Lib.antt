@@ -1,3 +1,4 @@
+-- The files of definitions of rd_state.
 pub mod Snapshot
 pub mod Waiting
 pub mod Change

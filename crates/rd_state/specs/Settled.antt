@@ -1,6 +1,8 @@
--- Scheduling: who runs, once the ready list or a core has changed. A ready task takes an idle core, or
--- displaces a running task of lower priority.
-use Rattle.std.specs.Prelude.{ℕ, ◌≡◌, zero, suc, ◌+◌, ◌-◌, ◌<◌, All, Bool, ◌&&◌, List, length, slice_index, slice_index_or, slice_set, drop, Option, Some, None, nat_eq, nat_lt, nat_le, if◌then◌else◌}
+-- Scheduling: who runs, once the ready list or a core has changed. A ready task takes an idle core,
+-- or displaces a running task of lower priority.
+use Rattle.std.specs.Prelude.{ℕ, ◌≡◌, zero, suc, ◌+◌, ◌-◌, ◌<◌, All, Bool, ◌&&◌, List, length}
+use Rattle.std.specs.Prelude.{slice_index, slice_index_or, slice_set, drop, Option, Some}
+use Rattle.std.specs.Prelude.{None, nat_eq, nat_lt, nat_le, if◌then◌else◌}
 use Rattle.rd_wait.specs.Joined.{joined, IsInOrder}
 use Rattle.rd_state.specs.Snapshot.{Snapshot}
 
@@ -18,21 +20,27 @@ abbrev pub running_on : List (Option ℕ) → ℕ → Option ℕ
 running_on cores core = slice_index_or cores core None
 
 -- the easiest to take of core 0 and the n after it, and the lowest of those where several are
-abbrev pub weakest_to : List ℕ → List (Option ℕ) → ℕ → ℕ
-weakest_to priorities cores zero = 0
-weakest_to priorities cores (suc n) =
-    let best = weakest_to priorities cores n in
-    if nat_lt (rank_of priorities (running_on cores (suc n))) (rank_of priorities (running_on cores best)) then suc n else best
+abbrev pub weakest_up_to : List ℕ → List (Option ℕ) → ℕ → ℕ
+weakest_up_to priorities cores zero = 0
+weakest_up_to priorities cores (suc n) =
+    let best = weakest_up_to priorities cores n in
+    if nat_lt (rank_of priorities (running_on cores (suc n)))
+    (rank_of priorities (running_on cores best))
+    then suc n
+    else best
 
 abbrev pub weakest_of : List ℕ → List (Option ℕ) → ℕ
-weakest_of priorities cores = weakest_to priorities cores (length cores - 1)
+weakest_of priorities cores = weakest_up_to priorities cores (length cores - 1)
 
 abbrev pub head_of : List ℕ → ℕ
 head_of ready = slice_index ready 0
 
 -- Is there a head of the ready list, and does it outrank the task on that core?
 abbrev pub takes_core : List ℕ → Seating → ℕ → Bool
-takes_core priorities seats core = nat_lt 0 (length seats.ready) && nat_le (rank_of priorities (running_on seats.cores core)) (slice_index priorities (head_of seats.ready))
+takes_core priorities seats core =
+    nat_lt 0 (length seats.ready)
+    && nat_le (rank_of priorities (running_on seats.cores core))
+    (slice_index priorities (head_of seats.ready))
 
 -- the ready list with the task that was displaced, if one was, joined to it
 abbrev pub with_displaced : List ℕ → List ℕ → Option ℕ → List ℕ
@@ -47,40 +55,54 @@ seated_on priorities seats core = record {
 }
 
 -- one round: the head takes the weakest core, if it can
-abbrev pub seated_once : List ℕ → Seating → Seating
-seated_once priorities seats =
+abbrev pub after_one_round : List ℕ → Seating → Seating
+after_one_round priorities seats =
     let core = weakest_of priorities seats.cores in
     if takes_core priorities seats core then seated_on priorities seats core else seats
 
-abbrev pub seated_rounds : List ℕ → ℕ → Seating → Seating
-seated_rounds priorities zero seats = seats
-seated_rounds priorities (suc rounds) seats = seated_rounds priorities rounds (seated_once priorities seats)
+-- that many rounds, one after the other
+abbrev pub after_rounds : List ℕ → ℕ → Seating → Seating
+after_rounds priorities zero seats = seats
+after_rounds priorities (suc rounds) seats =
+    after_rounds priorities rounds (after_one_round priorities seats)
 
--- Who was seated outranks all who are still ready, so each core changes hands once at the most: as many
--- rounds as there are cores are enough.
+-- who runs and who is ready in a state, and the state with another seating
 abbrev pub seating_of : Snapshot → Seating
 seating_of s = record { cores = s.cores; ready = s.ready }
 
 abbrev pub with_seats : Snapshot → Seating → Snapshot
 with_seats s seats = record s { cores = seats.cores; ready = seats.ready }
 
+-- the state after that many rounds
 abbrev pub settled_in : List ℕ → ℕ → Snapshot → Snapshot
-settled_in priorities rounds s = with_seats s (seated_rounds priorities rounds (seating_of s))
+settled_in priorities rounds s = with_seats s (after_rounds priorities rounds (seating_of s))
 
+-- Who was seated outranks all who are still ready, so each core changes hands once at the most: as
+-- many rounds as there are cores are enough.
 abbrev pub settled : List ℕ → Snapshot → Snapshot
 settled priorities s = settled_in priorities (length s.cores) s
 
 -- Does the head of the ready list have the priority of the task on the core?
 abbrev pub shares_core : List ℕ → Seating → ℕ → Bool
-shares_core priorities seats core = nat_lt 0 (length seats.ready) && nat_eq (rank_of priorities (running_on seats.cores core)) (slice_index priorities (head_of seats.ready) + 1)
+shares_core priorities seats core =
+    nat_lt 0 (length seats.ready)
+    && nat_eq (rank_of priorities (running_on seats.cores core))
+    (slice_index priorities (head_of seats.ready) + 1)
 
--- Tasks of one priority take turns: the head then takes the core, and who ran there joins the ready list.
+-- Tasks of one priority take turns: the head then takes the core, and the task that ran there joins
+-- the ready list.
 abbrev pub rotated : List ℕ → ℕ → Snapshot → Snapshot
-rotated priorities core s = with_seats s (if shares_core priorities (seating_of s) core then seated_on priorities (seating_of s) core else seating_of s)
+rotated priorities core s =
+    with_seats s
+    (if shares_core priorities (seating_of s) core
+    then seated_on priorities (seating_of s) core
+    else seating_of s)
 
 -- No ready task outranks a running one, and no core is idle while a task is ready.
 abbrev pub IsSettled : List ℕ → Snapshot → Type 0
-IsSettled priorities s = All (λ task. All (λ running. slice_index priorities task < rank_of priorities running) s.cores) s.ready
+IsSettled priorities s =
+    All (λ task. All (λ running. slice_index priorities task < rank_of priorities running) s.cores)
+    s.ready
 
 -- Scheduling ends in a settled state, and schedules nothing further there.
 pub record Settles (priorities : List ℕ) (s : Snapshot) : Type 0 where
@@ -88,4 +110,6 @@ pub record Settles (priorities : List ℕ) (s : Snapshot) : Type 0 where
   pub stays : settled priorities (settled priorities s) ≡ settled priorities s
 
 abbrev pub SchedulingSettles : Type 0
-SchedulingSettles = (priorities : List ℕ) (s : Snapshot) → 0 < length s.cores → IsInOrder priorities s.ready → Settles priorities s
+SchedulingSettles =
+    (priorities : List ℕ) (s : Snapshot) → 0 < length s.cores → IsInOrder priorities s.ready
+    → Settles priorities s

@@ -26,9 +26,11 @@ IsSizedPhase queues (Wait place deadline) = IsPlace queues place × IsDeadline d
 IsSizedPhase queues Ended = Unit {0}
 
 abbrev pub IsSizedQueue : QueueSnapshot → Type 0
-IsSizedQueue queue = (length queue.items ≤ queue.capacity) × All (λ item. length item ≡ queue.item_size) queue.items × (queue.item_size ≤ 64)
+IsSizedQueue queue =
+    (length queue.items ≤ queue.capacity) × All (λ item. length item ≡ queue.item_size) queue.items
+    × (queue.item_size ≤ 64)
 
--- Those who wait are tasks, and no more than there are.
+-- Those that wait are tasks, and no more than there are.
 abbrev pub IsSizedList : ℕ → List ℕ → Type 0
 IsSizedList tasks waiting = All (λ task. task < tasks) waiting × (length waiting ≤ tasks)
 

@@ -5,7 +5,8 @@ use Rattle.rd_queue.specs.QueueSnapshot.{QueueSnapshot}
 use Rattle.rd_script.specs.declared.phase.Phase.{Phase}
 use Rattle.rd_script.specs.declared.phase.Phase.TheVariants.{Run}
 
--- a task: its place in its script, its 8 registers, its data, what it does, its notification entries
+-- a task: the number of the instruction that comes next, its 8 registers, its data, what it does,
+-- its notification entries
 pub record TaskSnapshot : Type 0 where
   pub pc : ℕ
   pub registers : List ℕ
@@ -13,8 +14,8 @@ pub record TaskSnapshot : Type 0 where
   pub phase : Phase
   pub entries : List Entry
 
--- Cores, tasks and queues go by number. A core has its task, or none when it is idle. The ready list
--- has its first task first. Two states are the same where their snapshots are equal.
+-- Cores, tasks and queues go by number. A core has its task, or none when it is idle. The ready
+-- list has its first task first. Two states are the same where their snapshots are equal.
 pub record Snapshot : Type 0 where
   pub tick : ℕ
   pub turn : ℕ
@@ -32,7 +33,14 @@ abbrev pub no_task : TaskSnapshot
 no_task = record { pc = 0; registers = []; bytes = []; phase = Run; entries = [] }
 
 abbrev pub no_queue : QueueSnapshot
-no_queue = record { items = []; capacity = 0; item_size = 0; receiving = []; sending = []; tasks = 0 }
+no_queue = record {
+  items = [];
+  capacity = 0;
+  item_size = 0;
+  receiving = [];
+  sending = [];
+  tasks = 0;
+}
 
 abbrev pub task_at : Snapshot → ℕ → TaskSnapshot
 task_at s task = slice_index_or s.tasks task no_task

@@ -1,5 +1,6 @@
 -- What holds of a state between moves, for an application.
-use Rattle.std.specs.Prelude.{ℕ, ◌≡◌, ◌≢◌, ◌+◌, ◌<◌, Bool, true, false, List, length, map, All, count_by, nat_eq, nat_lt, if◌then◌else◌, Option, Some, None, IsSome}
+use Rattle.std.specs.Prelude.{ℕ, ◌≡◌, ◌≢◌, ◌+◌, ◌<◌, Bool, true, false, List, length, map, All}
+use Rattle.std.specs.Prelude.{count_by, nat_eq, nat_lt, if◌then◌else◌, Option, Some, None, IsSome}
 use Rattle.rd_notify.specs.declared.notes.Entry.{Entry}
 use Rattle.rd_notify.specs.declared.notes.EntryState.TheVariants.{Waiting}
 use Rattle.rd_queue.specs.QueueSnapshot.{QueueSnapshot}
@@ -24,42 +25,46 @@ pub record InLimits (app : Application) (s : Snapshot) : Type 0 where
   pub sized : IsSized s
   pub cores : length s.cores ≡ app.cores
   pub tasks : length s.tasks ≡ length app.scripts
-  pub places : (task : ℕ) → task < length s.tasks → (task_at s task).pc < length (code_of app task)
+  pub pcs : (task : ℕ) → task < length s.tasks → (task_at s task).pc < length (code_of app task)
   pub entries : All (λ task. length task.entries ≡ app.notes) s.tasks
   pub queues : map shape_of s.queues ≡ app.queues
 
 -- how often a task stands in a list, and on cores
-abbrev pub times : ℕ → List ℕ → ℕ
-times task tasks = count_by (nat_eq task) tasks
+abbrev pub times_in_list : ℕ → List ℕ → ℕ
+times_in_list task tasks = count_by (nat_eq task) tasks
 
 abbrev pub is_on : ℕ → Option ℕ → Bool
 is_on task None = false
 is_on task (Some running) = nat_eq task running
 
-abbrev pub times_on : ℕ → List (Option ℕ) → ℕ
-times_on task cores = count_by (is_on task) cores
+abbrev pub times_on_cores : ℕ → List (Option ℕ) → ℕ
+times_on_cores task cores = count_by (is_on task) cores
 
--- on how many cores or in how many places of the ready list a task of this phase stands
-abbrev pub places_to_run : Phase → ℕ
-places_to_run Run = 1
-places_to_run (Again deadline) = 1
-places_to_run (Wait place deadline) = 0
-places_to_run Ended = 0
+-- how often a task of this phase stands on a core or in the ready list
+abbrev pub seats_to_run : Phase → ℕ
+seats_to_run Run = 1
+seats_to_run (Again deadline) = 1
+seats_to_run (Wait place deadline) = 0
+seats_to_run Ended = 0
 
 -- A task that can run is on one core or once in the ready list, not both; any other is in neither.
 abbrev pub PlacedOnce : Snapshot → Type 0
-PlacedOnce s = (task : ℕ) → task < length s.tasks → times task s.ready + times_on task s.cores ≡ places_to_run (task_at s task).phase
+PlacedOnce s =
+    (task : ℕ) → task < length s.tasks
+    → times_in_list task s.ready + times_on_cores task s.cores ≡ seats_to_run (task_at s task).phase
 
 -- how often a task of this phase stands in the list of a place
-abbrev pub waits_at : Place → Phase → ℕ
-waits_at place Run = 0
-waits_at place (Again deadline) = 0
-waits_at place (Wait at deadline) = if same_place place at then 1 else 0
-waits_at place Ended = 0
+abbrev pub times_waiting_at : Place → Phase → ℕ
+times_waiting_at place Run = 0
+times_waiting_at place (Again deadline) = 0
+times_waiting_at place (Wait other deadline) = if same_place place other then 1 else 0
+times_waiting_at place Ended = 0
 
 -- A task stands in the list of each place as often as its phase says.
 abbrev pub WaitsAtPlaces : Snapshot → Type 0
-WaitsAtPlaces s = (place : Place) (task : ℕ) → task < length s.tasks → times task (waiting_at s place) ≡ waits_at place (task_at s task).phase
+WaitsAtPlaces s =
+    (place : Place) (task : ℕ) → task < length s.tasks
+    → times_in_list task (waiting_at s place) ≡ times_waiting_at place (task_at s task).phase
 
 -- the place where a task waits for an instruction, if that is a call with a block time
 abbrev pub place_of_call : Instr → Option Place
@@ -67,15 +72,18 @@ place_of_call (instr.Send queue wait) = Some (Send queue)
 place_of_call (instr.Receive queue wait) = Some (Receive queue)
 place_of_call _ = None
 
--- A task that tries again stands at a call with a block time, and one that waits, at the call of its place.
-abbrev pub StandsAtCall : Phase → Instr → Type 0
-StandsAtCall Run instr = Unit {0}
-StandsAtCall (Again deadline) instr = IsSome (place_of_call instr)
-StandsAtCall (Wait place deadline) instr = place_of_call instr ≡ Some place
-StandsAtCall Ended instr = Unit {0}
+-- A task that tries again stands at a call with a block time. One that waits stands at the call of
+-- its place.
+abbrev pub PhaseFitsCall : Phase → Instr → Type 0
+PhaseFitsCall Run instr = Unit {0}
+PhaseFitsCall (Again deadline) instr = IsSome (place_of_call instr)
+PhaseFitsCall (Wait place deadline) instr = place_of_call instr ≡ Some place
+PhaseFitsCall Ended instr = Unit {0}
 
-abbrev pub StandAtCalls : Application → Snapshot → Type 0
-StandAtCalls app s = (task : ℕ) → task < length s.tasks → StandsAtCall (task_at s task).phase (instr_at app task (task_at s task).pc)
+abbrev pub PhasesFitScripts : Application → Snapshot → Type 0
+PhasesFitScripts app s =
+    (task : ℕ) → task < length s.tasks
+    → PhaseFitsCall (task_at s task).phase (instr_at app task (task_at s task).pc)
 
 -- Is a deadline none, or a tick to come?
 abbrev pub is_ahead : ℕ → Option ℕ → Bool
@@ -83,14 +91,15 @@ is_ahead tick None = true
 is_ahead tick (Some deadline) = nat_lt tick deadline
 
 -- A task waits for as long as its deadline is ahead.
-abbrev pub WaitsAhead : ℕ → Phase → Type 0
-WaitsAhead tick Run = Unit {0}
-WaitsAhead tick (Again deadline) = Unit {0}
-WaitsAhead tick (Wait place deadline) = is_ahead tick deadline ≡ true
-WaitsAhead tick Ended = Unit {0}
+abbrev pub HasTimeLeft : ℕ → Phase → Type 0
+HasTimeLeft tick Run = Unit {0}
+HasTimeLeft tick (Again deadline) = Unit {0}
+HasTimeLeft tick (Wait place deadline) = is_ahead tick deadline ≡ true
+HasTimeLeft tick Ended = Unit {0}
 
-abbrev pub WaitAhead : Snapshot → Type 0
-WaitAhead s = (task : ℕ) → task < length s.tasks → WaitsAhead s.tick (task_at s task).phase
+abbrev pub WaitersHaveTimeLeft : Snapshot → Type 0
+WaitersHaveTimeLeft s =
+    (task : ℕ) → task < length s.tasks → HasTimeLeft s.tick (task_at s task).phase
 
 -- Each list of tasks is in priority order.
 pub record ListsInOrder (priorities : List ℕ) (s : Snapshot) : Type 0 where
@@ -106,6 +115,6 @@ pub record IsValid (app : Application) (s : Snapshot) : Type 0 where
   pub placed_once : PlacedOnce s
   pub waiting_lists : ListsInOrder (priorities_of app) s
   pub places : WaitsAtPlaces s
-  pub calls : StandAtCalls app s
-  pub deadlines : WaitAhead s
+  pub calls : PhasesFitScripts app s
+  pub deadlines : WaitersHaveTimeLeft s
   pub entries : All (λ task. All IsNotWaiting task.entries) s.tasks

@@ -2,7 +2,7 @@
 use Rattle.std.specs.Prelude.{ℕ, ◌<◌, Bool, false, List, length, nat_eq, slice_set}
 use Rattle.rd_queue.specs.declared.waiting_list.WaitingList.TheVariants.{Receiving, Sending}
 use Rattle.rd_queue.specs.QueueSnapshot.{QueueSnapshot}
-use Rattle.rd_queue.specs.Queues.{waiting_in, with_waiting}
+use Rattle.rd_queue.specs.Queues.{tasks_in_list, with_waiting}
 use Rattle.rd_script.specs.declared.phase.Place.{Place}
 use Rattle.rd_script.specs.declared.phase.Place.TheVariants.{Receive, Send}
 use Rattle.rd_state.specs.Snapshot.{Snapshot, queue_at}
@@ -24,13 +24,15 @@ same_place (Send queue) (Send other) = nat_eq queue other
 
 -- the tasks that wait at a place, the first to be served first
 abbrev pub waiting_at : Snapshot → Place → List ℕ
-waiting_at s (Receive queue) = waiting_in Receiving (queue_at s queue)
-waiting_at s (Send queue) = waiting_in Sending (queue_at s queue)
+waiting_at s (Receive queue) = tasks_in_list Receiving (queue_at s queue)
+waiting_at s (Send queue) = tasks_in_list Sending (queue_at s queue)
 
--- the queues, once these tasks have taken the place of those that waited at a place
+-- the queues, once these tasks wait at a place and no others
 abbrev pub queues_then : Snapshot → Place → List ℕ → List QueueSnapshot
-queues_then s (Receive queue) tasks = slice_set s.queues queue (with_waiting Receiving tasks (queue_at s queue))
-queues_then s (Send queue) tasks = slice_set s.queues queue (with_waiting Sending tasks (queue_at s queue))
+queues_then s (Receive queue) tasks =
+    slice_set s.queues queue (with_waiting Receiving tasks (queue_at s queue))
+queues_then s (Send queue) tasks =
+    slice_set s.queues queue (with_waiting Sending tasks (queue_at s queue))
 
 -- the state with these tasks at a place, and none of those that waited there
 abbrev pub with_waiting_at : Snapshot → Place → List ℕ → Snapshot

@@ -1,7 +1,9 @@
+//! The state at boot.
+
 ghost use Rattle.std.specs.Prelude.{◌≡◌, ◌<◌, ◌≤◌, length, map, replicate, All, IfOk};
 ghost use Rattle.rd_notify.specs.Entries.{idle_entry};
 ghost use Rattle.rd_script.specs.Application.{IsQueueShape, priorities_of};
-ghost use Rattle.rd_state.specs.Boot.{all_joined, boot_of, fresh_task, new_queue};
+ghost use Rattle.rd_state.specs.Boot.{all_joined, boot_of, fresh_task, queue_of_shape};
 ghost use Rattle.rd_state.specs.Settled.{IsSettled};
 ghost use Rattle.rd_state.specs.Valid.{IsValid};
 
@@ -14,7 +16,7 @@ use rd_script::app::{App, QueueShape};
 use rd_wait::prio_list::PrioList;
 use std::alloc::Global;
 
-// As many tasks at their first instruction, each with as many notification entries.
+// `count` tasks at their first instruction, each with `notes` notification entries.
 pub(crate) fn new_tasks(alloc: Global, count: usize, notes: usize) -> Result<Vec<Task>, NoMemory>
     requires { notes ≤ 4 }
     ensures { IfOk result (λ tasks. tasks.items ≡ replicate count (fresh_task notes)) }
@@ -35,20 +37,20 @@ pub(crate) fn all_ready(alloc: Global, priorities: &[u8]) -> Result<PrioList, No
 {
     let mut ready = PrioList::new(alloc, priorities.len())?;
     for task in 0..priorities.len() {
-        let place = ready.place_of(priorities, priorities[task]);
-        ready.insert_at(place, task);
+        let index = ready.index_for(priorities, priorities[task]);
+        ready.insert_at(index, task);
     }
     Ok(ready)
 }
 
-// The queues, empty, each with room for as many tasks that wait.
+// Empty queues of these shapes, each with room for `tasks` tasks in each waiting list.
 pub(crate) fn new_queues(
     alloc: Global,
     shapes: &[QueueShape],
     tasks: usize,
 ) -> Result<Vec<Queue>, NoMemory>
     requires { All IsQueueShape shapes.now }
-    ensures { IfOk result (λ queues. queues.items ≡ map (new_queue tasks) shapes.now) }
+    ensures { IfOk result (λ queues. queues.items ≡ map (queue_of_shape tasks) shapes.now) }
 {
     let mut queues = Vec::with_capacity(alloc, shapes.len())?;
     for shape in shapes {
@@ -59,8 +61,8 @@ pub(crate) fn new_queues(
 }
 
 impl State {
-    /// The state at boot: every task ready at its first instruction, every object empty, and then scheduled
-    /// (`vTaskStartScheduler`). All memory that the state needs is taken here.
+    /// The state at boot: every task ready at its first instruction, every object empty, and then
+    /// scheduled (`vTaskStartScheduler`). All memory that the state needs is taken here.
     pub fn boot(alloc: Global, app: &App) -> Result<State, NoMemory>
         ensures state { IfOk result (λ state. state ≡ boot_of app.now) }
         ensures valid { IfOk result (λ state. IsValid app.now state) }

@@ -1,3 +1,5 @@
+//! The primitive changes.
+
 ghost use Rattle.std.specs.Prelude.{◌≡◌};
 ghost use Rattle.rd_state.specs.Change.{cost_of};
 
@@ -5,7 +7,7 @@ use crate::saved::SavedBytes;
 use rd_script::phase::{Phase, Place};
 
 /// A primitive change of the state: all that a move does is made of these, and each has an inverse
-/// among them. Tasks, cores, queues and registers go by number, places count from the front.
+/// among them. Tasks, cores, queues and registers go by number, an index counts from the front.
 #[derive(Drop)]
 pub enum Change {
     /// It is this tick.
@@ -42,25 +44,25 @@ pub enum Change {
         task: usize,
         bytes: SavedBytes,
     },
-    /// The task is put into the ready list at the place.
+    /// The task is put into the ready list at the index.
     InsReady {
-        place: usize,
+        index: usize,
         task: usize,
     },
-    /// The task at the place leaves the ready list.
+    /// The task at the index leaves the ready list.
     DelReady {
-        place: usize,
+        index: usize,
     },
-    /// The task is put into the list of those that wait at the place.
+    /// The task is put into the list of those that wait at the place, at the index.
     InsWait {
         place: Place,
-        at: usize,
+        index: usize,
         task: usize,
     },
-    /// The task that stands there leaves the list of those that wait at the place.
+    /// The task at the index leaves the list of those that wait at the place.
     DelWait {
         place: Place,
-        at: usize,
+        index: usize,
     },
     /// The item goes to the queue's back.
     PutBack {

@@ -1,8 +1,12 @@
-ghost use Rattle.std.specs.Prelude.{◌≡◌, ◌+◌, ◌*◌, ◌<◌, length, slice_index, Ok, Option, IfSome, IfOk, OnOk, OnErr};
+//! A step in the middle: the state and the record of what was changed.
+
+ghost use Rattle.std.specs.Prelude.{◌≡◌, ◌+◌, ◌*◌, ◌<◌, length, slice_index};
+ghost use Rattle.std.specs.Prelude.{Ok, Option, IfSome, IfOk, OnOk, OnErr};
 ghost use Rattle.rd_wait.specs.Joined.{joined};
 ghost use Rattle.rd_state.specs.Change.{applied, inverse_of, cost_of, weight_of, Fits};
-ghost use Rattle.rd_state.specs.Edit.{Comes};
-ghost use Rattle.rd_state.specs.Settled.{settled, settled_in, weakest_of, rank_of, seated_once, seating_of};
+ghost use Rattle.rd_state.specs.Edit.{Reaches};
+ghost use Rattle.rd_state.specs.Settled.{settled, settled_in, weakest_of, rank_of};
+ghost use Rattle.rd_state.specs.Settled.{after_one_round, seating_of};
 ghost use Rattle.rd_state.specs.Sizes.{IsTaskOrIdle};
 ghost use Rattle.rd_state.specs.Undoing.{undone, CanUndo};
 
@@ -13,8 +17,8 @@ use crate::undo::{Undo, act};
 use std::alloc::Global;
 use std::marker::Model;
 
-/// A step in the middle: the state, which it owns, and the record of what was changed so far. The rules of
-/// the kernel are written over it. It ends in `commit` or in `roll_back`.
+/// A step in the middle: the state, which it owns, and the record of what was changed so far. The
+/// rules of the kernel are written over it. It ends in `commit` or in `roll_back`.
 pub struct Editing {
     state: State,
     undo: Undo,
@@ -28,7 +32,11 @@ impl Model for Editing {
     ghost use Rattle.rd_state.specs.Undoing.{undone, CanUndo};
     ghost use Rattle.rd_state.specs.Change.{weight_of};
 
-    ghost view = { λ e. record { now = e.state; base = undone e.state e.undo; weight = weight_of e.undo } };
+    ghost view = { λ e. record {
+      now = e.state;
+      base = undone e.state e.undo;
+      weight = weight_of e.undo;
+    } };
 
     ghost invariant = { λ e. CanUndo e.state e.undo };
 }
@@ -51,10 +59,11 @@ impl Editing {
         &self.state
     }
 
-    /// Makes a change and records what undoes it. Where there is no memory for that, nothing has changed.
+    /// Makes a change and records what undoes it. Where there is no
+    /// memory for that, nothing has changed.
     pub fn change(&mut self, change: Change) -> Result<(), NoMemory>
         requires { Fits self.old.now change }
-        ensures ok { OnOk result (Comes self.old self.new (applied self.old.now change)
+        ensures ok { OnOk result (Reaches self.old self.new (applied self.old.now change)
             (cost_of (inverse_of self.old.now change))) }
         ensures err { OnErr result (self.new ≡ self.old) }
     {
@@ -62,7 +71,7 @@ impl Editing {
         act(&mut self.state, &mut self.undo, change)
     }
 
-    /// Ends the step: the state goes to its place, and the record is handed out.
+    /// Ends the step: the state goes back to its owner, and the record is handed out.
     pub fn commit(self, state: &mut State) -> Undo
         ensures state { state.new ≡ self.now }
         ensures leads_back { undone state.new result ≡ self.base }
@@ -74,7 +83,7 @@ impl Editing {
         undo
     }
 
-    /// Takes the step back: the state from before it goes to its place. It takes no memory.
+    /// Takes the step back: the state from before it goes back to its owner. It takes no memory.
     pub fn roll_back(self, state: &mut State)
         ensures { state.new ≡ self.base }
     {

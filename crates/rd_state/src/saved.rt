@@ -1,3 +1,5 @@
+//! The bytes that a change carries.
+
 ghost use Rattle.std.specs.Prelude.{◌≡◌, ◌≤◌, [], IfOk, IsOk, length};
 
 use crate::no_memory::NoMemory;

@@ -1,7 +1,12 @@
-ghost use Rattle.std.specs.Prelude.{◌≡◌, ◌+◌, ◌*◌, ◌-◌, ◌<◌, ◌≤◌, length, slice_index, Ok, false, IfOk, IsOk, OnOk, OnErr};
+//! The scheduler: who runs, once the ready list or a core has changed.
+
+ghost use Rattle.std.specs.Prelude.{◌≡◌, ◌+◌, ◌*◌, ◌-◌, ◌<◌, ◌≤◌, length, slice_index};
+ghost use Rattle.std.specs.Prelude.{Ok, false, IfOk, IsOk, OnOk, OnErr};
 ghost use Rattle.rd_wait.specs.Joined.{joined};
-ghost use Rattle.rd_state.specs.Edit.{Comes};
-ghost use Rattle.rd_state.specs.Settled.{settled, settled_in, rotated, weakest_of, rank_of, head_of, seated_on, seated_once, seating_of, shares_core, with_seats, IsSettled, SchedulingSettles};
+ghost use Rattle.rd_state.specs.Edit.{Reaches};
+ghost use Rattle.rd_state.specs.Settled.{settled, settled_in, rotated, weakest_of, rank_of};
+ghost use Rattle.rd_state.specs.Settled.{head_of, seated_on, after_one_round, seating_of};
+ghost use Rattle.rd_state.specs.Settled.{shares_core, with_seats, IsSettled, SchedulingSettles};
 ghost use Rattle.rd_state.specs.Sizes.{IsTaskOrIdle};
 
 use crate::change::Change;
@@ -21,8 +26,8 @@ fn rank_of(priorities: &[u8], running: Option<usize>) -> usize
 }
 
 impl State {
-    /// The core that is easiest to take: an idle one, else the one whose task has the lowest priority; the
-    /// lowest of those where several are.
+    /// The core that is easiest to take: an idle one, else the one whose task has the lowest
+    /// priority; the lowest of those where several are.
     fn weakest_core(&self, priorities: &[u8]) -> usize
         requires cores { 0 < length self.now.cores }
         requires priorities { length priorities.now ≡ length self.now.tasks }
@@ -42,18 +47,18 @@ impl State {
 }
 
 impl Editing {
-    /// Joins a task to the ready list, at the place of its priority.
+    /// Joins a task to the ready list, at the index of its priority.
     pub fn join_ready(&mut self, priorities: &[u8], task: usize) -> Result<(), NoMemory>
         requires task { task < length self.old.now.tasks }
         requires room { length self.old.now.ready < length self.old.now.tasks }
         requires priorities { length priorities.now ≡ length self.old.now.tasks }
-        ensures ok { OnOk result (Comes self.old self.new
+        ensures ok { OnOk result (Reaches self.old self.new
             (record self.old.now { ready = joined priorities.now self.old.now.ready task }) 1) }
         ensures err { OnErr result (self.new ≡ self.old) }
     {
         self.state().sizes();
-        let place = self.state().ready().place_of(priorities, priorities[task]);
-        self.change(Change::InsReady { place, task })
+        let index = self.state().ready().index_for(priorities, priorities[task]);
+        self.change(Change::InsReady { index, task })
     }
 
     // The head of the ready list takes the core, and who ran there joins the list.
@@ -62,13 +67,13 @@ impl Editing {
         requires some { 0 < length self.old.now.ready }
         requires head { head ≡ head_of self.old.now.ready }
         requires priorities { length priorities.now ≡ length self.old.now.tasks }
-        ensures ok { OnOk result (Comes self.old self.new
+        ensures ok { OnOk result (Reaches self.old self.new
             (with_seats self.old.now (seated_on priorities.now (seating_of self.old.now) core)) 3) }
         ensures err { OnErr result (self.new.base ≡ self.old.base) }
     {
         self.state().sizes();
         let running = self.state().core(core);
-        self.change(Change::DelReady { place: 0 })?;
+        self.change(Change::DelReady { index: 0 })?;
         if let Some(displaced) = running {
             self.join_ready(priorities, displaced)?;
         }
@@ -76,14 +81,16 @@ impl Editing {
         self.change(Change::SetCore { core, task })
     }
 
-    /// The head of the ready list takes the weakest core, if it outranks who runs there. Answers whether it
-    /// did.
+    /// The head of the ready list takes the weakest core, if it outranks who
+    /// runs there. Answers whether it did.
     fn seat_head(&mut self, priorities: &[u8]) -> Result<bool, NoMemory>
         requires cores { 0 < length self.old.now.cores }
         requires priorities { length priorities.now ≡ length self.old.now.tasks }
-        ensures ok { OnOk result (Comes self.old self.new (settled_in priorities.now 1 self.old.now) 3) }
+        ensures ok { OnOk result
+            (Reaches self.old self.new (settled_in priorities.now 1 self.old.now) 3) }
         ensures settled { IsSettled priorities.now self.old.now → result ≡ Ok false }
-        ensures still { result ≡ Ok false → seated_once priorities.now (seating_of self.old.now) ≡ seating_of self.old.now }
+        ensures still { result ≡ Ok false
+            → after_one_round priorities.now (seating_of self.old.now) ≡ seating_of self.old.now }
         ensures err { OnErr result (self.new.base ≡ self.old.base) }
     {
         self.state().sizes();
@@ -99,11 +106,13 @@ impl Editing {
         Ok(true)
     }
 
-    /// Seats heads of the ready list, at most that many.
+    /// Seats heads of the ready list, for at most `rounds` rounds.
     fn settle_in(&mut self, priorities: &[u8], rounds: usize) -> Result<(), NoMemory>
         requires cores { 0 < length self.old.now.cores }
         requires priorities { length priorities.now ≡ length self.old.now.tasks }
-        ensures ok { OnOk result (Comes self.old self.new (settled_in priorities.now rounds self.old.now) (3 * rounds)) }
+        ensures ok { OnOk result
+            (Reaches self.old self.new (settled_in priorities.now rounds self.old.now)
+            (3 * rounds)) }
         ensures settled { IsSettled priorities.now self.old.now → IsOk result }
         ensures err { OnErr result (self.new.base ≡ self.old.base) }
     {
@@ -117,12 +126,12 @@ impl Editing {
         }
     }
 
-    /// Schedules: ready tasks take idle cores and displace tasks of lower priority, until none can. Where none can to
-    /// begin with, no memory is taken.
+    /// Schedules: ready tasks take idle cores and displace tasks of lower priority, until none can.
+    /// Where none can to begin with, no memory is taken.
     pub fn settle(&mut self, priorities: &[u8]) -> Result<(), NoMemory>
         requires cores { 0 < length self.old.now.cores }
         requires priorities { length priorities.now ≡ length self.old.now.tasks }
-        ensures ok { OnOk result (Comes self.old self.new (settled priorities.now self.old.now)
+        ensures ok { OnOk result (Reaches self.old self.new (settled priorities.now self.old.now)
             (3 * length self.old.now.cores)) }
         ensures settled { IsSettled priorities.now self.old.now → IsOk result }
         ensures err { OnErr result (self.new.base ≡ self.old.base) }
@@ -131,13 +140,16 @@ impl Editing {
         self.settle_in(priorities, rounds)
     }
 
-    /// Lets tasks of one priority take turns: where the head of the ready list has the priority of the task on the
-    /// core, it takes the core (`configUSE_TIME_SLICING`). Where it hasn't, no memory is taken.
+    /// Lets tasks of one priority take turns: where the head of the ready list has the
+    /// priority of the task on the core, it takes the core (`configUSE_TIME_SLICING`).
+    /// Where it hasn't, no memory is taken.
     pub fn rotate(&mut self, priorities: &[u8], core: usize) -> Result<(), NoMemory>
         requires core { core < length self.old.now.cores }
         requires priorities { length priorities.now ≡ length self.old.now.tasks }
-        ensures ok { OnOk result (Comes self.old self.new (rotated priorities.now core self.old.now) 3) }
-        ensures stays { shares_core priorities.now (seating_of self.old.now) core ≡ false → IsOk result }
+        ensures ok { OnOk result
+            (Reaches self.old self.new (rotated priorities.now core self.old.now) 3) }
+        ensures stays { shares_core priorities.now (seating_of self.old.now) core ≡ false
+            → IsOk result }
         ensures err { OnErr result (self.new.base ≡ self.old.base) }
     {
         self.state().sizes();
@@ -152,8 +164,8 @@ impl Editing {
     }
 }
 
-/// Scheduling ends with no ready task above a running one and no core idle beside a ready task, and a state
-/// that is scheduled isn't changed by scheduling it again.
+/// Scheduling ends with no ready task above a running one and no core idle while one is ready, and
+/// a state that is scheduled isn't changed by scheduling it again.
 pub fn scheduling_settles()
     ensures { SchedulingSettles }
 {}

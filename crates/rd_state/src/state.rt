@@ -1,10 +1,14 @@
-ghost use Rattle.std.specs.Prelude.{◌≡◌, ◌-◌, ◌<◌, ◌≤◌, ◌↔◌, length, insert, remove, slice_get, All, Some, IfOk, IsOk, IsTrue};
+//! The whole state of the target: what is read of it, and each primitive change of it.
+
+ghost use Rattle.std.specs.Prelude.{◌≡◌, ◌-◌, ◌<◌, ◌≤◌, ◌↔◌, length, insert, remove};
+ghost use Rattle.std.specs.Prelude.{slice_get, All, Some, IfOk, IsOk, IsTrue};
 ghost use Rattle.rd_state.specs.Boot.{before_scheduling};
-ghost use Rattle.rd_queue.specs.Queues.{waiting_in, with_waiting};
+ghost use Rattle.rd_queue.specs.Queues.{tasks_in_list, with_waiting};
 ghost use Rattle.rd_state.specs.Change.{applied, inverse_of, saved_bytes, with_queue, Fits};
 ghost use Rattle.rd_state.specs.Settled.{weakest_of, rank_of};
 ghost use Rattle.rd_state.specs.Sizes.{IsSized, IsSizedPhase};
-ghost use Rattle.rd_state.specs.Snapshot.{hollow_state, task_at, queue_at, core_at, SameScheduling, SameObjects};
+ghost use Rattle.rd_state.specs.Snapshot.{hollow_state, task_at, queue_at, core_at};
+ghost use Rattle.rd_state.specs.Snapshot.{SameScheduling, SameObjects};
 ghost use Rattle.rd_state.specs.Waiting.{HasPlace, waiting_at};
 
 use crate::boot::{all_ready, new_queues, new_tasks};
@@ -111,7 +115,8 @@ fn same_queues(queues: &[Queue], others: &[Queue]) -> bool
 }
 
 impl State {
-    /// A state of nothing, which takes no memory. It stands in for a state that is taken out for a while.
+    /// A state of nothing, which takes no memory. It stands in for
+    /// a state that is taken out for a while.
     pub fn hollow(alloc: Global) -> State
         ensures { result ≡ hollow_state }
     {
@@ -330,65 +335,68 @@ impl State {
         target.set_bytes(bytes);
     }
 
-    fn insert_ready(&mut self, place: usize, task: usize)
-        requires { Fits self.old (Change.InsReady place task) }
-        ensures { self.new ≡ applied self.old (Change.InsReady place task) }
+    fn insert_ready(&mut self, index: usize, task: usize)
+        requires { Fits self.old (Change.InsReady index task) }
+        ensures { self.new ≡ applied self.old (Change.InsReady index task) }
     {
-        self.ready.insert_at(place, task);
+        self.ready.insert_at(index, task);
     }
 
-    fn delete_ready(&mut self, place: usize)
-        requires { Fits self.old (Change.DelReady place) }
-        ensures { self.new ≡ applied self.old (Change.DelReady place) }
+    fn delete_ready(&mut self, index: usize)
+        requires { Fits self.old (Change.DelReady index) }
+        ensures { self.new ≡ applied self.old (Change.DelReady index) }
     {
-        self.ready.remove_at(place);
+        self.ready.remove_at(index);
     }
 
     // Puts a task into a list of a queue.
-    fn insert_in_queue(&mut self, queue: usize, list: WaitingList, at: usize, task: usize)
+    fn insert_in_queue(&mut self, queue: usize, list: WaitingList, index: usize, task: usize)
         requires queue { queue < length self.old.queues }
-        requires within { at ≤ length (waiting_in list (queue_at self.old queue)) }
-        requires room { length (waiting_in list (queue_at self.old queue)) < length self.old.tasks }
+        requires within { index ≤ length (tasks_in_list list (queue_at self.old queue)) }
+        requires room { length
+            (tasks_in_list list (queue_at self.old queue)) < length self.old.tasks }
         requires task { task < length self.old.tasks }
         ensures { self.new ≡ with_queue self.old queue
-            (with_waiting list (insert (waiting_in list (queue_at self.old queue)) at task) (queue_at self.old queue)) }
+            (with_waiting list (insert (tasks_in_list list (queue_at self.old queue)) index task)
+            (queue_at self.old queue)) }
     {
         let target = &mut self.queues[queue];
-        target.insert(list, at, task);
+        target.insert(list, index, task);
     }
 
     // Takes a task out of a list of a queue.
-    fn delete_in_queue(&mut self, queue: usize, list: WaitingList, at: usize)
+    fn delete_in_queue(&mut self, queue: usize, list: WaitingList, index: usize)
         requires queue { queue < length self.old.queues }
-        requires within { at < length (waiting_in list (queue_at self.old queue)) }
+        requires within { index < length (tasks_in_list list (queue_at self.old queue)) }
         ensures { self.new ≡ with_queue self.old queue
-            (with_waiting list (remove (waiting_in list (queue_at self.old queue)) at) (queue_at self.old queue)) }
+            (with_waiting list (remove (tasks_in_list list (queue_at self.old queue)) index)
+            (queue_at self.old queue)) }
     {
         let target = &mut self.queues[queue];
-        target.remove(list, at);
+        target.remove(list, index);
     }
 
-    fn insert_waiting(&mut self, place: Place, at: usize, task: usize)
-        requires { Fits self.old (Change.InsWait place at task) }
-        ensures { self.new ≡ applied self.old (Change.InsWait place at task) }
+    fn insert_waiting(&mut self, place: Place, index: usize, task: usize)
+        requires { Fits self.old (Change.InsWait place index task) }
+        ensures { self.new ≡ applied self.old (Change.InsWait place index task) }
     {
         match place {
             Place::Receive { queue } => {
-                self.insert_in_queue(queue, WaitingList::Receiving, at, task);
+                self.insert_in_queue(queue, WaitingList::Receiving, index, task);
             }
             Place::Send { queue } => {
-                self.insert_in_queue(queue, WaitingList::Sending, at, task);
+                self.insert_in_queue(queue, WaitingList::Sending, index, task);
             }
         }
     }
 
-    fn delete_waiting(&mut self, place: Place, at: usize)
-        requires { Fits self.old (Change.DelWait place at) }
-        ensures { self.new ≡ applied self.old (Change.DelWait place at) }
+    fn delete_waiting(&mut self, place: Place, index: usize)
+        requires { Fits self.old (Change.DelWait place index) }
+        ensures { self.new ≡ applied self.old (Change.DelWait place index) }
     {
         match place {
-            Place::Receive { queue } => self.delete_in_queue(queue, WaitingList::Receiving, at),
-            Place::Send { queue } => self.delete_in_queue(queue, WaitingList::Sending, at),
+            Place::Receive { queue } => self.delete_in_queue(queue, WaitingList::Receiving, index),
+            Place::Send { queue } => self.delete_in_queue(queue, WaitingList::Sending, index),
         }
     }
 
@@ -441,10 +449,10 @@ impl State {
             } => self.set_register(task, register, value),
             Change::SetPhase { task, phase } => self.set_phase(task, phase),
             Change::SetData { task, bytes } => self.set_data(task, bytes.as_slice()),
-            Change::InsReady { place, task } => self.insert_ready(place, task),
-            Change::DelReady { place } => self.delete_ready(place),
-            Change::InsWait { place, at, task } => self.insert_waiting(place, at, task),
-            Change::DelWait { place, at } => self.delete_waiting(place, at),
+            Change::InsReady { index, task } => self.insert_ready(index, task),
+            Change::DelReady { index } => self.delete_ready(index),
+            Change::InsWait { place, index, task } => self.insert_waiting(place, index, task),
+            Change::DelWait { place, index } => self.delete_waiting(place, index),
             Change::PutBack { queue, item } => self.put_back(queue, item.as_slice()),
             Change::TakeBack { queue } => self.take_back(queue),
             Change::PutFront { queue, item } => self.put_front(queue, item.as_slice()),
@@ -452,7 +460,8 @@ impl State {
         }
     }
 
-    /// The change that undoes `change`, made at this state. It needs memory only where more than 16 bytes are saved.
+    /// The change that undoes `change`, made at this state. It needs memory only where
+    /// more than 16 bytes are saved.
     pub fn inverse_of(&self, alloc: Global, change: &Change) -> Result<Change, NoMemory>
         requires { Fits self.now change.now }
         ensures inverse { IfOk result (λ inverse. inverse ≡ inverse_of self.now change.now) }
@@ -482,19 +491,19 @@ impl State {
                 task: *task,
                 bytes: SavedBytes::from_slice(alloc, self.task(*task).bytes())?,
             }),
-            Change::InsReady { place, .. } => Ok(Change::DelReady { place: *place }),
-            Change::DelReady { place } => Ok(Change::InsReady {
-                place: *place,
-                task: self.ready.as_slice()[*place],
+            Change::InsReady { index, .. } => Ok(Change::DelReady { index: *index }),
+            Change::DelReady { index } => Ok(Change::InsReady {
+                index: *index,
+                task: self.ready.as_slice()[*index],
             }),
-            Change::InsWait { place, at, .. } => Ok(Change::DelWait {
+            Change::InsWait { place, index, .. } => Ok(Change::DelWait {
                 place: *place,
-                at: *at,
+                index: *index,
             }),
-            Change::DelWait { place, at } => Ok(Change::InsWait {
+            Change::DelWait { place, index } => Ok(Change::InsWait {
                 place: *place,
-                at: *at,
-                task: self.waiting(*place).as_slice()[*at],
+                index: *index,
+                task: self.waiting(*place).as_slice()[*index],
             }),
             Change::PutBack { queue, .. } => Ok(Change::TakeBack { queue: *queue }),
             Change::TakeBack { queue } => Ok(Change::PutBack {

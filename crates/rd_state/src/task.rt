@@ -1,4 +1,7 @@
-ghost use Rattle.std.specs.Prelude.{◌≡◌, ◌↔◌, IsTrue, ◌<◌, ◌≤◌, [], length, replicate, slice_index, slice_set, Some, IfOk};
+//! A task of the target.
+
+ghost use Rattle.std.specs.Prelude.{◌≡◌, ◌↔◌, IsTrue, ◌<◌, ◌≤◌, [], length, replicate};
+ghost use Rattle.std.specs.Prelude.{slice_index, slice_set, Some, IfOk};
 ghost use Rattle.rd_state.specs.Boot.{fresh_task};
 
 use rd_notify::notes::Notes;
@@ -22,7 +25,13 @@ impl Model for Task {
 
     ghost Value = { TaskSnapshot };
 
-    ghost view = { λ t. record { pc = t.pc; registers = t.registers; bytes = t.bytes; phase = t.phase; entries = t.notes } };
+    ghost view = { λ t. record {
+      pc = t.pc;
+      registers = t.registers;
+      bytes = t.bytes;
+      phase = t.phase;
+      entries = t.notes;
+    } };
 }
 
 impl Task {
@@ -64,7 +73,7 @@ impl Task {
             && self.notes.same(&other.notes)
     }
 
-    /// The place in the script.
+    /// The number of the instruction that comes next.
     pub fn pc(&self) -> usize
         ensures { result ≡ self.now.pc }
     {
@@ -109,7 +118,7 @@ impl Task {
         &self.notes
     }
 
-    /// Moves the task to another place in its script.
+    /// Moves the task to another instruction of its script.
     pub fn set_pc(&mut self, pc: usize)
         ensures { self.new ≡ record self.old { pc = pc } }
     {
@@ -119,7 +128,8 @@ impl Task {
     /// Sets a register.
     pub fn set_register(&mut self, register: usize, value: u32)
         requires { register < 8 }
-        ensures { self.new ≡ record self.old { registers = slice_set self.old.registers register value } }
+        ensures { self.new
+            ≡ record self.old { registers = slice_set self.old.registers register value } }
     {
         self.registers[register] = value;
     }

@@ -1,3 +1,5 @@
+//! Records of changes, and the way back by one.
+
 ghost use Rattle.std.specs.Prelude.{◌≡◌, ◌∷◌, ◌++◌, ◌^◌, ◌<◌, [], OnOk, OnErr};
 ghost use Rattle.rd_state.specs.Change.{applied, inverse_of, cost_of, weight_of, Fits};
 ghost use Rattle.rd_state.specs.Undoing.{undone, CanUndo, EachIsUndone};
@@ -12,8 +14,8 @@ use std::marker::Model;
 /// How many changes a record keeps without memory elsewhere.
 const INLINE: usize = 4;
 
-/// The record of a move: the changes that undo it, in the order of recording. It can't be dropped: it ends
-/// in `State::back`, in a log or in `retire`.
+/// The record of a move: the changes that undo it, in the order of recording. It can't be dropped:
+/// it ends in `State::back`, in a log or in `retire`.
 pub struct Undo {
     changes: SmallVec<Change, INLINE>,
 }
@@ -59,8 +61,8 @@ impl Undo {
     }
 }
 
-/// Makes a change, and adds the change that undoes it to the record. Where there is no memory for that,
-/// nothing has changed.
+/// Makes a change, and adds the change that undoes it to the record. Where there is no memory for
+/// that, nothing has changed.
 pub fn act(state: &mut State, undo: &mut Undo, change: Change) -> Result<(), NoMemory>
     requires { Fits state.old change }
     ensures state { OnOk result (state.new ≡ applied state.old change) }

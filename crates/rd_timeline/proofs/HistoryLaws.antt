@@ -2,7 +2,8 @@
 use Rattle.std.proofs.Common.{◌≡◌, ◌∙◌, ℕ, zero, suc, ◌+◌, ◌-◌, ◌<◌, ◌≤◌, List, [], ◌∷◌, ◌++◌, length, take, drop, refl, ap, subst, sym, arith, inl, inr}
 use Rattle.std.specs.Prelude.{Ok}
 use Rattle.std.proofs.lemmas.Bool.{cases_lt}
-use Rattle.std.proofs.lemmas.List.{append_assoc, take_all, drop_all, take-append-le, drop-append-le, length_push, length-take-le, take-take, take-append-drop, drop-take, drop-drop}
+use Rattle.std.proofs.lemmas.List.{append_assoc, take_all, drop_all, take-append-le, drop-append-le, length_push, length-take-le}
+use Rattle.std.proofs.lemmas.List.{take-take, take-append-drop, drop-take, drop-drop}
 use Rattle.std.proofs.lemmas.List.Sums.{fold_push}
 use Rattle.rd_script.specs.Application.{Application, priorities_of}
 use Rattle.rd_state.specs.declared.change.Change.{Change}
@@ -16,7 +17,8 @@ use Rattle.rd_calls.specs.Step.{step}
 use Rattle.rd_timeline.specs.History.{stepped, state_after, rewound, CanRewind, IsStateAfter, Retraces}
 
 -- one move more, after moves that gave a state
-pub state_after-push : (app : Application) (moves : List Move) (move : Move) (s : Snapshot) → state_after app moves ≡ Ok s → state_after app (moves ++ move ∷ []) ≡ step app s move
+pub state_after-push : (app : Application) (moves : List Move) (move : Move) (s : Snapshot) → state_after app moves ≡ Ok s
+    → state_after app (moves ++ move ∷ []) ≡ step app s move
 state_after-push app moves move s e = fold_push (stepped app) (Ok (boot_of app)) moves move ∙ ap (λ r. stepped app r move) e
 
 -- back from one record more: first by that
@@ -24,13 +26,15 @@ pub rewound-push : (s : Snapshot) (records : List (List Change)) (last : List Ch
 rewound-push s [] last = refl
 rewound-push s (first ∷ later) last = ap (λ (t : Snapshot). undone t first) (rewound-push s later last)
 
-pub CanRewind-push : (s : Snapshot) (records : List (List Change)) (last : List Change) → CanUndo s last → CanRewind (undone s last) records → CanRewind s (records ++ last ∷ [])
+pub CanRewind-push : (s : Snapshot) (records : List (List Change)) (last : List Change) → CanUndo s last → CanRewind (undone s last) records
+    → CanRewind s (records ++ last ∷ [])
 CanRewind-push s [] last can rewinds = (tt, can)
 CanRewind-push s (first ∷ later) last can rewinds =
     let P : Snapshot → Type 0 = λ t. CanUndo t first in
     (CanRewind-push s later last can rewinds.0, subst P (sym (rewound-push s later last)) rewinds.1)
 
-pub CanRewind-pop : (s : Snapshot) (records : List (List Change)) (last : List Change) → CanRewind s (records ++ last ∷ []) → CanUndo s last × CanRewind (undone s last) records
+pub CanRewind-pop : (s : Snapshot) (records : List (List Change)) (last : List Change) → CanRewind s (records ++ last ∷ [])
+    → CanUndo s last × CanRewind (undone s last) records
 CanRewind-pop s [] last rewinds = (rewinds.1, tt)
 CanRewind-pop s (first ∷ later) last rewinds =
     let rest = CanRewind-pop s later last rewinds.0 in
@@ -40,46 +44,51 @@ CanRewind-pop s (first ∷ later) last rewinds =
 -- at boot there is nothing to go back
 pub Retraces-boot : (app : Application) (s : Snapshot) → s ≡ boot_of app → IsValid app s → IsSettled (priorities_of app) s → Retraces app [] [] s
 Retraces-boot app s e valid settled zero h = record { state = ap (λ (t : Snapshot). Ok t) (sym e); valid = valid; settled = settled }
-Retraces-boot app s e valid settled (suc place) h = absurd (omega (arith, h))
+Retraces-boot app s e valid settled (suc count) h = absurd (omega (arith, h))
 
 -- the state now is that after all moves
-pub Retraces-now : (app : Application) (moves : List Move) (records : List (List Change)) (s : Snapshot) → length records ≡ length moves → Retraces app moves records s → IsStateAfter app moves s
+pub Retraces-now : (app : Application) (moves : List Move) (records : List (List Change)) (s : Snapshot)
+    → length records ≡ length moves → Retraces app moves records s → IsStateAfter app moves s
 Retraces-now app moves records s same h =
     let P : List Move → List (List Change) → Type 0 = λ ms rs. IsStateAfter app ms (rewound s rs) in
     subst (λ (rs : List (List Change)). P moves rs) (drop_all (length moves) records (omega (arith, same)))
     (subst (λ (ms : List Move). P ms (drop (length moves) records)) (take_all (length moves) moves (omega arith)) (h (length moves) (omega arith)))
 
 -- what stands before the last of one more
-before_last : {X : Type 0} (place : ℕ) (xs : List X) (x : X) → place ≤ length xs → take place (xs ++ x ∷ []) ≡ take place xs
-before_last place xs x h = take-append-le place xs (x ∷ []) h
+before_last : {X : Type 0} (count : ℕ) (xs : List X) (x : X) → count ≤ length xs → take count (xs ++ x ∷ []) ≡ take count xs
+before_last count xs x h = take-append-le count xs (x ∷ []) h
 
-rewound-before : (place : ℕ) (records : List (List Change)) (last : List Change) (s : Snapshot) → place ≤ length records
-    → rewound s (drop place (records ++ last ∷ [])) ≡ rewound (undone s last) (drop place records)
-rewound-before place records last s h = ap (rewound s) (drop-append-le place records (last ∷ []) h) ∙ rewound-push s (drop place records) last
+rewound-before : (count : ℕ) (records : List (List Change)) (last : List Change) (s : Snapshot) → count ≤ length records
+    → rewound s (drop count (records ++ last ∷ [])) ≡ rewound (undone s last) (drop count records)
+rewound-before count records last s h = ap (rewound s) (drop-append-le count records (last ∷ []) h) ∙ rewound-push s (drop count records) last
 
-pub Retraces-push : (app : Application) (moves : List Move) (records : List (List Change)) (move : Move) (last : List Change) (s s' : Snapshot) → length records ≡ length moves
-    → Retraces app moves records s → step app s move ≡ Ok s' → undone s' last ≡ s → IsValid app s' → IsSettled (priorities_of app) s' → Retraces app (moves ++ move ∷ []) (records ++ last ∷ []) s'
-Retraces-push app moves records move last s s' same h steps back valid settled place within =
-    elim (cases_lt place (length moves + 1)) [
-      | inl earlier ↦ let here : place ≤ length moves = omega (arith, earlier) in
-          let was = h place here in
-          let before : rewound s' (drop place (records ++ last ∷ [])) ≡ rewound s (drop place records) =
-          rewound-before place records last s' (omega (arith, here, same)) ∙ ap (λ (t : Snapshot). rewound t (drop place records)) back in
-          subst (λ (t : Snapshot). IsStateAfter app (take place (moves ++ move ∷ [])) t) (sym before)
-          (subst (λ (ms : List Move). IsStateAfter app ms (rewound s (drop place records))) (sym (before_last place moves move here)) was)
-      | inr last_place ↦
-          let all = take_all place (moves ++ move ∷ []) (omega (arith, last_place, length_push moves move)) in
-          let none = drop_all place (records ++ last ∷ []) (omega (arith, last_place, length_push records last, same)) in
-          subst (λ (ms : List Move). IsStateAfter app ms (rewound s' (drop place (records ++ last ∷ [])))) (sym all)
+pub Retraces-push : (app : Application) (moves : List Move) (records : List (List Change)) (move : Move) (last : List Change)
+    (s s' : Snapshot) → length records ≡ length moves → Retraces app moves records s → step app s move ≡ Ok s'
+    → undone s' last ≡ s → IsValid app s' → IsSettled (priorities_of app) s'
+    → Retraces app (moves ++ move ∷ []) (records ++ last ∷ []) s'
+Retraces-push app moves records move last s s' same h steps back valid settled count within =
+    elim (cases_lt count (length moves + 1)) [
+      | inl earlier ↦ let here : count ≤ length moves = omega (arith, earlier) in
+          let was = h count here in
+          let before : rewound s' (drop count (records ++ last ∷ [])) ≡ rewound s (drop count records) =
+          rewound-before count records last s' (omega (arith, here, same)) ∙ ap (λ (t : Snapshot). rewound t (drop count records)) back in
+          subst (λ (t : Snapshot). IsStateAfter app (take count (moves ++ move ∷ [])) t) (sym before)
+          (subst (λ (ms : List Move). IsStateAfter app ms (rewound s (drop count records))) (sym (before_last count moves move here)) was)
+      | inr at_the_end ↦
+          let all = take_all count (moves ++ move ∷ []) (omega (arith, at_the_end, length_push moves move)) in
+          let none = drop_all count (records ++ last ∷ []) (omega (arith, at_the_end, length_push records last, same)) in
+          subst (λ (ms : List Move). IsStateAfter app ms (rewound s' (drop count (records ++ last ∷ [])))) (sym all)
           (subst (λ (rs : List (List Change)). IsStateAfter app (moves ++ move ∷ []) (rewound s' rs)) (sym none)
           (record { state = state_after-push app moves move s (Retraces-now app moves records s same h).state ∙ steps; valid = valid; settled = settled }))
     ]
 
-pub Retraces-pop : (app : Application) (moves : List Move) (records : List (List Change)) (move : Move) (last : List Change) (s : Snapshot) → length records ≡ length moves
+pub Retraces-pop : (app : Application) (moves : List Move) (records : List (List Change)) (move : Move) (last : List Change)
+    (s : Snapshot) → length records ≡ length moves
     → Retraces app (moves ++ move ∷ []) (records ++ last ∷ []) s → Retraces app moves records (undone s last)
-Retraces-pop app moves records move last s same h place within =
-    subst (λ (t : Snapshot). IsStateAfter app (take place moves) t) (rewound-before place records last s (omega (arith, within, same)))
-    (subst (λ (ms : List Move). IsStateAfter app ms (rewound s (drop place (records ++ last ∷ [])))) (before_last place moves move within) (h place (omega (arith, within, length_push moves move))))
+Retraces-pop app moves records move last s same h count within =
+    subst (λ (t : Snapshot). IsStateAfter app (take count moves) t) (rewound-before count records last s (omega (arith, within, same)))
+    (subst (λ (ms : List Move). IsStateAfter app ms (rewound s (drop count (records ++ last ∷ [])))) (before_last count moves move within)
+    (h count (omega (arith, within, length_push moves move))))
 
 -- one member of a list, moved from a front's end to before the rest
 one_moved : {X : Type 0} (xs : List X) (k : ℕ) → drop k (take (k + 1) xs) ++ drop (k + 1) xs ≡ drop k xs
@@ -87,7 +96,8 @@ one_moved xs k =
     ap (λ ys. ys ++ drop (k + 1) xs) (drop-take k 1 xs) ∙ ap (λ ys. take 1 (drop k xs) ++ ys) (sym (drop-drop 1 k xs)) ∙ take-append-drop 1 (drop k xs)
 
 -- with i of the last moves undone, one more
-pub back_more : (done undone_ done₁ undone₁ done₂ undone₂ : List Move) (i : ℕ) → i < length done → done₁ ≡ take (length done - i) done → undone₁ ≡ drop (length done - i) done ++ undone_
+pub back_more : (done undone_ done₁ undone₁ done₂ undone₂ : List Move) (i : ℕ) → i < length done
+    → done₁ ≡ take (length done - i) done → undone₁ ≡ drop (length done - i) done ++ undone_
     → done₂ ≡ take (length done₁ - 1) done₁ → undone₂ ≡ drop (length done₁ - 1) done₁ ++ undone₁
     → (done₂ ≡ take (length done - (i + 1)) done) × (undone₂ ≡ drop (length done - (i + 1)) done ++ undone_)
 back_more done undone_ done₁ undone₁ done₂ undone₂ i more d u dd uu =
@@ -97,5 +107,8 @@ back_more done undone_ done₁ undone₁ done₂ undone₂ i more d u dd uu =
     let count : length done₁ - 1 ≡ k = omega (arith, ap length front, length-take-le (k + 1) done (omega (arith, more)), more) in
     let last : done₂ ≡ take k (take (k + 1) done) = dd ∙ ap (λ n. take n done₁) count ∙ ap (take k) front in
     let moved : undone₂ ≡ drop k (take (k + 1) done) ++ (drop (k + 1) done ++ undone_) =
-    uu ∙ ap (λ n. drop n done₁ ++ undone₁) count ∙ ap (λ xs. drop k xs ++ undone₁) front ∙ ap (λ ys. drop k (take (k + 1) done) ++ ys) (u ∙ ap (λ n. drop n done ++ undone_) next) in
-    (last ∙ take-take k (k + 1) done (omega arith), moved ∙ sym (append_assoc (drop k (take (k + 1) done)) (drop (k + 1) done) undone_) ∙ ap (λ ys. ys ++ undone_) (one_moved done k))
+    uu ∙ ap (λ n. drop n done₁ ++ undone₁) count ∙ ap (λ xs. drop k xs ++ undone₁) front
+    ∙ ap (λ ys. drop k (take (k + 1) done) ++ ys) (u ∙ ap (λ n. drop n done ++ undone_) next) in (
+      last ∙ take-take k (k + 1) done (omega arith),
+      moved ∙ sym (append_assoc (drop k (take (k + 1) done)) (drop (k + 1) done) undone_) ∙ ap (λ ys. ys ++ undone_) (one_moved done k),
+    )

@@ -1,3 +1,5 @@
+-- Laws of the timeline, and worked rows.
+pub mod JournalLaws
 pub mod HistoryLaws
 pub mod TimelineLaws
 pub mod Rows

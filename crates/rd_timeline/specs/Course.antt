@@ -1,13 +1,15 @@
 -- What a contract sees of a timeline.
-use Rattle.std.specs.Prelude.{ℕ, ◌≡◌, ◌≤◌, List, length}
+use Rattle.std.specs.Prelude.{ℕ, ◌≡◌, ◌≢◌, ◌≤◌, List, length, Err, IsOk}
 use Rattle.rd_script.specs.Application.{Application}
 use Rattle.rd_state.specs.declared.change.Change.{Change}
 use Rattle.rd_state.specs.Snapshot.{Snapshot}
 use Rattle.rd_calls.specs.declared.moves.Move.{Move}
+use Rattle.rd_calls.specs.declared.moves.PlayError.{PlayError}
+use Rattle.rd_calls.specs.Step.{step}
 use Rattle.rd_timeline.specs.History.{Retraces, CanRewind}
 
--- the application, how many moves may be done, the target as it is now, the moves done from boot in order, the
--- record of each, and the moves undone, the one to be redone next first
+-- the application, how many moves may be done, the target as it is now, the moves done from boot in
+-- order, the record of each, and the moves undone, the one to be redone next first
 pub record Course : Type 0 where
   pub app : Application
   pub limit : ℕ
@@ -22,3 +24,16 @@ pub record IsKept (course : Course) : Type 0 where
   pub retraces : Retraces course.app course.done course.log course.target
   pub rewinds : CanRewind course.target course.log
   pub within : length course.done ≤ course.limit
+
+-- The moves done are at their limit.
+abbrev pub IsFull : Course → Type 0
+IsFull course = length course.done ≡ course.limit
+
+-- There is room for a move more, but the kernel's rules refuse this one.
+abbrev pub IsRefusedBy : Course → Move → PlayError → Type 0
+IsRefusedBy course move refusal =
+    (length course.done ≢ course.limit) × (step course.app course.target move ≡ Err refusal)
+
+-- There is room for a move more, and the kernel's rules give the state after this one.
+abbrev pub CanGo : Course → Move → Type 0
+CanGo course move = (length course.done ≢ course.limit) × IsOk (step course.app course.target move)

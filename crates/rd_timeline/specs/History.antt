@@ -36,6 +36,7 @@ pub record IsStateAfter (app : Application) (moves : List Move) (s : Snapshot) :
   pub valid : IsValid app s
   pub settled : IsSettled (priorities_of app) s
 
--- Undoing the records from the end, down to any place, gives the state that the moves before it give.
+-- Undoing the records from the end until so many moves are left gives the state that they give.
 abbrev pub Retraces : Application → List Move → List (List Change) → Snapshot → Type 0
-Retraces app moves records s = (place : ℕ) → place ≤ length moves → IsStateAfter app (take place moves) (rewound s (drop place records))
+Retraces app moves records s = (count : ℕ) → count ≤ length moves
+    → IsStateAfter app (take count moves) (rewound s (drop count records))

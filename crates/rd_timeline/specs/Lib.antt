@@ -1,3 +1,7 @@
+-- What the contracts of the timeline cite.
+pub mod LogView
+pub mod JournalView
+pub mod JournalInside
 pub mod History
 pub mod Course
 pub mod Inside

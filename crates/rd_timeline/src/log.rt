@@ -1,4 +1,6 @@
-ghost use Rattle.std.specs.Prelude.{◌≡◌, ◌∷◌, ◌++◌, ◌<◌, [], length, OnOk, IfErr};
+//! The records of the moves done.
+
+ghost use Rattle.std.specs.Prelude.{◌≡◌, ◌∷◌, ◌++◌, ◌<◌, ◌≤◌, [], length, IfErr, IsOk, OnOk};
 
 use rd_state::undo::Undo;
 use std::alloc::Global;
@@ -10,18 +12,18 @@ pub struct Log {
 }
 
 impl Model for Log {
-    ghost use Rattle.std.specs.Prelude.{List};
-    ghost use Rattle.rd_state.specs.declared.change.Change.{Change};
+    ghost use Rattle.std.specs.Prelude.{vec_capacity};
+    ghost use Rattle.rd_timeline.specs.LogView.{LogView};
 
-    ghost Value = { List (List Change) };
+    ghost Value = { LogView };
 
-    ghost view = { λ l. l.records.items };
+    ghost view = { λ l. record { records = l.records.items; room = vec_capacity l.records } };
 }
 
 impl Log {
     /// No records.
     pub fn new(alloc: Global) -> Log
-        ensures { result ≡ [] }
+        ensures { result.records ≡ [] }
     {
         Log {
             records: Vec::new(alloc),
@@ -30,23 +32,27 @@ impl Log {
 
     /// How many records there are.
     pub fn len(&self) -> usize
-        ensures { result ≡ length self.now }
+        ensures { result ≡ length self.now.records }
     {
         self.records.len()
     }
 
-    /// Puts a record at the end. Where the log can't grow, it is handed back and the log is as it was.
+    /// Puts a record at the end. Where the log can't grow, the record is handed back and the others
+    /// are as they were. It needs no memory while there are fewer records than there is room for.
     pub fn push(&mut self, undo: Undo) -> Result<(), Undo>
-        ensures ok { OnOk result (self.new ≡ self.old ++ undo ∷ []) }
-        ensures err { IfErr result (λ back. (back ≡ undo) × (self.new ≡ self.old)) }
+        ensures ok { OnOk result (self.new.records ≡ self.old.records ++ undo ∷ []) }
+        ensures err { IfErr result (λ back. (back ≡ undo) × (self.new.records ≡ self.old.records)) }
+        ensures enough { length self.old.records < self.old.room → IsOk result }
+        ensures room { self.old.room ≤ self.new.room }
     {
         self.records.push(undo).map_err(|failed| failed.value)
     }
 
-    /// Takes the record at the end.
+    /// Takes the record at the end. Its room stays.
     pub fn pop(&mut self) -> Undo
-        requires { 0 < length self.old }
-        ensures { self.old ≡ self.new ++ result ∷ [] }
+        requires { 0 < length self.old.records }
+        ensures records { self.old.records ≡ self.new.records ++ result ∷ [] }
+        ensures room { self.new.room ≡ self.old.room }
     {
         self.records.pop().unwrap()
     }

@@ -1,7 +1,10 @@
-ghost use Rattle.std.specs.Prelude.{◌≡◌, ◌<◌, ℕ, All, length, take, Ok, OnOk, OnErr};
+//! Lists of requests: what they leave of the moves done and undone.
+
+ghost use Rattle.std.specs.Prelude.{◌≡◌, All, IsTrue, Ok, OnOk, OnErr};
 ghost use Rattle.rd_timeline.specs.Course.{Course};
 ghost use Rattle.rd_timeline.specs.History.{state_after};
-ghost use Rattle.rd_timeline.specs.Runs.{moves_of, answered, all_answered, IsRequestOf};
+ghost use Rattle.rd_timeline.specs.Runs.{moves_of, makes_move, answered, all_answered};
+ghost use Rattle.rd_timeline.specs.Runs.{StopsBefore, IsRequestOf};
 
 use crate::timeline::{Refusal, Timeline};
 use rd_calls::moves::Move;
@@ -17,14 +20,18 @@ pub enum Request {
 }
 
 impl Timeline {
-    /// Does what is asked; a request that is refused changes nothing. Where memory runs out, nothing has
-    /// changed either.
+    /// Does what is asked; a request that is refused changes nothing. Only a request that makes a
+    /// move may find no memory, and then nothing has changed either.
     pub fn answer(&mut self, request: &Request) -> Result<(), NoMemory>
         requires { IsRequestOf self.old.app request.now }
-        ensures ok { OnOk result (moves_of self.new ≡ answered self.old.app self.old.limit (moves_of self.old) request.now) }
-        ensures rest { (self.new.app ≡ self.old.app) × (self.new.limit ≡ self.old.limit) }
-        ensures leads { state_after self.new.app self.new.done ≡ Ok self.new.target }
+        ensures ok { OnOk result (moves_of self.new
+            ≡ answered self.old.app self.old.limit (moves_of self.old) request.now) }
+        ensures no_memory { OnErr result
+            (IsTrue (makes_move self.old.app self.old.limit (moves_of self.old) request.now)) }
         ensures err { OnErr result (self.new ≡ self.old) }
+        ensures app { self.new.app ≡ self.old.app }
+        ensures limit { self.new.limit ≡ self.old.limit }
+        ensures leads { state_after self.new.app self.new.done ≡ Ok self.new.target }
     {
         self.keeps();
         match request {
@@ -42,16 +49,19 @@ impl Timeline {
         }
     }
 
-    /// Does all that is asked, in order. After any list of requests the target is the state that the moves not
-    /// undone give from boot, and these moves are what the requests leave of them, one by one. Where memory
-    /// runs out, that holds of the requests before.
+    /// Does all that is asked, in order. After any list of requests the target is the state that
+    /// the moves not undone give from boot, and these moves are what the requests leave of them,
+    /// one by one. Where memory runs out, at a request that makes a move, that holds of the
+    /// requests before it.
     pub fn run(&mut self, requests: &[Request]) -> Result<(), NoMemory>
         requires { All (IsRequestOf self.old.app) requests.now }
         ensures ok { OnOk result (moves_of self.new
             ≡ all_answered self.old.app self.old.limit (moves_of self.old) requests.now) }
-        ensures err { OnErr result ((n : ℕ) × (n < length requests.now)
-            × (moves_of self.new ≡ all_answered self.old.app self.old.limit (moves_of self.old) (take n requests.now))) }
-        ensures rest { (self.new.app ≡ self.old.app) × (self.new.limit ≡ self.old.limit) }
+        ensures no_memory { OnErr result
+            (StopsBefore self.old.app self.old.limit (moves_of self.old) (moves_of self.new)
+            requests.now) }
+        ensures app { self.new.app ≡ self.old.app }
+        ensures limit { self.new.limit ≡ self.old.limit }
         ensures leads { state_after self.new.app self.new.done ≡ Ok self.new.target }
     {
         self.keeps();

@@ -1,12 +1,16 @@
-ghost use Rattle.std.specs.Prelude.{◌≡◌, ◌↔◌, ◌+◌, ◌-◌, ◌<◌, ◌≤◌, ◌∷◌, ◌++◌, [], length, take, drop, Ok, Err, IfOk, IfErr, OnOk, OnErr, IsOk, IsErrOf};
+//! The target with the moves that led to it: going on, going back.
+
+ghost use Rattle.std.specs.Prelude.{◌≡◌, ◌↔◌, ◌-◌, ◌<◌, ◌≤◌, ◌∷◌, ◌++◌, [], length, take, drop};
+ghost use Rattle.std.specs.Prelude.{Ok, IfOk, IfErr, OnOk, OnErr, IsOk, IsErrOf};
 ghost use Rattle.rd_state.specs.Boot.{boot_of};
 ghost use Rattle.rd_script.specs.Application.{priorities_of};
 ghost use Rattle.rd_state.specs.Settled.{IsSettled};
 ghost use Rattle.rd_state.specs.Valid.{IsValid};
 ghost use Rattle.rd_calls.specs.Step.{step, IsMoveOf};
-ghost use Rattle.rd_timeline.specs.Course.{IsKept};
+ghost use Rattle.rd_timeline.specs.Course.{IsKept, IsFull, IsRefusedBy, CanGo};
 ghost use Rattle.rd_timeline.specs.History.{state_after};
 
+use crate::journal::Journal;
 use crate::log::Log;
 use rd_calls::moves::{Move, PlayError};
 use rd_calls::play::play;
@@ -14,7 +18,7 @@ use rd_script::app::App;
 use rd_state::no_memory::NoMemory;
 use rd_state::state::State;
 use rd_state::undo::Undo;
-use std::alloc::{AllocError, Global};
+use std::alloc::Global;
 use std::marker::Model;
 use thiserror::Error;
 
@@ -50,17 +54,6 @@ impl From<PlayError> for Refusal {
     }
 }
 
-impl From<AllocError> for Refusal {
-    ghost use Rattle.std.specs.Prelude.{◌≡◌};
-    ghost use Rattle.rd_timeline.specs.declared.timeline.Refusal.TheVariants.{NoMemory};
-
-    ghost from_gives = { λ error refusal. refusal ≡ NoMemory };
-
-    fn from(_error: AllocError) -> Refusal {
-        Refusal::NoMemory
-    }
-}
-
 /// There are only so many moves to go back.
 #[derive(Clone, Copy, Debug, PartialEq, Eq, Error)]
 #[error("TooFar {done}")]
@@ -70,14 +63,11 @@ pub struct TooFar {
 
 /// The target with the moves that led to it. It can't be dropped: it ends in `close`.
 pub struct Timeline {
+    alloc: Global,
     app: App,
     limit: usize,
     target: State,
-    done: Vec<Move>,
-    log: Log,
-    // The move to be redone next stands last. There is room here for all moves done, so that going back
-    // takes no memory.
-    undone: Vec<Move>,
+    journal: Journal,
 }
 
 impl Model for Timeline {
@@ -107,17 +97,16 @@ impl Timeline {
         app.limits();
         let target = State::boot(alloc, &app)?;
         Ok(Timeline {
+            alloc,
             app,
             limit,
             target,
-            done: Vec::new(alloc),
-            log: Log::new(alloc),
-            undone: Vec::new(alloc),
+            journal: Journal::new(alloc),
         })
     }
 
-    /// The target is what the moves done give from boot, with nothing left to schedule, and the log leads back through
-    /// them.
+    /// The target is what the moves done give from boot, with nothing left to schedule, and the log
+    /// leads back through them.
     pub fn keeps(&self)
         ensures kept { IsKept self.now }
         ensures leads { state_after self.now.app self.now.done ≡ Ok self.now.target }
@@ -145,52 +134,46 @@ impl Timeline {
     pub fn at(&self) -> usize
         ensures { result ≡ length self.now.done }
     {
-        self.done.len()
+        self.journal.done()
     }
 
     /// How many moves are undone and could be redone.
     pub fn left(&self) -> usize
         ensures { result ≡ length self.now.undone }
     {
-        self.undone.len()
+        self.journal.undone()
     }
 
-    /// Makes a move: it is laid on the moves done, and the moves undone are forgotten. Answers how many moves
-    /// are done. A refusal leaves the timeline as it was: `MovesFull` where the moves done are at their
-    /// limit, `NoTask` where the core is idle, `TickLimit` where there is no further tick, `NoMemory` where a growth was
-    /// refused.
+    /// Makes a move: it is laid on the moves done, and the moves undone are forgotten. Answers how
+    /// many moves are done. A refusal leaves the timeline as it was: `MovesFull` where the moves
+    /// done are at their limit, else `NoTask` where the core is idle and `TickLimit` where there is
+    /// no further tick, whatever memory is left, else `NoMemory` where a growth was refused.
     pub fn go(&mut self, action: Move) -> Result<usize, Refusal>
         requires named { IsMoveOf self.old.app action }
         ensures at { IfOk result (λ at. at ≡ length self.new.done) }
         ensures step { OnOk result (step self.old.app self.old.target action ≡ Ok self.new.target) }
         ensures done { OnOk result (self.new.done ≡ self.old.done ++ action ∷ []) }
         ensures undone { OnOk result (self.new.undone ≡ []) }
-        ensures rest { OnOk result ((self.new.app ≡ self.old.app) × (self.new.limit ≡ self.old.limit)) }
+        ensures app { OnOk result (self.new.app ≡ self.old.app) }
+        ensures limit { OnOk result (self.new.limit ≡ self.old.limit) }
         ensures leads { OnOk result (state_after self.new.app self.new.done ≡ Ok self.new.target) }
 
         // When it is refused, and that nothing has changed then.
-        ensures moves_full { IsErrOf result Refusal.MovesFull ↔ (length self.old.done ≡ self.old.limit) }
+        ensures moves_full { IsErrOf result Refusal.MovesFull ↔ IsFull self.old }
         ensures no_task { IsErrOf result Refusal.NoTask
-            → step self.old.app self.old.target action ≡ Err PlayError.NoTask }
+            ↔ IsRefusedBy self.old action PlayError.NoTask }
         ensures tick_limit { IsErrOf result Refusal.TickLimit
-            → step self.old.app self.old.target action ≡ Err PlayError.TickLimit }
+            ↔ IsRefusedBy self.old action PlayError.TickLimit }
+        ensures no_memory { IsErrOf result Refusal.NoMemory → CanGo self.old action }
         ensures err { OnErr result (self.new ≡ self.old) }
     {
-        if self.done.len() == self.limit {
+        if self.at() == self.limit {
             return Err(Refusal::MovesFull);
         }
-        // Room for one more move done, and for all of them once they are undone.
-        self.done.reserve(1)?;
-        self.undone.reserve(self.done.len() + 1)?;
-        let kept = action.copy();
-        let alloc = *self.done.allocator();
-        let undo = play(alloc, &mut self.target, &self.app, action)?;
-        match Timeline::keep(&mut self.log, undo) {
-            Ok(()) => {
-                self.done.push_reserved(kept);
-                self.undone.clear();
-                Ok(self.done.len())
-            }
+        // What is wrong with the move itself is found before room is made for it.
+        let undo = play(self.alloc, &mut self.target, &self.app, action.copy())?;
+        match self.journal.keep(action, undo) {
+            Ok(()) => Ok(self.at()),
             Err(undo) => {
                 self.target.back(undo);
                 Err(Refusal::NoMemory)
@@ -202,26 +185,26 @@ impl Timeline {
     fn back_one(&mut self)
         requires { 0 < length self.old.done }
         ensures done { self.new.done ≡ take (length self.old.done - 1) self.old.done }
-        ensures undone { self.new.undone ≡ drop (length self.old.done - 1) self.old.done ++ self.old.undone }
+        ensures undone { self.new.undone
+            ≡ drop (length self.old.done - 1) self.old.done ++ self.old.undone }
         ensures app { self.new.app ≡ self.old.app }
         ensures limit { self.new.limit ≡ self.old.limit }
     {
-        let last = self.log.pop();
+        let last = self.journal.take_back();
         self.target.back(last);
-        let action = self.done.pop().unwrap();
-        self.undone.push_reserved(action);
     }
 
-    /// Goes back by `n` moves, which can be redone, the last one undone first. Answers how many moves are
-    /// done then. It takes no memory. `TooFar`, with the number of moves done, where there are fewer; the
-    /// timeline is then as it was.
+    /// Goes back by `n` moves, which can be redone, the last one undone first. Answers how many
+    /// moves are done then. It takes no memory. `TooFar`, with the number of moves done, where
+    /// there are fewer; the timeline is then as it was.
     pub fn back(&mut self, n: usize) -> Result<usize, TooFar>
         ensures ok { IsOk result ↔ (n ≤ length self.old.done) }
         ensures at { IfOk result (λ at. at ≡ length self.new.done) }
         ensures done { OnOk result (self.new.done ≡ take (length self.old.done - n) self.old.done) }
         ensures undone { OnOk result (self.new.undone
             ≡ drop (length self.old.done - n) self.old.done ++ self.old.undone) }
-        ensures rest { OnOk result ((self.new.app ≡ self.old.app) × (self.new.limit ≡ self.old.limit)) }
+        ensures app { OnOk result (self.new.app ≡ self.old.app) }
+        ensures limit { OnOk result (self.new.limit ≡ self.old.limit) }
         ensures leads { OnOk result (state_after self.new.app self.new.done ≡ Ok self.new.target) }
         ensures too_far { IfErr result (λ error. error.done ≡ length self.old.done) }
         ensures err { OnErr result (self.new ≡ self.old) }
@@ -237,11 +220,11 @@ impl Timeline {
         Ok(self.at())
     }
 
-    /// Keeps a record at the log's end. Where the log can't grow, the record is handed back, and both are as
-    /// they were.
+    /// Keeps a record at the log's end. Where the log can't grow, the record is handed back, and
+    /// both are as they were.
     pub fn keep(log: &mut Log, undo: Undo) -> Result<(), Undo>
-        ensures ok { OnOk result (log.new ≡ log.old ++ undo ∷ []) }
-        ensures err { IfErr result (λ back. (back ≡ undo) × (log.new ≡ log.old)) }
+        ensures ok { OnOk result (log.new.records ≡ log.old.records ++ undo ∷ []) }
+        ensures err { IfErr result (λ back. (back ≡ undo) × (log.new.records ≡ log.old.records)) }
     {
         log.push(undo)
     }
@@ -249,13 +232,12 @@ impl Timeline {
     /// Ends the timeline.
     pub fn close(self) {
         let Timeline {
+            alloc: _,
             app: _,
             limit: _,
             target: _,
-            done: _,
-            log,
-            undone: _,
+            journal,
         } = self;
-        log.retire();
+        journal.retire();
     }
 }

@@ -1,2 +1,3 @@
+-- The files of lemmas of rd_wait.
 pub mod ListLaws
 pub mod JoinedLaws

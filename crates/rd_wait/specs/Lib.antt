@@ -1,2 +1,3 @@
+-- The files of definitions of rd_wait.
 pub mod TaskList
 pub mod Joined

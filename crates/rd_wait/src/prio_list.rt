@@ -1,5 +1,9 @@
-ghost use Rattle.std.specs.Prelude.{◌≡◌, ◌↔◌, ◌+◌, ◌<◌, ◌≤◌, IsTrue, [], ◌∷◌, ◌++◌, length, All, IfOk, IfSome, take, drop, insert, remove, position, slice_get, nat_eq, slice_index_or};
-ghost use Rattle.rd_wait.specs.Joined.{place_of, AreTasks, JoinsAmong};
+//! A list of tasks in priority order.
+
+ghost use Rattle.std.specs.Prelude.{◌≡◌, ◌↔◌, ◌+◌, ◌<◌, ◌≤◌, IsTrue, [], ◌∷◌, ◌++◌, length};
+ghost use Rattle.std.specs.Prelude.{All, IfOk, IfSome, take, drop, insert, remove, position};
+ghost use Rattle.std.specs.Prelude.{slice_get, nat_eq, slice_index_or};
+ghost use Rattle.rd_wait.specs.Joined.{index_for, AreTasks, JoiningKeepsTheOrder};
 
 use std::alloc::{AllocError, Global};
 use std::marker::Model;
@@ -7,7 +11,7 @@ use std::marker::Model;
 /// A list of tasks in priority order, highest first, and among equals the longest waiting first.
 ///
 /// Tasks are named by their numbers. The list has room for as many as it was made for, and takes no
-/// memory after that. It doesn't know the tasks' priorities: `place_of` is given them.
+/// memory after that. It doesn't know the tasks' priorities: `index_for` is given them.
 #[derive(Drop)]
 pub struct PrioList {
     tasks: Vec<usize>,
@@ -72,11 +76,11 @@ impl PrioList {
         self.tasks.as_slice()
     }
 
-    /// The place at which a task of priority `priority` joins: behind every member of at least that
+    /// The index at which a task of priority `priority` joins: after every member of at least that
     /// priority that stands before a lower one. `priorities` are the tasks' priorities by number.
-    pub fn place_of(&self, priorities: &[u8], priority: u8) -> usize
+    pub fn index_for(&self, priorities: &[u8], priority: u8) -> usize
         requires { AreTasks priorities.now self.now.tasks }
-        ensures place { result ≡ place_of priorities.now self.now.tasks priority }
+        ensures index { result ≡ index_for priorities.now self.now.tasks priority }
         ensures within { result ≤ length self.now.tasks }
     {
         self.tasks
@@ -85,28 +89,28 @@ impl PrioList {
             .count()
     }
 
-    /// Puts `task` in at `place`, and moves those from there on one place back.
-    pub fn insert_at(&mut self, place: usize, task: usize)
-        requires within { place ≤ length self.old.tasks }
+    /// Puts `task` in at `index`. Those from there on move back by one.
+    pub fn insert_at(&mut self, index: usize, task: usize)
+        requires within { index ≤ length self.old.tasks }
         requires room { length self.old.tasks < self.old.room }
-        ensures { self.new ≡ record self.old { tasks = insert self.old.tasks place task } }
+        ensures { self.new ≡ record self.old { tasks = insert self.old.tasks index task } }
     {
-        self.tasks.insert(place, task).unwrap();
+        self.tasks.insert(index, task).unwrap();
     }
 
-    /// Takes the task at `place` out, and moves those behind it one place forward.
-    pub fn remove_at(&mut self, place: usize) -> usize
-        requires { place < length self.old.tasks }
-        ensures task { slice_get self.old.tasks place ≡ Some result }
-        ensures rest { self.new ≡ record self.old { tasks = remove self.old.tasks place } }
+    /// Takes the task at `index` out. Those after it move forward by one.
+    pub fn remove_at(&mut self, index: usize) -> usize
+        requires { index < length self.old.tasks }
+        ensures task { slice_get self.old.tasks index ≡ Some result }
+        ensures rest { self.new ≡ record self.old { tasks = remove self.old.tasks index } }
     {
-        self.tasks.remove(place)
+        self.tasks.remove(index)
     }
 
-    /// The first place at which `task` stands.
+    /// The first index at which `task` stands.
     pub fn position(&self, task: usize) -> Option<usize>
-        ensures place { result ≡ position (λ member. nat_eq member task) self.now.tasks }
-        ensures within { IfSome result (λ place. place < length self.now.tasks) }
+        ensures index { result ≡ position (λ member. nat_eq member task) self.now.tasks }
+        ensures within { IfSome result (λ index. index < length self.now.tasks) }
     {
         self.tasks.iter().position(|member| *member == task)
     }
@@ -119,8 +123,8 @@ impl PrioList {
     }
 }
 
-/// A task joins a list in order behind every member of at least its priority and before every other, and the
-/// list stays in order.
+/// A task joins a list in order after every member of at least its priority and before every other,
+/// and the list stays in order.
 pub fn joining_keeps_the_order()
-    ensures { JoinsAmong }
+    ensures { JoiningKeepsTheOrder }
 {}

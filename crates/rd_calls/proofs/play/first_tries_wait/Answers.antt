@@ -1,3 +1,4 @@
+-- The goals of `first_tries_wait` that the check left open.
 use Rattle.rd_calls.proofs.WakingLaws.{first_tries_wait}
 use Rattle.rd_calls.proofs.play.first_tries_wait.Goals as goal
 

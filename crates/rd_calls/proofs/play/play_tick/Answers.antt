@@ -1,3 +1,4 @@
+-- The goals of `play_tick` that the check left open.
 use Rattle.std.proofs.Common.{rules}
 use Rattle.rd_calls.proofs.StepLaws.{IsValid-tick, IsSettled-tick}
 use Rattle.rd_calls.proofs.play.play_tick.Goals as goal

@@ -1,3 +1,4 @@
+-- The goals of `begin_tick` that the check left open.
 use Rattle.std.proofs.Common.{rules, subst}
 use Rattle.rd_state.specs.Sizes.{IsSized}
 use Rattle.rd_calls.proofs.StepLaws.{room_when_due}

@@ -1,3 +1,4 @@
+-- The goals of put_task that the check left open.
 use Rattle.std.proofs.Common.{◌≡◌, ◌∙◌, ℕ, Option, Some, List, ap, sym, position}
 use Rattle.std.proofs.lemmas.Result.{on_ok_weaker}
 use Rattle.rd_script.specs.Application.{Application}
@@ -9,14 +10,18 @@ use Rattle.rd_main.proofs.answer.put_task.Goals as goal
 
 pub task-requires : goal.task-requires
 task-requires c =
+    let limits = rw c.app-2.ensures at c.limits.ensures in
+    let named = rw c.app.ensures at c.in-Some.ensures in
     rw c.target-target.ensures
-    (task_there c.args.timeline.now c.in-Some.task c.args.name.now (rw c.app-2.ensures at c.limits.ensures) c.keeps.ensures.valid (sym (rw c.app.ensures at c.in-Some.ensures)))
+    (task_there c.args.timeline.now c.in-Some.task c.args.name.now limits c.keeps.ensures.valid (sym named))
 
 pub show_task-shown-requires : goal.show_task-shown-requires
 show_task-shown-requires c =
     let limits = rw c.app-2.ensures at c.limits.ensures in
-    let there = task_there c.args.timeline.now c.in-Some.task c.args.name.now limits c.keeps.ensures.valid (sym (rw c.app.ensures at c.in-Some.ensures)) in
-    rw (c.app-3.ensures, c.task.ensures, c.target-target.ensures) (place_named c.args.timeline.now c.in-Some.task limits c.keeps.ensures.valid there)
+    let named = rw c.app.ensures at c.in-Some.ensures in
+    let there = task_there c.args.timeline.now c.in-Some.task c.args.name.now limits c.keeps.ensures.valid (sym named) in
+    rw (c.app-3.ensures, c.task.ensures, c.target-target.ensures)
+    (place_named c.args.timeline.now c.in-Some.task limits c.keeps.ensures.valid there)
 
 pub returns : goal.returns
 returns c =
@@ -24,13 +29,17 @@ returns c =
     let name = c.args.name.now in
     let task = c.in-Some.task in
     let found : number_named name course.app.task_names ≡ Some task = sym (rw c.app.ensures at c.in-Some.ensures) in
+    let cores_are = c.cores.ensures ∙ ap (λ (s : Snapshot). s.cores) c.target-target.ensures in
     let on_core : c.core_of-core.result ≡ position (is_task task) course.target.cores =
-    c.core_of-core.ensures ∙ ap (λ (cores : List (Option ℕ)). position (is_task task) cores) (c.cores.ensures ∙ ap (λ (s : Snapshot). s.cores) c.target-target.ensures) in
-    on_ok_weaker c.put_page.result
-    (page_view c.show_task-shown.result _ (λ (t : ℕ). task_text course.app.queue_names name (position (is_task t) course.target.cores) (task_at course.target t)) task _ _ _ found
+    c.core_of-core.ensures ∙ ap (λ (cores : List (Option ℕ)). position (is_task task) cores) cores_are in
+    let core_now = position (is_task task) course.target.cores in
+    let view = λ (t : ℕ). task_text course.app.queue_names name (position (is_task t) course.target.cores) (task_at course.target t) in
+    let by_app = λ (app : Application). line_of (task_text app.queue_names name c.core_of-core.result c.task.result.now) in
+    let by_core = λ (core : Option ℕ). line_of (task_text course.app.queue_names name core c.task.result.now) in
+    let by_task = λ (t : TaskSnapshot). line_of (task_text course.app.queue_names name core_now t) in
+    let there = c.task.ensures ∙ ap (λ (s : Snapshot). task_at s task) c.target-target.ensures in
+    page_view c.show_task-shown.result _ view task _ _ _ found
     (on_ok_weaker c.show_task-shown.result
-    (λ text. c.as_slice.ensures.value ∙ text ∙ ap (λ (app : Application). line_of (task_text app.queue_names name c.core_of-core.result c.task.result.now)) c.app-3.ensures
-    ∙ ap (λ (core : Option ℕ). line_of (task_text course.app.queue_names name core c.task.result.now)) on_core
-    ∙ ap (λ (t : TaskSnapshot). line_of (task_text course.app.queue_names name (position (is_task task) course.target.cores) t)) (c.task.ensures ∙ ap (λ (s : Snapshot). task_at s task) c.target-target.ensures))
-    c.show_task-shown.ensures))
+    (λ text. c.as_slice.ensures.value ∙ text ∙ ap by_app c.app-3.ensures ∙ ap by_core on_core ∙ ap by_task there)
+    c.show_task-shown.ensures)
     c.put_page.ensures

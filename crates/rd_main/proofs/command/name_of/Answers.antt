@@ -1,3 +1,4 @@
+-- The goals of name_of that the check left open.
 use Rattle.std.proofs.Common.{◌≡◌, true, rules}
 use Rattle.rd_script.specs.Words.{is_name}
 use Rattle.rd_main.proofs.NameLaws.{name-IsUtf8}

@@ -1,3 +1,4 @@
+-- The goals of move_to_front that the check left open.
 use Rattle.std.proofs.Common.{◌∙◌, ◌-◌, ℕ, List, take, ap}
 use Rattle.rd_main.proofs.LineLaws.{moved_to_front}
 use Rattle.rd_main.proofs.lines.move_to_front.Goals as goal

@@ -1,3 +1,4 @@
+-- The goals of keyword_of that the check left open.
 use Rattle.std.proofs.Common.{rules, ◌≡◌, codes, refl, arith}
 use Rattle.std.proofs.lemmas.Slice.Eq.{text_from_reads}
 use Rattle.rd_script.proofs.spelling.keyword_of.Goals as goal

@@ -1,10 +1,10 @@
-use Rattle.std.proofs.Common.{◌∙◌, ℕ, Option, ap, ok_or, sym, string_bytes}
+-- The goals of queue_of that the check left open.
+use Rattle.std.proofs.Common.{ℕ, Option, ap, ok_or, sym}
 use Rattle.std.specs.Str.{bytes_eq}
+use Rattle.std.proofs.lemmas.Iterator.Adapters.{position_from-zero}
 use Rattle.rd_script.specs.declared.error.AppError.TheVariants as fault
-use Rattle.rd_script.proofs.NameLemmas.{position-map}
+use Rattle.rd_script.specs.Words.{texts}
 use Rattle.rd_script.proofs.spelling.queue_of.Goals as goal
 
-pub returns : goal.returns
-returns c =
-    let place = c.get_index_of.ensures.index ∙ sym (position-map (bytes_eq c.args.name.now) string_bytes c.args.queues.now.keys) in
-    c.ok_or.ensures.value ∙ ap (λ (o : Option ℕ). ok_or o fault.Name) place
+pub loop-index-init : goal.loop-index-init
+loop-index-init c = ap (λ (o : Option ℕ). ok_or o fault.Name) (sym (position_from-zero (bytes_eq c.args.name.now) (texts c.args.queues.now)))

@@ -1,3 +1,4 @@
+-- The goals of value that the check left open.
 use Rattle.std.proofs.Common.{◌<◌, get_or, length, add-one, arith}
 use Rattle.std.proofs.Math.Nat.{pow-suc}
 use Rattle.std.specs.Char.{is_ascii_digit}

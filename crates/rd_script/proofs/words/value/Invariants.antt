@@ -1,3 +1,4 @@
+-- What holds in each turn of value's loop.
 use Rattle.std.proofs.Common.{◌≡◌, ◌<◌, ◌^◌, take}
 use Rattle.std.specs.Str.Parse.{digits_value}
 use Rattle.rd_script.proofs.words.value.Given as goal

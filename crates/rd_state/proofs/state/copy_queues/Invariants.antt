@@ -1,3 +1,4 @@
+-- What holds in each turn of `copy_queues`'s loop.
 use Rattle.std.proofs.Common.{◌≡◌, take}
 use Rattle.rd_state.proofs.state.copy_queues.Given as goal
 

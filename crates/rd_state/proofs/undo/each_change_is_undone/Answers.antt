@@ -1,3 +1,4 @@
+-- The goals of `each_change_is_undone` that the check left open.
 use Rattle.rd_state.proofs.UndoLaws.{each_is_undone}
 use Rattle.rd_state.proofs.undo.each_change_is_undone.Goals as goal
 

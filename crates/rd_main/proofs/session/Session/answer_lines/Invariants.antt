@@ -1,3 +1,4 @@
+-- Why answer_lines's loop ends.
 use Rattle.std.proofs.Common.{length}
 use Rattle.rd_main.proofs.session.Session.answer_lines.Given as goal
 

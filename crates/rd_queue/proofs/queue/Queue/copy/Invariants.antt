@@ -1,10 +1,10 @@
--- The items before this place are copied, and the room is there.
+-- The items before this one are copied, and the room is there.
 use Rattle.std.proofs.Common.{◌≡◌, take}
 use Rattle.std.specs.VecDeque.{deque_capacity}
 use Rattle.rd_queue.proofs.queue.Queue.copy.Given as goal
 
-abbrev pub invariant-loop-place : goal.invariant-loop-place
-invariant-loop-place l = record {
-  copied : l.items.items ≡ take l.place l.self-inside.items.items;
+abbrev pub invariant-loop-index : goal.invariant-loop-index
+invariant-loop-index l = record {
+  copied : l.items.items ≡ take l.index l.self-inside.items.items;
   reserved : deque_capacity l.items ≡ l.self-inside.capacity;
 }

@@ -1,3 +1,4 @@
+-- The goals of find that the check left open.
 use Rattle.std.proofs.Common.{◌∙◌, ap, sym, string_bytes, position}
 use Rattle.std.specs.Str.{bytes_eq}
 use Rattle.rd_script.specs.Application.{Application, names_of}
@@ -9,10 +10,12 @@ pub returns-in-Queue : goal.returns-in-Queue
 returns-in-Queue c =
     let test = bytes_eq c.args.name.now in
     rw c.in-Queue.is
-    (c.get_index_of.ensures.index ∙ sym (position-map test string_bytes c.self.inside.queue_names.keys) ∙ ap (λ (app : Application). position test (names_of Queue app)) c.self.view_is)
+    (c.get_index_of.ensures.index ∙ sym (position-map test string_bytes c.self.inside.queue_names.keys)
+    ∙ ap (λ (app : Application). position test (names_of Queue app)) c.self.view_is)
 
 pub returns-in-Task : goal.returns-in-Task
 returns-in-Task c =
     let test = bytes_eq c.args.name.now in
     rw c.in-Task.is
-    (c.get_index_of-in-Task.ensures.index ∙ sym (position-map test string_bytes c.self.inside.task_names.keys) ∙ ap (λ (app : Application). position test (names_of Task app)) c.self.view_is)
+    (c.get_index_of-in-Task.ensures.index ∙ sym (position-map test string_bytes c.self.inside.task_names.keys)
+    ∙ ap (λ (app : Application). position test (names_of Task app)) c.self.view_is)

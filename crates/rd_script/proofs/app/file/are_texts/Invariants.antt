@@ -1,3 +1,4 @@
+-- What holds in each turn of are_texts's loop.
 use Rattle.std.proofs.Common.{◌≡◌, drop}
 use Rattle.serde_json.specs.View.{items_view}
 use Rattle.rd_script.specs.File.{are_texts}

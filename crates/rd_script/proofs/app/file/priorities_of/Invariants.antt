@@ -1,3 +1,4 @@
+-- What holds in each turn of priorities_of's loop.
 use Rattle.std.proofs.Common.{◌≡◌, map, take}
 use Rattle.rd_script.proofs.app.file.priorities_of.Given as goal
 

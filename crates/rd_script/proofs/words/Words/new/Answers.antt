@@ -1,3 +1,4 @@
+-- The goals of new that the check left open.
 use Rattle.rd_script.proofs.WordLemmas.{words_said, words_only}
 use Rattle.rd_script.proofs.words.Words.new.Goals as goal
 

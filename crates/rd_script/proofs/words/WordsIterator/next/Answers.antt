@@ -1,3 +1,4 @@
+-- The goals of next that the check left open.
 use Rattle.std.proofs.Common.{ℕ, List, ◌∙◌, ◌-◌, length, take, drop, ap, arith, rules}
 use Rattle.std.specs.List.{prefix_len}
 use Rattle.std.proofs.lemmas.List.{take_all, length-drop}
@@ -14,8 +15,10 @@ cut c =
     let behind = take (length line - start) (drop start line) in
     let from = whole ∙ ap (λ (n : ℕ). drop n line) c.spaces_len.ensures.prefix in
     record {
-      first = c.split_at.ensures.front ∙ ap (λ (n : ℕ). take n behind) c.word_len.ensures.prefix ∙ ap (λ (text : List ℕ). take (prefix_len is_solid text) text) from;
-      later = c.split_at.ensures.back ∙ ap (λ (n : ℕ). drop n behind) c.word_len.ensures.prefix ∙ ap (λ (text : List ℕ). drop (prefix_len is_solid text) text) from;
+      first = c.split_at.ensures.front ∙ ap (λ (n : ℕ). take n behind) c.word_len.ensures.prefix
+          ∙ ap (λ (text : List ℕ). take (prefix_len is_solid text) text) from;
+      later = c.split_at.ensures.back ∙ ap (λ (n : ℕ). drop n behind) c.word_len.ensures.prefix
+          ∙ ap (λ (text : List ℕ). drop (prefix_len is_solid text) text) from;
     }
 
 pub returns-clause-steps : goal.returns-clause-steps

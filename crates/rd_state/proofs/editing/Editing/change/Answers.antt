@@ -1,4 +1,5 @@
-use Rattle.rd_state.proofs.EditLaws.{Comes-from_act, CanUndo-from_act}
+-- The goals of `Editing::change` that the check left open.
+use Rattle.rd_state.proofs.EditLaws.{Reaches-from_act, CanUndo-from_act}
 use Rattle.rd_state.proofs.editing.Editing.change.Goals as goal
 
 pub invariant_of-self : goal.invariant_of-self
@@ -8,4 +9,4 @@ invariant_of-self c =
 
 pub returns-clause-ok : goal.returns-clause-ok
 returns-clause-ok c =
-    Comes-from_act c.act.result c.args.self.now _ _ _ _ c.args.change c.self.view_is c.sizes.ensures c.requires c.act.ensures.state c.act.ensures.record
+    Reaches-from_act c.act.result c.args.self.now _ _ _ _ c.args.change c.self.view_is c.sizes.ensures c.requires c.act.ensures.state c.act.ensures.record

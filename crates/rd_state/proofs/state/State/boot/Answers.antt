@@ -1,3 +1,4 @@
+-- The goals of `State::boot` that the check left open.
 use Rattle.std.proofs.Common.{rules}
 use Rattle.rd_state.proofs.BootLaws.{IsValid-boot, IsSettled-boot}
 use Rattle.rd_state.proofs.state.State.boot.Goals as goal

@@ -1,3 +1,4 @@
+-- What holds in each turn of the loop of `retire`.
 use Rattle.std.proofs.Common.{vec_len}
 use Rattle.rd_timeline.proofs.log.Log.retire.Given as goal
 

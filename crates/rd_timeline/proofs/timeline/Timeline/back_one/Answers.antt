@@ -1,6 +1,5 @@
-use Rattle.std.proofs.Common.{◌∙◌, ◌++◌, Option, ap, subst}
-use Rattle.std.specs.Prelude.{option_to_list}
-use Rattle.rd_calls.specs.declared.moves.Move.{Move}
+-- The goals of `back_one` that the check left open.
+use Rattle.std.proofs.Common.{subst}
 use Rattle.rd_timeline.specs.History.{CanRewind}
 use Rattle.rd_timeline.proofs.HistoryLaws.{CanRewind-pop}
 use Rattle.rd_timeline.proofs.TimelineLaws.{IsWhole-pop}
@@ -9,10 +8,11 @@ use Rattle.rd_timeline.proofs.timeline.Timeline.back_one.Goals as goal
 pub back-requires : goal.back-requires
 back-requires c =
     let t = c.self.inside in
-    (CanRewind-pop t.target c.pop-last.new.self c.pop-last.result (subst (CanRewind t.target) c.pop-last.ensures c.self.invariant.kept.rewinds)).0
+    let taken = c.take_back-last in
+    let rewinds = subst (CanRewind t.target) taken.ensures.records c.self.invariant.kept.rewinds in
+    (CanRewind-pop t.target taken.new.self.records taken.result rewinds).0
 
 pub invariant_of-self : goal.invariant_of-self
 invariant_of-self c =
-    IsWhole-pop c.self.inside _ _ _ _ c.unwrap-action.result c.pop-last.result c.self.invariant
-    (c.pop.ensures.items ∙ ap (λ (o : Option Move). c.pop.new.self.items ++ option_to_list o) c.unwrap-action.ensures)
-    c.pop-last.ensures c.back.ensures c.push_reserved.ensures.items c.push_reserved.ensures.capacity
+    let taken = c.take_back-last in
+    IsWhole-pop c.self.inside _ _ taken.result c.self.invariant taken.ensures.moves taken.ensures.records c.back.ensures

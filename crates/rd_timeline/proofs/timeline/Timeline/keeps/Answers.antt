@@ -1,3 +1,4 @@
+-- The goals of `keeps` that the check left open.
 use Rattle.std.proofs.Common.{subst}
 use Rattle.rd_timeline.specs.Course.{Course, IsKept}
 use Rattle.rd_timeline.specs.History.{IsStateAfter}

@@ -1,5 +1,0 @@
-use Rattle.rd_calls.proofs.StepLaws.{room_for_first}
-use Rattle.rd_calls.proofs.room.room_to_wake.Goals as goal
-
-pub returns : goal.returns
-returns c = room_for_first c.args.app.now c.args.state.now c.args.place c.requires.valid c.requires.place

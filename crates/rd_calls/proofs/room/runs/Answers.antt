@@ -1,8 +1,0 @@
-use Rattle.rd_calls.proofs.StepLaws.{is_task_on, runs_on}
-use Rattle.rd_calls.proofs.room.runs.Goals as goal
-
-pub returns-clause-task : goal.returns-clause-task
-returns-clause-task c = is_task_on c.args.app.now c.args.state.now c.args.core c.args.task c.requires.valid c.requires.core c.requires.task
-
-pub returns-clause-runs : goal.returns-clause-runs
-returns-clause-runs c = runs_on c.args.app.now c.args.state.now c.args.core c.args.task c.requires.valid c.requires.core c.requires.task

@@ -1,0 +1,134 @@
+//! What no clause says of reading files: outside texts, and each public function once.
+
+use rd_script::app::file::read_app;
+use rd_script::app::{App, Kind};
+use rd_script::error::AppError;
+use rd_script::instr::{Instr, MAX_DELAY, Operand};
+use std::alloc::Global;
+use std::test::Fail;
+
+// The file of one core, the queue q0 for two items of one byte, and the task t0 with this code.
+macro_rules! file_with_code {
+    ($code:literal) => {
+        concat!(
+            r#"{"profile":1,"cores":1,"queues":[{"name":"q0","length":2,"item":1}],"#,
+            r#""tasks":[{"name":"t0","priority":1,"code":["#,
+            $code,
+            "]}]}"
+        )
+    };
+}
+
+// Why the file is refused, if it is.
+fn fault_of(alloc: Global, text: &str) -> Option<AppError> {
+    read_app(alloc, text.as_bytes()).err()
+}
+
+#[test]
+fn refused_files(rt: HostRuntime) -> Result<(), Fail> {
+    let alloc = rt.alloc();
+    let whole = file_with_code!(r#""end""#);
+    let app = read_app(alloc, whole.as_bytes())?;
+    assert_eq!(rt; app.find(Kind::Queue, "q0"), Some(0));
+    assert_eq!(rt; app.find(Kind::Task, "q0"), None);
+    assert_eq!(rt; app.queues().len(), 1);
+    assert_eq!(rt; app.notes(), 1);
+    for (text, want) in [
+        (
+            concat!(
+                r#"{"profile":1,"cores":1,"queues":[{"name":"q0","length":0,"item":1}],"#,
+                r#""tasks":[{"name":"t0","priority":1,"code":["end"]}]}"#
+            ),
+            AppError::Limit,
+        ),
+        (r#"{"profile":1,"cores""#, AppError::NotJson),
+        (file_with_code!(r#""over q0","end""#), AppError::Instr),
+        (file_with_code!(r#""send q9 0","end""#), AppError::Name),
+        (file_with_code!(r#""send q0","end""#), AppError::Instr),
+        (file_with_code!(r#""send q9 r8","end""#), AppError::Instr),
+        (
+            r#"{"profile":1,"cores":1,"queues":[{"name":"q0","length":2,"item":1}]}"#,
+            AppError::Shape,
+        ),
+    ] {
+        assert_eq!(rt; fault_of(alloc, text), Some(want), "{text}");
+    }
+    Ok(())
+}
+
+#[test]
+fn pack_and_unpack(rt: HostRuntime) -> Result<(), Fail> {
+    let text = concat!(
+        r#"{"profile":1,"cores":1,"tasks":[{"name":"t0","priority":1,"#,
+        r#""code":["set r1 258","pack r1"," unpack  r2 ","end"]}]}"#
+    );
+    let app = read_app(rt.alloc(), text.as_bytes())?;
+    assert!(rt; app.priorities().len() == 1);
+    app.limits();
+    let code = app.code(0);
+    assert_eq!(rt; code.len(), 4);
+    assert!(rt;
+        matches!(
+            code[0],
+            Instr::Set {
+                register: 1,
+                value: 258
+            }
+        )
+    );
+    assert!(rt; matches!(code[1], Instr::Pack { register: 1 }));
+    assert!(rt; matches!(code[2], Instr::Unpack { register: 2 }));
+    assert!(rt; matches!(code[3], Instr::End));
+    Ok(())
+}
+
+// The block time of a call.
+fn wait_of(instr: &Instr) -> Option<Operand> {
+    match instr {
+        Instr::Send { wait, .. } | Instr::Receive { wait, .. } => Some(*wait),
+        _ => None,
+    }
+}
+
+#[test]
+fn block_times(rt: HostRuntime) -> Result<(), Fail> {
+    let text = file_with_code!(r#""send q0 1","recv q0 max","send q0 r3","end""#);
+    let app = read_app(rt.alloc(), text.as_bytes())?;
+    let code = app.code(0);
+    assert_eq!(rt; code.len(), 4);
+    assert_eq!(rt; wait_of(&code[0]), Some(Operand::Number { value: 1 }));
+    assert_eq!(rt;
+        wait_of(&code[1]),
+        Some(Operand::Number { value: MAX_DELAY })
+    );
+    assert_eq!(rt; wait_of(&code[2]), Some(Operand::Register { register: 3 }));
+    assert_eq!(rt; wait_of(&code[3]), None);
+    Ok(())
+}
+
+#[test]
+fn builtin(rt: HostRuntime) -> Result<(), Fail> {
+    let app = App::builtin(rt.alloc())?;
+    assert_eq!(rt; app.name(Kind::Task, 0), "t0");
+    assert_eq!(rt; app.code(0).len(), 5);
+    assert_eq!(rt; app.tick(), 0);
+    assert_eq!(rt; app.cores(), 1);
+    Ok(())
+}
+
+#[test]
+fn texts_of_faults(rt: HostRuntime) -> Result<(), Fail> {
+    for (fault, want) in [
+        (AppError::NotJson, "L1 NotJson"),
+        (AppError::Shape, "L2 Shape"),
+        (AppError::Limit, "L3 Limit"),
+        (AppError::Name, "L4 Name"),
+        (AppError::Instr, "L5 Instr"),
+        (AppError::OverwriteLength, "L6 OverwriteLength"),
+        (AppError::Memory, "L7 Memory"),
+    ] {
+        let text = fault.to_string(rt.alloc())?;
+        assert_eq!(rt; text.as_str(), want);
+    }
+    Ok(())
+}

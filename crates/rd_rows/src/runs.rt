@@ -1,0 +1,42 @@
+//! Whole runs: lists of requests, and what they leave of the moves.
+
+ghost use Rattle.std.specs.Prelude.{◌≡◌};
+
+use rd_calls::moves::Move;
+use rd_script::app::App;
+use rd_timeline::runs::Request;
+use rd_timeline::timeline::Timeline;
+use std::process::Abort;
+use std::test::Fail;
+
+fn go() -> Request
+    ensures { result ≡ Request.Go Move.Tick }
+{
+    Request::Go { action: Move::Tick }
+}
+
+// With ample memory all that is asked is done; a way back that is too long and a move beyond the
+// limit do nothing.
+fn does_what_is_asked(rt: &impl Abort, timeline: &mut Timeline) {
+    let forwards = [go(), go(), go(), go()];
+    assert!(rt; timeline.run(&forwards).is_ok());
+    assert_eq!(rt; timeline.at(), 3, "the limit");
+    let there_and_back = [Request::Back { count: 2 }, Request::Back { count: 2 }, go()];
+    assert!(rt; timeline.run(&there_and_back).is_ok());
+    assert_eq!(rt; timeline.at(), 2);
+    assert_eq!(rt; timeline.left(), 0);
+    assert_eq!(rt; timeline.target().tick(), 2);
+    assert!(rt; timeline.answer(&Request::Back { count: 1 }).is_ok());
+    assert_eq!(rt; timeline.at(), 1);
+    assert_eq!(rt; timeline.left(), 1);
+    assert_eq!(rt; timeline.target().tick(), 1);
+}
+
+#[test]
+fn whole_runs(rt: HostRuntime) -> Result<(), Fail> {
+    let alloc = rt.alloc();
+    let mut timeline = Timeline::new(alloc, App::builtin(alloc)?, 3)?;
+    does_what_is_asked(&rt, &mut timeline);
+    timeline.close();
+    Ok(())
+}

@@ -1,0 +1,12 @@
+-- What the fields of a `Journal` stand for.
+use Rattle.std.specs.Prelude.{drop, min, take, vec_capacity}
+use Rattle.rd_timeline.specs.declared.journal.Journal.TheInside.{Inside}
+use Rattle.rd_timeline.specs.JournalView.{JournalView}
+
+abbrev pub journal_of : Inside → JournalView
+journal_of j = record {
+  done = take j.done j.moves.items;
+  records = j.log.records;
+  undone = drop j.done j.moves.items;
+  room = min (vec_capacity j.moves) j.log.room;
+}

@@ -1,0 +1,23 @@
+-- What a contract sees of a journal.
+use Rattle.std.specs.Prelude.{ℕ, ◌≡◌, ◌∷◌, ◌++◌, [], List}
+use Rattle.rd_state.specs.declared.change.Change.{Change}
+use Rattle.rd_calls.specs.declared.moves.Move.{Move}
+
+-- The moves done in order, with the record of each, and the moves undone, the one to be redone next
+-- first. There is room for so many moves done with their records.
+pub record JournalView : Type 0 where
+  pub done : List Move
+  pub records : List (List Change)
+  pub undone : List Move
+  pub room : ℕ
+
+-- The moves and their records are as they were.
+pub record IsAsBefore (old new : JournalView) : Type 0 where
+  pub done : new.done ≡ old.done
+  pub records : new.records ≡ old.records
+  pub undone : new.undone ≡ old.undone
+
+-- The last move done is now the first one undone.
+abbrev pub TakesBack : JournalView → JournalView → Type 0
+TakesBack old new =
+    (last : Move) × (old.done ≡ new.done ++ last ∷ []) × (new.undone ≡ last ∷ old.undone)
