@@ -10,15 +10,15 @@ use Rattle.std.proofs.lemmas.List.Elements.{All-get_or}
 use Rattle.std.proofs.lemmas.List.Sums.{get_or-le-sum_by}
 use Rattle.std.proofs.Math.Nat.{mod-lt}
 use Rattle.rd_queue.specs.Queues.{with_items}
-use Rattle.rd_script.specs.declared.instr.Instr.{Instr}
-use Rattle.rd_script.specs.declared.instr.Instr.TheVariants.{Set, Add, Move, Data, Pack, Unpack, Jump, JumpZero, End, Send, Receive}
-use Rattle.rd_script.specs.declared.instr.Operand.{Operand}
-use Rattle.rd_script.specs.declared.phase.Phase.{Phase}
-use Rattle.rd_script.specs.declared.phase.Phase.TheVariants.{Run, Again, Wait, Ended}
-use Rattle.rd_script.specs.declared.phase.Place.{Place}
-use Rattle.rd_script.specs.declared.phase.Place.TheVariants as at_queue
-use Rattle.rd_script.specs.Application.{Application, IsApplication, IsScript, IsWithin, code_of, instr_at, is_final, priorities_of}
-use Rattle.rd_script.specs.TaskScript.{TaskScript}
+use Rattle.rd_app.specs.declared.instr.Instr.{Instr}
+use Rattle.rd_app.specs.declared.instr.Instr.TheVariants.{Set, Add, Move, Data, Pack, Unpack, Jump, JumpZero, End, Send, Receive}
+use Rattle.rd_app.specs.declared.instr.Operand.{Operand}
+use Rattle.rd_app.specs.declared.phase.Phase.{Phase}
+use Rattle.rd_app.specs.declared.phase.Phase.TheVariants.{Run, Again, Wait, Ended}
+use Rattle.rd_app.specs.declared.phase.Place.{Place}
+use Rattle.rd_app.specs.declared.phase.Place.TheVariants as at_queue
+use Rattle.rd_app.specs.Application.{Application, IsApplication, IsScript, IsWithin, code_of, instr_at, is_final, priorities_of}
+use Rattle.rd_app.specs.TaskScript.{TaskScript}
 use Rattle.rd_wait.specs.Joined.{joined, IsInOrder}
 use Rattle.rd_wait.proofs.JoinedLaws.{IsInOrder-joined}
 use Rattle.rd_state.specs.Change.{with_task, with_queue, items_at}

@@ -9,17 +9,17 @@ use Rattle.std.proofs.lemmas.List.{get_or-set_same, get_or-set_other}
 use Rattle.std.proofs.lemmas.List.Elements.{All-cons, All-get_or, All-head, All-tail}
 use Rattle.std.proofs.lemmas.List.Sums.{sum_by-remove, passes_at_first}
 use Rattle.std.proofs.lemmas.Map.Steps.{length-le_from_distinct_below}
-use Rattle.rd_script.specs.declared.phase.Phase.{Phase}
-use Rattle.rd_script.specs.declared.phase.Phase.TheVariants.{Run, Again, Wait, Ended}
-use Rattle.rd_script.specs.declared.phase.Place.{Place}
-use Rattle.rd_script.specs.Application.{Application, instr_at, priorities_of}
+use Rattle.rd_app.specs.declared.phase.Phase.{Phase}
+use Rattle.rd_app.specs.declared.phase.Phase.TheVariants.{Run, Again, Wait, Ended}
+use Rattle.rd_app.specs.declared.phase.Place.{Place}
+use Rattle.rd_app.specs.Application.{Application, instr_at, priorities_of}
 use Rattle.rd_wait.specs.Joined.{joined}
 use Rattle.rd_wait.proofs.JoinedLaws.{IsInOrder-joined, IsInOrder-remove}
 use Rattle.rd_state.specs.Snapshot.{Snapshot, TaskSnapshot, no_task, task_at}
 use Rattle.rd_state.specs.Valid.{PhaseFitsCall, place_of_call, HasTimeLeft, is_ahead, seats_to_run, times_in_list, times_on_cores, times_waiting_at}
 use Rattle.rd_state.specs.Waiting.{same_place, waiting_at}
 use Rattle.rd_state.proofs.ScheduleLaws.{one_if, times_in_list-cons, times_in_list-joined}
-use Rattle.rd_script.specs.Application.{max_delay}
+use Rattle.rd_app.specs.Application.{max_delay}
 use Rattle.rd_calls.specs.Waking.{FirstTriesWait, deadline_after, is_first, kept_deadline, value_of, is_due}
 use Rattle.rd_calls.specs.Waking.{queues_without, timed_out, woken, woken_from, woken_first, woken_one}
 use Rattle.rd_calls.proofs.ConsistentLaws.{TaskMoves, IsConsistent, IsConsistent-deadlines, IsConsistent-moved, place_there, same_place-self}

@@ -12,4 +12,4 @@ pub use Rattle.rd_state.specs.Edit
 pub use Rattle.rd_state.specs.Settled
 pub use Rattle.rd_state.specs.Boot
 pub use Rattle.rd_state.specs.Valid
-pub use Rattle.rd_script.specs.Application
+pub use Rattle.rd_app.specs.Application

@@ -2,10 +2,10 @@
 use Rattle.std.specs.Prelude.{ℕ, ◌+◌, ◌%◌, ◌^◌, ◌<◌, ◌≤◌, length, nat_eq}
 use Rattle.std.specs.Prelude.{None, slice_set, if◌then◌else◌}
 use Rattle.std.specs.Int.{w32, to_le_bytes, from_le_bytes}
-use Rattle.rd_script.specs.declared.instr.Instr.{Instr}
-use Rattle.rd_script.specs.declared.instr.Instr.TheVariants.{Set, Add, Move, Data, Pack, Unpack}
-use Rattle.rd_script.specs.declared.instr.Instr.TheVariants.{Jump, JumpZero, End, Send, Receive}
-use Rattle.rd_script.specs.declared.phase.Phase.TheVariants.{Ended}
+use Rattle.rd_app.specs.declared.instr.Instr.{Instr}
+use Rattle.rd_app.specs.declared.instr.Instr.TheVariants.{Set, Add, Move, Data, Pack, Unpack}
+use Rattle.rd_app.specs.declared.instr.Instr.TheVariants.{Jump, JumpZero, End, Send, Receive}
+use Rattle.rd_app.specs.declared.phase.Phase.TheVariants.{Ended}
 use Rattle.rd_state.specs.Snapshot.{Snapshot, task_at}
 use Rattle.rd_calls.specs.Tasks.{register_at, with_register, with_pc}
 use Rattle.rd_calls.specs.Tasks.{with_bytes, with_phase, advanced}

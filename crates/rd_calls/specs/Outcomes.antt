@@ -3,10 +3,10 @@ use Rattle.std.specs.Prelude.{ℕ, ◌≡◌, ◌+◌, ◌∷◌, ◌++◌, [], 
 use Rattle.std.specs.Prelude.{slice_index_or, nat_eq, if◌then◌else◌, Bool}
 use Rattle.rd_queue.specs.QueueSnapshot.{QueueSnapshot}
 use Rattle.rd_queue.specs.Queues.{fitted, with_items}
-use Rattle.rd_script.specs.declared.instr.Operand.{Operand}
-use Rattle.rd_script.specs.declared.phase.Phase.TheVariants.{Run, Wait}
-use Rattle.rd_script.specs.declared.phase.Place.{Place}
-use Rattle.rd_script.specs.declared.phase.Place.TheVariants.{Receive, Send}
+use Rattle.rd_app.specs.declared.instr.Operand.{Operand}
+use Rattle.rd_app.specs.declared.phase.Phase.TheVariants.{Run, Wait}
+use Rattle.rd_app.specs.declared.phase.Place.{Place}
+use Rattle.rd_app.specs.declared.phase.Place.TheVariants.{Receive, Send}
 use Rattle.rd_state.specs.Snapshot.{Snapshot, task_at, queue_at}
 use Rattle.rd_state.specs.Change.{with_queue, items_at}
 use Rattle.rd_state.specs.Edit.{Edit, Reaches}

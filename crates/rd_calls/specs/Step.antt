@@ -1,9 +1,9 @@
 -- A move: one instruction of the task on a core, or a tick, and then scheduling.
 use Rattle.std.specs.Prelude.{ℕ, ◌+◌, ◌*◌, ◌%◌, ◌<◌, ◌≤◌, List, length, drop, position, nat_lt}
 use Rattle.std.specs.Prelude.{if◌then◌else◌, Option, None, Some, is_some, Result, Ok, Err}
-use Rattle.rd_script.specs.declared.instr.Instr.{Instr}
-use Rattle.rd_script.specs.declared.instr.Instr.TheVariants.{Send, Receive}
-use Rattle.rd_script.specs.Application.{Application, IsOperand, instr_at, priorities_of}
+use Rattle.rd_app.specs.declared.instr.Instr.{Instr}
+use Rattle.rd_app.specs.declared.instr.Instr.TheVariants.{Send, Receive}
+use Rattle.rd_app.specs.Application.{Application, IsOperand, instr_at, priorities_of}
 use Rattle.rd_state.specs.declared.change.Change.{Change}
 use Rattle.rd_state.specs.Change.{weight_of}
 use Rattle.rd_state.specs.Settled.{settled, rotated}

@@ -1,6 +1,6 @@
 -- A state with one thing of a task changed.
 use Rattle.std.specs.Prelude.{ℕ, ◌+◌, List, slice_index, slice_set}
-use Rattle.rd_script.specs.declared.phase.Phase.{Phase}
+use Rattle.rd_app.specs.declared.phase.Phase.{Phase}
 use Rattle.rd_state.specs.Snapshot.{Snapshot, task_at}
 use Rattle.rd_state.specs.Change.{with_task}
 

@@ -3,12 +3,12 @@ use Rattle.std.specs.Prelude.{ℕ, ◌≡◌, zero, suc, ◌+◌, ◌<◌, Bool,
 use Rattle.std.specs.Prelude.{length, nat_eq, nat_lt, not, position, remove, slice_get}
 use Rattle.std.specs.Prelude.{if◌then◌else◌, Option, None, Some}
 use Rattle.rd_queue.specs.QueueSnapshot.{QueueSnapshot}
-use Rattle.rd_script.specs.declared.instr.Operand.{Operand}
-use Rattle.rd_script.specs.declared.instr.Operand.TheVariants.{Number, Register}
-use Rattle.rd_script.specs.declared.phase.Phase.{Phase}
-use Rattle.rd_script.specs.declared.phase.Phase.TheVariants.{Run, Again, Wait, Ended}
-use Rattle.rd_script.specs.declared.phase.Place.{Place}
-use Rattle.rd_script.specs.Application.{max_delay}
+use Rattle.rd_app.specs.declared.instr.Operand.{Operand}
+use Rattle.rd_app.specs.declared.instr.Operand.TheVariants.{Number, Register}
+use Rattle.rd_app.specs.declared.phase.Phase.{Phase}
+use Rattle.rd_app.specs.declared.phase.Phase.TheVariants.{Run, Again, Wait, Ended}
+use Rattle.rd_app.specs.declared.phase.Place.{Place}
+use Rattle.rd_app.specs.Application.{max_delay}
 use Rattle.rd_wait.specs.Joined.{joined}
 use Rattle.rd_state.specs.Snapshot.{Snapshot, task_at}
 use Rattle.rd_state.specs.Valid.{is_ahead}

@@ -7,11 +7,11 @@ ghost use Rattle.rd_calls.specs.Local.{local_step, with_idle_core, NamesRegister
 ghost use Rattle.rd_calls.specs.Tasks.{register_at, with_phase};
 
 use crate::steps::{advance, set_bytes, set_pc, set_phase, set_register};
-use rd_script::instr::Instr;
-use rd_script::phase::Phase;
+use rd_app::instr::Instr;
+use rd_app::phase::Phase;
+use rd_bytes::no_memory::NoMemory;
 use rd_state::change::Change;
 use rd_state::editing::Editing;
-use rd_state::no_memory::NoMemory;
 use std::alloc::Global;
 
 // The number whose four bytes, lowest first, begin the bytes; missing ones are 0.

@@ -1,6 +1,6 @@
 //! What becomes of a caller.
 
-use rd_script::phase::Place;
+use rd_app::phase::Place;
 
 /// What becomes of a task that calls the kernel.
 #[derive(Clone, Copy, Debug, PartialEq, Eq)]

@@ -2,7 +2,7 @@
 ghost use Rattle.std.specs.Prelude.{◌≡◌, ◌+◌, ◌*◌, ◌<◌, ◌≤◌, length, Some, OnOk, OnErr};
 ghost use Rattle.rd_state.specs.Edit.{Reaches};
 ghost use Rattle.rd_state.specs.Snapshot.{task_at, core_at};
-ghost use Rattle.rd_script.specs.Application.{priorities_of};
+ghost use Rattle.rd_app.specs.Application.{priorities_of};
 ghost use Rattle.rd_state.specs.Sizes.{IsSizedPhase};
 ghost use Rattle.rd_state.specs.Valid.{IsValid, seats_to_run};
 ghost use Rattle.rd_calls.specs.Local.{with_idle_core};
@@ -15,12 +15,12 @@ use crate::outcome::Outcome;
 use crate::queues::{receive, send};
 use crate::room::task_on_core_runs;
 use crate::steps::{return_from, set_phase, set_turn};
-use rd_script::app::App;
-use rd_script::instr::Instr;
-use rd_script::phase::{Phase, Place};
+use rd_app::app::App;
+use rd_app::instr::Instr;
+use rd_app::phase::{Phase, Place};
+use rd_bytes::no_memory::NoMemory;
 use rd_state::change::Change;
 use rd_state::editing::Editing;
-use rd_state::no_memory::NoMemory;
 use std::alloc::Global;
 
 // Takes a task that waits off its core.

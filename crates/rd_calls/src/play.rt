@@ -3,7 +3,7 @@
 ghost use Rattle.std.specs.Prelude.{◌≡◌, ◌↔◌, ◌+◌, ◌*◌, ◌<◌, ◌≤◌, length, Ok, Err};
 ghost use Rattle.std.specs.Prelude.{Some, IfOk, OnOk, OnErr, IsOk, IsErrOf};
 ghost use Rattle.rd_state.specs.Change.{weight_of};
-ghost use Rattle.rd_script.specs.Application.{priorities_of};
+ghost use Rattle.rd_app.specs.Application.{priorities_of};
 ghost use Rattle.rd_state.specs.Settled.{IsSettled};
 ghost use Rattle.rd_state.specs.Snapshot.{core_at};
 ghost use Rattle.rd_state.specs.Undoing.{undone, CanUndo};
@@ -14,9 +14,9 @@ ghost use Rattle.rd_calls.specs.Step.{step, core_step, tick_step, last_tick, IsM
 use crate::moves::{Move, PlayError};
 use crate::perform::move_core;
 use crate::tick::move_tick;
-use rd_script::app::App;
+use rd_app::app::App;
+use rd_bytes::no_memory::NoMemory;
 use rd_state::editing::Editing;
-use rd_state::no_memory::NoMemory;
 use rd_state::state::State;
 use rd_state::undo::Undo;
 use std::alloc::Global;

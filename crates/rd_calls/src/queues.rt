@@ -1,6 +1,6 @@
 //! The calls of queues.
 ghost use Rattle.std.specs.Prelude.{◌≡◌, ◌<◌, ◌≤◌, length, IfOk, OnOk, OnErr};
-ghost use Rattle.rd_script.specs.Application.{IsOperand, priorities_of};
+ghost use Rattle.rd_app.specs.Application.{IsOperand, priorities_of};
 ghost use Rattle.rd_state.specs.Edit.{Reaches};
 ghost use Rattle.rd_state.specs.Snapshot.{task_at, queue_at};
 ghost use Rattle.rd_state.specs.Valid.{IsValid, seats_to_run};
@@ -11,14 +11,14 @@ use crate::outcome::Outcome;
 use crate::room::{list_has_room, ready_has_room};
 use crate::steps::set_bytes;
 use crate::waking::{block, wake_first};
+use rd_app::app::App;
+use rd_app::instr::Operand;
+use rd_app::phase::Place;
+use rd_bytes::no_memory::NoMemory;
+use rd_bytes::saved::SavedBytes;
 use rd_queue::item::Item;
-use rd_script::app::App;
-use rd_script::instr::Operand;
-use rd_script::phase::Place;
 use rd_state::change::Change;
 use rd_state::editing::Editing;
-use rd_state::no_memory::NoMemory;
-use rd_state::saved::SavedBytes;
 use std::alloc::Global;
 
 // The task's data goes to the queue's back.

@@ -5,8 +5,8 @@ ghost use Rattle.rd_state.specs.Valid.{IsValid, seats_to_run};
 ghost use Rattle.rd_state.specs.Waiting.{HasPlace, waiting_at};
 ghost use Rattle.rd_calls.specs.Waking.{ReadyHasRoom};
 
-use rd_script::app::App;
-use rd_script::phase::Place;
+use rd_app::app::App;
+use rd_app::phase::Place;
 use rd_state::state::State;
 
 /// A task on a core can run.

@@ -1,17 +1,17 @@
 //! Single changes in the middle of a step.
 ghost use Rattle.std.specs.Prelude.{◌≡◌, ◌+◌, ◌<◌, ◌≤◌, length, IsOk, OnOk, OnErr};
-ghost use Rattle.rd_script.specs.declared.phase.Phase.TheVariants.{Run};
+ghost use Rattle.rd_app.specs.declared.phase.Phase.TheVariants.{Run};
 ghost use Rattle.rd_state.specs.Edit.{Reaches};
 ghost use Rattle.rd_state.specs.Sizes.{IsSizedPhase};
 ghost use Rattle.rd_state.specs.Snapshot.{task_at};
 ghost use Rattle.rd_calls.specs.Tasks.{with_register, with_pc, with_bytes, with_phase, advanced};
 ghost use Rattle.rd_calls.specs.Outcomes.{returned};
 
-use rd_script::phase::Phase;
+use rd_app::phase::Phase;
+use rd_bytes::no_memory::NoMemory;
+use rd_bytes::saved::SavedBytes;
 use rd_state::change::Change;
 use rd_state::editing::Editing;
-use rd_state::no_memory::NoMemory;
-use rd_state::saved::SavedBytes;
 use std::alloc::Global;
 
 /// Sets a register of a task.

@@ -1,16 +1,16 @@
 //! The move of a tick in the middle.
 ghost use Rattle.std.specs.Prelude.{◌≡◌, ◌+◌, ◌*◌, ◌<◌, length, OnOk, OnErr};
-ghost use Rattle.rd_script.specs.Application.{priorities_of};
+ghost use Rattle.rd_app.specs.Application.{priorities_of};
 ghost use Rattle.rd_state.specs.Edit.{Reaches};
 ghost use Rattle.rd_state.specs.Valid.{IsValid};
 ghost use Rattle.rd_calls.specs.Step.{ticked, tick_step, last_tick};
 
 use crate::steps::set_turn;
 use crate::waking::wake_if_due;
-use rd_script::app::App;
+use rd_app::app::App;
+use rd_bytes::no_memory::NoMemory;
 use rd_state::change::Change;
 use rd_state::editing::Editing;
-use rd_state::no_memory::NoMemory;
 
 // The tick that begins, and the end of waiting for those whose time is up, by rising number.
 fn begin_tick(app: &App, editing: &mut Editing, tick: u32) -> Result<(), NoMemory>

@@ -1,7 +1,7 @@
 //! Block times: tasks that begin to wait, and tasks that are woken.
 ghost use Rattle.std.specs.Prelude.{◌≡◌, ◌<◌, ◌≤◌, [], None, false, length, nat_eq};
 ghost use Rattle.std.specs.Prelude.{position, IfOk, IsOk, OnOk, OnErr, IsTrue};
-ghost use Rattle.rd_script.specs.Application.{IsOperand};
+ghost use Rattle.rd_app.specs.Application.{IsOperand};
 ghost use Rattle.rd_state.specs.Edit.{Reaches};
 ghost use Rattle.rd_state.specs.Sizes.{IsDeadline};
 ghost use Rattle.rd_state.specs.Snapshot.{task_at};
@@ -14,11 +14,11 @@ ghost use Rattle.rd_calls.specs.Waking.{ReadyHasRoom, woken, woken_first, woken_
 
 use crate::outcome::Outcome;
 use crate::steps::set_phase;
-use rd_script::instr::{MAX_DELAY, Operand};
-use rd_script::phase::{Phase, Place};
+use rd_app::instr::{MAX_DELAY, Operand};
+use rd_app::phase::{Phase, Place};
+use rd_bytes::no_memory::NoMemory;
 use rd_state::change::Change;
 use rd_state::editing::Editing;
-use rd_state::no_memory::NoMemory;
 
 // The number that an operand stands for.
 fn value_of(editing: &Editing, task: usize, operand: Operand) -> u32

@@ -5,16 +5,16 @@ use Rattle.std.specs.Prelude.{All}
 use Rattle.std.proofs.lemmas.List.{length-map}
 use Rattle.std.proofs.lemmas.List.Elements.{All-get_or}
 use Rattle.std.proofs.lemmas.List.Quantifiers.{position-Some}
-use Rattle.rd_script.specs.Application.{IsApplication}
-use Rattle.rd_script.specs.declared.phase.Phase.{Phase}
-use Rattle.rd_script.specs.declared.phase.Phase.TheVariants.{Run, Again, Wait, Ended}
+use Rattle.rd_app.specs.Application.{IsApplication}
+use Rattle.rd_app.specs.declared.phase.Phase.{Phase}
+use Rattle.rd_app.specs.declared.phase.Phase.TheVariants.{Run, Again, Wait, Ended}
 use Rattle.rd_state.specs.Sizes.{HasSizedLists, IsSizedPhase, IsTaskOrIdle}
 use Rattle.rd_state.specs.Snapshot.{TaskSnapshot, no_queue, no_task, queue_at, task_at}
 use Rattle.rd_state.specs.Waiting.{IsPlace}
 use Rattle.rd_state.specs.Valid.{IsValid, shape_of}
 use Rattle.rd_timeline.specs.Course.{Course}
 use Rattle.rd_main.specs.Answers.{Adds, IsView, PutsPage, no_memory, number_named}
-use Rattle.rd_main.specs.Replies.{line_of, PlaceIsNamed, WaitersAreNamed, SeatedAreNamed}
+use Rattle.rd_command.specs.Replies.{line_of, PlaceIsNamed, WaitersAreNamed, SeatedAreNamed}
 
 -- What has a name is there.
 pub queue_there : (course : Course) (queue : ℕ) (name : List ℕ) → IsApplication course.app → IsValid course.app course.target

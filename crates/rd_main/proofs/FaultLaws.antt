@@ -8,7 +8,7 @@ use Rattle.std.specs.Io.Take.{take_inner, take_limit, take_remaining}
 use Rattle.std.specs.declared.io.Error.{Error}
 use Rattle.std.specs.declared.io.ErrorKind.{ErrorKind}
 use Rattle.std.specs.declared.io.Take.{Take}
-use Rattle.rd_script.specs.Application.{Application, IsApplication}
+use Rattle.rd_app.specs.Application.{Application, IsApplication}
 use Rattle.rd_script.specs.Says.{FileSays}
 use Rattle.rd_main.specs.declared.fault.Fault.{Fault}
 use Rattle.rd_main.specs.declared.fault.Fault.TheVariants.{BadLine, CannotRead, App, NoMemory}

@@ -1,6 +1,4 @@
 -- Laws that several proofs cite.
 pub mod AnswerLaws
 pub mod LineLaws
-pub mod NameLaws
-pub mod TextLaws
 pub mod FaultLaws

@@ -8,12 +8,12 @@ use Rattle.rd_calls.specs.declared.moves.Move.TheVariants as move
 use Rattle.rd_calls.specs.declared.moves.PlayError.TheVariants as play
 use Rattle.rd_state.specs.Snapshot.{queue_at, task_at}
 use Rattle.rd_timeline.specs.Course.{CanGo, Course, IsFull, IsRefusedBy}
-use Rattle.rd_main.specs.Commands.{Asked, Step, Tick, Back, ShowQueue, ShowTask, ShowCores}
-use Rattle.rd_main.specs.Replies.{line_of, reply_text, queue_text, task_text, cores_text, is_task}
-use Rattle.rd_main.specs.declared.reply.Refusal.TheVariants.{NoTask, TickLimit, TooFar, MovesFull}
-use Rattle.rd_main.specs.declared.reply.Refusal.TheVariants.{NoSuch, NoMemory, Syntax}
-use Rattle.rd_main.specs.declared.reply.Reply.{Reply}
-use Rattle.rd_main.specs.declared.reply.Reply.TheVariants.{Done, Refused}
+use Rattle.rd_command.specs.Commands.{Asked, Step, Tick, Back, ShowQueue, ShowTask, ShowCores}
+use Rattle.rd_command.specs.Replies.{line_of, reply_text, queue_text, task_text, cores_text, is_task}
+use Rattle.rd_command.specs.declared.reply.Refusal.TheVariants.{NoTask, TickLimit, TooFar, MovesFull}
+use Rattle.rd_command.specs.declared.reply.Refusal.TheVariants.{NoSuch, NoMemory, Syntax}
+use Rattle.rd_command.specs.declared.reply.Reply.{Reply}
+use Rattle.rd_command.specs.declared.reply.Reply.TheVariants.{Done, Refused}
 
 -- There is room for the move, which is laid on the moves done, and the moves undone are forgotten.
 pub record Goes (old : Course) (move : Move) (new : Course) : Type 0 where

@@ -3,7 +3,7 @@ use Rattle.std.specs.Prelude.{ℕ, ◌≡◌, ◌≢◌, ◌≤◌, ⊤, List, l
 use Rattle.std.specs.declared.io.ErrorKind.{ErrorKind}
 use Rattle.std.specs.declared.io.ErrorKind.TheVariants.{OutOfMemory}
 use Rattle.rd_script.specs.declared.error.AppError.TheVariants as fault
-use Rattle.rd_script.specs.Application.{Application, IsApplication}
+use Rattle.rd_app.specs.Application.{Application, IsApplication}
 use Rattle.rd_script.specs.File.{file_of}
 use Rattle.rd_script.specs.Says.{FileSays}
 use Rattle.rd_main.specs.declared.fault.Fault.{Fault}

@@ -2,17 +2,17 @@
 
 ghost use Rattle.std.specs.Prelude.{◌≡◌, ◌+◌, ◌≤◌, IsOk, OnErr, OnOk, vec_capacity, vec_len};
 ghost use Rattle.rd_calls.specs.Step.{IsMoveOf};
-ghost use Rattle.rd_script.specs.Words.{words_of};
-ghost use Rattle.rd_main.specs.Commands.{command_of};
+ghost use Rattle.rd_text.specs.Words.{words_of};
+ghost use Rattle.rd_command.specs.Commands.{command_of};
 ghost use Rattle.rd_main.specs.Answers.{MoveReply, StepReply, BackReply, IsAnswer, Adds, PutsPage};
 ghost use Rattle.rd_main.specs.Answers.{QueueLine, TaskLine, CoresLine};
 
-use crate::command::{Command, parse_line};
-use crate::reply::{
+use rd_app::app::Kind;
+use rd_calls::moves::Move;
+use rd_command::command::{Command, parse_line};
+use rd_command::reply::{
     MAX_REPLY, Refusal, Reply, append_reply_reserved, core_of, show_cores, show_queue, show_task,
 };
-use rd_calls::moves::Move;
-use rd_script::app::Kind;
 use rd_timeline::timeline;
 use rd_timeline::timeline::Timeline;
 use std::alloc::AllocError;

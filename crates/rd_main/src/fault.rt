@@ -5,8 +5,8 @@ ghost use Rattle.std.specs.IoError.{error_kind};
 ghost use Rattle.rd_main.specs.Requests.{IsFaultOfKind};
 ghost use Rattle.rd_main.specs.declared.fault.Fault.TheVariants.{BadLine, NoMemory};
 
+use rd_bytes::no_memory;
 use rd_script::error::AppError;
-use rd_state::no_memory;
 use std::alloc::AllocError;
 use std::io;
 use std::io::ErrorKind;

@@ -3,16 +3,16 @@
 ghost use Rattle.std.specs.Prelude.{◌≡◌, ◌<◌, length, None, IsNone, IsSome, IfSome};
 ghost use Rattle.std.specs.Prelude.{IfErr, IfOk, IsErr, IsErrAnd, IsOk};
 ghost use Rattle.std.specs.IoError.{error_kind};
-ghost use Rattle.rd_script.specs.Builtin.{builtin};
-ghost use Rattle.rd_script.specs.Application.{IsApplication};
+ghost use Rattle.rd_app.specs.Builtin.{builtin};
+ghost use Rattle.rd_app.specs.Application.{IsApplication};
 ghost use Rattle.rd_script.specs.Says.{FileSays};
 ghost use Rattle.rd_main.specs.Requests.{IsFile, IsOfAFile, IsFaultOf, IsFaultOfKind};
 ghost use Rattle.rd_main.specs.Requests.{IsRefusalOf, IsSaidBy};
 ghost use Rattle.rd_main.specs.declared.fault.Fault.TheVariants.{CannotRead, NoMemory};
 
 use crate::fault::Fault;
-use rd_script::app::App;
-use rd_script::app::file::read_app;
+use rd_app::app::App;
+use rd_script::file::read_app;
 use std::alloc::{AllocGlobal, Global};
 use std::io::Read;
 use std::rt::Files;

@@ -6,12 +6,10 @@ ghost use Rattle.std.specs.IoError.{error_kind};
 ghost use Rattle.rd_main.specs.declared.fault.Fault.TheVariants.{BadLine};
 
 pub mod answer;
-pub mod command;
 pub mod fault;
 pub mod file;
 pub mod lines;
 pub mod options;
-pub mod reply;
 pub mod session;
 
 use crate::fault::Fault;

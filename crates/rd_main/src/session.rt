@@ -5,7 +5,7 @@ ghost use Rattle.std.specs.Io.KnownBytes.{Appends};
 
 use crate::answer::put_answer;
 use crate::lines::{Front, Lines};
-use crate::reply::{Refusal, Reply, append_reply};
+use rd_command::reply::{Refusal, Reply, append_reply};
 use rd_timeline::timeline::Timeline;
 use std::alloc::{AllocError, Global};
 use std::io::{ErrorKind, Read, Write};

@@ -1,9 +1,9 @@
 //! What no clause says of reading files: outside texts, and each public function once.
 
-use rd_script::app::file::read_app;
-use rd_script::app::{App, Kind};
+use rd_app::app::{App, Kind};
+use rd_app::instr::{Instr, MAX_DELAY, Operand};
 use rd_script::error::AppError;
-use rd_script::instr::{Instr, MAX_DELAY, Operand};
+use rd_script::file::read_app;
 use std::alloc::Global;
 use std::test::Fail;
 

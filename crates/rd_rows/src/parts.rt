@@ -1,11 +1,11 @@
 //! Runs of the parts: moves, the way back, and their limit; waiting lists.
 
+use rd_app::app::App;
+use rd_app::phase::Place;
 use rd_calls::moves::Move;
 use rd_calls::play::play;
 use rd_queue::queue::Queue;
 use rd_queue::waiting_list::WaitingList;
-use rd_script::app::App;
-use rd_script::phase::Place;
 use rd_state::change::Change;
 use rd_state::editing::Editing;
 use rd_state::state::State;

@@ -2,8 +2,8 @@
 
 ghost use Rattle.std.specs.Prelude.{◌≡◌};
 
+use rd_app::app::App;
 use rd_calls::moves::Move;
-use rd_script::app::App;
 use rd_timeline::runs::Request;
 use rd_timeline::timeline::Timeline;
 use std::process::Abort;

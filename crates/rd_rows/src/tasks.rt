@@ -4,7 +4,7 @@
 use crate::programs::{assert_ending, run_file};
 use rd_calls::moves::Move;
 use rd_calls::policy::policy;
-use rd_script::app::file::read_app;
+use rd_script::file::read_app;
 use rd_timeline::timeline::Timeline;
 use std::process::Abort;
 use std::test::Fail;

@@ -9,16 +9,17 @@ use Rattle.serde_json.proofs.OnLiterals.{serde_json_on_literals}
 use Rattle.serde_json.specs.Data.{Data, number, unsigned, array, Items, no_items, item}
 use Rattle.serde_json.specs.Events.{items_len}
 use Rattle.serde_json.specs.Find.{get}
-use Rattle.rd_script.specs.declared.app.QueueShape.{QueueShape}
+use Rattle.rd_app.specs.declared.app.QueueShape.{QueueShape}
 use Rattle.rd_script.specs.declared.error.AppError.{AppError}
 use Rattle.rd_script.specs.declared.error.AppError.TheVariants as fault
 use Rattle.rd_script.specs.Spelling.{◌>>=◌}
-use Rattle.rd_script.specs.Application.{Application, IsApplication, IsQueueShape, IsScript, AreNames}
+use Rattle.rd_app.specs.Application.{Application, IsApplication, IsQueueShape, IsScript}
+use Rattle.rd_text.specs.Names.{AreNames}
 use Rattle.rd_script.specs.File.{TaskDraft, object_with, field, number_in, number_or, array_in, array_or_empty, queues_after, tasks_after}
 use Rattle.rd_script.specs.File.{scripts_after, file_keys, AppDraft, draft_of, with_scripts, app_of, text_of, file_of, checked}
 use Rattle.rd_script.specs.File.{GivesFaultFirst, GivesOrNoMemory}
 use Rattle.rd_script.specs.Says.{IsNumberOr, IsArrayOrEmpty, AreQueues, Says, FileSays}
-use Rattle.rd_script.specs.TaskScript.{TaskScript}
+use Rattle.rd_app.specs.TaskScript.{TaskScript}
 use Rattle.rd_script.proofs.Steps.{bind_ok, ok_or_ok, then_is, chosen}
 use Rattle.rd_script.proofs.Values.{object_ok, field_ok, number_ok, array_ok, object_again, field_again, number_again, array_again, limits_again}
 use Rattle.rd_script.proofs.QueueLaws as queue

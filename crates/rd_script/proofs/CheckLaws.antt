@@ -4,13 +4,13 @@ use Rattle.std.proofs.Common.{arith, length-append}
 use Rattle.std.proofs.Common.{Result, Ok, Err, IsOk, is_ok, refl, sym, ap, add-one, drop-cons, slice_get, option_map, unwrap_or}
 use Rattle.rd_script.specs.declared.error.AppError.{AppError}
 use Rattle.rd_script.specs.declared.error.AppError.TheVariants as fault
-use Rattle.rd_script.specs.declared.instr.Instr.{Instr}
+use Rattle.rd_app.specs.declared.instr.Instr.{Instr}
 use Rattle.serde_json.specs.Data.{Data, Items, no_items, item}
 use Rattle.serde_json.specs.Events.{items_len}
-use Rattle.rd_script.specs.Application.{is_final}
+use Rattle.rd_app.specs.Application.{is_final}
 use Rattle.rd_script.specs.File.{TaskDraft, line_of, line_ends, lines_after, ends, code_of, scripts_after, checked}
 use Rattle.rd_script.specs.Spelling.{◌>>=◌}
-use Rattle.rd_script.specs.TaskScript.{TaskScript}
+use Rattle.rd_app.specs.TaskScript.{TaskScript}
 
 -- what is left to check of a script, where the instruction before ends it or not
 abbrev pub check_lines : List (List ℕ) → ℕ → Bool → Items → Result (Unit {0}) AppError

@@ -3,7 +3,6 @@ use Rattle.std.proofs.Common.{◌≡◌, ◌∙◌, ℕ, ◌+◌, ◌<◌, ◌&&
 use Rattle.std.proofs.Common.{string_bytes, string_eq, String, Global, add-one, drop-cons}
 use Rattle.std.proofs.lemmas.List.{map-append}
 use Rattle.std.specs.Str.{bytes_eq}
-use Rattle.indexmap.specs.IndexSet.{insert_key}
 use Rattle.serde_json.specs.Data.{item}
 use Rattle.std.specs.List.{list_all, list_any}
 use Rattle.serde_json.specs.View.{view, items_view, members_view}
@@ -11,10 +10,6 @@ use Rattle.serde_json.specs.declared.value.Value.{Value}
 use Rattle.serde_json.specs.Events.{items_len}
 use Rattle.serde_json.proofs.Views.{items_len-items_view}
 use Rattle.rd_script.specs.File.{keys_of}
-
-pub list_any-map : {X Y : Type 0} (p : Y → Bool) (f : X → Y) (xs : List X) → list_any p (map f xs) ≡ list_any (λ x. p (f x)) xs
-list_any-map p f [] = refl
-list_any-map p f (x ∷ xs) = ap (λ b. p (f x) || b) (list_any-map p f xs)
 
 -- the keys of a map, all tested
 pub keys_all : (p : List ℕ → Bool) (es : List (String Global × Value))
@@ -24,14 +19,6 @@ keys_all p (e ∷ es) = ap (λ b. p (string_bytes e.0) && b) (keys_all p es)
 
 pub items_count : (vs : List Value) → items_len (items_view vs) ≡ length vs
 items_count vs = items_len-items_view vs
-
--- a new name goes last
-pub names_insert : (keys : List (String Global)) (s : String Global) (name : List ℕ) → string_bytes s ≡ name
-    → list_any (bytes_eq name) (map string_bytes keys) ≡ false → map string_bytes (insert_key string_eq keys s) ≡ map string_bytes keys ++ name ∷ []
-names_insert keys s name is fresh =
-    let absent : list_any (λ key. bytes_eq (string_bytes s) (string_bytes key)) keys ≡ false =
-    rw is (sym (list_any-map (bytes_eq name) string_bytes keys) ∙ fresh) in
-    rw absent (map-append string_bytes keys (s ∷ []) ∙ ap (λ (n : List ℕ). map string_bytes keys ++ n ∷ []) is)
 
 -- the values from an index on
 pub items_from : (vs : List Value) (i : ℕ) (v : Value) → i < length vs → v ≡ get_or vs i v

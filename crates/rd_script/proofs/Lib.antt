@@ -1,6 +1,4 @@
 -- The lemmas of this crate.
-pub mod NameLemmas
-pub mod WordLemmas
 pub mod FileLemmas
 pub mod Steps
 pub mod SpellingLaws
@@ -10,4 +8,3 @@ pub mod ScriptLaws
 pub mod TaskLaws
 pub mod AppLaws
 pub mod CheckLaws
-pub mod SetLemmas

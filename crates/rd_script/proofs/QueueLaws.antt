@@ -7,18 +7,16 @@ use Rattle.std.proofs.lemmas.List.{append-nil}
 use Rattle.std.proofs.lemmas.List.Folds.{list_all-append, list_any-append}
 use Rattle.std.proofs.lemmas.Slice.Eq.{bytes_eq-Decides}
 use Rattle.serde_json.specs.Data.{Data, Items, no_items, item, number, unsigned, string}
-use Rattle.rd_script.specs.declared.app.QueueShape.{QueueShape}
-use Rattle.rd_script.specs.Application.{IsQueueShape, AreNames, are_distinct}
+use Rattle.rd_app.specs.declared.app.QueueShape.{QueueShape}
+use Rattle.rd_app.specs.Application.{IsQueueShape}
+use Rattle.rd_text.specs.Names.{AreNames}
+use Rattle.rd_text.proofs.NameLaws.{AreNames-push, IsNewName, IsNewName-in}
 use Rattle.rd_script.specs.Says.{IsQueue, AreQueues}
-use Rattle.rd_script.specs.Words.{is_name}
+use Rattle.rd_text.specs.Words.{is_name}
 use Rattle.rd_script.specs.File.{object_with, field, number_in, new_name, queue_keys, queue_of, queues_after}
 use Rattle.rd_script.proofs.Steps.{bind_ok, then_is}
-use Rattle.rd_script.proofs.WordLemmas.{and_left, and_right}
-use Rattle.rd_script.proofs.Values.{object_again, field_again, name_again, limits_again, not_true, object_ok, field_ok, number_ok, name_ok}
-
-pub record IsNewName (names : List (List ℕ)) (name : List ℕ) : Type 0 where
-  pub named : is_name name ≡ true
-  pub fresh : list_any (bytes_eq name) names ≡ false
+use Rattle.rd_text.proofs.WordLemmas.{and_left, and_right}
+use Rattle.rd_script.proofs.Values.{object_again, field_again, name_again, limits_again, object_ok, field_ok, number_ok, name_ok}
 
 pub queue_takes : (names : List (List ℕ)) (d : Data) (q : List ℕ × QueueShape) → queue_of names d ≡ Ok q
     → IsQueue d q.0 q.1 × IsNewName names q.0 × IsQueueShape q.1
@@ -45,36 +43,6 @@ queue_takes names d q e =
       record { named = named.1; fresh = named.2 },
       (omega (arith, first.1), first.2, omega (arith, second.1), second.2),
     )
-
--- ---- names
-
-bytes_eq-sym : (xs ys : List ℕ) → bytes_eq xs ys ≡ true → bytes_eq ys xs ≡ true
-bytes_eq-sym xs ys e = (bytes_eq-Decides ys xs).1 (sym ((bytes_eq-Decides xs ys).0 e))
-
-apart : (xs ys : List ℕ) → bytes_eq xs ys ≡ false → bytes_eq ys xs ≡ false
-apart xs ys e = elim (bytes_eq ys xs) as (λ b. (bytes_eq ys xs ≡ b) → b ≡ false) [
-  | true ↦ λ h. sym (bytes_eq-sym ys xs h) ∙ e
-  | false ↦ λ h. refl
-] refl
-
-or_false : (a b : Bool) → (a || b) ≡ false → (a ≡ false) × (b ≡ false)
-or_false true b e = absurd cc
-or_false false b e = (refl, e)
-
-distinct_more : (names : List (List ℕ)) (name : List ℕ) → are_distinct names ≡ true → list_any (bytes_eq name) names ≡ false
-    → are_distinct (names ++ name ∷ []) ≡ true
-distinct_more [] name d f = refl
-distinct_more (n ∷ names) name d f =
-    let parts = or_false (bytes_eq name n) (list_any (bytes_eq name) names) f in
-    let alone : list_any (bytes_eq n) names ≡ false = not_true _ (and_left _ _ d) in
-    let still : list_any (bytes_eq n) (names ++ name ∷ []) ≡ false = list_any-append (bytes_eq n) names (name ∷ []) ∙ rw (alone, apart name n parts.0) refl in
-    rw still (distinct_more names name (and_right (not (list_any (bytes_eq n) names)) _ d) parts.1)
-
-pub AreNames-push : (names : List (List ℕ)) (name : List ℕ) → AreNames names → IsNewName names name → AreNames (names ++ name ∷ [])
-AreNames-push names name are new = record {
-  named = list_all-append is_name names (name ∷ []) ∙ rw (are.named, new.named) refl;
-  distinct = distinct_more names name are.distinct new.fresh;
-}
 
 pub AllByRecursion-push : {X : Type 0} (P : X → Type 0) (xs : List X) (x : X) → AllByRecursion P xs → P x → AllByRecursion P (xs ++ x ∷ [])
 AllByRecursion-push P [] x h p = (p, tt)
@@ -140,27 +108,6 @@ queue_again names d name shape h new limits =
     (then_is (number_in 1 64 (number (unsigned shape.item_size))) _ shape.item_size _ (limits_again 1 64 shape.item_size (omega (arith, limits.2)) limits.3)
     refl))))))
 
-or_both : (a b : Bool) → a ≡ false → b ≡ false → (a || b) ≡ false
-or_both a b e f = rw (e, f) refl
-
--- a name that stands after others, all of them distinct, is none of them
-pub behind_fresh : (names : List (List ℕ)) (name : List ℕ) (rest : List (List ℕ)) → are_distinct (names ++ name ∷ rest) ≡ true
-    → list_any (bytes_eq name) names ≡ false
-behind_fresh [] name rest d = refl
-behind_fresh (n ∷ names) name rest d =
-    let alone : list_any (bytes_eq n) (names ++ name ∷ rest) ≡ false = not_true _ (and_left _ _ d) in
-    let parts = or_false (list_any (bytes_eq n) names) (list_any (bytes_eq n) (name ∷ rest)) (sym (list_any-append (bytes_eq n) names (name ∷ rest)) ∙ alone) in
-    let other = (or_false (bytes_eq n name) (list_any (bytes_eq n) rest) parts.1).0 in
-    or_both (bytes_eq name n) (list_any (bytes_eq name) names) (apart n name other)
-    (behind_fresh names name rest (and_right (not (list_any (bytes_eq n) (names ++ name ∷ rest))) _ d))
-
-named_behind : (names : List (List ℕ)) (name : List ℕ) (rest : List (List ℕ)) → list_all is_name (names ++ name ∷ rest) ≡ true → is_name name ≡ true
-named_behind names name rest h =
-    and_left (is_name name) (list_all is_name rest) (and_right (list_all is_name names) _ (sym (list_all-append is_name names (name ∷ rest)) ∙ h))
-
-pub IsNewName-behind : (names : List (List ℕ)) (name : List ℕ) (rest : List (List ℕ)) → AreNames (names ++ name ∷ rest) → IsNewName names name
-IsNewName-behind names name rest are = record { named = named_behind names name rest are.named; fresh = behind_fresh names name rest are.distinct }
-
 pub queues_again : (ds : Items) (names : List (List ℕ)) (shapes : List QueueShape) (more : List (List ℕ)) (others : List QueueShape) → AreQueues ds more others
     → AreNames (names ++ more) → AllByRecursion IsQueueShape others → queues_after names shapes ds ≡ Ok (names ++ more, shapes ++ others)
 queues_again no_items names shapes [] [] h are limits = rw (append-nil names, append-nil shapes) refl
@@ -170,6 +117,6 @@ queues_again (item d ds) names shapes [] others h are limits = absurd h
 queues_again (item d ds) names shapes (n ∷ more) [] h are limits = absurd h
 queues_again (item d ds) names shapes (n ∷ more) (s ∷ others) h are limits =
     let all : AreNames ((names ++ n ∷ []) ++ more) = subst AreNames (sym (append_assoc names (n ∷ []) more)) are in
-    then_is (queue_of names d) _ (n, s) _ (queue_again names d n s h.0 (IsNewName-behind names n more are) limits.0)
+    then_is (queue_of names d) _ (n, s) _ (queue_again names d n s h.0 (IsNewName-in names n more are) limits.0)
     (queues_again ds (names ++ n ∷ []) (shapes ++ s ∷ []) more others h.1 all limits.1
     ∙ rw (append_assoc names (n ∷ []) more, append_assoc shapes (s ∷ []) others) refl)

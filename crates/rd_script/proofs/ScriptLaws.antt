@@ -8,12 +8,12 @@ use Rattle.std.proofs.lemmas.List.Quantifiers.{position-Some}
 use Rattle.std.specs.Result.{result_ok}
 use Rattle.hex.specs.Hex.{decode_of}
 use Rattle.hex.proofs.HexLemmas.{decode_of-ok}
-use Rattle.rd_script.specs.declared.instr.Operand.{Operand}
-use Rattle.rd_script.specs.declared.instr.Operand.TheVariants as operand
-use Rattle.rd_script.specs.declared.instr.Instr.{Instr}
-use Rattle.rd_script.specs.declared.instr.Instr.TheVariants as instr
-use Rattle.rd_script.specs.Application.{Application, IsOperand, IsWithin, IsScript, is_final, max_delay}
-use Rattle.rd_script.specs.Spelling.{◌>>=◌, register_of, operand_of, time_of, target_of, name_of}
+use Rattle.rd_app.specs.declared.instr.Operand.{Operand}
+use Rattle.rd_app.specs.declared.instr.Operand.TheVariants as operand
+use Rattle.rd_app.specs.declared.instr.Instr.{Instr}
+use Rattle.rd_app.specs.declared.instr.Instr.TheVariants as instr
+use Rattle.rd_app.specs.Application.{Application, IsOperand, IsWithin, IsScript, is_final, max_delay}
+use Rattle.rd_script.specs.Spelling.{◌>>=◌, register_of, operand_of, time_of, target_of}
 use Rattle.serde_json.specs.Data.{Data, null, boolean, number, string, array, object, Items, no_items, item}
 use Rattle.serde_json.specs.Events.{items_len}
 use Rattle.serde_json.specs.Find.{as_str}
@@ -25,11 +25,11 @@ use Rattle.std.proofs.lemmas.List.Elements.{All-from_recursion}
 use Rattle.rd_script.specs.File.{TaskDraft, line_of, lines_after, ends, code_of, scripts_after}
 use Rattle.rd_script.specs.Says.{IsLine, AreLines, IsCode}
 use Rattle.rd_script.specs.Spells.{queue_named, Spells}
-use Rattle.rd_script.specs.TaskScript.{TaskScript}
-use Rattle.rd_script.specs.Words.{words_of, number_of, bytes_of, is_some_word}
+use Rattle.rd_app.specs.TaskScript.{TaskScript}
+use Rattle.rd_text.specs.Words.{name_of, words_of, number_of, bytes_of, is_some_word}
 use Rattle.rd_script.proofs.SpellingLaws.{then_some, instr_takes, instr_again}
 use Rattle.rd_script.proofs.Steps.{bind_ok, guard_ok, ok_or_ok}
-use Rattle.rd_script.proofs.WordLemmas.{and_right}
+use Rattle.rd_text.proofs.WordLemmas.{and_right}
 
 -- the value that a test lets through
 some_if : {X : Type 0} (b : Bool) (x y : X) → cond b (Some x) None ≡ Some y → (b ≡ true) × (x ≡ y)

@@ -4,15 +4,15 @@ use Rattle.std.proofs.Common.{option_and_then, position, refl, sym, ap, subst}
 use Rattle.std.specs.Str.{bytes_eq}
 use Rattle.std.proofs.lemmas.Slice.Eq.{bytes_eq-Decides}
 use Rattle.rd_script.specs.declared.error.AppError.TheVariants as fault
-use Rattle.rd_script.specs.declared.instr.Operand.{Operand}
-use Rattle.rd_script.specs.declared.instr.Instr.{Instr}
-use Rattle.rd_script.specs.declared.instr.Instr.TheVariants as instr
+use Rattle.rd_app.specs.declared.instr.Operand.{Operand}
+use Rattle.rd_app.specs.declared.instr.Instr.{Instr}
+use Rattle.rd_app.specs.declared.instr.Instr.TheVariants as instr
 use Rattle.rd_script.specs.declared.spelling.Keyword.{Keyword}
 use Rattle.rd_script.specs.declared.spelling.Keyword.TheVariants.{Set, Add, Move, Data, Pack, Unpack, Jump, JumpZero, End, Send, Receive}
-use Rattle.rd_script.specs.Spelling.{◌>>=◌, keyword_of, register_of, target_of, name_of, time_of, next_as, no_more_words, queue_of}
+use Rattle.rd_script.specs.Spelling.{◌>>=◌, keyword_of, register_of, target_of, time_of, next_as, no_more_words, queue_of}
 use Rattle.rd_script.specs.Spelling.{queue_and_wait, operation_of, instr_of}
 use Rattle.rd_script.specs.Spells.{HasOne, HasTwo, queue_named, Spells}
-use Rattle.rd_script.specs.Words.{number_of, bytes_of}
+use Rattle.rd_text.specs.Words.{name_of, number_of, bytes_of}
 use Rattle.rd_script.proofs.Steps.{bind_ok, ok_or_ok}
 
 text_of : Keyword → List ℕ

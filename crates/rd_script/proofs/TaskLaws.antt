@@ -5,14 +5,16 @@ use Rattle.serde_json.specs.Events.{items_len}
 use Rattle.serde_json.specs.Find.{get}
 use Rattle.std.specs.List.{AllByRecursion}
 use Rattle.std.proofs.lemmas.List.{append-nil}
-use Rattle.rd_script.specs.declared.instr.Instr.{Instr}
-use Rattle.rd_script.specs.Application.{Application, AreNames, IsScript}
+use Rattle.rd_app.specs.declared.instr.Instr.{Instr}
+use Rattle.rd_app.specs.Application.{Application, IsScript}
+use Rattle.rd_text.specs.Names.{AreNames}
 use Rattle.rd_script.specs.Says.{AreTasks, AreLines}
-use Rattle.rd_script.specs.TaskScript.{TaskScript}
+use Rattle.rd_app.specs.TaskScript.{TaskScript}
 use Rattle.rd_script.specs.File.{is_object_with, object_with, field, number_in, array_in, new_name, are_texts, TaskDraft, task_keys, task_of, tasks_after}
 use Rattle.rd_script.proofs.Steps.{bind_ok, guard_ok, then_is}
 use Rattle.rd_script.proofs.Values.{object_again, field_again, name_again, array_again, limits_again, object_ok, field_ok, number_ok, array_ok, name_ok}
-use Rattle.rd_script.proofs.QueueLaws.{IsNewName, IsNewName-behind, AreNames-push, AllByRecursion-push}
+use Rattle.rd_script.proofs.QueueLaws.{AllByRecursion-push}
+use Rattle.rd_text.proofs.NameLaws.{AreNames-push, IsNewName, IsNewName-in}
 use Rattle.rd_script.proofs.ScriptLaws.{AreScripts, is_script, length_lines}
 
 -- what a value says of a task
@@ -172,7 +174,7 @@ tasks_again (item d ds) names drafts [] others h are limits = absurd h
 tasks_again (item d ds) names drafts (n ∷ more) [] h are limits = absurd h
 tasks_again (item d ds) names drafts (n ∷ more) (s ∷ others) h are limits =
     let all : AreNames ((names ++ n ∷ []) ++ more) = subst AreNames (sym (append_assoc names (n ∷ []) more)) are in
-    then_is (task_of names d) _ (n, s) _ (task_again names d n s h.0 (IsNewName-behind names n more are) limits.0.in_limits limits.0.texts)
+    then_is (task_of names d) _ (n, s) _ (task_again names d n s h.0 (IsNewName-in names n more are) limits.0.in_limits limits.0.texts)
     (tasks_again ds (names ++ n ∷ []) (drafts ++ s ∷ []) more others h.1 all limits.1
     ∙ rw (append_assoc names (n ∷ []) more, append_assoc drafts (s ∷ []) others) refl)
 

@@ -7,10 +7,11 @@ use Rattle.serde_json.specs.Data.{Data, null, boolean, number, string, array, ob
 use Rattle.serde_json.specs.Events.{items_len}
 use Rattle.serde_json.specs.Find.{get}
 use Rattle.rd_script.specs.declared.error.AppError.TheVariants as fault
-use Rattle.rd_script.specs.Words.{is_name}
+use Rattle.rd_text.specs.Words.{is_name}
 use Rattle.rd_script.specs.File.{is_object_with, object_with, field, in_limits, number_in, array_in, new_name}
 use Rattle.rd_script.proofs.Steps.{bind_ok, guard_ok, ok_or_ok, then_is}
-use Rattle.rd_script.proofs.WordLemmas.{and_left, and_right}
+use Rattle.rd_text.proofs.WordLemmas.{and_left, and_right}
+use Rattle.rd_text.proofs.NameLaws.{not_true}
 
 pub object_ok : (known : List (List ℕ)) (d : Data) (u : Unit {0}) → object_with known d ≡ Ok u → is_object_with known d ≡ true
 object_ok known d u e = (guard_ok (is_object_with known d) tt u _ e).0
@@ -49,10 +50,6 @@ array_ok least most (array es) ds e =
     let is : es ≡ ds = cc in
     (ap array is, omega (arith, ap items_len is), omega (arith, ap items_len is))
 array_ok least most (object ms) ds e = absurd cc
-
-pub not_true : (b : Bool) → not b ≡ true → b ≡ false
-not_true true e = sym e
-not_true false e = refl
 
 pub name_ok : (names : List (List ℕ)) (d : Data) (name : List ℕ) → new_name names d ≡ Ok name
     → (d ≡ string name) × (is_name name ≡ true) × (list_any (bytes_eq name) names ≡ false)

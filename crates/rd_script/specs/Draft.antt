@@ -1,10 +1,10 @@
 -- What a contract sees of tasks and of an application that are not read to their end.
 use Rattle.std.specs.Prelude.{map}
 use Rattle.serde_json.specs.View.{items_view}
-use Rattle.rd_script.specs.declared.app.file.AppDraft.{AppDraft}
-use Rattle.rd_script.specs.declared.app.file.TaskDraft.{TaskDraft}
+use Rattle.rd_script.specs.declared.file.AppDraft.{AppDraft}
+use Rattle.rd_script.specs.declared.file.TaskDraft.{TaskDraft}
 use Rattle.rd_script.specs.File as file
-use Rattle.rd_script.specs.Words.{texts}
+use Rattle.rd_text.specs.Words.{texts}
 
 abbrev pub task_draft_view : TaskDraft → file.TaskDraft
 task_draft_view draft = record { priority = draft.priority; lines = items_view draft.lines.now }

@@ -10,14 +10,14 @@ use Rattle.serde_json.specs.Data.{Data, Items, no_items, item, Members, no_membe
 use Rattle.serde_json.specs.Events.{items_len}
 use Rattle.serde_json.specs.Find.{get, as_number, as_u64, as_str, as_array, as_object}
 use Rattle.serde_json.specs.Read.{read}
-use Rattle.rd_script.specs.declared.app.QueueShape.{QueueShape}
+use Rattle.rd_app.specs.declared.app.QueueShape.{QueueShape}
 use Rattle.rd_script.specs.declared.error.AppError.{AppError}
 use Rattle.rd_script.specs.declared.error.AppError.TheVariants as fault
-use Rattle.rd_script.specs.declared.instr.Instr.{Instr}
-use Rattle.rd_script.specs.Application.{Application, is_final}
+use Rattle.rd_app.specs.declared.instr.Instr.{Instr}
+use Rattle.rd_app.specs.Application.{Application, is_final}
 use Rattle.rd_script.specs.Spelling.{◌>>=◌, instr_of}
-use Rattle.rd_script.specs.TaskScript.{TaskScript}
-use Rattle.rd_script.specs.Words.{words_of, is_name}
+use Rattle.rd_app.specs.TaskScript.{TaskScript}
+use Rattle.rd_text.specs.Words.{words_of, is_name}
 
 -- ---- values
 

@@ -4,13 +4,13 @@ use Rattle.serde_json.specs.Read.{read}
 use Rattle.serde_json.specs.Data.{Data, number, unsigned, string, array, Items, no_items, item}
 use Rattle.serde_json.specs.Events.{items_len}
 use Rattle.serde_json.specs.Find.{get}
-use Rattle.rd_script.specs.declared.app.QueueShape.{QueueShape}
-use Rattle.rd_script.specs.declared.instr.Instr.{Instr}
-use Rattle.rd_script.specs.Application.{Application}
+use Rattle.rd_app.specs.declared.app.QueueShape.{QueueShape}
+use Rattle.rd_app.specs.declared.instr.Instr.{Instr}
+use Rattle.rd_app.specs.Application.{Application}
 use Rattle.rd_script.specs.File.{is_object_with, queue_keys, task_keys, file_keys, ends}
 use Rattle.rd_script.specs.Spells.{Spells}
-use Rattle.rd_script.specs.TaskScript.{TaskScript}
-use Rattle.rd_script.specs.Words.{words_of}
+use Rattle.rd_app.specs.TaskScript.{TaskScript}
+use Rattle.rd_text.specs.Words.{words_of}
 
 pub record IsQueue (d : Data) (name : List ℕ) (shape : QueueShape) : Type 0 where
   pub keys : is_object_with queue_keys d ≡ true

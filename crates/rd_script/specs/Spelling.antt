@@ -7,16 +7,16 @@ use Rattle.std.specs.Option.{option_or}
 use Rattle.std.specs.Str.{bytes_eq}
 use Rattle.rd_script.specs.declared.error.AppError.{AppError}
 use Rattle.rd_script.specs.declared.error.AppError.TheVariants as fault
-use Rattle.rd_script.specs.declared.instr.Operand.{Operand}
-use Rattle.rd_script.specs.declared.instr.Operand.TheVariants.{Number, Register}
-use Rattle.rd_script.specs.declared.instr.Instr.{Instr}
-use Rattle.rd_script.specs.declared.instr.Instr.TheVariants as instr
+use Rattle.rd_app.specs.declared.instr.Operand.{Operand}
+use Rattle.rd_app.specs.declared.instr.Operand.TheVariants.{Number, Register}
+use Rattle.rd_app.specs.declared.instr.Instr.{Instr}
+use Rattle.rd_app.specs.declared.instr.Instr.TheVariants as instr
 use Rattle.rd_script.specs.declared.spelling.Keyword.{Keyword}
 use Rattle.rd_script.specs.declared.spelling.Keyword.TheVariants.{Set, Add, Move, Data, Pack}
 use Rattle.rd_script.specs.declared.spelling.Keyword.TheVariants.{Unpack, Jump, JumpZero, End}
 use Rattle.rd_script.specs.declared.spelling.Keyword.TheVariants.{Send, Receive}
-use Rattle.rd_script.specs.Application.{max_delay}
-use Rattle.rd_script.specs.Words.{number_of, bytes_of, is_name}
+use Rattle.rd_app.specs.Application.{max_delay}
+use Rattle.rd_text.specs.Words.{number_of, bytes_of, name_of}
 
 abbrev pub keyword_of : List ℕ → Option Keyword
 keyword_of word =
@@ -47,9 +47,6 @@ register_of word =
 abbrev pub target_of : ℕ → List ℕ → Option ℕ
 target_of len word =
     option_and_then (λ target. if nat_lt target len then Some target else None) (number_of word)
-
-abbrev pub name_of : List ℕ → Option (List ℕ)
-name_of word = if is_name word then Some word else None
 
 -- a number, or the value of a register
 abbrev pub operand_of : List ℕ → Option Operand

@@ -1,11 +1,11 @@
 -- Which words spell an instruction: over queues of these names, in a script of that length.
 use Rattle.std.specs.Prelude.{ℕ, ◌≡◌, codes, List, [], ◌∷◌, Option, Some, option_and_then, position}
 use Rattle.std.specs.Str.{bytes_eq}
-use Rattle.rd_script.specs.declared.instr.Instr.{Instr}
-use Rattle.rd_script.specs.declared.instr.Instr.TheVariants.{Set, Add, Move, Data, Pack, Unpack}
-use Rattle.rd_script.specs.declared.instr.Instr.TheVariants.{Jump, JumpZero, End, Send, Receive}
-use Rattle.rd_script.specs.Spelling.{register_of, target_of, name_of, time_of}
-use Rattle.rd_script.specs.Words.{number_of, bytes_of}
+use Rattle.rd_app.specs.declared.instr.Instr.{Instr}
+use Rattle.rd_app.specs.declared.instr.Instr.TheVariants.{Set, Add, Move, Data, Pack, Unpack}
+use Rattle.rd_app.specs.declared.instr.Instr.TheVariants.{Jump, JumpZero, End, Send, Receive}
+use Rattle.rd_script.specs.Spelling.{register_of, target_of, time_of}
+use Rattle.rd_text.specs.Words.{name_of, number_of, bytes_of}
 
 -- a keyword and one operand, which stands for x
 abbrev pub HasOne : {X : Type 0} → List ℕ → (List ℕ → Option X) → List (List ℕ) → X → Type 0

@@ -1,10 +1,6 @@
-//! The application that is debugged: its tasks' scripts, its cores, its queues and their names.
+//! Reads an application from its file, and the instructions of its tasks from their texts.
 #![tactic(auto)]
 
-pub mod app;
-pub mod bytes;
 pub mod error;
-pub mod instr;
-pub mod phase;
+pub mod file;
 mod spelling;
-pub mod words;

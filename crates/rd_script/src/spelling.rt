@@ -3,14 +3,14 @@
 ghost use Rattle.std.specs.Prelude.{◌≡◌};
 ghost use Rattle.rd_script.specs.Spelling.{Takes, TakesBy, next_as, no_more_words};
 ghost use Rattle.rd_script.specs.Spelling.{keyword_of, register_of, target_of, operand_of, time_of};
-ghost use Rattle.rd_script.specs.Spelling.{name_of, queue_of, queue_and_wait};
+ghost use Rattle.rd_script.specs.Spelling.{queue_of, queue_and_wait};
 ghost use Rattle.rd_script.specs.Spelling.{operation_of, instr_of};
-ghost use Rattle.rd_script.specs.Words.{texts, words_of, number_of, bytes_of};
+ghost use Rattle.rd_text.specs.Words.{texts, words_of, number_of, name_of, bytes_of};
 
-use crate::bytes::Bytes;
 use crate::error::AppError;
-use crate::instr::{Instr, MAX_DELAY, Operand};
-use crate::words::{Words, bytes, is_name, number};
+use rd_app::instr::{Instr, MAX_DELAY, Operand};
+use rd_bytes::bytes::Bytes;
+use rd_text::words::{Words, bytes, name, number};
 
 /// The first word of an instruction.
 #[derive(Clone, Copy, Debug, PartialEq, Eq)]
@@ -118,10 +118,7 @@ fn next_name<'a>(words: &mut Words<'a>) -> Result<&'a str, AppError>
     ensures { TakesBy (λ name. name.now) result words.new (next_as name_of words.old) }
 {
     let word = words.next().ok_or(AppError::Instr)?;
-    if !is_name(word) {
-        return Err(AppError::Instr);
-    }
-    Ok(str::from_utf8(word).unwrap())
+    name(word).ok_or(AppError::Instr)
 }
 
 fn next_time(words: &mut Words<'_>) -> Result<Operand, AppError>

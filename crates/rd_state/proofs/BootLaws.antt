@@ -9,10 +9,10 @@ use Rattle.rd_notify.specs.Entries.{idle_entry}
 use Rattle.rd_queue.specs.declared.waiting_list.WaitingList.{WaitingList}
 use Rattle.rd_queue.specs.declared.waiting_list.WaitingList.TheVariants.{Receiving, Sending}
 use Rattle.rd_queue.specs.Queues.{tasks_in_list}
-use Rattle.rd_script.specs.declared.app.QueueShape.{QueueShape}
-use Rattle.rd_script.specs.declared.phase.Place.{Place}
-use Rattle.rd_script.specs.declared.phase.Place.TheVariants.{Receive, Send}
-use Rattle.rd_script.specs.Application.{Application, IsApplication, IsScript, instr_at, priorities_of}
+use Rattle.rd_app.specs.declared.app.QueueShape.{QueueShape}
+use Rattle.rd_app.specs.declared.phase.Place.{Place}
+use Rattle.rd_app.specs.declared.phase.Place.TheVariants.{Receive, Send}
+use Rattle.rd_app.specs.Application.{Application, IsApplication, IsScript, instr_at, priorities_of}
 use Rattle.rd_wait.specs.Joined.{IsInOrder}
 use Rattle.rd_wait.proofs.JoinedLaws.{IsInOrder-joined}
 use Rattle.rd_state.specs.Boot.{all_joined, before_scheduling, boot_of, fresh_task, queue_of_shape}

@@ -11,8 +11,8 @@ use Rattle.rd_queue.specs.declared.waiting_list.WaitingList.{WaitingList}
 use Rattle.rd_queue.specs.declared.waiting_list.WaitingList.TheVariants.{Receiving, Sending}
 use Rattle.rd_queue.specs.QueueSnapshot.{QueueSnapshot}
 use Rattle.rd_queue.specs.Queues.{tasks_in_list, with_items, with_waiting}
-use Rattle.rd_script.specs.declared.app.QueueShape.{QueueShape}
-use Rattle.rd_script.specs.Application.{Application, IsApplication, IsQueueShape, priorities_of}
+use Rattle.rd_app.specs.declared.app.QueueShape.{QueueShape}
+use Rattle.rd_app.specs.Application.{Application, IsApplication, IsQueueShape, priorities_of}
 use Rattle.rd_wait.specs.Joined.{joined, is_at_least}
 use Rattle.rd_wait.specs.TaskList.{TaskList}
 use Rattle.rd_state.specs.declared.state.State.TheInside.{Inside}

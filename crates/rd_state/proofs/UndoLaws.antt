@@ -7,8 +7,8 @@ use Rattle.std.specs.Prelude.{insert, remove}
 use Rattle.rd_queue.specs.declared.waiting_list.WaitingList.TheVariants.{Receiving, Sending}
 use Rattle.rd_queue.specs.QueueSnapshot.{QueueSnapshot}
 use Rattle.rd_queue.specs.Queues.{with_items, with_waiting}
-use Rattle.rd_script.specs.declared.phase.Place.{Place}
-use Rattle.rd_script.specs.declared.phase.Place.TheVariants.{Receive, Send}
+use Rattle.rd_app.specs.declared.phase.Place.{Place}
+use Rattle.rd_app.specs.declared.phase.Place.TheVariants.{Receive, Send}
 use Rattle.rd_state.specs.declared.change.Change.{Change}
 use Rattle.rd_state.specs.declared.change.Change.TheVariants.{SetTick, SetTurn, SetCore, SetPc, SetReg, SetPhase, SetData, InsReady}
 use Rattle.rd_state.specs.declared.change.Change.TheVariants.{DelReady, InsWait, DelWait, PutBack, TakeBack, PutFront, TakeFront}

@@ -4,7 +4,7 @@ use Rattle.std.specs.Prelude.{length, slice_index, slice_index_or, slice_set, in
 use Rattle.std.specs.Prelude.{remove, take, drop, sum_by, IfSome}
 use Rattle.rd_queue.specs.Queues.{with_items}
 use Rattle.rd_queue.specs.QueueSnapshot.{QueueSnapshot}
-use Rattle.rd_script.specs.declared.phase.Place.{Place}
+use Rattle.rd_app.specs.declared.phase.Place.{Place}
 use Rattle.rd_state.specs.declared.change.Change.{Change}
 use Rattle.rd_state.specs.declared.change.Change.TheVariants.{SetTick, SetTurn, SetCore, SetPc}
 use Rattle.rd_state.specs.declared.change.Change.TheVariants.{SetReg, SetPhase, SetData, InsReady}

@@ -14,5 +14,5 @@ pub use Rattle.rd_wait.specs.Joined
 pub use Rattle.rd_notify.specs.Entries
 pub use Rattle.rd_queue.specs.QueueSnapshot
 pub use Rattle.rd_queue.specs.Queues
-pub use Rattle.rd_script.specs.TaskScript
-pub use Rattle.rd_script.specs.Application
+pub use Rattle.rd_app.specs.TaskScript
+pub use Rattle.rd_app.specs.Application

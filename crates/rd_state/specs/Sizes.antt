@@ -2,8 +2,8 @@
 -- lengths are within what there is room for.
 use Rattle.std.specs.Prelude.{ℕ, ◌≡◌, ◌<◌, ◌≤◌, ◌^◌, List, length, All, Option, IfSome}
 use Rattle.rd_queue.specs.QueueSnapshot.{QueueSnapshot}
-use Rattle.rd_script.specs.declared.phase.Phase.{Phase}
-use Rattle.rd_script.specs.declared.phase.Phase.TheVariants.{Run, Again, Wait, Ended}
+use Rattle.rd_app.specs.declared.phase.Phase.{Phase}
+use Rattle.rd_app.specs.declared.phase.Phase.TheVariants.{Run, Again, Wait, Ended}
 use Rattle.rd_state.specs.Snapshot.{Snapshot, TaskSnapshot}
 use Rattle.rd_state.specs.Waiting.{IsPlace}
 

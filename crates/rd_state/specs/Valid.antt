@@ -4,14 +4,14 @@ use Rattle.std.specs.Prelude.{count_by, nat_eq, nat_lt, if◌then◌else◌, Opt
 use Rattle.rd_notify.specs.declared.notes.Entry.{Entry}
 use Rattle.rd_notify.specs.declared.notes.EntryState.TheVariants.{Waiting}
 use Rattle.rd_queue.specs.QueueSnapshot.{QueueSnapshot}
-use Rattle.rd_script.specs.declared.app.QueueShape.{QueueShape}
-use Rattle.rd_script.specs.declared.phase.Phase.{Phase}
-use Rattle.rd_script.specs.declared.phase.Phase.TheVariants.{Run, Again, Wait, Ended}
-use Rattle.rd_script.specs.declared.instr.Instr.{Instr}
-use Rattle.rd_script.specs.declared.instr.Instr.TheVariants as instr
-use Rattle.rd_script.specs.declared.phase.Place.{Place}
-use Rattle.rd_script.specs.declared.phase.Place.TheVariants.{Receive, Send}
-use Rattle.rd_script.specs.Application.{Application, code_of, instr_at, priorities_of}
+use Rattle.rd_app.specs.declared.app.QueueShape.{QueueShape}
+use Rattle.rd_app.specs.declared.phase.Phase.{Phase}
+use Rattle.rd_app.specs.declared.phase.Phase.TheVariants.{Run, Again, Wait, Ended}
+use Rattle.rd_app.specs.declared.instr.Instr.{Instr}
+use Rattle.rd_app.specs.declared.instr.Instr.TheVariants as instr
+use Rattle.rd_app.specs.declared.phase.Place.{Place}
+use Rattle.rd_app.specs.declared.phase.Place.TheVariants.{Receive, Send}
+use Rattle.rd_app.specs.Application.{Application, code_of, instr_at, priorities_of}
 use Rattle.rd_wait.specs.Joined.{IsInOrder}
 use Rattle.rd_state.specs.Snapshot.{Snapshot, task_at}
 use Rattle.rd_state.specs.Sizes.{IsSized}

@@ -3,8 +3,8 @@ use Rattle.std.specs.Prelude.{ℕ, ◌<◌, Bool, false, List, length, nat_eq, s
 use Rattle.rd_queue.specs.declared.waiting_list.WaitingList.TheVariants.{Receiving, Sending}
 use Rattle.rd_queue.specs.QueueSnapshot.{QueueSnapshot}
 use Rattle.rd_queue.specs.Queues.{tasks_in_list, with_waiting}
-use Rattle.rd_script.specs.declared.phase.Place.{Place}
-use Rattle.rd_script.specs.declared.phase.Place.TheVariants.{Receive, Send}
+use Rattle.rd_app.specs.declared.phase.Place.{Place}
+use Rattle.rd_app.specs.declared.phase.Place.TheVariants.{Receive, Send}
 use Rattle.rd_state.specs.Snapshot.{Snapshot, queue_at}
 
 -- The place is there, where there are that many queues.

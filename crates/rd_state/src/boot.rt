@@ -2,17 +2,17 @@
 
 ghost use Rattle.std.specs.Prelude.{◌≡◌, ◌<◌, ◌≤◌, length, map, replicate, All, IfOk};
 ghost use Rattle.rd_notify.specs.Entries.{idle_entry};
-ghost use Rattle.rd_script.specs.Application.{IsQueueShape, priorities_of};
+ghost use Rattle.rd_app.specs.Application.{IsQueueShape, priorities_of};
 ghost use Rattle.rd_state.specs.Boot.{all_joined, boot_of, fresh_task, queue_of_shape};
 ghost use Rattle.rd_state.specs.Settled.{IsSettled};
 ghost use Rattle.rd_state.specs.Valid.{IsValid};
 
 use crate::editing::Editing;
-use crate::no_memory::NoMemory;
 use crate::state::State;
 use crate::task::Task;
+use rd_app::app::{App, QueueShape};
+use rd_bytes::no_memory::NoMemory;
 use rd_queue::queue::Queue;
-use rd_script::app::{App, QueueShape};
 use rd_wait::prio_list::PrioList;
 use std::alloc::Global;
 

@@ -3,8 +3,8 @@
 ghost use Rattle.std.specs.Prelude.{◌≡◌};
 ghost use Rattle.rd_state.specs.Change.{cost_of};
 
-use crate::saved::SavedBytes;
-use rd_script::phase::{Phase, Place};
+use rd_app::phase::{Phase, Place};
+use rd_bytes::saved::SavedBytes;
 
 /// A primitive change of the state: all that a move does is made of these, and each has an inverse
 /// among them. Tasks, cores, queues and registers go by number, an index counts from the front.

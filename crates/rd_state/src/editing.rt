@@ -11,9 +11,9 @@ ghost use Rattle.rd_state.specs.Sizes.{IsTaskOrIdle};
 ghost use Rattle.rd_state.specs.Undoing.{undone, CanUndo};
 
 use crate::change::Change;
-use crate::no_memory::NoMemory;
 use crate::state::State;
 use crate::undo::{Undo, act};
+use rd_bytes::no_memory::NoMemory;
 use std::alloc::Global;
 use std::marker::Model;
 

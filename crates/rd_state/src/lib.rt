@@ -4,8 +4,6 @@
 mod boot;
 pub mod change;
 pub mod editing;
-pub mod no_memory;
-pub mod saved;
 pub mod scheduling;
 pub mod state;
 pub mod task;

@@ -11,8 +11,8 @@ ghost use Rattle.rd_state.specs.Sizes.{IsTaskOrIdle};
 
 use crate::change::Change;
 use crate::editing::Editing;
-use crate::no_memory::NoMemory;
 use crate::state::State;
+use rd_bytes::no_memory::NoMemory;
 
 /// How hard a core is to take: an idle one not at all, a busy one as its task's priority says.
 fn rank_of(priorities: &[u8], running: Option<usize>) -> usize

@@ -13,13 +13,13 @@ ghost use Rattle.rd_state.specs.Waiting.{HasPlace, waiting_at};
 
 use crate::boot::{all_ready, new_queues, new_tasks};
 use crate::change::Change;
-use crate::no_memory::NoMemory;
-use crate::saved::SavedBytes;
 use crate::task::Task;
+use rd_app::app::App;
+use rd_app::phase::{Phase, Place};
+use rd_bytes::no_memory::NoMemory;
+use rd_bytes::saved::SavedBytes;
 use rd_queue::queue::Queue;
 use rd_queue::waiting_list::WaitingList;
-use rd_script::app::App;
-use rd_script::phase::{Phase, Place};
 use rd_wait::prio_list::PrioList;
 use std::alloc::Global;
 use std::marker::Model;

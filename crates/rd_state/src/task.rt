@@ -4,10 +4,10 @@ ghost use Rattle.std.specs.Prelude.{◌≡◌, ◌↔◌, IsTrue, ◌<◌, ◌�
 ghost use Rattle.std.specs.Prelude.{slice_index, slice_set, Some, IfOk};
 ghost use Rattle.rd_state.specs.Boot.{fresh_task};
 
+use rd_app::instr::REGISTERS;
+use rd_app::phase::Phase;
+use rd_bytes::bytes::Bytes;
 use rd_notify::notes::Notes;
-use rd_script::bytes::Bytes;
-use rd_script::instr::REGISTERS;
-use rd_script::phase::Phase;
 use std::marker::Model;
 
 /// A task of the target.

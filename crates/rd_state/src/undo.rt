@@ -5,8 +5,8 @@ ghost use Rattle.rd_state.specs.Change.{applied, inverse_of, cost_of, weight_of,
 ghost use Rattle.rd_state.specs.Undoing.{undone, CanUndo, EachIsUndone};
 
 use crate::change::Change;
-use crate::no_memory::NoMemory;
 use crate::state::State;
+use rd_bytes::no_memory::NoMemory;
 use smallvec::SmallVec;
 use std::alloc::Global;
 use std::marker::Model;

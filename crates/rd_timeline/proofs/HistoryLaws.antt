@@ -5,7 +5,7 @@ use Rattle.std.proofs.lemmas.Bool.{cases_lt}
 use Rattle.std.proofs.lemmas.List.{append_assoc, take_all, drop_all, take-append-le, drop-append-le, length_push, length-take-le}
 use Rattle.std.proofs.lemmas.List.{take-take, take-append-drop, drop-take, drop-drop}
 use Rattle.std.proofs.lemmas.List.Sums.{fold_push}
-use Rattle.rd_script.specs.Application.{Application, priorities_of}
+use Rattle.rd_app.specs.Application.{Application, priorities_of}
 use Rattle.rd_state.specs.declared.change.Change.{Change}
 use Rattle.rd_state.specs.Boot.{boot_of}
 use Rattle.rd_state.specs.Snapshot.{Snapshot}

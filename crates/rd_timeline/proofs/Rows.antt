@@ -2,8 +2,8 @@
 use Rattle.std.specs.Prelude.{ℕ, ◌≡◌, List, [], ◌∷◌, Some, Ok, refl}
 use Rattle.rd_notify.specs.Entries.{idle_entry}
 use Rattle.rd_queue.specs.QueueSnapshot.{QueueSnapshot}
-use Rattle.rd_script.specs.Builtin.{builtin}
-use Rattle.rd_script.specs.declared.phase.Phase.TheVariants.{Run}
+use Rattle.rd_app.specs.Builtin.{builtin}
+use Rattle.rd_app.specs.declared.phase.Phase.TheVariants.{Run}
 use Rattle.rd_state.specs.declared.change.Change.{Change}
 use Rattle.rd_state.specs.declared.change.Change.TheVariants.{SetPc, SetReg, PutBack}
 use Rattle.rd_state.specs.Boot.{boot_of}

@@ -2,14 +2,14 @@
 use Rattle.std.specs.Prelude.{ℕ, ◌≡◌, codes, List, [], ◌∷◌, Option, Some, None, Ok, refl}
 use Rattle.rd_notify.specs.Entries.{idle_entry}
 use Rattle.rd_queue.specs.QueueSnapshot.{QueueSnapshot}
-use Rattle.rd_script.specs.declared.instr.Instr.{Instr}
-use Rattle.rd_script.specs.declared.instr.Instr.TheVariants as instr
-use Rattle.rd_script.specs.declared.instr.Operand.TheVariants.{Number}
-use Rattle.rd_script.specs.declared.phase.Phase.{Phase}
-use Rattle.rd_script.specs.declared.phase.Phase.TheVariants.{Run, Again, Wait}
-use Rattle.rd_script.specs.declared.phase.Place.TheVariants.{Receive}
-use Rattle.rd_script.specs.Application.{Application, max_delay}
-use Rattle.rd_script.specs.TaskScript.{TaskScript}
+use Rattle.rd_app.specs.declared.instr.Instr.{Instr}
+use Rattle.rd_app.specs.declared.instr.Instr.TheVariants as instr
+use Rattle.rd_app.specs.declared.instr.Operand.TheVariants.{Number}
+use Rattle.rd_app.specs.declared.phase.Phase.{Phase}
+use Rattle.rd_app.specs.declared.phase.Phase.TheVariants.{Run, Again, Wait}
+use Rattle.rd_app.specs.declared.phase.Place.TheVariants.{Receive}
+use Rattle.rd_app.specs.Application.{Application, max_delay}
+use Rattle.rd_app.specs.TaskScript.{TaskScript}
 use Rattle.rd_state.specs.Snapshot.{TaskSnapshot}
 use Rattle.rd_calls.specs.declared.moves.Move.TheVariants.{Core, Tick}
 use Rattle.rd_timeline.specs.History.{state_after}

@@ -1,6 +1,6 @@
 -- What a contract sees of a timeline.
 use Rattle.std.specs.Prelude.{ℕ, ◌≡◌, ◌≢◌, ◌≤◌, List, length, Err, IsOk}
-use Rattle.rd_script.specs.Application.{Application}
+use Rattle.rd_app.specs.Application.{Application}
 use Rattle.rd_state.specs.declared.change.Change.{Change}
 use Rattle.rd_state.specs.Snapshot.{Snapshot}
 use Rattle.rd_calls.specs.declared.moves.Move.{Move}

@@ -1,5 +1,5 @@
 -- The course that the fields of a `Timeline` stand for.
-use Rattle.rd_script.specs.Application.{IsApplication}
+use Rattle.rd_app.specs.Application.{IsApplication}
 use Rattle.rd_timeline.specs.declared.timeline.Timeline.TheInside.{Inside}
 use Rattle.rd_timeline.specs.Course.{Course, IsKept}
 

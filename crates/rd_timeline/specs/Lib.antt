@@ -10,6 +10,6 @@ pub use Rattle.rd_state.specs.Snapshot
 pub use Rattle.rd_state.specs.Undoing
 pub use Rattle.rd_state.specs.Boot
 pub use Rattle.rd_state.specs.Valid
-pub use Rattle.rd_script.specs.Application
+pub use Rattle.rd_app.specs.Application
 pub mod Refusals
 pub mod Runs

@@ -3,7 +3,7 @@
 use Rattle.std.specs.Prelude.{ℕ, ◌≡◌, ◌-◌, ◌&&◌, Bool, false, not, IsTrue, if◌then◌else◌}
 use Rattle.std.specs.Prelude.{List, [], ◌∷◌, ◌++◌, length, take, drop, fold, slice_get}
 use Rattle.std.specs.Prelude.{nat_eq, nat_le, is_ok, Some}
-use Rattle.rd_script.specs.Application.{Application}
+use Rattle.rd_app.specs.Application.{Application}
 use Rattle.rd_calls.specs.declared.moves.Move.{Move}
 use Rattle.rd_calls.specs.Step.{IsMoveOf}
 use Rattle.rd_timeline.specs.declared.runs.Request.{Request}

@@ -7,8 +7,8 @@ ghost use Rattle.rd_timeline.specs.Runs.{moves_of, makes_move, answered, all_ans
 ghost use Rattle.rd_timeline.specs.Runs.{StopsBefore, IsRequestOf};
 
 use crate::timeline::{Refusal, Timeline};
+use rd_bytes::no_memory::NoMemory;
 use rd_calls::moves::Move;
-use rd_state::no_memory::NoMemory;
 
 /// What one asks of a timeline.
 #[derive(Debug, Drop)]

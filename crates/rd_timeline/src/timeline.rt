@@ -3,7 +3,7 @@
 ghost use Rattle.std.specs.Prelude.{◌≡◌, ◌↔◌, ◌-◌, ◌<◌, ◌≤◌, ◌∷◌, ◌++◌, [], length, take, drop};
 ghost use Rattle.std.specs.Prelude.{Ok, IfOk, IfErr, OnOk, OnErr, IsOk, IsErrOf};
 ghost use Rattle.rd_state.specs.Boot.{boot_of};
-ghost use Rattle.rd_script.specs.Application.{priorities_of};
+ghost use Rattle.rd_app.specs.Application.{priorities_of};
 ghost use Rattle.rd_state.specs.Settled.{IsSettled};
 ghost use Rattle.rd_state.specs.Valid.{IsValid};
 ghost use Rattle.rd_calls.specs.Step.{step, IsMoveOf};
@@ -12,10 +12,10 @@ ghost use Rattle.rd_timeline.specs.History.{state_after};
 
 use crate::journal::Journal;
 use crate::log::Log;
+use rd_app::app::App;
+use rd_bytes::no_memory::NoMemory;
 use rd_calls::moves::{Move, PlayError};
 use rd_calls::play::play;
-use rd_script::app::App;
-use rd_state::no_memory::NoMemory;
 use rd_state::state::State;
 use rd_state::undo::Undo;
 use std::alloc::Global;

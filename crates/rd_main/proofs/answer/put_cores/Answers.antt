@@ -1,9 +1,9 @@
 -- The goals of put_cores that the check left open.
 use Rattle.std.proofs.Common.{◌∙◌, ℕ, Some, refl, ap}
 use Rattle.std.proofs.lemmas.Result.{on_ok_weaker}
-use Rattle.rd_script.specs.Application.{Application}
+use Rattle.rd_app.specs.Application.{Application}
 use Rattle.rd_state.specs.Snapshot.{Snapshot}
-use Rattle.rd_main.specs.Replies.{line_of, cores_text}
+use Rattle.rd_command.specs.Replies.{line_of, cores_text}
 use Rattle.rd_main.proofs.AnswerLaws.{page_view, seated_named}
 use Rattle.rd_main.proofs.answer.put_cores.Goals as goal
 

@@ -2,10 +2,10 @@
 use Rattle.std.proofs.Common.{◌≡◌, ◌∙◌, ℕ, Some, ap, sym}
 use Rattle.std.proofs.lemmas.Result.{on_ok_weaker}
 use Rattle.rd_queue.specs.QueueSnapshot.{QueueSnapshot}
-use Rattle.rd_script.specs.Application.{Application}
+use Rattle.rd_app.specs.Application.{Application}
 use Rattle.rd_state.specs.Snapshot.{Snapshot, queue_at}
 use Rattle.rd_main.specs.Answers.{number_named}
-use Rattle.rd_main.specs.Replies.{line_of, queue_text}
+use Rattle.rd_command.specs.Replies.{line_of, queue_text}
 use Rattle.rd_main.proofs.AnswerLaws.{page_view, queue_there, waiters_named}
 use Rattle.rd_main.proofs.answer.put_queue.Goals as goal
 

@@ -1,10 +1,10 @@
 -- The goals of put_task that the check left open.
 use Rattle.std.proofs.Common.{◌≡◌, ◌∙◌, ℕ, Option, Some, List, ap, sym, position}
 use Rattle.std.proofs.lemmas.Result.{on_ok_weaker}
-use Rattle.rd_script.specs.Application.{Application}
+use Rattle.rd_app.specs.Application.{Application}
 use Rattle.rd_state.specs.Snapshot.{Snapshot, TaskSnapshot, task_at}
 use Rattle.rd_main.specs.Answers.{number_named}
-use Rattle.rd_main.specs.Replies.{is_task, line_of, task_text}
+use Rattle.rd_command.specs.Replies.{is_task, line_of, task_text}
 use Rattle.rd_main.proofs.AnswerLaws.{page_view, place_named, task_there}
 use Rattle.rd_main.proofs.answer.put_task.Goals as goal
 

@@ -3,7 +3,7 @@ use Rattle.std.proofs.Common.{ℕ, Option, ap, ok_or, sym}
 use Rattle.std.specs.Str.{bytes_eq}
 use Rattle.std.proofs.lemmas.Iterator.Adapters.{position_from-zero}
 use Rattle.rd_script.specs.declared.error.AppError.TheVariants as fault
-use Rattle.rd_script.specs.Words.{texts}
+use Rattle.rd_text.specs.Words.{texts}
 use Rattle.rd_script.proofs.spelling.queue_of.Goals as goal
 
 pub loop-index-init : goal.loop-index-init

@@ -4,7 +4,7 @@ use Rattle.std.specs.List.{position_from}
 use Rattle.std.specs.Str.{bytes_eq}
 use Rattle.rd_script.specs.declared.error.AppError.TheVariants as fault
 use Rattle.rd_script.specs.Spelling.{queue_of}
-use Rattle.rd_script.specs.Words.{texts}
+use Rattle.rd_text.specs.Words.{texts}
 use Rattle.rd_script.proofs.spelling.queue_of.Given as goal
 
 -- the names that are left decide

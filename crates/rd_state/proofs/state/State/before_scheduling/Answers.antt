@@ -1,6 +1,6 @@
 -- The goals of `State::before_scheduling` that the check left open.
 use Rattle.std.proofs.Common.{length, refl, rules}
-use Rattle.rd_script.specs.Application.{priorities_of}
+use Rattle.rd_app.specs.Application.{priorities_of}
 use Rattle.rd_state.proofs.SizeLaws.{IsKept-new}
 use Rattle.rd_state.proofs.state.State.before_scheduling.Goals as goal
 

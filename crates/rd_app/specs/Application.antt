@@ -1,0 +1,103 @@
+-- An application: what a contract sees of an `App`, and the limits that each keeps.
+use Rattle.std.specs.Prelude.{ℕ, ◌≡◌, ◌-◌, ◌^◌, ◌<◌, ◌≤◌, Bool, true, false}
+use Rattle.std.specs.Prelude.{List, [], length, map, slice_index_or, All}
+use Rattle.rd_app.specs.declared.app.QueueShape.{QueueShape}
+use Rattle.rd_app.specs.declared.app.Kind.{Kind}
+use Rattle.rd_app.specs.declared.app.Kind.TheVariants.{Queue, Task}
+use Rattle.rd_app.specs.declared.instr.Operand.{Operand}
+use Rattle.rd_app.specs.declared.instr.Operand.TheVariants.{Number, Register}
+use Rattle.rd_app.specs.declared.instr.Instr.{Instr}
+use Rattle.rd_app.specs.declared.instr.Instr.TheVariants.{Set, Add, Move, Data, Pack, Unpack}
+use Rattle.rd_app.specs.declared.instr.Instr.TheVariants.{Jump, JumpZero, End, Send, Receive}
+use Rattle.rd_app.specs.TaskScript.{TaskScript}
+use Rattle.rd_text.specs.Names.{AreNames}
+
+-- Names and what they stand for go by number: the index in these lists.
+pub record Application : Type 0 where
+  pub cores : ℕ
+  pub notes : ℕ
+  pub tick : ℕ
+  pub queues : List QueueShape
+  pub queue_names : List (List ℕ)
+  pub scripts : List TaskScript
+  pub task_names : List (List ℕ)
+
+-- the names of one kind
+abbrev pub names_of : Kind → Application → List (List ℕ)
+names_of Queue app = app.queue_names
+names_of Task app = app.task_names
+
+-- the script of a task
+abbrev pub script_of : Application → ℕ → TaskScript
+script_of app task = slice_index_or app.scripts task (record { priority = 0; code = [] })
+
+-- the instructions of a task
+abbrev pub code_of : Application → ℕ → List Instr
+code_of app task = (script_of app task).code
+
+-- the instruction of a task at a number
+abbrev pub instr_at : Application → ℕ → ℕ → Instr
+instr_at app task pc = slice_index_or (code_of app task) pc End
+
+-- the tasks' priorities, by number
+abbrev pub priorities_of : Application → List ℕ
+priorities_of app = map (λ script. script.priority) app.scripts
+
+-- the block time of a call that waits without end
+abbrev pub max_delay : ℕ
+max_delay = 4294967295
+
+-- The register that an operand reads is there.
+abbrev pub IsOperand : Operand → Type 0
+IsOperand (Number value) = Unit {0}
+IsOperand (Register register) = register < 8
+
+-- Registers, instructions of the script and objects are there.
+abbrev pub IsWithin : Application → ℕ → Instr → Type 0
+IsWithin app len (Set register value) = register < 8
+IsWithin app len (Add register value) = register < 8
+IsWithin app len (Move into from) = (into < 8) × (from < 8)
+IsWithin app len (Data bytes) = length bytes ≤ 256
+IsWithin app len (Pack register) = register < 8
+IsWithin app len (Unpack register) = register < 8
+IsWithin app len (Jump target) = target < len
+IsWithin app len (JumpZero register target) = (register < 8) × (target < len)
+IsWithin app len End = Unit {0}
+IsWithin app len (Send queue wait) = (queue < length app.queues) × IsOperand wait
+IsWithin app len (Receive queue wait) = (queue < length app.queues) × IsOperand wait
+
+-- does the script never go on at the next instruction?
+abbrev pub is_final : Instr → Bool
+is_final (Jump target) = true
+is_final End = true
+is_final _ = false
+
+abbrev pub IsQueueShape : QueueShape → Type 0
+IsQueueShape queue =
+    (0 < queue.capacity)
+    × (queue.capacity ≤ 64)
+    × (0 < queue.item_size)
+    × (queue.item_size ≤ 64)
+
+pub record IsScript (app : Application) (script : TaskScript) : Type 0 where
+  pub priority : script.priority ≤ 31
+  pub some : 0 < length script.code
+  pub few : length script.code ≤ 256
+  pub within : All (IsWithin app (length script.code)) script.code
+  pub ends : is_final (slice_index_or script.code (length script.code - 1) End) ≡ true
+
+pub record IsApplication (app : Application) : Type 0 where
+  pub some_cores : 0 < app.cores
+  pub few_cores : app.cores ≤ 8
+  pub some_notes : 0 < app.notes
+  pub few_notes : app.notes ≤ 4
+  pub tick : app.tick < 2 ^ 32
+  pub few_queues : length app.queues ≤ 32
+  pub queues : All IsQueueShape app.queues
+  pub queue_names : length app.queue_names ≡ length app.queues
+  pub named_queues : AreNames app.queue_names
+  pub some_tasks : 0 < length app.scripts
+  pub few_tasks : length app.scripts ≤ 32
+  pub scripts : All (IsScript app) app.scripts
+  pub task_names : length app.task_names ≡ length app.scripts
+  pub named_tasks : AreNames app.task_names

@@ -1,0 +1,25 @@
+-- The built-in application: one task that sends three times to a queue with room for two items.
+use Rattle.std.specs.Prelude.{codes, [], ◌∷◌}
+use Rattle.rd_app.specs.declared.instr.Operand.TheVariants.{Number}
+use Rattle.rd_app.specs.declared.instr.Instr.TheVariants.{Data, End, Send}
+use Rattle.rd_app.specs.Application.{Application}
+
+abbrev pub builtin : Application
+builtin = record {
+  cores = 1;
+  notes = 1;
+  tick = 0;
+  queues = record { capacity = 2; item_size = 1 } ∷ [];
+  queue_names = codes "q0" ∷ [];
+  scripts = record {
+    priority = 1;
+    code =
+        Data (65 ∷ [])
+        ∷ Send 0 (Number 0)
+        ∷ Send 0 (Number 0)
+        ∷ Send 0 (Number 0)
+        ∷ End
+        ∷ [];
+  } ∷ [];
+  task_names = codes "t0" ∷ [];
+}

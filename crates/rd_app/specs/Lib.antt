@@ -1,0 +1,5 @@
+-- What the contracts of this crate cite.
+pub mod TaskScript
+pub mod Application
+pub mod Inside
+pub mod Builtin

@@ -1,0 +1,220 @@
+//! An application: its cores, its queues, its tasks with their scripts, and their names.
+
+ghost use Rattle.std.specs.Prelude.{◌≡◌, ◌<◌, length, map, position, slice_get};
+ghost use Rattle.std.specs.Prelude.{Some, IfOk};
+ghost use Rattle.std.specs.Str.{bytes_eq};
+ghost use Rattle.rd_app.specs.Application.{IsApplication, names_of, code_of};
+ghost use Rattle.rd_app.specs.Application.{priorities_of};
+ghost use Rattle.rd_app.specs.Builtin.{builtin};
+ghost use Rattle.rd_app.specs.Inside.{application_of};
+
+use crate::instr::{Instr, Operand};
+use rd_bytes::bytes::Bytes;
+use rd_text::names::Names;
+use std::alloc::{AllocError, Global};
+use std::marker::Model;
+
+/// What kind of thing a name stands for.
+#[derive(Clone, Copy, Debug, PartialEq, Eq)]
+pub enum Kind {
+    Queue,
+    Task,
+}
+
+/// A queue to be made: room for 1 to 64 items of 1 to 64 bytes each.
+#[derive(Clone, Copy, Debug, Default, PartialEq, Eq)]
+pub struct QueueShape {
+    pub capacity: usize,
+    pub item_size: usize,
+}
+
+/// A task to be made: its priority, 0 to 31, higher before lower, and its instructions.
+#[derive(Drop)]
+pub struct Script {
+    priority: u8,
+    code: Vec<Instr>,
+}
+
+impl Model for Script {
+    ghost use Rattle.rd_app.specs.TaskScript.{TaskScript};
+
+    ghost Value = { TaskScript };
+
+    ghost view = { λ s. record { priority = s.priority; code = s.code.items } };
+}
+
+/// What an application is made of. Queues and tasks go by number: the index in these lists.
+#[derive(Drop)]
+pub struct Parts {
+    /// How many cores there are, 1 to 8.
+    pub cores: usize,
+    /// How many notification entries each task has, 1 to 4.
+    pub notes: usize,
+    /// The tick at boot.
+    pub tick: u32,
+    /// The queues, at most 32.
+    pub queues: Vec<QueueShape>,
+    /// The queues' names.
+    pub queue_names: Names,
+    /// The tasks, 1 to 32.
+    pub scripts: Vec<Script>,
+    /// The tasks' names.
+    pub task_names: Names,
+}
+
+/// An application within the limits. It never changes.
+#[derive(Drop)]
+pub struct App {
+    parts: Parts,
+    priorities: Vec<u8>,
+}
+
+impl Model for App {
+    ghost use Rattle.std.specs.Prelude.{◌≡◌};
+    ghost use Rattle.rd_app.specs.Application.{Application, priorities_of, IsApplication};
+
+    ghost Value = { Application };
+
+    ghost use Rattle.rd_app.specs.Inside.{application_of};
+
+    ghost view = { λ a. application_of a.parts };
+
+    ghost invariant = { λ a.
+        IsApplication (application_of a.parts)
+        × (a.priorities.items ≡ priorities_of (application_of a.parts)) };
+}
+
+impl Script {
+    /// A task of that priority, 0 to 31, with these instructions.
+    pub fn new(priority: u8, code: Vec<Instr>) -> Script
+        ensures { result ≡ record { priority = priority; code = code.items } }
+    {
+        Script { priority, code }
+    }
+}
+
+// The tasks' priorities, by number.
+fn priorities_of(alloc: Global, scripts: &[Script]) -> Result<Vec<u8>, AllocError>
+    ensures { IfOk result
+        (λ priorities. priorities.items ≡ map (λ script. script.priority) scripts.now) }
+{
+    let mut priorities = Vec::new(alloc);
+    for script in scripts {
+        let script: &Script = script;
+        priorities.push(script.priority)?;
+    }
+    Ok(priorities)
+}
+
+impl App {
+    /// The application of these parts, which are within the limits.
+    pub fn new(alloc: Global, parts: Parts) -> Result<App, AllocError>
+        requires { IsApplication (application_of parts) }
+        ensures { IfOk result (λ app. app ≡ application_of parts) }
+    {
+        let priorities = priorities_of(alloc, parts.scripts.as_slice())?;
+        Ok(App { parts, priorities })
+    }
+
+    /// The built-in application: one task that sends three times to a queue for two items.
+    pub fn builtin(alloc: Global) -> Result<App, AllocError>
+        ensures { IfOk result (λ app. app ≡ builtin) }
+    {
+        let queue = QueueShape {
+            capacity: 2,
+            item_size: 1,
+        };
+        let wait = Operand::Number { value: 0 };
+        let code = vec![in alloc;
+            Instr::Data {
+                bytes: Bytes::from_slice(b"\x41")
+            },
+            Instr::Send { queue: 0, wait },
+            Instr::Send { queue: 0, wait },
+            Instr::Send { queue: 0, wait },
+            Instr::End,
+        ]?;
+        let parts = Parts {
+            cores: 1,
+            notes: 1,
+            tick: 0,
+            queues: vec![in alloc; queue]?,
+            queue_names: Names::new(alloc, &["q0"])?,
+            scripts: vec![in alloc; Script::new(1, code)]?,
+            task_names: Names::new(alloc, &["t0"])?,
+        };
+        App::new(alloc, parts)
+    }
+
+    /// The limits that every application keeps.
+    pub fn limits(&self)
+        ensures { IsApplication self.now }
+    {
+        let _ = &self.priorities;
+    }
+
+    /// How many cores there are.
+    pub fn cores(&self) -> usize
+        ensures { result ≡ self.now.cores }
+    {
+        self.parts.cores
+    }
+
+    /// How many notification entries each task has.
+    pub fn notes(&self) -> usize
+        ensures { result ≡ self.now.notes }
+    {
+        self.parts.notes
+    }
+
+    /// The tick at boot.
+    pub fn tick(&self) -> u32
+        ensures { result ≡ self.now.tick }
+    {
+        self.parts.tick
+    }
+
+    /// The queues, by number.
+    pub fn queues(&self) -> &[QueueShape]
+        ensures { result.now ≡ self.now.queues }
+    {
+        self.parts.queues.as_slice()
+    }
+
+    /// The number of the thing of that kind with that name, if there is one.
+    pub fn find(&self, kind: Kind, name: &str) -> Option<usize>
+        ensures { result ≡ position (λ other. bytes_eq name.now other) (names_of kind self.now) }
+    {
+        match kind {
+            Kind::Queue => self.parts.queue_names.find(name),
+            Kind::Task => self.parts.task_names.find(name),
+        }
+    }
+
+    /// The name of the thing of that kind with that number.
+    pub fn name(&self, kind: Kind, number: usize) -> &str
+        requires { number < length (names_of kind self.now) }
+        ensures { slice_get (names_of kind self.now) number ≡ Some result.now }
+    {
+        match kind {
+            Kind::Queue => self.parts.queue_names.name(number),
+            Kind::Task => self.parts.task_names.name(number),
+        }
+    }
+
+    /// The instructions of the task's script.
+    pub fn code(&self, task: usize) -> &[Instr]
+        requires { task < length self.now.scripts }
+        ensures { result.now ≡ code_of self.now task }
+    {
+        let script = &self.parts.scripts[task];
+        script.code.as_slice()
+    }
+
+    /// The tasks' priorities, by number.
+    pub fn priorities(&self) -> &[u8]
+        ensures { result.now ≡ priorities_of self.now }
+    {
+        self.priorities.as_slice()
+    }
+}

@@ -1,0 +1,48 @@
+//! The instructions of a task's script.
+
+use rd_bytes::bytes::Bytes;
+
+/// How many registers a task has.
+pub const REGISTERS: usize = 8;
+
+/// The block time of a call that waits without end, written `max` (`portMAX_DELAY`).
+pub const MAX_DELAY: u32 = u32::MAX;
+
+/// An operand that is a number, or what a register holds when the instruction is done.
+#[derive(Clone, Copy, Debug, PartialEq, Eq)]
+pub enum Operand {
+    /// This number.
+    Number { value: u32 },
+    /// The value of the register, 0 to 7.
+    Register { register: usize },
+}
+
+/// One instruction of a task's script. Registers are 0 to 7; queues and the
+/// instructions of a script are counted from 0.
+#[derive(Drop)]
+pub enum Instr {
+    /// `set R N`: the register becomes the value.
+    Set { register: usize, value: u32 },
+    /// `add R N`: the register grows by the value, modulo 2^32.
+    Add { register: usize, value: u32 },
+    /// `move R R`: the first register becomes the second's value.
+    Move { into: usize, from: usize },
+    /// `data HEX`: the task's data becomes these bytes.
+    Data { bytes: Bytes },
+    /// `pack R`: the data becomes the register's four bytes, lowest first.
+    Pack { register: usize },
+    /// `unpack R`: the register becomes the data's first four bytes, lowest first, missing ones 0.
+    Unpack { register: usize },
+    /// `jump L`: the script goes on at the target.
+    Jump { target: usize },
+    /// `jumpz R L`: the script goes on at the target if the register is 0.
+    JumpZero { register: usize, target: usize },
+    /// `end`: the task has ended.
+    End,
+    /// `send Q T`: puts the data at the queue's back, and waits for room up to the block time
+    /// (`xQueueSend`).
+    Send { queue: usize, wait: Operand },
+    /// `recv Q T`: takes the queue's first item as the data, and waits for one up to the block time
+    /// (`xQueueReceive`).
+    Receive { queue: usize, wait: Operand },
+}

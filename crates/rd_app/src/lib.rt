@@ -1,0 +1,6 @@
+//! The application that is debugged: its tasks' scripts, its cores, its queues and their names.
+#![tactic(auto)]
+
+pub mod app;
+pub mod instr;
+pub mod phase;

@@ -1,0 +1,443 @@
+//! The text of replies.
+
+ghost use Rattle.std.specs.Prelude.{◌≡◌, ◌+◌, ◌++◌, ◌<◌, ◌≤◌, ◌∷◌, [], decimal, length, position};
+ghost use Rattle.std.specs.Prelude.{All, IsOk, OnErr, OnOk, vec_capacity, vec_len};
+ghost use Rattle.rd_state.specs.Sizes.{IsTaskOrIdle};
+ghost use Rattle.rd_state.specs.Waiting.{IsPlace};
+ghost use Rattle.rd_command.specs.Replies.{line_of, refusal_text, reply_text, list_text, bytes_text};
+ghost use Rattle.rd_command.specs.Replies.{name_at, deadline_text, place_text, phase_text, entry_text};
+ghost use Rattle.rd_command.specs.Replies.{counts_text, waiting_text, amounts_text, queue_text};
+ghost use Rattle.rd_command.specs.Replies.{running_core_text, state_text, task_text, is_task};
+ghost use Rattle.rd_command.specs.Replies.{seat_text, ticks_text, cores_text};
+ghost use Rattle.rd_command.specs.Replies.{PlaceIsNamed, WaitersAreNamed, SeatedAreNamed};
+
+use itoa::{Buffer, Integer};
+use rd_app::app::{App, Kind};
+use rd_app::phase::{Phase, Place};
+use rd_bytes::bytes::MAX_BYTES;
+use rd_notify::notes::{Entry, EntryState};
+use rd_queue::queue::Queue;
+use rd_queue::waiting_list::WaitingList;
+use rd_state::state::State;
+use rd_state::task::Task;
+use std::alloc::AllocError;
+
+/// Why a command was refused.
+#[derive(Clone, Copy, Debug, PartialEq, Eq)]
+pub enum Refusal {
+    /// The core is idle.
+    NoTask,
+    /// There is no tick after this one.
+    TickLimit,
+    /// There are only so many moves to go back.
+    TooFar { done: usize },
+    /// The moves done are at their limit.
+    MovesFull,
+    /// There is no such core, queue or task.
+    NoSuch,
+    /// A growth was refused.
+    NoMemory,
+    /// The line is no command.
+    Syntax,
+    /// The line has more than 1,024 bytes.
+    LineTooLong,
+}
+
+/// What is answered to a command that makes moves or takes them back, or to one that is refused.
+#[derive(Clone, Copy, Debug, PartialEq, Eq)]
+pub enum Reply {
+    /// So many moves are done now.
+    Done { at: usize },
+    /// Nothing has changed.
+    Refused { refusal: Refusal },
+}
+
+/// How many bytes the line of a reply has at the most: `no TooFar 18446744073709551615` and its LF.
+pub const MAX_REPLY: usize = 31;
+
+// How many digits a `usize` has at the most.
+const MAX_DIGITS: usize = 20;
+
+// Whether there was memory for what is appended to a page.
+type Appended = Result<(), AllocError>;
+
+// Appends a text. The functions below append to a page in the same way what their name says.
+fn append(page: &mut Vec<u8>, text: &[u8]) -> Appended
+    ensures { OnOk result (page.new.items ≡ page.old.items ++ text.now) }
+{
+    page.extend_from_slice(text)
+}
+
+fn append_number<I: Integer>(page: &mut Vec<u8>, number: I) -> Appended
+    ensures { OnOk result (page.new.items ≡ page.old.items ++ I.text number) }
+{
+    append(page, Buffer::new().format(number).as_bytes())
+}
+
+// Appends a text that there is room for.
+fn append_reserved(page: &mut Vec<u8>, text: &[u8])
+    requires { vec_len page.old + length text.now ≤ vec_capacity page.old }
+    ensures text { page.new.items ≡ page.old.items ++ text.now }
+    ensures len { vec_len page.new ≡ vec_len page.old + length text.now }
+    ensures room { vec_capacity page.old ≤ vec_capacity page.new }
+{
+    page.extend_from_slice(text).unwrap();
+}
+
+fn append_number_reserved(page: &mut Vec<u8>, number: usize)
+    requires { vec_len page.old + MAX_DIGITS ≤ vec_capacity page.old }
+    ensures text { page.new.items ≡ page.old.items ++ decimal number }
+    ensures len { vec_len page.new ≤ vec_len page.old + MAX_DIGITS }
+    ensures room { vec_capacity page.old ≤ vec_capacity page.new }
+{
+    append_reserved(page, Buffer::new().format(number).as_bytes());
+}
+
+// The longest refusal is `TooFar ` with its number.
+fn append_refusal_reserved(page: &mut Vec<u8>, refusal: Refusal)
+    requires { vec_len page.old + 7 + MAX_DIGITS ≤ vec_capacity page.old }
+    ensures text { page.new.items ≡ page.old.items ++ refusal_text refusal }
+    ensures len { vec_len page.new ≤ vec_len page.old + 7 + MAX_DIGITS }
+    ensures room { vec_capacity page.old ≤ vec_capacity page.new }
+{
+    match refusal {
+        Refusal::NoTask => append_reserved(page, b"NoTask"),
+        Refusal::TickLimit => append_reserved(page, b"TickLimit"),
+        Refusal::TooFar { done } => {
+            append_reserved(page, b"TooFar ");
+            append_number_reserved(page, done);
+        }
+        Refusal::MovesFull => append_reserved(page, b"MovesFull"),
+        Refusal::NoSuch => append_reserved(page, b"NoSuch"),
+        Refusal::NoMemory => append_reserved(page, b"NoMemory"),
+        Refusal::Syntax => append_reserved(page, b"Syntax"),
+        Refusal::LineTooLong => append_reserved(page, b"LineTooLong"),
+    }
+}
+
+/// Appends the line of a reply, which there is room for.
+pub fn append_reply_reserved(page: &mut Vec<u8>, reply: Reply)
+    requires { vec_len page.old + MAX_REPLY ≤ vec_capacity page.old }
+    ensures { page.new.items ≡ page.old.items ++ line_of (reply_text reply) }
+{
+    match reply {
+        Reply::Done { at } => {
+            append_reserved(page, b"ok at ");
+            append_number_reserved(page, at);
+        }
+        Reply::Refused { refusal } => {
+            append_reserved(page, b"no ");
+            append_refusal_reserved(page, refusal);
+        }
+    }
+    append_reserved(page, b"\n");
+}
+
+/// Appends the line of a reply. An `Err` says that there is no memory for it, and leaves the page
+/// as it was; it comes only where the page has no room for `MAX_REPLY` bytes more.
+pub fn append_reply(page: &mut Vec<u8>, reply: Reply) -> Result<(), AllocError>
+    ensures text { OnOk result (page.new.items ≡ page.old.items ++ line_of (reply_text reply)) }
+    ensures err { OnErr result (page.new.items ≡ page.old.items) }
+    ensures room { vec_len page.old + MAX_REPLY ≤ vec_capacity page.old → IsOk result }
+{
+    page.reserve(MAX_REPLY)?;
+    append_reply_reserved(page, reply);
+    Ok(())
+}
+
+// Two digits a byte; `-` for none.
+fn append_bytes(page: &mut Vec<u8>, bytes: &[u8]) -> Appended
+    requires { length bytes.now ≤ MAX_BYTES }
+    ensures { OnOk result (page.new.items ≡ page.old.items ++ bytes_text bytes.now) }
+{
+    if bytes.is_empty() {
+        return append(page, b"-");
+    }
+    let mut digits = [0; 2 * MAX_BYTES];
+    let digits = &mut digits[..2 * bytes.len()];
+    hex::encode_to_slice(bytes, digits).unwrap();
+    append(page, digits)
+}
+
+// A `,` before each member but the first, which has the index 0.
+fn append_comma(page: &mut Vec<u8>, index: usize) -> Appended
+    ensures first { index ≡ 0 → OnOk result (page.new.items ≡ page.old.items) }
+    ensures later { 1 ≤ index → OnOk result (page.new.items ≡ page.old.items ++ 44 ∷ []) }
+{
+    if index > 0 {
+        append(page, b",")?;
+    }
+    Ok(())
+}
+
+fn append_items(page: &mut Vec<u8>, queue: &Queue) -> Appended
+    ensures { OnOk result (page.new.items
+        ≡ page.old.items ++ list_text bytes_text queue.now.items) }
+{
+    if queue.count() == 0 {
+        return append(page, b"-");
+    }
+    for index in 0..queue.count() {
+        append_comma(page, index)?;
+        append_bytes(page, queue.item(index))?;
+    }
+    Ok(())
+}
+
+fn append_number_list(page: &mut Vec<u8>, numbers: &[u32]) -> Appended
+    ensures { OnOk result (page.new.items ≡ page.old.items ++ list_text decimal numbers.now) }
+{
+    if numbers.is_empty() {
+        return append(page, b"-");
+    }
+    for (index, number) in numbers.iter().enumerate() {
+        append_comma(page, index)?;
+        append_number(page, *number)?;
+    }
+    Ok(())
+}
+
+// The names of tasks.
+fn append_task_names(page: &mut Vec<u8>, app: &App, tasks: &[usize]) -> Appended
+    requires { All (λ task. task < length app.now.task_names) tasks.now }
+    ensures { OnOk result (page.new.items
+        ≡ page.old.items ++ list_text (name_at app.now.task_names) tasks.now) }
+{
+    if tasks.is_empty() {
+        return append(page, b"-");
+    }
+    for (index, task) in tasks.iter().enumerate() {
+        append_comma(page, index)?;
+        append(page, app.name(Kind::Task, *task).as_bytes())?;
+    }
+    Ok(())
+}
+
+// The name of the task that runs on a core; `-` for none.
+fn append_seat(page: &mut Vec<u8>, app: &App, running: Option<usize>) -> Appended
+    requires { IsTaskOrIdle (length app.now.task_names) running }
+    ensures { OnOk result (page.new.items
+        ≡ page.old.items ++ seat_text app.now.task_names running) }
+{
+    match running {
+        Some(task) => append(page, app.name(Kind::Task, task).as_bytes()),
+        None => append(page, b"-"),
+    }
+}
+
+fn append_seat_list(page: &mut Vec<u8>, app: &App, cores: &[Option<usize>]) -> Appended
+    requires { All (IsTaskOrIdle (length app.now.task_names)) cores.now }
+    ensures { OnOk result (page.new.items
+        ≡ page.old.items ++ list_text (seat_text app.now.task_names) cores.now) }
+{
+    if cores.is_empty() {
+        return append(page, b"-");
+    }
+    for (index, running) in cores.iter().enumerate() {
+        append_comma(page, index)?;
+        append_seat(page, app, *running)?;
+    }
+    Ok(())
+}
+
+fn append_entry(page: &mut Vec<u8>, entry: Entry) -> Appended
+    ensures { OnOk result (page.new.items ≡ page.old.items ++ entry_text entry) }
+{
+    append_number(page, entry.value)?;
+    match entry.state {
+        EntryState::Idle => append(page, b":idle"),
+        EntryState::Waiting => append(page, b":waiting"),
+        EntryState::Received => append(page, b":received"),
+    }
+}
+
+fn append_entry_list(page: &mut Vec<u8>, entries: &[Entry]) -> Appended
+    ensures { OnOk result (page.new.items ≡ page.old.items ++ list_text entry_text entries.now) }
+{
+    if entries.is_empty() {
+        return append(page, b"-");
+    }
+    for (index, entry) in entries.iter().enumerate() {
+        append_comma(page, index)?;
+        append_entry(page, *entry)?;
+    }
+    Ok(())
+}
+
+// A deadline's tick; `max` for none.
+fn append_deadline(page: &mut Vec<u8>, deadline: Option<u64>) -> Appended
+    ensures { OnOk result (page.new.items ≡ page.old.items ++ deadline_text deadline) }
+{
+    match deadline {
+        Some(tick) => append_number(page, tick),
+        None => append(page, b"max"),
+    }
+}
+
+// A place where tasks wait.
+fn append_place(page: &mut Vec<u8>, app: &App, place: Place) -> Appended
+    requires { IsPlace (length app.now.queue_names) place }
+    ensures { OnOk result (page.new.items
+        ≡ page.old.items ++ place_text app.now.queue_names place) }
+{
+    match place {
+        Place::Receive { queue } => {
+            append(page, b"recv:")?;
+            append(page, app.name(Kind::Queue, queue).as_bytes())
+        }
+        Place::Send { queue } => {
+            append(page, b"send:")?;
+            append(page, app.name(Kind::Queue, queue).as_bytes())
+        }
+    }
+}
+
+fn append_phase(page: &mut Vec<u8>, app: &App, phase: Phase) -> Appended
+    requires { PlaceIsNamed app.now.queue_names phase }
+    ensures { OnOk result (page.new.items
+        ≡ page.old.items ++ phase_text app.now.queue_names phase) }
+{
+    match phase {
+        Phase::Run => append(page, b"run"),
+        Phase::Again { deadline } => {
+            append(page, b"again:")?;
+            append_deadline(page, deadline)
+        }
+        Phase::Wait { place, deadline } => {
+            append(page, b"wait:")?;
+            append_place(page, app, place)?;
+            append(page, b":")?;
+            append_deadline(page, deadline)
+        }
+        Phase::Ended => append(page, b"ended"),
+    }
+}
+
+// The core that a task runs on; `-` for none.
+fn append_running_core(page: &mut Vec<u8>, core: Option<usize>) -> Appended
+    ensures { OnOk result (page.new.items ≡ page.old.items ++ running_core_text core) }
+{
+    match core {
+        Some(core) => append_number(page, core),
+        None => append(page, b"-"),
+    }
+}
+
+/// Writes the view of a queue onto the page, in place of what was there. An `Err` says that
+/// there is no memory for it; the page then has some beginning of the view.
+pub fn show_queue(page: &mut Vec<u8>, app: &App, name: &str, queue: &Queue) -> Appended
+    requires { WaitersAreNamed app.now.task_names queue.now }
+    ensures { OnOk result (page.new.items
+        ≡ line_of (queue_text app.now.task_names name.now queue.now)) }
+{
+    page.clear();
+    append(page, b"queue ")?;
+    append(page, name.as_bytes())?;
+    append(page, b" ")?;
+    append_amounts(page, app, queue)
+}
+
+// How many items there are, and how many there is room for.
+fn append_counts(page: &mut Vec<u8>, queue: &Queue) -> Appended
+    ensures { OnOk result (page.new.items ≡ page.old.items ++ counts_text queue.now) }
+{
+    append_number(page, queue.count())?;
+    append(page, b"/")?;
+    append_number(page, queue.capacity())
+}
+
+// The rest of a queue's view, from its amounts on.
+fn append_amounts(page: &mut Vec<u8>, app: &App, queue: &Queue) -> Appended
+    requires { WaitersAreNamed app.now.task_names queue.now }
+    ensures { OnOk result (page.new.items
+        ≡ page.old.items ++ line_of (amounts_text app.now.task_names queue.now)) }
+{
+    append_counts(page, queue)?;
+    append(page, b" items ")?;
+    append_items(page, queue)?;
+    append_waiting(page, app, queue)?;
+    append(page, b"\n")
+}
+
+// Who waits at a queue.
+fn append_waiting(page: &mut Vec<u8>, app: &App, queue: &Queue) -> Appended
+    requires { WaitersAreNamed app.now.task_names queue.now }
+    ensures { OnOk result (page.new.items
+        ≡ page.old.items ++ waiting_text app.now.task_names queue.now) }
+{
+    append(page, b" recv ")?;
+    append_task_names(page, app, queue.waiting(WaitingList::Receiving).as_slice())?;
+    append(page, b" send ")?;
+    append_task_names(page, app, queue.waiting(WaitingList::Sending).as_slice())?;
+    append(page, b" set -")
+}
+
+/// Writes the view of a task onto the page, in place of what was there. An `Err` says that
+/// there is no memory for it; the page then has some beginning of the view.
+pub fn show_task(
+    page: &mut Vec<u8>,
+    app: &App,
+    name: &str,
+    core: Option<usize>,
+    task: &Task,
+) -> Appended
+    requires { PlaceIsNamed app.now.queue_names task.now.phase }
+    ensures { OnOk result (page.new.items
+        ≡ line_of (task_text app.now.queue_names name.now core task.now)) }
+{
+    page.clear();
+    append(page, b"task ")?;
+    append(page, name.as_bytes())?;
+    append(page, b" core ")?;
+    append_running_core(page, core)?;
+    append(page, b" pc ")?;
+    append_number(page, task.pc())?;
+    append(page, b" phase ")?;
+    append_phase(page, app, task.phase())?;
+    append_state(page, task)
+}
+
+// The rest of a task's view, from its registers on.
+fn append_state(page: &mut Vec<u8>, task: &Task) -> Appended
+    ensures { OnOk result (page.new.items ≡ page.old.items ++ line_of (state_text task.now)) }
+{
+    append(page, b" regs ")?;
+    append_number_list(page, task.registers())?;
+    append(page, b" data ")?;
+    append_bytes(page, task.bytes())?;
+    append(page, b" notes ")?;
+    append_entry_list(page, task.notes().as_slice())?;
+    append(page, b"\n")
+}
+
+/// Writes the view of the cores onto the page, in place of what was there. An `Err` says that
+/// there is no memory for it; the page then has some beginning of the view.
+pub fn show_cores(page: &mut Vec<u8>, app: &App, state: &State) -> Appended
+    requires { SeatedAreNamed app.now.task_names state.now }
+    ensures { OnOk result (page.new.items ≡ line_of (cores_text app.now.task_names state.now)) }
+{
+    page.clear();
+    append(page, b"cores ")?;
+    append_seat_list(page, app, state.cores())?;
+    append(page, b" ready ")?;
+    append_task_names(page, app, state.ready().as_slice())?;
+    append_ticks(page, state)
+}
+
+// The rest of the cores' view, from the tick on.
+fn append_ticks(page: &mut Vec<u8>, state: &State) -> Appended
+    ensures { OnOk result (page.new.items ≡ page.old.items ++ line_of (ticks_text state.now)) }
+{
+    append(page, b" tick ")?;
+    append_number(page, state.tick())?;
+    append(page, b" turn ")?;
+    append_number(page, state.turn())?;
+    append(page, b"\n")
+}
+
+/// The core that the task runs on, if it runs.
+pub fn core_of(cores: &[Option<usize>], task: usize) -> Option<usize>
+    ensures { result ≡ position (is_task task) cores.now }
+{
+    cores.iter().position(|running| matches!(running, Some(running) if *running == task))
+}

@@ -1,7 +1,0 @@
--- What holds in each turn of append_entry_list's loop.
-use Rattle.std.proofs.Common.{◌≡◌, ◌++◌, take}
-use Rattle.rd_main.specs.Replies.{entry_text, joined}
-use Rattle.rd_main.proofs.reply.append_entry_list.Given as goal
-
-abbrev pub invariant-loop-index : goal.invariant-loop-index
-invariant-loop-index l = l.page.items ≡ l.fn.page.items ++ joined entry_text (take l.index l.entries)

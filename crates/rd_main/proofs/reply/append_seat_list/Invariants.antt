@@ -1,7 +1,0 @@
--- What holds in each turn of append_seat_list's loop.
-use Rattle.std.proofs.Common.{◌≡◌, ◌++◌, take}
-use Rattle.rd_main.specs.Replies.{joined, seat_text}
-use Rattle.rd_main.proofs.reply.append_seat_list.Given as goal
-
-abbrev pub invariant-loop-index : goal.invariant-loop-index
-invariant-loop-index l = l.page.items ≡ l.fn.page.items ++ joined (seat_text l.app.task_names) (take l.index l.cores)

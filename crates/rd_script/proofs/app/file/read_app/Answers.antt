@@ -1,9 +1,0 @@
--- The goals of read_app that the check left open.
-use Rattle.rd_script.proofs.AppLaws.{file_again, is_accepted}
-use Rattle.rd_script.proofs.app.file.read_app.Goals as goal
-
-pub returns-clause-accepted : goal.returns-clause-accepted
-returns-clause-accepted c = is_accepted c.args.text.now c.read_bytes.result c.read_bytes.ensures.exact
-
-pub returns-clause-only : goal.returns-clause-only
-returns-clause-only c = λ app. λ says. λ limits. rw (← file_again c.args.text.now app says limits) c.read_bytes.ensures.exact

@@ -1,0 +1,418 @@
+//! Reads an application from its file: finds every fault first, which takes no memory, then keeps
+//! what the file says.
+
+ghost use Rattle.std.specs.Prelude.{◌≡◌, ◌≤◌, ◌<◌, [], ◌++◌, false, true, length, map, option_map};
+ghost use Rattle.std.specs.Prelude.{string_bytes, ok_or, Ok, IfOk, IsOk, IsOkAnd, IsUtf8};
+ghost use Rattle.std.specs.List.{list_any};
+ghost use Rattle.std.specs.Str.{bytes_eq};
+ghost use Rattle.serde_json.specs.Read.{read};
+ghost use Rattle.serde_json.specs.View.{view, items_view, members_view};
+ghost use Rattle.rd_app.specs.Application.{Application, IsApplication, is_final};
+ghost use Rattle.rd_script.specs.Draft.{app_draft_view, task_draft_view};
+ghost use Rattle.rd_script.specs.File.{Gives, GivesFaultFirst, GivesOrNoMemory, checked};
+ghost use Rattle.rd_script.specs.File.{array_in, array_or_empty, are_texts, field, has_only};
+ghost use Rattle.rd_script.specs.File.{in_limits, number_in, number_or, new_name, object_with};
+ghost use Rattle.rd_script.specs.File.{queue_of, queues_after, task_of, tasks_after};
+ghost use Rattle.rd_script.specs.File.{line_ends, line_of, code_of, scripts_after};
+ghost use Rattle.rd_script.specs.File.{draft_of, with_scripts, app_of, text_of, file_of};
+ghost use Rattle.rd_script.specs.Says.{FileSays};
+ghost use Rattle.rd_text.specs.Words.{texts};
+
+use crate::error::AppError;
+use crate::spelling::read_instr;
+use arrayvec::ArrayVec;
+use rd_app::app::{App, Parts, QueueShape, Script};
+use rd_app::instr::Instr;
+use rd_text::names::Names;
+use rd_text::words::is_name;
+use serde_json::{Map, Value};
+use std::alloc::{AllocError, Global};
+
+/// How many cores an application has at the most.
+pub const MAX_CORES: u64 = 8;
+
+/// How many queues an application has at the most.
+pub const MAX_QUEUES: usize = 32;
+
+/// How many tasks an application has at the most.
+pub const MAX_TASKS: usize = 32;
+
+// Does the name stand among these?
+fn stands(name: &str, names: &[&str]) -> bool
+    ensures { result ≡ list_any (bytes_eq name.now) (texts names.now) }
+{
+    for other in names {
+        if name == *other {
+            return true;
+        }
+    }
+    false
+}
+
+fn has_only(members: &Map<String, Value>, known: &[&str]) -> bool
+    ensures { result ≡ has_only (texts known.now) (members_view members.now.entries) }
+{
+    for key in members.keys() {
+        if !stands(key.as_str(), known) {
+            return false;
+        }
+    }
+    true
+}
+
+// An object with no other keys than these.
+fn object_with(value: &Value, known: &[&str]) -> Result<(), AppError>
+    ensures { result ≡ object_with (texts known.now) (view value.now) }
+{
+    match value.as_object() {
+        Some(members) if has_only(members, known) => Ok(()),
+        _ => Err(AppError::Shape),
+    }
+}
+
+// What stands at a key.
+fn field<'a>(value: &'a Value, key: &str) -> Result<&'a Value, AppError>
+    ensures { Gives (λ value. view value.now) result (field key.now (view value.now)) }
+{
+    value.get(key).ok_or(AppError::Shape)
+}
+
+fn number(value: &Value, least: u64, most: u64) -> Result<u64, AppError>
+    ensures { result ≡ number_in least most (view value.now) }
+{
+    in_limits(value.as_u64().ok_or(AppError::Shape)?, least, most)
+}
+
+fn number_or(value: Option<&Value>, otherwise: u64, least: u64, most: u64) -> Result<u64, AppError>
+    ensures { result
+        ≡ number_or otherwise least most (option_map (λ value. view value.now) value.entry) }
+{
+    match value {
+        None => Ok(otherwise),
+        Some(value) => number(value, least, most),
+    }
+}
+
+fn in_limits(number: u64, least: u64, most: u64) -> Result<u64, AppError>
+    ensures { result ≡ in_limits least most number }
+{
+    if least <= number && number <= most {
+        Ok(number)
+    } else {
+        Err(AppError::Limit)
+    }
+}
+
+#[tactic(auto, using(crate::proofs::FileLemmas::items_count))]
+fn array(value: &Value, least: usize, most: usize) -> Result<&[Value], AppError>
+    ensures values { Gives (λ values. items_view values.now)
+        result (array_in least most (view value.now)) }
+    ensures few { IfOk result (λ values. length values.now ≤ most) }
+{
+    let values = value.as_array().ok_or(AppError::Shape)?;
+    in_limits(values.len() as u64, least as u64, most as u64)?;
+    Ok(values.as_slice())
+}
+
+fn array_or_empty(value: Option<&Value>, most: usize) -> Result<&[Value], AppError>
+    ensures values { Gives (λ values. items_view values.now)
+        result (array_or_empty most (option_map (λ value. view value.now) value.entry)) }
+    ensures few { IfOk result (λ values. length values.now ≤ most) }
+{
+    match value {
+        None => Ok(&[]),
+        Some(value) => array(value, 0, most),
+    }
+}
+
+// A name that is none of those before it.
+fn new_name<'a>(value: &'a Value, names: &[&str]) -> Result<&'a str, AppError>
+    ensures { Gives (λ name. name.now) result (new_name (texts names.now) (view value.now)) }
+{
+    let name = value.as_str().ok_or(AppError::Shape)?;
+    if !is_name(name.as_bytes()) || stands(name, names) {
+        return Err(AppError::Name);
+    }
+    Ok(name)
+}
+
+#[tactic(auto, unfolding(crate::specs::File::queue_of))]
+fn read_queue<'a>(value: &'a Value, names: &[&str]) -> Result<(&'a str, QueueShape), AppError>
+    ensures { Gives (λ queue. (queue.0.now, queue.1))
+        result (queue_of (texts names.now) (view value.now)) }
+{
+    object_with(value, &["name", "length", "item"])?;
+    let name = field(value, "name")?;
+    let capacity = field(value, "length")?;
+    let item_size = field(value, "item")?;
+    let name = new_name(name, names)?;
+    let capacity = number(capacity, 1, 64)? as usize;
+    let item_size = number(item_size, 1, 64)? as usize;
+    Ok((
+        name,
+        QueueShape {
+            capacity,
+            item_size,
+        },
+    ))
+}
+
+// The queues of an array, and their names, which lie in the file's value.
+#[derive(Drop)]
+struct Queues<'a> {
+    names: ArrayVec<&'a str, MAX_QUEUES>,
+    shapes: ArrayVec<QueueShape, MAX_QUEUES>,
+}
+
+fn read_queues(values: &[Value]) -> Result<Queues<'_>, AppError>
+    requires { length values.now ≤ 32 }
+    ensures { Gives (λ queues. (texts queues.names.items, queues.shapes.items))
+        result (queues_after [] [] (items_view values.now)) }
+{
+    let mut names = ArrayVec::new();
+    let mut shapes = ArrayVec::new();
+    for value in values {
+        let (name, shape) = read_queue(value, names.as_slice())?;
+        names.push(name);
+        shapes.push(shape);
+    }
+    Ok(Queues { names, shapes })
+}
+
+// A task's priority and the texts of its instructions, which are not read yet.
+#[derive(Clone, Copy, Default)]
+struct TaskDraft<'a> {
+    priority: u8,
+    lines: &'a [Value],
+}
+
+fn are_texts(values: &[Value]) -> bool
+    ensures { result ≡ are_texts (items_view values.now) }
+{
+    for value in values {
+        if !value.is_string() {
+            return false;
+        }
+    }
+    true
+}
+
+#[tactic(auto, unfolding(crate::specs::File::task_of))]
+fn read_task<'a>(value: &'a Value, names: &[&str]) -> Result<(&'a str, TaskDraft<'a>), AppError>
+    ensures { Gives (λ task. (task.0.now, task_draft_view task.1))
+        result (task_of (texts names.now) (view value.now)) }
+{
+    object_with(value, &["name", "priority", "code"])?;
+    let name = field(value, "name")?;
+    let priority = field(value, "priority")?;
+    let code = field(value, "code")?;
+    let name = new_name(name, names)?;
+    let priority = number(priority, 0, 31)? as u8;
+    let lines = array(code, 1, 256)?;
+    if !are_texts(lines) {
+        return Err(AppError::Shape);
+    }
+    Ok((name, TaskDraft { priority, lines }))
+}
+
+// The tasks of an array, and their names, which lie in the file's value.
+#[derive(Drop)]
+struct Tasks<'a> {
+    names: ArrayVec<&'a str, MAX_TASKS>,
+    drafts: ArrayVec<TaskDraft<'a>, MAX_TASKS>,
+}
+
+fn read_tasks(values: &[Value]) -> Result<Tasks<'_>, AppError>
+    requires { length values.now ≤ 32 }
+    ensures { Gives (λ tasks. (texts tasks.names.items, map task_draft_view tasks.drafts.items))
+        result (tasks_after [] [] (items_view values.now)) }
+{
+    let mut names = ArrayVec::new();
+    let mut drafts = ArrayVec::new();
+    for value in values {
+        let (name, draft) = read_task(value, names.as_slice())?;
+        names.push(name);
+        drafts.push(draft);
+    }
+    Ok(Tasks { names, drafts })
+}
+
+// What a file says of an application, its scripts not read yet.
+#[derive(Drop)]
+struct AppDraft<'a> {
+    cores: usize,
+    notes: usize,
+    tick: u32,
+    queues: Queues<'a>,
+    tasks: Tasks<'a>,
+}
+
+#[tactic(auto, unfolding(crate::specs::File::draft_of))]
+fn read_draft(file: &Value) -> Result<AppDraft<'_>, AppError>
+    ensures { Gives app_draft_view result (draft_of (view file.now)) }
+{
+    object_with(
+        file,
+        &["profile", "cores", "notes", "tick", "queues", "tasks"],
+    )?;
+    let profile = field(file, "profile")?;
+    let cores = field(file, "cores")?;
+    let tasks = field(file, "tasks")?;
+    number(profile, 1, 1)?;
+    let cores = number(cores, 1, MAX_CORES)? as usize;
+    let notes = number_or(file.get("notes"), 1, 1, 4)? as usize;
+    let tick = number_or(file.get("tick"), 0, 0, u64::from(u32::MAX))? as u32;
+    let queues = read_queues(array_or_empty(file.get("queues"), MAX_QUEUES)?)?;
+    let tasks = read_tasks(array(tasks, 1, MAX_TASKS)?)?;
+    Ok(AppDraft {
+        cores,
+        notes,
+        tick,
+        queues,
+        tasks,
+    })
+}
+
+// Does the script never go on at the next instruction?
+fn is_final(instr: &Instr) -> bool
+    ensures { result ≡ is_final instr.now }
+{
+    matches!(instr, Instr::Jump { .. } | Instr::End)
+}
+
+// The instruction of a value, in a script of that length.
+fn read_line(line: &Value, queues: &[&str], len: usize) -> Result<Instr, AppError>
+    ensures { result ≡ line_of (texts queues.now) len (view line.now) }
+{
+    let text = line.as_str().ok_or(AppError::Shape)?;
+    read_instr(text.as_bytes(), queues, len)
+}
+
+// Whether the instruction of a value is one after which the script never goes on.
+fn line_ends(line: &Value, queues: &[&str], len: usize) -> Result<bool, AppError>
+    ensures { result ≡ line_ends (texts queues.now) len (view line.now) }
+{
+    let instr = read_line(line, queues, len)?;
+    Ok(is_final(&instr))
+}
+
+// Finds the first fault of a script, and keeps nothing of it.
+fn check_code(lines: &[Value], queues: &[&str]) -> Result<(), AppError>
+    ensures { result ≡ checked (code_of (texts queues.now) (items_view lines.now)) }
+{
+    let mut ended = false;
+    for line in lines {
+        ended = line_ends(line, queues, lines.len())?;
+    }
+    if ended { Ok(()) } else { Err(AppError::Instr) }
+}
+
+// Finds the first fault of the scripts, and keeps nothing of them.
+fn check_scripts(drafts: &[TaskDraft<'_>], queues: &[&str]) -> Result<(), AppError>
+    ensures { result
+        ≡ checked (scripts_after (texts queues.now) [] (map task_draft_view drafts.now)) }
+{
+    for draft in drafts {
+        check_code(draft.lines, queues)?;
+    }
+    Ok(())
+}
+
+// The instructions of a script without a fault.
+fn keep_code(alloc: Global, lines: &[Value], queues: &[&str]) -> Result<Vec<Instr>, AllocError>
+    requires { IsOk (code_of (texts queues.now) (items_view lines.now)) }
+    ensures { IfOk result
+        (λ code. code_of (texts queues.now) (items_view lines.now) ≡ Ok code.items) }
+{
+    let mut code = Vec::new(alloc);
+    for line in lines {
+        code.push(read_line(line, queues, lines.len()).unwrap())?;
+    }
+    Ok(code)
+}
+
+// The scripts of drafts without a fault.
+fn keep_scripts(
+    alloc: Global,
+    drafts: &[TaskDraft<'_>],
+    queues: &[&str],
+) -> Result<Vec<Script>, AllocError>
+    requires { IsOk (scripts_after (texts queues.now) [] (map task_draft_view drafts.now)) }
+    ensures { IfOk result (λ scripts.
+        scripts_after (texts queues.now) [] (map task_draft_view drafts.now) ≡ Ok scripts.items) }
+{
+    let mut scripts = Vec::new(alloc);
+    for draft in drafts {
+        let code = keep_code(alloc, draft.lines, queues)?;
+        scripts.push(Script::new(draft.priority, code))?;
+    }
+    Ok(scripts)
+}
+
+// The application of a draft without a fault.
+fn keep(alloc: Global, draft: &AppDraft<'_>) -> Result<App, AllocError>
+    requires { IsOkAnd (with_scripts (app_draft_view draft.now)) IsApplication }
+    ensures { IfOk result (λ app. with_scripts (app_draft_view draft.now) ≡ Ok app) }
+{
+    let queue_names = draft.queues.names.as_slice();
+    let parts = Parts {
+        cores: draft.cores,
+        notes: draft.notes,
+        tick: draft.tick,
+        queues: draft.queues.shapes.as_slice().to_vec(alloc)?,
+        queue_names: Names::new(alloc, queue_names)?,
+        scripts: keep_scripts(alloc, draft.tasks.drafts.as_slice(), queue_names)?,
+        task_names: Names::new(alloc, draft.tasks.names.as_slice())?,
+    };
+    App::new(alloc, parts)
+}
+
+// Finds every fault before anything is kept.
+fn read_file(alloc: Global, file: &Value) -> Result<App, AppError>
+    ensures { GivesFaultFirst (λ app. app) result (app_of (view file.now)) }
+{
+    let draft = read_draft(file)?;
+    check_scripts(draft.tasks.drafts.as_slice(), draft.queues.names.as_slice())?;
+    Ok(keep(alloc, &draft)?)
+}
+
+fn read_text(alloc: Global, text: &str) -> Result<App, AppError>
+    ensures exact { GivesOrNoMemory (λ app. app) result (text_of text.now) }
+    ensures memory { result ≡ Err AppError.Memory → 0 < length text.now }
+{
+    match Value::from_str(alloc, text) {
+        Ok(file) => read_file(alloc, &file),
+        Err(e) => Err(if e.is_memory() {
+            AppError::Memory
+        } else {
+            AppError::NotJson
+        }),
+    }
+}
+
+// Bytes that aren't UTF-8 are refused before anything is kept.
+fn read_bytes(alloc: Global, bytes: &[u8]) -> Result<App, AppError>
+    ensures exact { GivesOrNoMemory (λ app. app) result (file_of bytes.now) }
+    ensures memory { result ≡ Err AppError.Memory → IsUtf8 bytes.now × (0 < length bytes.now) }
+{
+    match str::from_utf8(bytes) {
+        Ok(text) => read_text(alloc, text),
+        Err(_) => Err(AppError::NotJson),
+    }
+}
+
+/// The application of a file's bytes: a JSON object with the keys `profile`, `cores`, `notes`,
+/// `tick`, `queues` and `tasks`.
+pub fn read_app(alloc: Global, text: &[u8]) -> Result<App, AppError>
+    // What is read is what the file says, within the limits.
+    ensures accepted { IfOk result (λ app. FileSays text.now app × IsApplication app) }
+    // What the file says is read, if it is within the limits.
+    ensures only { (app : Application) → FileSays text.now app → IsApplication app
+        → GivesOrNoMemory (λ app. app) result (Ok app) }
+    // Which fault it is.
+    ensures exact { GivesOrNoMemory (λ app. app) result (file_of text.now) }
+    // Memory runs out only where there is text to read as JSON.
+    ensures memory { result ≡ Err AppError.Memory → IsUtf8 text.now × (0 < length text.now) }
+{
+    read_bytes(alloc, text)
+}

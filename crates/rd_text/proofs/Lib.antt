@@ -1,0 +1,5 @@
+-- The lemmas of this crate.
+pub mod WordLemmas
+pub mod NameLemmas
+pub mod NameLaws
+pub mod SetLemmas

@@ -1,0 +1,10 @@
+-- What holds in each turn of value's loop.
+use Rattle.std.proofs.Common.{◌≡◌, ◌<◌, ◌^◌, take}
+use Rattle.std.specs.Str.Parse.{digits_value}
+use Rattle.rd_text.proofs.words.value.Given as goal
+
+abbrev pub invariant-loop-digit : goal.invariant-loop-digit
+invariant-loop-digit l = record {
+  so_far : l.value ≡ digits_value 10 (take l.digit-index l.digits);
+  fits : l.value < 10 ^ l.digit-index;
+}

@@ -1,0 +1,57 @@
+//! Names of one kind of thing, each with its number.
+
+ghost use Rattle.std.specs.Prelude.{◌≡◌, ◌<◌, true, length, map, position, slice_get};
+ghost use Rattle.std.specs.Prelude.{string_bytes, Some, IfOk};
+ghost use Rattle.std.specs.Str.{bytes_eq};
+ghost use Rattle.rd_text.specs.Names.{are_distinct};
+ghost use Rattle.rd_text.specs.Words.{texts};
+
+use indexmap::IndexSet;
+use std::alloc::{AllocError, Global};
+use std::marker::Model;
+
+/// The names of all things of one kind. No two are equal, and a thing's number is its name's index.
+#[derive(Drop)]
+pub struct Names {
+    set: IndexSet<String>,
+}
+
+impl Model for Names {
+    ghost use Rattle.std.specs.Prelude.{ℕ, List, map, string_bytes};
+
+    ghost Value = { List (List ℕ) };
+
+    ghost view = { λ n. map string_bytes n.set.keys };
+}
+
+impl Names {
+    /// These names, in their order.
+    pub fn new(alloc: Global, names: &[&str]) -> Result<Names, AllocError>
+        requires { are_distinct (texts names.now) ≡ true }
+        ensures { IfOk result (λ made. made ≡ texts names.now) }
+    {
+        let mut set = IndexSet::new(alloc);
+        for name in names {
+            set.insert(String::from_str(alloc, name)?)?;
+        }
+        Ok(Names { set })
+    }
+
+    /// The number of the thing with that name, if there is one.
+    pub fn find(&self, name: &str) -> Option<usize>
+        ensures { result ≡ position (bytes_eq name.now) self.now }
+    {
+        self.set.get_index_of(name)
+    }
+
+    /// The name of the thing with that number.
+    pub fn name(&self, number: usize) -> &str
+        requires { number < length self.now }
+        ensures { slice_get self.now number ≡ Some result.now }
+    {
+        match self.set.get_index(number) {
+            Some(name) => name.as_str(),
+            None => unreachable!(),
+        }
+    }
+}
