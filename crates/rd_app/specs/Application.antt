@@ -3,12 +3,16 @@ use Rattle.std.specs.Prelude.{ℕ, ◌≡◌, ◌-◌, ◌^◌, ◌<◌, ◌≤�
 use Rattle.std.specs.Prelude.{List, [], length, map, slice_index_or, All}
 use Rattle.rd_app.specs.declared.app.QueueShape.{QueueShape}
 use Rattle.rd_app.specs.declared.app.Kind.{Kind}
-use Rattle.rd_app.specs.declared.app.Kind.TheVariants.{Queue, Task}
+use Rattle.rd_app.specs.declared.app.Kind.TheVariants as kind
 use Rattle.rd_app.specs.declared.instr.Operand.{Operand}
 use Rattle.rd_app.specs.declared.instr.Operand.TheVariants.{Number, Register}
 use Rattle.rd_app.specs.declared.instr.Instr.{Instr}
-use Rattle.rd_app.specs.declared.instr.Instr.TheVariants.{Set, Add, Move, Data, Pack, Unpack}
-use Rattle.rd_app.specs.declared.instr.Instr.TheVariants.{Jump, JumpZero, End, Send, Receive}
+use Rattle.rd_app.specs.declared.instr.Instr.TheVariants.{Local, Queue}
+use Rattle.rd_app.specs.declared.instr.LocalInstr.{LocalInstr}
+use Rattle.rd_app.specs.declared.instr.LocalInstr.TheVariants.{Set, Add, Move, Data, Pack, Unpack}
+use Rattle.rd_app.specs.declared.instr.LocalInstr.TheVariants.{Jump, JumpZero, End}
+use Rattle.rd_app.specs.declared.instr.QueueCall.{QueueCall}
+use Rattle.rd_app.specs.declared.instr.QueueCall.TheVariants.{Send, Receive}
 use Rattle.rd_app.specs.TaskScript.{TaskScript}
 use Rattle.rd_text.specs.Names.{AreNames}
 
@@ -24,8 +28,8 @@ pub record Application : Type 0 where
 
 -- the names of one kind
 abbrev pub names_of : Kind → Application → List (List ℕ)
-names_of Queue app = app.queue_names
-names_of Task app = app.task_names
+names_of kind.Queue app = app.queue_names
+names_of kind.Task app = app.task_names
 
 -- the script of a task
 abbrev pub script_of : Application → ℕ → TaskScript
@@ -37,7 +41,7 @@ code_of app task = (script_of app task).code
 
 -- the instruction of a task at a number
 abbrev pub instr_at : Application → ℕ → ℕ → Instr
-instr_at app task pc = slice_index_or (code_of app task) pc End
+instr_at app task pc = slice_index_or (code_of app task) pc (Local End)
 
 -- the tasks' priorities, by number
 abbrev pub priorities_of : Application → List ℕ
@@ -52,25 +56,43 @@ abbrev pub IsOperand : Operand → Type 0
 IsOperand (Number value) = Unit {0}
 IsOperand (Register register) = register < 8
 
+-- Registers, and instructions of a script of that length, are there.
+abbrev pub IsLocalWithin : ℕ → LocalInstr → Type 0
+IsLocalWithin len (Set register value) = register < 8
+IsLocalWithin len (Add register value) = register < 8
+IsLocalWithin len (Move into from) = (into < 8) × (from < 8)
+IsLocalWithin len (Data bytes) = length bytes ≤ 256
+IsLocalWithin len (Pack register) = register < 8
+IsLocalWithin len (Unpack register) = register < 8
+IsLocalWithin len (Jump target) = target < len
+IsLocalWithin len (JumpZero register target) = (register < 8) × (target < len)
+IsLocalWithin len End = Unit {0}
+
+-- The registers that a call of a queue names are there.
+abbrev pub IsQueueCall : QueueCall → Type 0
+IsQueueCall (Send wait) = IsOperand wait
+IsQueueCall (Receive wait) = IsOperand wait
+
 -- Registers, instructions of the script and objects are there.
 abbrev pub IsWithin : Application → ℕ → Instr → Type 0
-IsWithin app len (Set register value) = register < 8
-IsWithin app len (Add register value) = register < 8
-IsWithin app len (Move into from) = (into < 8) × (from < 8)
-IsWithin app len (Data bytes) = length bytes ≤ 256
-IsWithin app len (Pack register) = register < 8
-IsWithin app len (Unpack register) = register < 8
-IsWithin app len (Jump target) = target < len
-IsWithin app len (JumpZero register target) = (register < 8) × (target < len)
-IsWithin app len End = Unit {0}
-IsWithin app len (Send queue wait) = (queue < length app.queues) × IsOperand wait
-IsWithin app len (Receive queue wait) = (queue < length app.queues) × IsOperand wait
+IsWithin app len (Local instr) = IsLocalWithin len instr
+IsWithin app len (Queue queue call) = (queue < length app.queues) × IsQueueCall call
 
 -- does the script never go on at the next instruction?
+abbrev pub is_local_final : LocalInstr → Bool
+is_local_final (Set register value) = false
+is_local_final (Add register value) = false
+is_local_final (Move into from) = false
+is_local_final (Data bytes) = false
+is_local_final (Pack register) = false
+is_local_final (Unpack register) = false
+is_local_final (Jump target) = true
+is_local_final (JumpZero register target) = false
+is_local_final End = true
+
 abbrev pub is_final : Instr → Bool
-is_final (Jump target) = true
-is_final End = true
-is_final _ = false
+is_final (Local instr) = is_local_final instr
+is_final (Queue queue call) = false
 
 abbrev pub IsQueueShape : QueueShape → Type 0
 IsQueueShape queue =
@@ -84,7 +106,7 @@ pub record IsScript (app : Application) (script : TaskScript) : Type 0 where
   pub some : 0 < length script.code
   pub few : length script.code ≤ 256
   pub within : All (IsWithin app (length script.code)) script.code
-  pub ends : is_final (slice_index_or script.code (length script.code - 1) End) ≡ true
+  pub ends : is_final (slice_index_or script.code (length script.code - 1) (Local End)) ≡ true
 
 pub record IsApplication (app : Application) : Type 0 where
   pub some_cores : 0 < app.cores

@@ -1,7 +1,9 @@
 -- The built-in application: one task that sends three times to a queue with room for two items.
 use Rattle.std.specs.Prelude.{codes, [], ◌∷◌}
 use Rattle.rd_app.specs.declared.instr.Operand.TheVariants.{Number}
-use Rattle.rd_app.specs.declared.instr.Instr.TheVariants.{Data, End, Send}
+use Rattle.rd_app.specs.declared.instr.Instr.TheVariants.{Local, Queue}
+use Rattle.rd_app.specs.declared.instr.LocalInstr.TheVariants.{Data, End}
+use Rattle.rd_app.specs.declared.instr.QueueCall.TheVariants.{Send}
 use Rattle.rd_app.specs.Application.{Application}
 
 abbrev pub builtin : Application
@@ -14,11 +16,11 @@ builtin = record {
   scripts = record {
     priority = 1;
     code =
-        Data (65 ∷ [])
-        ∷ Send 0 (Number 0)
-        ∷ Send 0 (Number 0)
-        ∷ Send 0 (Number 0)
-        ∷ End
+        Local (Data (65 ∷ []))
+        ∷ Queue 0 (Send (Number 0))
+        ∷ Queue 0 (Send (Number 0))
+        ∷ Queue 0 (Send (Number 0))
+        ∷ Local End
         ∷ [];
   } ∷ [];
   task_names = codes "t0" ∷ [];

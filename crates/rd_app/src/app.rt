@@ -8,7 +8,7 @@ ghost use Rattle.rd_app.specs.Application.{priorities_of};
 ghost use Rattle.rd_app.specs.Builtin.{builtin};
 ghost use Rattle.rd_app.specs.Inside.{application_of};
 
-use crate::instr::{Instr, Operand};
+use crate::instr::{Instr, LocalInstr, Operand, QueueCall};
 use rd_bytes::bytes::Bytes;
 use rd_text::names::Names;
 use std::alloc::{AllocError, Global};
@@ -124,15 +124,21 @@ impl App {
             capacity: 2,
             item_size: 1,
         };
-        let wait = Operand::Number { value: 0 };
+        let call = QueueCall::Send {
+            wait: Operand::Number { value: 0 },
+        };
         let code = vec![in alloc;
-            Instr::Data {
-                bytes: Bytes::from_slice(b"\x41")
+            Instr::Local {
+                instr: LocalInstr::Data {
+                    bytes: Bytes::from_slice(b"\x41")
+                }
             },
-            Instr::Send { queue: 0, wait },
-            Instr::Send { queue: 0, wait },
-            Instr::Send { queue: 0, wait },
-            Instr::End,
+            Instr::Queue { queue: 0, call },
+            Instr::Queue { queue: 0, call },
+            Instr::Queue { queue: 0, call },
+            Instr::Local {
+                instr: LocalInstr::End
+            },
         ]?;
         let parts = Parts {
             cores: 1,

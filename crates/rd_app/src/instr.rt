@@ -17,10 +17,10 @@ pub enum Operand {
     Register { register: usize },
 }
 
-/// One instruction of a task's script. Registers are 0 to 7; queues and the
-/// instructions of a script are counted from 0.
+/// An instruction that touches nothing but its own task. Registers are 0 to 7, the instructions of a
+/// script are counted from 0.
 #[derive(Drop)]
-pub enum Instr {
+pub enum LocalInstr {
     /// `set R N`: the register becomes the value.
     Set { register: usize, value: u32 },
     /// `add R N`: the register grows by the value, modulo 2^32.
@@ -39,10 +39,24 @@ pub enum Instr {
     JumpZero { register: usize, target: usize },
     /// `end`: the task has ended.
     End,
+}
+
+/// A call of a queue.
+#[derive(Clone, Copy, Debug, PartialEq, Eq)]
+pub enum QueueCall {
     /// `send Q T`: puts the data at the queue's back, and waits for room up to the block time
     /// (`xQueueSend`).
-    Send { queue: usize, wait: Operand },
+    Send { wait: Operand },
     /// `recv Q T`: takes the queue's first item as the data, and waits for one up to the block time
     /// (`xQueueReceive`).
-    Receive { queue: usize, wait: Operand },
+    Receive { wait: Operand },
+}
+
+/// One instruction of a task's script. Objects are counted from 0.
+#[derive(Drop)]
+pub enum Instr {
+    /// One that touches nothing but its own task.
+    Local { instr: LocalInstr },
+    /// A call of a queue.
+    Queue { queue: usize, call: QueueCall },
 }

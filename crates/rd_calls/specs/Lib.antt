@@ -1,7 +1,4 @@
 -- The files of definitions of rd_calls.
-pub mod Tasks
-pub mod Waking
-pub mod Outcomes
 pub mod Local
 pub mod Step
 pub use Rattle.rd_state.specs.Snapshot

@@ -2,15 +2,17 @@
 use Rattle.std.specs.Prelude.{ℕ, ◌+◌, ◌*◌, ◌%◌, ◌<◌, ◌≤◌, List, length, drop, position, nat_lt}
 use Rattle.std.specs.Prelude.{if◌then◌else◌, Option, None, Some, is_some, Result, Ok, Err}
 use Rattle.rd_app.specs.declared.instr.Instr.{Instr}
-use Rattle.rd_app.specs.declared.instr.Instr.TheVariants.{Send, Receive}
-use Rattle.rd_app.specs.Application.{Application, IsOperand, instr_at, priorities_of}
+use Rattle.rd_app.specs.declared.instr.Instr.TheVariants.{Local, Queue}
+use Rattle.rd_app.specs.Application.{Application, IsQueueCall, instr_at, priorities_of}
 use Rattle.rd_state.specs.declared.change.Change.{Change}
 use Rattle.rd_state.specs.Change.{weight_of}
 use Rattle.rd_state.specs.Settled.{settled, rotated}
-use Rattle.rd_state.specs.Snapshot.{Snapshot, task_at, core_at}
+use Rattle.rd_state.specs.Snapshot.{Numbers, Snapshot, task_at, core_at}
 use Rattle.rd_calls.specs.Local.{local_step, NamesRegisters}
-use Rattle.rd_calls.specs.Outcomes.{concluded, send_outcome, receive_outcome}
-use Rattle.rd_calls.specs.Waking.{timed_out}
+use Rattle.rd_kernel.specs.Costs.{ending_cost}
+use Rattle.rd_kernel.specs.Outcomes.{concluded}
+use Rattle.rd_kernel.specs.Waking.{timed_out}
+use Rattle.rd_queue_calls.specs.QueueCalls.{queue_call_cost, queue_outcome}
 use Rattle.rd_calls.specs.declared.moves.Move.{Move}
 use Rattle.rd_calls.specs.declared.moves.Move.TheVariants.{Core, Tick}
 use Rattle.rd_calls.specs.declared.moves.PlayError.{PlayError}
@@ -18,11 +20,9 @@ use Rattle.rd_calls.specs.declared.moves.PlayError.TheVariants.{NoTask, TickLimi
 
 -- the state after an instruction of the task on a core
 abbrev pub performed : List ℕ → Snapshot → ℕ → ℕ → Instr → Snapshot
-performed priorities s core task (Send queue wait) =
-    concluded (send_outcome priorities s task queue wait) core task
-performed priorities s core task (Receive queue wait) =
-    concluded (receive_outcome priorities s task queue wait) core task
-performed priorities s core task instr = local_step s core task instr
+performed priorities s core task (Local instr) = local_step s core task instr
+performed priorities s core task (Queue queue call) =
+    concluded (queue_outcome priorities s task queue call) core task
 
 -- the instruction that a task stands at
 abbrev pub next_instr : Application → Snapshot → ℕ → Instr
@@ -82,8 +82,11 @@ policy_of s = move_from s.turn (position is_some (drop s.turn s.cores))
 abbrev pub IsSmall : Snapshot → List Change → Type 0
 IsSmall s changes = weight_of changes ≤ 4 * length s.tasks + 6 * length s.cores + 16 + 512
 
--- The registers and queues that an instruction names are there.
-abbrev pub NamesParts : ℕ → Instr → Type 0
-NamesParts queues (Send queue wait) = (queue < queues) × IsOperand wait
-NamesParts queues (Receive queue wait) = (queue < queues) × IsOperand wait
-NamesParts queues instr = NamesRegisters instr
+-- The registers and objects that an instruction names are there.
+abbrev pub NamesParts : Numbers → Instr → Type 0
+NamesParts numbers (Local instr) = NamesRegisters instr
+NamesParts numbers (Queue queue call) = (queue < numbers.queues) × IsQueueCall call
+
+-- What an instruction takes in a record at the most: a call, and what becomes of its caller.
+abbrev pub instr_cost : ℕ
+instr_cost = queue_call_cost + ending_cost

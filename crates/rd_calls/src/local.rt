@@ -3,15 +3,15 @@ ghost use Rattle.std.specs.Prelude.{◌≡◌, ◌<◌, ◌≤◌, length, slice
 ghost use Rattle.std.specs.Int.{w32, from_le_bytes};
 ghost use Rattle.rd_state.specs.Edit.{Reaches};
 ghost use Rattle.rd_state.specs.Snapshot.{task_at};
-ghost use Rattle.rd_calls.specs.Local.{local_step, with_idle_core, NamesRegisters};
-ghost use Rattle.rd_calls.specs.Tasks.{register_at, with_phase};
+ghost use Rattle.rd_kernel.specs.Tasks.{register_at, with_idle_core, with_phase};
+ghost use Rattle.rd_calls.specs.Local.{local_cost, local_step, NamesRegisters};
 
-use crate::steps::{advance, set_bytes, set_pc, set_phase, set_register};
-use rd_app::instr::Instr;
-use rd_app::phase::Phase;
+use rd_app::instr::LocalInstr;
 use rd_bytes::no_memory::NoMemory;
+use rd_kernel::steps::{advance, set_bytes, set_pc, set_phase, set_register};
 use rd_state::change::Change;
 use rd_state::editing::Editing;
+use rd_state::phase::Phase;
 use std::alloc::Global;
 
 // The number whose four bytes, lowest first, begin the bytes; missing ones are 0.
@@ -48,52 +48,52 @@ pub fn do_local(
     editing: &mut Editing,
     core: usize,
     task: usize,
-    instr: &Instr,
+    instr: &LocalInstr,
 ) -> Result<(), NoMemory>
     requires task { task < length editing.old.now.tasks }
     requires core { core < length editing.old.now.cores }
     requires pc { (task_at editing.old.now task).pc < 256 }
     requires registers { NamesRegisters instr.now }
     ensures ok { OnOk result
-        (Reaches editing.old editing.new (local_step editing.old.now core task instr.now) 258) }
+        (Reaches editing.old editing.new (local_step editing.old.now core task instr.now)
+        local_cost) }
     ensures err { OnErr result (editing.new.base ≡ editing.old.base) }
 {
     match instr {
-        Instr::Set { register, value } => {
+        LocalInstr::Set { register, value } => {
             set_register(editing, task, *register, *value)?;
             advance(editing, task)
         }
-        Instr::Add { register, value } => {
+        LocalInstr::Add { register, value } => {
             let sum = register_at(editing, task, *register).wrapping_add(*value);
             set_register(editing, task, *register, sum)?;
             advance(editing, task)
         }
-        Instr::Move { into, from } => {
+        LocalInstr::Move { into, from } => {
             let value = register_at(editing, task, *from);
             set_register(editing, task, *into, value)?;
             advance(editing, task)
         }
-        Instr::Data { bytes } => {
+        LocalInstr::Data { bytes } => {
             set_bytes(alloc, editing, task, bytes.as_slice())?;
             advance(editing, task)
         }
-        Instr::Pack { register } => {
+        LocalInstr::Pack { register } => {
             let bytes = register_at(editing, task, *register).to_le_bytes();
             set_bytes(alloc, editing, task, &bytes)?;
             advance(editing, task)
         }
-        Instr::Unpack { register } => {
+        LocalInstr::Unpack { register } => {
             let value = unpacked(editing.state().task(task).bytes());
             set_register(editing, task, *register, value)?;
             advance(editing, task)
         }
-        Instr::Jump { target } => set_pc(editing, task, *target),
-        Instr::JumpZero { register, target } => {
+        LocalInstr::Jump { target } => set_pc(editing, task, *target),
+        LocalInstr::JumpZero { register, target } => {
             let next = editing.state().task(task).pc() + 1;
             let is_zero = register_at(editing, task, *register) == 0;
             set_pc(editing, task, if is_zero { *target } else { next })
         }
-        Instr::End => end_task(editing, core, task),
-        Instr::Send { .. } | Instr::Receive { .. } => Ok(()),
+        LocalInstr::End => end_task(editing, core, task),
     }
 }

@@ -8,8 +8,9 @@ ghost use Rattle.rd_state.specs.Settled.{IsSettled};
 ghost use Rattle.rd_state.specs.Snapshot.{core_at};
 ghost use Rattle.rd_state.specs.Undoing.{undone, CanUndo};
 ghost use Rattle.rd_state.specs.Valid.{IsValid};
-ghost use Rattle.rd_calls.specs.Waking.{FirstTriesWait};
-ghost use Rattle.rd_calls.specs.Step.{step, core_step, tick_step, last_tick, IsMoveOf, IsSmall};
+ghost use Rattle.rd_kernel.specs.Waking.{FirstTriesWait};
+ghost use Rattle.rd_calls.specs.Step.{step, core_step, instr_cost, tick_step, last_tick};
+ghost use Rattle.rd_calls.specs.Step.{IsMoveOf, IsSmall};
 
 use crate::moves::{Move, PlayError};
 use crate::perform::move_core;
@@ -54,7 +55,7 @@ fn play_core(
     ensures state { OnOk result (state.new ≡ core_step app.now state.old core task) }
     ensures undone { IfOk result (λ undo. undone state.new undo ≡ state.old) }
     ensures can_undo { IfOk result (λ undo. CanUndo state.new undo) }
-    ensures small { IfOk result (λ undo. weight_of undo ≤ 329 + 3 * length state.old.cores) }
+    ensures small { IfOk result (λ undo. weight_of undo ≤ instr_cost + 1 + 3 * length state.old.cores) }
     ensures err { OnErr result (state.new ≡ state.old) }
     ensures valid { OnOk result (IsValid app.now state.new) }
     ensures settled { OnOk result (IsSettled (priorities_of app.now) state.new) }

@@ -6,11 +6,13 @@ use Rattle.hex.specs.Hex.{encode_lower}
 use Rattle.rd_notify.specs.declared.notes.Entry.{Entry}
 use Rattle.rd_notify.specs.declared.notes.EntryState.{EntryState}
 use Rattle.rd_notify.specs.declared.notes.EntryState.TheVariants.{Idle, Waiting, Received}
+use Rattle.rd_queue.specs.declared.waiting_list.WaitingList.{WaitingList}
+use Rattle.rd_queue.specs.declared.waiting_list.WaitingList.TheVariants.{Receiving, Sending}
 use Rattle.rd_queue.specs.QueueSnapshot.{QueueSnapshot}
-use Rattle.rd_app.specs.declared.phase.Phase.{Phase}
-use Rattle.rd_app.specs.declared.phase.Phase.TheVariants.{Run, Again, Wait, Ended}
-use Rattle.rd_app.specs.declared.phase.Place.{Place}
-use Rattle.rd_app.specs.declared.phase.Place.TheVariants.{Receive, Send}
+use Rattle.rd_state.specs.declared.phase.Phase.{Phase}
+use Rattle.rd_state.specs.declared.phase.Phase.TheVariants.{Run, Again, Wait, Ended}
+use Rattle.rd_state.specs.declared.phase.Place.{Place}
+use Rattle.rd_state.specs.declared.phase.Place.TheVariants.{Queue}
 use Rattle.rd_state.specs.Sizes.{IsTaskOrIdle}
 use Rattle.rd_state.specs.Snapshot.{Snapshot, TaskSnapshot}
 use Rattle.rd_state.specs.Waiting.{IsPlace}
@@ -66,10 +68,14 @@ abbrev pub deadline_text : Option ℕ → List ℕ
 deadline_text None = codes "max"
 deadline_text (Some tick) = decimal tick
 
+-- what the list of a queue where a task waits is called
+abbrev pub list_name : WaitingList → List ℕ
+list_name Receiving = codes "recv"
+list_name Sending = codes "send"
+
 -- a place where tasks wait, by the queues' names
 abbrev pub place_text : List (List ℕ) → Place → List ℕ
-place_text queues (Receive queue) = codes "recv:" ++ name_at queues queue
-place_text queues (Send queue) = codes "send:" ++ name_at queues queue
+place_text queues (Queue queue list) = list_name list ++ codes ":" ++ name_at queues queue
 
 abbrev pub phase_text : List (List ℕ) → Phase → List ℕ
 phase_text queues Run = codes "run"
@@ -82,7 +88,7 @@ phase_text queues Ended = codes "ended"
 abbrev pub PlaceIsNamed : List (List ℕ) → Phase → Type 0
 PlaceIsNamed queues Run = Unit {0}
 PlaceIsNamed queues (Again deadline) = Unit {0}
-PlaceIsNamed queues (Wait place deadline) = IsPlace (length queues) place
+PlaceIsNamed queues (Wait place deadline) = IsPlace (record { queues = length queues }) place
 PlaceIsNamed queues Ended = Unit {0}
 
 abbrev pub entry_state_text : EntryState → List ℕ

@@ -5,7 +5,8 @@ ghost use Rattle.std.specs.Prelude.{All, IsOk, OnErr, OnOk, vec_capacity, vec_le
 ghost use Rattle.rd_state.specs.Sizes.{IsTaskOrIdle};
 ghost use Rattle.rd_state.specs.Waiting.{IsPlace};
 ghost use Rattle.rd_command.specs.Replies.{line_of, refusal_text, reply_text, list_text, bytes_text};
-ghost use Rattle.rd_command.specs.Replies.{name_at, deadline_text, place_text, phase_text, entry_text};
+ghost use Rattle.rd_command.specs.Replies.{name_at, deadline_text, list_name, place_text, phase_text};
+ghost use Rattle.rd_command.specs.Replies.{entry_text};
 ghost use Rattle.rd_command.specs.Replies.{counts_text, waiting_text, amounts_text, queue_text};
 ghost use Rattle.rd_command.specs.Replies.{running_core_text, state_text, task_text, is_task};
 ghost use Rattle.rd_command.specs.Replies.{seat_text, ticks_text, cores_text};
@@ -13,11 +14,11 @@ ghost use Rattle.rd_command.specs.Replies.{PlaceIsNamed, WaitersAreNamed, Seated
 
 use itoa::{Buffer, Integer};
 use rd_app::app::{App, Kind};
-use rd_app::phase::{Phase, Place};
 use rd_bytes::bytes::MAX_BYTES;
 use rd_notify::notes::{Entry, EntryState};
 use rd_queue::queue::Queue;
 use rd_queue::waiting_list::WaitingList;
+use rd_state::phase::{Phase, Place};
 use rd_state::state::State;
 use rd_state::task::Task;
 use std::alloc::AllocError;
@@ -274,19 +275,26 @@ fn append_deadline(page: &mut Vec<u8>, deadline: Option<u64>) -> Appended
     }
 }
 
-// A place where tasks wait.
+// What the list of a queue where a task waits is called.
+fn list_name(list: WaitingList) -> &'static [u8]
+    ensures { result.now ≡ list_name list }
+{
+    match list {
+        WaitingList::Receiving => b"recv",
+        WaitingList::Sending => b"send",
+    }
+}
+
+// Where a task waits.
 fn append_place(page: &mut Vec<u8>, app: &App, place: Place) -> Appended
-    requires { IsPlace (length app.now.queue_names) place }
-    ensures { OnOk result (page.new.items
-        ≡ page.old.items ++ place_text app.now.queue_names place) }
+    requires { IsPlace (record { queues = length app.now.queue_names }) place }
+    ensures { OnOk result
+        (page.new.items ≡ page.old.items ++ place_text app.now.queue_names place) }
 {
     match place {
-        Place::Receive { queue } => {
-            append(page, b"recv:")?;
-            append(page, app.name(Kind::Queue, queue).as_bytes())
-        }
-        Place::Send { queue } => {
-            append(page, b"send:")?;
+        Place::Queue { queue, list } => {
+            append(page, list_name(list))?;
+            append(page, b":")?;
             append(page, app.name(Kind::Queue, queue).as_bytes())
         }
     }

@@ -1,15 +1,16 @@
 -- Answers to lines, by the command that the line spells.
-use Rattle.std.proofs.Common.{◌≡◌, ℕ, ◌<◌, List, [], length, Option, Some, Result, Ok, Err, OnOk, refl, ap, subst, sym, arith, inl, inr}
+use Rattle.std.proofs.Common.{◌≡◌, ◌∙◌, ℕ, ◌<◌, List, [], length, Option, Some, Result, Ok, Err, OnOk, refl, ap, subst, sym, arith, inl, inr}
 use Rattle.std.specs.Str.{bytes_eq}
 use Rattle.std.specs.Prelude.{All}
 use Rattle.std.proofs.lemmas.List.{length-map}
 use Rattle.std.proofs.lemmas.List.Elements.{All-get_or}
 use Rattle.std.proofs.lemmas.List.Quantifiers.{position-Some}
 use Rattle.rd_app.specs.Application.{IsApplication}
-use Rattle.rd_app.specs.declared.phase.Phase.{Phase}
-use Rattle.rd_app.specs.declared.phase.Phase.TheVariants.{Run, Again, Wait, Ended}
-use Rattle.rd_state.specs.Sizes.{HasSizedLists, IsSizedPhase, IsTaskOrIdle}
-use Rattle.rd_state.specs.Snapshot.{TaskSnapshot, no_queue, no_task, queue_at, task_at}
+use Rattle.rd_state.specs.declared.phase.Phase.{Phase}
+use Rattle.rd_state.specs.declared.phase.Phase.TheVariants.{Run, Again, Wait, Ended}
+use Rattle.rd_state.specs.Sizes.{IsSizedPhase, IsTaskOrIdle}
+use Rattle.rd_state.specs.Snapshot.{Numbers, numbers_of, queue_at, task_at}
+use Rattle.rd_state.proofs.UndoLaws.{phase_sized, queue_sized}
 use Rattle.rd_state.specs.Waiting.{IsPlace}
 use Rattle.rd_state.specs.Valid.{IsValid, shape_of}
 use Rattle.rd_timeline.specs.Course.{Course}
@@ -33,10 +34,11 @@ pub waiters_named : (course : Course) (queue : ℕ) → IsApplication course.app
     → queue < length course.target.queues → WaitersAreNamed course.app.task_names (queue_at course.target queue)
 waiters_named course queue limits valid there =
     let tasks : length course.target.tasks ≡ length course.app.task_names = omega (arith, limits.task_names, valid.in_limits.tasks) in
-    let lists = All-get_or (HasSizedLists (length course.target.tasks)) course.target.queues queue no_queue there valid.in_limits.sized.lists in
+    let here = queue_sized course.target queue valid.in_limits.sized there in
+    let named : (queue_at course.target queue).tasks ≡ length course.app.task_names = here.1 ∙ tasks in
     record {
-      receiving = subst (λ n. All (λ task. task < n) (queue_at course.target queue).receiving) tasks lists.receiving.0;
-      sending = subst (λ n. All (λ task. task < n) (queue_at course.target queue).sending) tasks lists.sending.0;
+      receiving = subst (λ n. All (λ task. task < n) (queue_at course.target queue).receiving) named here.0.receiving.0;
+      sending = subst (λ n. All (λ task. task < n) (queue_at course.target queue).sending) named here.0.sending.0;
     }
 
 -- The place where a task waits has a name.
@@ -45,22 +47,23 @@ pub place_named : (course : Course) (task : ℕ) → IsApplication course.app �
 place_named course task limits valid there =
     let queues : length course.target.queues ≡ length course.app.queue_names =
     omega (arith, limits.queue_names, ap length valid.in_limits.queues, length-map course.target.queues shape_of) in
-    of_phase (length course.target.queues) course.app.queue_names (task_at course.target task).phase queues
-    (All-get_or (λ (t : TaskSnapshot). IsSizedPhase (length course.target.queues) t.phase) course.target.tasks task no_task there valid.in_limits.sized.phases)
+    of_phase (numbers_of course.target) course.app.queue_names (task_at course.target task).phase (ap (λ (n : ℕ). record { queues = n }) queues)
+    (phase_sized course.target task valid.in_limits.sized there)
   where
-    of_phase : (queues : ℕ) (names : List (List ℕ)) (phase : Phase) → queues ≡ length names → IsSizedPhase queues phase → PlaceIsNamed names phase
-    of_phase queues names Run same sized = tt
-    of_phase queues names (Again deadline) same sized = tt
-    of_phase queues names (Wait place deadline) same sized = subst (λ n. IsPlace n place) same sized.0
-    of_phase queues names Ended same sized = tt
+    of_phase : (numbers : Numbers) (names : List (List ℕ)) (phase : Phase) → numbers ≡ record { queues = length names } → IsSizedPhase numbers phase
+        → PlaceIsNamed names phase
+    of_phase numbers names Run same sized = tt
+    of_phase numbers names (Again deadline) same sized = tt
+    of_phase numbers names (Wait place deadline) same sized = subst (λ n. IsPlace n place) same sized.0
+    of_phase numbers names Ended same sized = tt
 
 -- Who runs and who is ready has a name.
 pub seated_named : (course : Course) → IsApplication course.app → IsValid course.app course.target → SeatedAreNamed course.app.task_names course.target
 seated_named course limits valid =
     let tasks : length course.target.tasks ≡ length course.app.task_names = omega (arith, limits.task_names, valid.in_limits.tasks) in
     record {
-      cores = subst (λ n. All (IsTaskOrIdle n) course.target.cores) tasks valid.in_limits.sized.cores;
-      ready = subst (λ n. All (λ task. task < n) course.target.ready) tasks valid.in_limits.sized.ready;
+      cores = subst (λ n. All (IsTaskOrIdle n) course.target.cores) tasks valid.in_limits.sized.scheduling.cores;
+      ready = subst (λ n. All (λ task. task < n) course.target.ready) tasks valid.in_limits.sized.scheduling.ready;
     }
 
 -- the page of a view, or that there was no memory for it

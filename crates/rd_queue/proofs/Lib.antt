@@ -1,1 +1,2 @@
 -- The files of lemmas of rd_queue.
+pub mod QueueLaws

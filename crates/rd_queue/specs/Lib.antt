@@ -1,3 +1,5 @@
 -- The files of definitions of rd_queue.
 pub mod QueueSnapshot
 pub mod Queues
+pub mod Sizes
+pub mod Changes

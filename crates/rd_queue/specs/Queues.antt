@@ -1,5 +1,5 @@
 -- Queues as lists of items and of waiting tasks.
-use Rattle.std.specs.Prelude.{ℕ, ◌++◌, List, [], take, replicate}
+use Rattle.std.specs.Prelude.{ℕ, ◌++◌, Bool, true, false, List, [], take, replicate}
 use Rattle.rd_queue.specs.declared.waiting_list.WaitingList.{WaitingList}
 use Rattle.rd_queue.specs.declared.waiting_list.WaitingList.TheVariants.{Receiving, Sending}
 use Rattle.rd_queue.specs.QueueSnapshot.{QueueSnapshot}
@@ -18,6 +18,13 @@ empty_queue capacity item_size tasks = record {
 -- the queue with these items in place of its own
 abbrev pub with_items : QueueSnapshot → List (List ℕ) → QueueSnapshot
 with_items queue items = record queue { items = items }
+
+-- Are they one list?
+abbrev pub same_list : WaitingList → WaitingList → Bool
+same_list Receiving Receiving = true
+same_list Receiving Sending = false
+same_list Sending Receiving = false
+same_list Sending Sending = true
 
 -- the tasks of a list
 abbrev pub tasks_in_list : WaitingList → QueueSnapshot → List ℕ

@@ -3,6 +3,7 @@
 ghost use Rattle.std.specs.Prelude.{◌≡◌, ◌+◌, ◌-◌, ◌<◌, ◌≤◌, ◌↔◌, [], ◌∷◌, ◌++◌, length};
 ghost use Rattle.std.specs.Prelude.{take, drop, insert, remove, slice_get, slice_index_or};
 ghost use Rattle.std.specs.Prelude.{Some, IsTrue, IsErr, IfOk, OnOk, OnErr};
+ghost use Rattle.rd_queue.specs.Sizes.{IsSizedQueue};
 ghost use Rattle.rd_queue.specs.Queues.{empty_queue, with_items, tasks_in_list, with_waiting};
 
 use crate::item::Item;
@@ -35,7 +36,7 @@ pub struct Queue {
 }
 
 impl Model for Queue {
-    ghost use Rattle.std.specs.Prelude.{◌≡◌, ◌≤◌, length, All};
+    ghost use Rattle.std.specs.Prelude.{◌≡◌, ◌<◌, ◌≤◌, length, All};
     ghost use Rattle.std.specs.VecDeque.{deque_capacity};
     ghost use Rattle.rd_queue.specs.QueueSnapshot.{QueueSnapshot};
 
@@ -51,11 +52,13 @@ impl Model for Queue {
     } };
 
     // The items fit in the room, each has the size, and the room is reserved. Both lists have the
-    // same room.
+    // same room, and those that wait are tasks.
     ghost invariant = { λ q. (length q.items.items ≤ q.capacity)
         × All (λ item. length item ≡ q.item_size) q.items.items
         × (q.capacity ≤ deque_capacity q.items) × (q.item_size ≤ 64)
-        × (q.sending.room ≡ q.receiving.room) };
+        × (q.sending.room ≡ q.receiving.room)
+        × All (λ task. task < q.receiving.room) q.receiving.tasks
+        × All (λ task. task < q.receiving.room) q.sending.tasks };
 }
 
 // Whether the items are equal, one by one.
@@ -122,6 +125,14 @@ impl Queue {
             && same_items(&self.items, &other.items)
             && self.receiving.same(&other.receiving)
             && self.sending.same(&other.sending)
+    }
+
+    /// The sizes that every queue keeps.
+    pub fn sizes(&self)
+        ensures { IsSizedQueue self.now }
+    {
+        self.receiving.as_slice();
+        self.sending.as_slice();
     }
 
     /// How many items there are (`uxQueueMessagesWaiting`).
@@ -241,6 +252,7 @@ impl Queue {
     pub fn insert(&mut self, list: WaitingList, index: usize, task: usize)
         requires within { index ≤ length (tasks_in_list list self.old) }
         requires room { length (tasks_in_list list self.old) < self.old.tasks }
+        requires task { task < self.old.tasks }
         ensures { self.new
             ≡ with_waiting list (insert (tasks_in_list list self.old) index task) self.old }
     {

@@ -1,7 +1,7 @@
 //! What no clause says of reading files: outside texts, and each public function once.
 
 use rd_app::app::{App, Kind};
-use rd_app::instr::{Instr, MAX_DELAY, Operand};
+use rd_app::instr::{Instr, LocalInstr, MAX_DELAY, Operand, QueueCall};
 use rd_script::error::AppError;
 use rd_script::file::read_app;
 use std::alloc::Global;
@@ -70,23 +70,48 @@ fn pack_and_unpack(rt: HostRuntime) -> Result<(), Fail> {
     assert!(rt;
         matches!(
             code[0],
-            Instr::Set {
-                register: 1,
-                value: 258
+            Instr::Local {
+                instr: LocalInstr::Set {
+                    register: 1,
+                    value: 258
+                }
             }
         )
     );
-    assert!(rt; matches!(code[1], Instr::Pack { register: 1 }));
-    assert!(rt; matches!(code[2], Instr::Unpack { register: 2 }));
-    assert!(rt; matches!(code[3], Instr::End));
+    assert!(rt;
+        matches!(
+            code[1],
+            Instr::Local {
+                instr: LocalInstr::Pack { register: 1 }
+            }
+        )
+    );
+    assert!(rt;
+        matches!(
+            code[2],
+            Instr::Local {
+                instr: LocalInstr::Unpack { register: 2 }
+            }
+        )
+    );
+    assert!(rt;
+        matches!(
+            code[3],
+            Instr::Local {
+                instr: LocalInstr::End
+            }
+        )
+    );
     Ok(())
 }
 
 // The block time of a call.
 fn wait_of(instr: &Instr) -> Option<Operand> {
     match instr {
-        Instr::Send { wait, .. } | Instr::Receive { wait, .. } => Some(*wait),
-        _ => None,
+        Instr::Queue { call, .. } => match call {
+            QueueCall::Send { wait } | QueueCall::Receive { wait } => Some(*wait),
+        },
+        Instr::Local { .. } => None,
     }
 }
 

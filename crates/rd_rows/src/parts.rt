@@ -1,13 +1,13 @@
 //! Runs of the parts: moves, the way back, and their limit; waiting lists.
 
 use rd_app::app::App;
-use rd_app::phase::Place;
 use rd_calls::moves::Move;
 use rd_calls::play::play;
 use rd_queue::queue::Queue;
 use rd_queue::waiting_list::WaitingList;
 use rd_state::change::Change;
 use rd_state::editing::Editing;
+use rd_state::phase::Place;
 use rd_state::state::State;
 use rd_timeline::log::Log;
 use rd_timeline::timeline::{Refusal, Timeline, TooFar};
@@ -99,7 +99,7 @@ fn always_out_of_memory(rt: HostRuntime) -> Result<(), Fail> {
 #[test]
 fn waiting_lists(rt: HostRuntime) -> Result<(), Fail> {
     let alloc = rt.alloc();
-    let mut queue = Queue::new(alloc, 1, 1, 2)?;
+    let mut queue = Queue::new(alloc, 1, 1, 8)?;
     queue.insert(WaitingList::Receiving, 0, 4);
     queue.insert(WaitingList::Receiving, 0, 7);
     let receiving = queue.waiting(WaitingList::Receiving).as_slice();
@@ -113,16 +113,20 @@ fn waiting_lists(rt: HostRuntime) -> Result<(), Fail> {
 
 // A task is put to wait at a queue. Only that list changes.
 fn puts_to_wait(rt: &impl Abort, editing: &mut Editing) -> Result<(), Fail> {
-    let place = Place::Send { queue: 0 };
+    let queue = 0;
+    let list = WaitingList::Sending;
+    let place = Place::Queue { queue, list };
+    let list = WaitingList::Receiving;
+    let other = Place::Queue { queue, list };
     assert!(rt; editing.state().queue_count() > 0);
     assert!(rt; editing.state().task_count() > 0);
     assert!(rt; editing.state().waiting(place).as_slice().is_empty());
     let (index, task) = (0, 0);
-    editing.change(Change::InsWait { place, index, task })?;
+    editing.insert_waiting(place, index, task)?;
     assert!(rt; editing.state().queue_count() > 0);
     let sending = editing.state().waiting(place).as_slice();
     assert_eq!(rt; sending, [0].as_slice());
-    let receiving = editing.state().waiting(Place::Receive { queue: 0 });
+    let receiving = editing.state().waiting(other);
     assert!(rt; receiving.as_slice().is_empty());
     Ok(())
 }

@@ -1,10 +1,8 @@
 -- Values, keys and names, in the words of the collections that hold them.
-use Rattle.std.proofs.Common.{◌≡◌, ◌∙◌, ℕ, ◌+◌, ◌<◌, ◌&&◌, ◌||◌, Bool, false, List, [], ◌∷◌, ◌++◌, length, map, get_or, drop, refl, sym, ap}
-use Rattle.std.proofs.Common.{string_bytes, string_eq, String, Global, add-one, drop-cons}
-use Rattle.std.proofs.lemmas.List.{map-append}
-use Rattle.std.specs.Str.{bytes_eq}
+use Rattle.std.proofs.Common.{◌≡◌, ℕ, ◌+◌, ◌<◌, ◌&&◌, Bool, List, [], ◌∷◌, length, map, get_or, drop, refl, ap}
+use Rattle.std.proofs.Common.{string_bytes, String, Global, add-one, drop-cons}
 use Rattle.serde_json.specs.Data.{item}
-use Rattle.std.specs.List.{list_all, list_any}
+use Rattle.std.specs.List.{list_all}
 use Rattle.serde_json.specs.View.{view, items_view, members_view}
 use Rattle.serde_json.specs.declared.value.Value.{Value}
 use Rattle.serde_json.specs.Events.{items_len}

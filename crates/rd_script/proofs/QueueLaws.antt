@@ -1,21 +1,15 @@
 -- A queue that is read is spelled by its value, and what spells a queue is read.
-use Rattle.std.proofs.Common.{◌≡◌, ◌∙◌, ℕ, ◌||◌, Bool, true, false, not, codes, List, [], ◌∷◌, ◌++◌, Some, Ok, refl, sym, ap, subst, append_assoc, arith}
-use Rattle.std.specs.List.{list_all, list_any}
+use Rattle.std.proofs.Common.{◌≡◌, ◌∙◌, ℕ, codes, List, [], ◌∷◌, ◌++◌, Some, Ok, refl, sym, ap, subst, append_assoc, arith}
 use Rattle.std.specs.List.{AllByRecursion}
-use Rattle.std.specs.Str.{bytes_eq}
 use Rattle.std.proofs.lemmas.List.{append-nil}
-use Rattle.std.proofs.lemmas.List.Folds.{list_all-append, list_any-append}
-use Rattle.std.proofs.lemmas.Slice.Eq.{bytes_eq-Decides}
 use Rattle.serde_json.specs.Data.{Data, Items, no_items, item, number, unsigned, string}
 use Rattle.rd_app.specs.declared.app.QueueShape.{QueueShape}
 use Rattle.rd_app.specs.Application.{IsQueueShape}
 use Rattle.rd_text.specs.Names.{AreNames}
 use Rattle.rd_text.proofs.NameLaws.{AreNames-push, IsNewName, IsNewName-in}
 use Rattle.rd_script.specs.Says.{IsQueue, AreQueues}
-use Rattle.rd_text.specs.Words.{is_name}
 use Rattle.rd_script.specs.File.{object_with, field, number_in, new_name, queue_keys, queue_of, queues_after}
 use Rattle.rd_script.proofs.Steps.{bind_ok, then_is}
-use Rattle.rd_text.proofs.WordLemmas.{and_left, and_right}
 use Rattle.rd_script.proofs.Values.{object_again, field_again, name_again, limits_again, object_ok, field_ok, number_ok, name_ok}
 
 pub queue_takes : (names : List (List ℕ)) (d : Data) (q : List ℕ × QueueShape) → queue_of names d ≡ Ok q

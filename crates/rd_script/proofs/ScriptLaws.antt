@@ -11,7 +11,9 @@ use Rattle.hex.proofs.HexLemmas.{decode_of-ok}
 use Rattle.rd_app.specs.declared.instr.Operand.{Operand}
 use Rattle.rd_app.specs.declared.instr.Operand.TheVariants as operand
 use Rattle.rd_app.specs.declared.instr.Instr.{Instr}
-use Rattle.rd_app.specs.declared.instr.Instr.TheVariants as instr
+use Rattle.rd_app.specs.declared.instr.Instr.TheVariants.{Local, Queue}
+use Rattle.rd_app.specs.declared.instr.LocalInstr.TheVariants as local
+use Rattle.rd_app.specs.declared.instr.QueueCall.TheVariants as call
 use Rattle.rd_app.specs.Application.{Application, IsOperand, IsWithin, IsScript, is_final, max_delay}
 use Rattle.rd_script.specs.Spelling.{◌>>=◌, register_of, operand_of, time_of, target_of}
 use Rattle.serde_json.specs.Data.{Data, null, boolean, number, string, array, object, Items, no_items, item}
@@ -104,17 +106,17 @@ time_there word wait =
 
 pub spells_within : (app : Application) (queues : List (List ℕ)) (len : ℕ) (words : List (List ℕ)) (i : Instr) → length app.queues ≡ length queues
     → Spells queues len words i → IsWithin app len i
-spells_within app queues len words (instr.Set a b) sizes h = register_small h.0 a h.3
-spells_within app queues len words (instr.Add a b) sizes h = register_small h.0 a h.3
-spells_within app queues len words (instr.Move a b) sizes h = (register_small h.0 a h.3, register_small h.1 b h.4)
-spells_within app queues len words (instr.Data a) sizes h = bytes_few h.0 a h.2
-spells_within app queues len words (instr.Pack a) sizes h = register_small h.0 a h.2
-spells_within app queues len words (instr.Unpack a) sizes h = register_small h.0 a h.2
-spells_within app queues len words (instr.Jump a) sizes h = target_small len h.0 a h.2
-spells_within app queues len words (instr.JumpZero a b) sizes h = (register_small h.0 a h.3, target_small len h.1 b h.4)
-spells_within app queues len words instr.End sizes h = tt
-spells_within app queues len words (instr.Send a b) sizes h = (rw sizes (queue_there queues h.0 a h.3), time_there h.1 b h.4)
-spells_within app queues len words (instr.Receive a b) sizes h = (rw sizes (queue_there queues h.0 a h.3), time_there h.1 b h.4)
+spells_within app queues len words (Local (local.Set a b)) sizes h = register_small h.0 a h.3
+spells_within app queues len words (Local (local.Add a b)) sizes h = register_small h.0 a h.3
+spells_within app queues len words (Local (local.Move a b)) sizes h = (register_small h.0 a h.3, register_small h.1 b h.4)
+spells_within app queues len words (Local (local.Data a)) sizes h = bytes_few h.0 a h.2
+spells_within app queues len words (Local (local.Pack a)) sizes h = register_small h.0 a h.2
+spells_within app queues len words (Local (local.Unpack a)) sizes h = register_small h.0 a h.2
+spells_within app queues len words (Local (local.Jump a)) sizes h = target_small len h.0 a h.2
+spells_within app queues len words (Local (local.JumpZero a b)) sizes h = (register_small h.0 a h.3, target_small len h.1 b h.4)
+spells_within app queues len words (Local local.End) sizes h = tt
+spells_within app queues len words (Queue a (call.Send b)) sizes h = (rw sizes (queue_there queues h.0 a h.3), time_there h.1 b h.4)
+spells_within app queues len words (Queue a (call.Receive b)) sizes h = (rw sizes (queue_there queues h.0 a h.3), time_there h.1 b h.4)
 
 -- ---- the texts of a task
 
@@ -206,7 +208,7 @@ scripts_again queues (draft ∷ drafts) before (script ∷ more) h =
     ∙ ap (λ (s : TaskScript). scripts_after queues (before ++ s ∷ []) drafts) same
     ∙ scripts_again queues drafts (before ++ script ∷ []) more h.2 ∙ ap Ok (append_assoc before (script ∷ []) more)
 
-last_final : (code : List Instr) (k : ℕ) → unwrap_or (option_map is_final (slice_get code k)) false ≡ true → is_final (slice_index_or code k instr.End) ≡ true
+last_final : (code : List Instr) (k : ℕ) → unwrap_or (option_map is_final (slice_get code k)) false ≡ true → is_final (slice_index_or code k (Local local.End)) ≡ true
 last_final [] k e = refl
 last_final (i ∷ code) zero e = e
 last_final (i ∷ code) (suc k) e = last_final code k e

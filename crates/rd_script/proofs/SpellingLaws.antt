@@ -6,7 +6,9 @@ use Rattle.std.proofs.lemmas.Slice.Eq.{bytes_eq-Decides}
 use Rattle.rd_script.specs.declared.error.AppError.TheVariants as fault
 use Rattle.rd_app.specs.declared.instr.Operand.{Operand}
 use Rattle.rd_app.specs.declared.instr.Instr.{Instr}
-use Rattle.rd_app.specs.declared.instr.Instr.TheVariants as instr
+use Rattle.rd_app.specs.declared.instr.Instr.TheVariants.{Local, Queue}
+use Rattle.rd_app.specs.declared.instr.LocalInstr.TheVariants as local
+use Rattle.rd_app.specs.declared.instr.QueueCall.TheVariants as call
 use Rattle.rd_script.specs.declared.spelling.Keyword.{Keyword}
 use Rattle.rd_script.specs.declared.spelling.Keyword.TheVariants.{Set, Add, Move, Data, Pack, Unpack, Jump, JumpZero, End, Send, Receive}
 use Rattle.rd_script.specs.Spelling.{◌>>=◌, keyword_of, register_of, target_of, time_of, next_as, no_more_words, queue_of}
@@ -128,33 +130,33 @@ operation_takes : (queues : List (List ℕ)) (len : ℕ) (k : Keyword) (words : 
     → Spells queues len (text_of k ∷ words) i
 unfolding operation_of text_of
 operation_takes queues len Set words i e =
-    let x = two_ok (codes "set") register_of number_of words (λ a b. instr.Set a b) i e in subst (Spells queues len (codes "set" ∷ words)) x.2 x.3
+    let x = two_ok (codes "set") register_of number_of words (λ a b. Local (local.Set a b)) i e in subst (Spells queues len (codes "set" ∷ words)) x.2 x.3
 operation_takes queues len Add words i e =
-    let x = two_ok (codes "add") register_of number_of words (λ a b. instr.Add a b) i e in subst (Spells queues len (codes "add" ∷ words)) x.2 x.3
+    let x = two_ok (codes "add") register_of number_of words (λ a b. Local (local.Add a b)) i e in subst (Spells queues len (codes "add" ∷ words)) x.2 x.3
 operation_takes queues len Move words i e =
-    let x = two_ok (codes "move") register_of register_of words (λ a b. instr.Move a b) i e in subst (Spells queues len (codes "move" ∷ words)) x.2 x.3
+    let x = two_ok (codes "move") register_of register_of words (λ a b. Local (local.Move a b)) i e in subst (Spells queues len (codes "move" ∷ words)) x.2 x.3
 operation_takes queues len Data words i e =
-    let x = one_ok (codes "data") bytes_of words (λ a. instr.Data a) i e in subst (Spells queues len (codes "data" ∷ words)) x.1 x.2
+    let x = one_ok (codes "data") bytes_of words (λ a. Local (local.Data a)) i e in subst (Spells queues len (codes "data" ∷ words)) x.1 x.2
 operation_takes queues len Pack words i e =
-    let x = one_ok (codes "pack") register_of words (λ a. instr.Pack a) i e in subst (Spells queues len (codes "pack" ∷ words)) x.1 x.2
+    let x = one_ok (codes "pack") register_of words (λ a. Local (local.Pack a)) i e in subst (Spells queues len (codes "pack" ∷ words)) x.1 x.2
 operation_takes queues len Unpack words i e =
-    let x = one_ok (codes "unpack") register_of words (λ a. instr.Unpack a) i e in subst (Spells queues len (codes "unpack" ∷ words)) x.1 x.2
+    let x = one_ok (codes "unpack") register_of words (λ a. Local (local.Unpack a)) i e in subst (Spells queues len (codes "unpack" ∷ words)) x.1 x.2
 operation_takes queues len Jump words i e =
-    let x = one_ok (codes "jump") (target_of len) words (λ a. instr.Jump a) i e in subst (Spells queues len (codes "jump" ∷ words)) x.1 x.2
+    let x = one_ok (codes "jump") (target_of len) words (λ a. Local (local.Jump a)) i e in subst (Spells queues len (codes "jump" ∷ words)) x.1 x.2
 operation_takes queues len JumpZero words i e =
     let x =
-    two_ok (codes "jumpz") register_of (target_of len) words (λ a b. instr.JumpZero a b) i e in subst (Spells queues len (codes "jumpz" ∷ words)) x.2 x.3
+    two_ok (codes "jumpz") register_of (target_of len) words (λ a b. Local (local.JumpZero a b)) i e in subst (Spells queues len (codes "jumpz" ∷ words)) x.2 x.3
 operation_takes queues len End words i e =
     let end = bind_ok (no_more_words words) _ i e in
-    let is : instr.End ≡ i = cc in
+    let is : Local local.End ≡ i = cc in
     subst (Spells queues len (codes "end" ∷ words)) is (ap (λ (ws : List (List ℕ)). codes "end" ∷ ws) (no_more_ok words end.0 end.1))
 operation_takes queues len Send words i e =
     let object = bind_ok (queue_and_wait queues words) _ i e in
-    let is : instr.Send object.0.0 object.0.1 ≡ i = cc in
+    let is : Queue object.0.0 (call.Send object.0.1) ≡ i = cc in
     subst (Spells queues len (codes "send" ∷ words)) is (queue_and_wait_ok (codes "send") queues words object.0 object.1)
 operation_takes queues len Receive words i e =
     let object = bind_ok (queue_and_wait queues words) _ i e in
-    let is : instr.Receive object.0.0 object.0.1 ≡ i = cc in
+    let is : Queue object.0.0 (call.Receive object.0.1) ≡ i = cc in
     subst (Spells queues len (codes "recv" ∷ words)) is (queue_and_wait_ok (codes "recv") queues words object.0 object.1)
 
 pub instr_takes : (queues : List (List ℕ)) (len : ℕ) (words : List (List ℕ)) (i : Instr) → instr_of queues len words ≡ Ok i → Spells queues len words i
@@ -195,17 +197,17 @@ queue_and_wait_again queues first second queue wait e f =
 
 pub instr_again : (queues : List (List ℕ)) (len : ℕ) (words : List (List ℕ)) (i : Instr) → Spells queues len words i → instr_of queues len words ≡ Ok i
 unfolding instr_of operation_of
-instr_again queues len words (instr.Set a b) h = ap (instr_of queues len) h.2 ∙ two_again register_of number_of h.0 h.1 (λ a b. instr.Set a b) a b h.3 h.4
-instr_again queues len words (instr.Add a b) h = ap (instr_of queues len) h.2 ∙ two_again register_of number_of h.0 h.1 (λ a b. instr.Add a b) a b h.3 h.4
-instr_again queues len words (instr.Move a b) h = ap (instr_of queues len) h.2 ∙ two_again register_of register_of h.0 h.1 (λ a b. instr.Move a b) a b h.3 h.4
-instr_again queues len words (instr.Data a) h = ap (instr_of queues len) h.1 ∙ one_again bytes_of h.0 (λ a. instr.Data a) a h.2
-instr_again queues len words (instr.Pack a) h = ap (instr_of queues len) h.1 ∙ one_again register_of h.0 (λ a. instr.Pack a) a h.2
-instr_again queues len words (instr.Unpack a) h = ap (instr_of queues len) h.1 ∙ one_again register_of h.0 (λ a. instr.Unpack a) a h.2
-instr_again queues len words (instr.Jump a) h = ap (instr_of queues len) h.1 ∙ one_again (target_of len) h.0 (λ a. instr.Jump a) a h.2
-instr_again queues len words (instr.JumpZero a b) h =
-    ap (instr_of queues len) h.2 ∙ two_again register_of (target_of len) h.0 h.1 (λ a b. instr.JumpZero a b) a b h.3 h.4
-instr_again queues len words instr.End h = ap (instr_of queues len) h
-instr_again queues len words (instr.Send queue wait) h =
-    ap (instr_of queues len) h.2 ∙ ap (λ r. r >>= λ object. Ok (instr.Send object.0 object.1)) (queue_and_wait_again queues h.0 h.1 queue wait h.3 h.4)
-instr_again queues len words (instr.Receive queue wait) h =
-    ap (instr_of queues len) h.2 ∙ ap (λ r. r >>= λ object. Ok (instr.Receive object.0 object.1)) (queue_and_wait_again queues h.0 h.1 queue wait h.3 h.4)
+instr_again queues len words (Local (local.Set a b)) h = ap (instr_of queues len) h.2 ∙ two_again register_of number_of h.0 h.1 (λ a b. Local (local.Set a b)) a b h.3 h.4
+instr_again queues len words (Local (local.Add a b)) h = ap (instr_of queues len) h.2 ∙ two_again register_of number_of h.0 h.1 (λ a b. Local (local.Add a b)) a b h.3 h.4
+instr_again queues len words (Local (local.Move a b)) h = ap (instr_of queues len) h.2 ∙ two_again register_of register_of h.0 h.1 (λ a b. Local (local.Move a b)) a b h.3 h.4
+instr_again queues len words (Local (local.Data a)) h = ap (instr_of queues len) h.1 ∙ one_again bytes_of h.0 (λ a. Local (local.Data a)) a h.2
+instr_again queues len words (Local (local.Pack a)) h = ap (instr_of queues len) h.1 ∙ one_again register_of h.0 (λ a. Local (local.Pack a)) a h.2
+instr_again queues len words (Local (local.Unpack a)) h = ap (instr_of queues len) h.1 ∙ one_again register_of h.0 (λ a. Local (local.Unpack a)) a h.2
+instr_again queues len words (Local (local.Jump a)) h = ap (instr_of queues len) h.1 ∙ one_again (target_of len) h.0 (λ a. Local (local.Jump a)) a h.2
+instr_again queues len words (Local (local.JumpZero a b)) h =
+    ap (instr_of queues len) h.2 ∙ two_again register_of (target_of len) h.0 h.1 (λ a b. Local (local.JumpZero a b)) a b h.3 h.4
+instr_again queues len words (Local local.End) h = ap (instr_of queues len) h
+instr_again queues len words (Queue queue (call.Send wait)) h =
+    ap (instr_of queues len) h.2 ∙ ap (λ r. r >>= λ object. Ok (Queue object.0 (call.Send object.1))) (queue_and_wait_again queues h.0 h.1 queue wait h.3 h.4)
+instr_again queues len words (Queue queue (call.Receive wait)) h =
+    ap (instr_of queues len) h.2 ∙ ap (λ r. r >>= λ object. Ok (Queue object.0 (call.Receive object.1))) (queue_and_wait_again queues h.0 h.1 queue wait h.3 h.4)

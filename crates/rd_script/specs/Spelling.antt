@@ -10,7 +10,9 @@ use Rattle.rd_script.specs.declared.error.AppError.TheVariants as fault
 use Rattle.rd_app.specs.declared.instr.Operand.{Operand}
 use Rattle.rd_app.specs.declared.instr.Operand.TheVariants.{Number, Register}
 use Rattle.rd_app.specs.declared.instr.Instr.{Instr}
-use Rattle.rd_app.specs.declared.instr.Instr.TheVariants as instr
+use Rattle.rd_app.specs.declared.instr.Instr.TheVariants.{Local, Queue}
+use Rattle.rd_app.specs.declared.instr.LocalInstr.TheVariants as local
+use Rattle.rd_app.specs.declared.instr.QueueCall.TheVariants as call
 use Rattle.rd_script.specs.declared.spelling.Keyword.{Keyword}
 use Rattle.rd_script.specs.declared.spelling.Keyword.TheVariants.{Set, Add, Move, Data, Pack}
 use Rattle.rd_script.specs.declared.spelling.Keyword.TheVariants.{Unpack, Jump, JumpZero, End}
@@ -104,47 +106,47 @@ operation_of queues len Set words = do
   register ← next_as register_of words
   value ← next_as number_of register.1
   _ ← no_more_words value.1
-  Ok (instr.Set register.0 value.0)
+  Ok (Local (local.Set register.0 value.0))
 operation_of queues len Add words = do
   register ← next_as register_of words
   value ← next_as number_of register.1
   _ ← no_more_words value.1
-  Ok (instr.Add register.0 value.0)
+  Ok (Local (local.Add register.0 value.0))
 operation_of queues len Move words = do
   into ← next_as register_of words
   from ← next_as register_of into.1
   _ ← no_more_words from.1
-  Ok (instr.Move into.0 from.0)
+  Ok (Local (local.Move into.0 from.0))
 operation_of queues len Data words = do
   bytes ← next_as bytes_of words
   _ ← no_more_words bytes.1
-  Ok (instr.Data bytes.0)
+  Ok (Local (local.Data bytes.0))
 operation_of queues len Pack words = do
   register ← next_as register_of words
   _ ← no_more_words register.1
-  Ok (instr.Pack register.0)
+  Ok (Local (local.Pack register.0))
 operation_of queues len Unpack words = do
   register ← next_as register_of words
   _ ← no_more_words register.1
-  Ok (instr.Unpack register.0)
+  Ok (Local (local.Unpack register.0))
 operation_of queues len Jump words = do
   target ← next_as (target_of len) words
   _ ← no_more_words target.1
-  Ok (instr.Jump target.0)
+  Ok (Local (local.Jump target.0))
 operation_of queues len JumpZero words = do
   register ← next_as register_of words
   target ← next_as (target_of len) register.1
   _ ← no_more_words target.1
-  Ok (instr.JumpZero register.0 target.0)
+  Ok (Local (local.JumpZero register.0 target.0))
 operation_of queues len End words = do
   _ ← no_more_words words
-  Ok instr.End
+  Ok (Local local.End)
 operation_of queues len Send words = do
-  call ← queue_and_wait queues words
-  Ok (instr.Send call.0 call.1)
+  object ← queue_and_wait queues words
+  Ok (Queue object.0 (call.Send object.1))
 operation_of queues len Receive words = do
-  call ← queue_and_wait queues words
-  Ok (instr.Receive call.0 call.1)
+  object ← queue_and_wait queues words
+  Ok (Queue object.0 (call.Receive object.1))
 
 -- the instruction of a text's words, or its fault: one in the form of a word comes before an
 -- unknown name

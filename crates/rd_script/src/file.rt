@@ -7,7 +7,7 @@ ghost use Rattle.std.specs.List.{list_any};
 ghost use Rattle.std.specs.Str.{bytes_eq};
 ghost use Rattle.serde_json.specs.Read.{read};
 ghost use Rattle.serde_json.specs.View.{view, items_view, members_view};
-ghost use Rattle.rd_app.specs.Application.{Application, IsApplication, is_final};
+ghost use Rattle.rd_app.specs.Application.{Application, IsApplication, is_final, is_local_final};
 ghost use Rattle.rd_script.specs.Draft.{app_draft_view, task_draft_view};
 ghost use Rattle.rd_script.specs.File.{Gives, GivesFaultFirst, GivesOrNoMemory, checked};
 ghost use Rattle.rd_script.specs.File.{array_in, array_or_empty, are_texts, field, has_only};
@@ -22,7 +22,7 @@ use crate::error::AppError;
 use crate::spelling::read_instr;
 use arrayvec::ArrayVec;
 use rd_app::app::{App, Parts, QueueShape, Script};
-use rd_app::instr::Instr;
+use rd_app::instr::{Instr, LocalInstr};
 use rd_text::names::Names;
 use rd_text::words::is_name;
 use serde_json::{Map, Value};
@@ -273,11 +273,29 @@ fn read_draft(file: &Value) -> Result<AppDraft<'_>, AppError>
     })
 }
 
+fn is_local_final(instr: &LocalInstr) -> bool
+    ensures { result ≡ is_local_final instr.now }
+{
+    match instr {
+        LocalInstr::Jump { .. } | LocalInstr::End => true,
+        LocalInstr::Set { .. }
+        | LocalInstr::Add { .. }
+        | LocalInstr::Move { .. }
+        | LocalInstr::Data { .. }
+        | LocalInstr::Pack { .. }
+        | LocalInstr::Unpack { .. }
+        | LocalInstr::JumpZero { .. } => false,
+    }
+}
+
 // Does the script never go on at the next instruction?
 fn is_final(instr: &Instr) -> bool
     ensures { result ≡ is_final instr.now }
 {
-    matches!(instr, Instr::Jump { .. } | Instr::End)
+    match instr {
+        Instr::Local { instr } => is_local_final(instr),
+        Instr::Queue { .. } => false,
+    }
 }
 
 // The instruction of a value, in a script of that length.

@@ -8,7 +8,7 @@ ghost use Rattle.rd_script.specs.Spelling.{operation_of, instr_of};
 ghost use Rattle.rd_text.specs.Words.{texts, words_of, number_of, name_of, bytes_of};
 
 use crate::error::AppError;
-use rd_app::instr::{Instr, MAX_DELAY, Operand};
+use rd_app::instr::{Instr, LocalInstr, MAX_DELAY, Operand, QueueCall};
 use rd_bytes::bytes::Bytes;
 use rd_text::words::{Words, bytes, name, number};
 
@@ -171,46 +171,48 @@ fn operation(
     ensures { result ≡ operation_of (texts queues.now) len keyword words.old }
 {
     let instr = match keyword {
-        Keyword::Set => Instr::Set {
+        Keyword::Set => LocalInstr::Set {
             register: next_register(words)?,
             value: next_number(words)?,
         },
-        Keyword::Add => Instr::Add {
+        Keyword::Add => LocalInstr::Add {
             register: next_register(words)?,
             value: next_number(words)?,
         },
-        Keyword::Move => Instr::Move {
+        Keyword::Move => LocalInstr::Move {
             into: next_register(words)?,
             from: next_register(words)?,
         },
-        Keyword::Data => Instr::Data {
+        Keyword::Data => LocalInstr::Data {
             bytes: next_bytes(words)?,
         },
-        Keyword::Pack => Instr::Pack {
+        Keyword::Pack => LocalInstr::Pack {
             register: next_register(words)?,
         },
-        Keyword::Unpack => Instr::Unpack {
+        Keyword::Unpack => LocalInstr::Unpack {
             register: next_register(words)?,
         },
-        Keyword::Jump => Instr::Jump {
+        Keyword::Jump => LocalInstr::Jump {
             target: next_target(words, len)?,
         },
-        Keyword::JumpZero => Instr::JumpZero {
+        Keyword::JumpZero => LocalInstr::JumpZero {
             register: next_register(words)?,
             target: next_target(words, len)?,
         },
-        Keyword::End => Instr::End,
+        Keyword::End => LocalInstr::End,
         Keyword::Send => {
             let (queue, wait) = queue_and_wait(words, queues)?;
-            return Ok(Instr::Send { queue, wait });
+            let call = QueueCall::Send { wait };
+            return Ok(Instr::Queue { queue, call });
         }
         Keyword::Receive => {
             let (queue, wait) = queue_and_wait(words, queues)?;
-            return Ok(Instr::Receive { queue, wait });
+            let call = QueueCall::Receive { wait };
+            return Ok(Instr::Queue { queue, call });
         }
     };
     no_more_words(words)?;
-    Ok(instr)
+    Ok(Instr::Local { instr })
 }
 
 /// The instruction of a text, in a script of that length over those queues.

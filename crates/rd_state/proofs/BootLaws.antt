@@ -10,8 +10,8 @@ use Rattle.rd_queue.specs.declared.waiting_list.WaitingList.{WaitingList}
 use Rattle.rd_queue.specs.declared.waiting_list.WaitingList.TheVariants.{Receiving, Sending}
 use Rattle.rd_queue.specs.Queues.{tasks_in_list}
 use Rattle.rd_app.specs.declared.app.QueueShape.{QueueShape}
-use Rattle.rd_app.specs.declared.phase.Place.{Place}
-use Rattle.rd_app.specs.declared.phase.Place.TheVariants.{Receive, Send}
+use Rattle.rd_state.specs.declared.phase.Place.{Place}
+use Rattle.rd_state.specs.declared.phase.Place.TheVariants.{Queue}
 use Rattle.rd_app.specs.Application.{Application, IsApplication, IsScript, instr_at, priorities_of}
 use Rattle.rd_wait.specs.Joined.{IsInOrder}
 use Rattle.rd_wait.proofs.JoinedLaws.{IsInOrder-joined}
@@ -56,8 +56,7 @@ tasks_in_list-queues_of_shapes n (shape ∷ shapes) zero Sending = refl
 tasks_in_list-queues_of_shapes n (shape ∷ shapes) (suc queue) list = tasks_in_list-queues_of_shapes n shapes queue list
 
 waiting_at-before_scheduling : (app : Application) (place : Place) → waiting_at (before_scheduling app) place ≡ []
-waiting_at-before_scheduling app (Receive queue) = tasks_in_list-queues_of_shapes (length app.scripts) app.queues queue Receiving
-waiting_at-before_scheduling app (Send queue) = tasks_in_list-queues_of_shapes (length app.scripts) app.queues queue Sending
+waiting_at-before_scheduling app (Queue queue list) = tasks_in_list-queues_of_shapes (length app.scripts) app.queues queue list
 
 idle_is_not_waiting : IsNotWaiting idle_entry
 idle_is_not_waiting h = cc

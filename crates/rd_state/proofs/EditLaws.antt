@@ -1,42 +1,30 @@
 -- Steps in the middle.
-use Rattle.std.proofs.Common.{◌≡◌, ◌∙◌, ℕ, List, [], ◌∷◌, ◌++◌, length, refl, subst, sym, ap, arith}
+use Rattle.std.proofs.Common.{◌≡◌, ◌∙◌, ℕ, List, [], ◌∷◌, ◌++◌, refl, subst, sym, ap, arith}
 use Rattle.std.proofs.lemmas.List.{length-set}
 use Rattle.std.proofs.lemmas.List.Sums.{sum_by_push}
 use Rattle.std.specs.Prelude.{Result, Ok, Err, OnOk, OnErr}
 use Rattle.rd_state.specs.declared.change.Change.{Change}
-use Rattle.rd_state.specs.declared.change.Change.TheVariants.{SetTick, SetTurn, SetCore, SetPc, SetReg, SetPhase, SetData, InsReady}
-use Rattle.rd_state.specs.declared.change.Change.TheVariants.{DelReady, InsWait, DelWait, PutBack, TakeBack, PutFront, TakeFront}
-use Rattle.rd_app.specs.declared.phase.Place.{Place}
-use Rattle.rd_app.specs.declared.phase.Place.TheVariants.{Receive, Send}
-use Rattle.rd_state.specs.Snapshot.{Snapshot}
-use Rattle.rd_state.specs.Waiting.{queues_then}
+use Rattle.rd_state.specs.declared.change.Change.TheVariants.{SetTick, SetTurn, SetCore, InsReady, DelReady, Task, Queue}
+use Rattle.rd_state.specs.Snapshot.{Snapshot, numbers_of}
 use Rattle.rd_state.specs.Change.{applied, inverse_of, cost_of, weight_of, Fits}
 use Rattle.rd_state.specs.Edit.{Edit, SameShape, Reaches}
 use Rattle.rd_state.specs.Sizes.{IsSized}
 use Rattle.rd_state.specs.Undoing.{undone, CanUndo}
 use Rattle.rd_state.proofs.UndoLaws.{each_is_undone, undone-push, CanUndo-push}
 
-length-queues_then : (s : Snapshot) (place : Place) (tasks : List ℕ) → length (queues_then s place tasks) ≡ length s.queues
-length-queues_then s (Receive queue) tasks = length-set s.queues queue _
-length-queues_then s (Send queue) tasks = length-set s.queues queue _
-
--- A change keeps the numbers of cores, tasks and queues.
+-- A change keeps the numbers of cores, of tasks and of objects.
 pub shape-applied : (s : Snapshot) (change : Change) → SameShape s (applied s change)
-shape-applied s (SetTick tick) = record { cores = refl; tasks = refl; queues = refl }
-shape-applied s (SetTurn turn) = record { cores = refl; tasks = refl; queues = refl }
-shape-applied s (SetCore core task) = record { cores = length-set s.cores core task; tasks = refl; queues = refl }
-shape-applied s (SetPc task pc) = record { cores = refl; tasks = length-set s.tasks task _; queues = refl }
-shape-applied s (SetReg task register value) = record { cores = refl; tasks = length-set s.tasks task _; queues = refl }
-shape-applied s (SetPhase task phase) = record { cores = refl; tasks = length-set s.tasks task _; queues = refl }
-shape-applied s (SetData task bytes) = record { cores = refl; tasks = length-set s.tasks task _; queues = refl }
-shape-applied s (InsReady index task) = record { cores = refl; tasks = refl; queues = refl }
-shape-applied s (DelReady index) = record { cores = refl; tasks = refl; queues = refl }
-shape-applied s (InsWait place index task) = record { cores = refl; tasks = refl; queues = length-queues_then s place _ }
-shape-applied s (DelWait place index) = record { cores = refl; tasks = refl; queues = length-queues_then s place _ }
-shape-applied s (PutBack queue item) = record { cores = refl; tasks = refl; queues = length-set s.queues queue _ }
-shape-applied s (TakeBack queue) = record { cores = refl; tasks = refl; queues = length-set s.queues queue _ }
-shape-applied s (PutFront queue item) = record { cores = refl; tasks = refl; queues = length-set s.queues queue _ }
-shape-applied s (TakeFront queue) = record { cores = refl; tasks = refl; queues = length-set s.queues queue _ }
+shape-applied s (SetTick tick) = record { cores = refl; tasks = refl; objects = refl }
+shape-applied s (SetTurn turn) = record { cores = refl; tasks = refl; objects = refl }
+shape-applied s (SetCore core task) = record { cores = length-set s.cores core task; tasks = refl; objects = refl }
+shape-applied s (InsReady index task) = record { cores = refl; tasks = refl; objects = refl }
+shape-applied s (DelReady index) = record { cores = refl; tasks = refl; objects = refl }
+shape-applied s (Task task change) = record { cores = refl; tasks = length-set s.tasks task _; objects = refl }
+shape-applied s (Queue queue change) = record {
+  cores = refl;
+  tasks = refl;
+  objects = ap (λ (queues : ℕ). record (numbers_of s) { queues = queues }) (length-set s.queues queue _);
+}
 
 abbrev pub edit_of : Snapshot → List Change → Edit
 edit_of s changes = record { now = s; base = undone s changes; weight = weight_of changes }

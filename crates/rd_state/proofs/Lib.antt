@@ -1,6 +1,7 @@
 -- The files of lemmas of rd_state.
-pub mod SizeLaws
+pub mod TaskLaws
 pub mod UndoLaws
+pub mod SizeLaws
 pub mod EditLaws
 pub mod SettleLaws
 pub mod ScheduleLaws

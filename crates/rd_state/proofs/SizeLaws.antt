@@ -1,143 +1,139 @@
 -- The sizes of a state, kept by a change.
-use Rattle.std.proofs.Common.{◌≡◌, ◌∙◌, ℕ, zero, suc, ◌+◌, ◌<◌, ◌≤◌, List, length, get_or, drop, map, replicate, None, refl, ap, sym, subst, arith}
-use Rattle.std.specs.Prelude.{All, insert, remove, slice_index}
+use Rattle.std.proofs.Common.{◌≡◌, ◌∙◌, ℕ, zero, suc, ◌+◌, ◌<◌, ◌≤◌, List, length, get_or, map, replicate, set, None, refl, ap, sym, subst, arith}
+use Rattle.std.specs.Prelude.{All, remove, slice_index}
 use Rattle.std.specs.Vec.{with_item}
 use Rattle.std.specs.List.{prefix_len}
-use Rattle.std.proofs.lemmas.List.{get_or_default, length-drop, length-replicate, length-set}
+use Rattle.std.proofs.lemmas.List.{get_or_default, length-replicate, length-set}
 use Rattle.std.proofs.lemmas.List.Edits.{length-insert, length-remove}
-use Rattle.std.proofs.lemmas.List.Elements.{All-nil, All-same, All-set, All-drop, All-get_or, All-replicate, All-map, All-weaker}
+use Rattle.std.proofs.lemmas.List.Elements.{All-nil, All-same, All-set, All-replicate, All-map, All-weaker}
 use Rattle.std.proofs.lemmas.List.Sums.{prefix_len-le-length}
-use Rattle.rd_queue.specs.declared.waiting_list.WaitingList.{WaitingList}
-use Rattle.rd_queue.specs.declared.waiting_list.WaitingList.TheVariants.{Receiving, Sending}
+use Rattle.rd_queue.specs.declared.change.QueueChange.{QueueChange}
+use Rattle.rd_queue.specs.Changes.{queue_applied}
 use Rattle.rd_queue.specs.QueueSnapshot.{QueueSnapshot}
-use Rattle.rd_queue.specs.Queues.{tasks_in_list, with_items, with_waiting}
+use Rattle.rd_queue.proofs.QueueLaws as queue_law
 use Rattle.rd_app.specs.declared.app.QueueShape.{QueueShape}
 use Rattle.rd_app.specs.Application.{Application, IsApplication, IsQueueShape, priorities_of}
 use Rattle.rd_wait.specs.Joined.{joined, is_at_least}
 use Rattle.rd_wait.specs.TaskList.{TaskList}
-use Rattle.rd_state.specs.declared.state.State.TheInside.{Inside}
-use Rattle.rd_state.specs.Boot.{all_joined, fresh_task, queue_of_shape}
-use Rattle.rd_state.specs.Inside.{IsKept, snapshot_of}
-use Rattle.rd_state.specs.Sizes.{HasSizedLists, IsSizedList, IsSizedPhase, IsSizedTask, IsSizedQueue, IsTaskOrIdle}
-use Rattle.rd_state.specs.Snapshot.{Snapshot, TaskSnapshot, no_queue, queue_at}
 use Rattle.rd_wait.proofs.ListLaws.{All-insert, All-remove}
+use Rattle.rd_state.specs.declared.change.Change.TheVariants.{Task, Queue}
+use Rattle.rd_state.specs.declared.state.State.TheInside.{Inside}
+use Rattle.rd_state.specs.declared.task_change.TaskChange.{TaskChange}
+use Rattle.rd_state.specs.declared.task_change.TaskChange.TheVariants.{SetPc, SetReg, SetPhase, SetData}
+use Rattle.rd_state.specs.Boot.{all_joined, fresh_task, queue_of_shape}
+use Rattle.rd_state.specs.Change.{with_task, with_queue, Fits, NamesObjects}
+use Rattle.rd_state.specs.Inside.{IsKept, snapshot_of}
+use Rattle.rd_state.specs.Sizes.{IsQueueFor, IsSized, IsSizedPhase, IsSizedTask, IsTaskOrIdle}
+use Rattle.rd_state.specs.Snapshot.{Numbers, Snapshot, TaskSnapshot, no_queue, no_task, numbers_of, queue_at, task_at}
+use Rattle.rd_state.specs.TaskChanges.{task_applied}
+use Rattle.rd_state.proofs.TaskLaws as task_law
+use Rattle.rd_state.proofs.UndoLaws.{phase_sized, queue_sized, task_sized}
 
 -- a task has left the ready list
 pub IsKept-remove : (s : Inside) (index : ℕ) → index < length s.ready.tasks → IsKept s
     → IsKept (record s { ready = record s.ready { tasks = remove s.ready.tasks index } })
-IsKept-remove s index h kept = record {
-  sized = record {
-    turn = kept.sized.turn;
-    cores = kept.sized.cores;
-    ready = All-remove (λ task. task < length s.tasks.items) s.ready.tasks index kept.sized.ready;
-    room = omega (arith, length-remove s.ready.tasks index h, kept.sized.room);
-    tasks = kept.sized.tasks;
-    phases = kept.sized.phases;
-    queues = kept.sized.queues;
-    lists = kept.sized.lists;
-  };
-  room = kept.room;
-}
+IsKept-remove s index h kept =
+    let scheduling = kept.sized.scheduling in
+    record {
+      sized = record {
+        scheduling = record {
+          turn = scheduling.turn;
+          cores = scheduling.cores;
+          ready = All-remove (λ task. task < length s.tasks.items) s.ready.tasks index scheduling.ready;
+          room = omega (arith, length-remove s.ready.tasks index h, scheduling.room);
+        };
+        tasks = record { tasks = kept.sized.tasks.tasks; phases = kept.sized.tasks.phases };
+        objects = record { queues = kept.sized.objects.queues };
+      };
+      room = kept.room;
+    }
 
--- other tasks wait in a list of a queue, no more than there are
-HasSizedLists-with_waiting : (tasks : ℕ) (list : WaitingList) (waiting : List ℕ) (queue : QueueSnapshot) → HasSizedLists tasks queue → IsSizedList tasks waiting
-    → HasSizedLists tasks (with_waiting list waiting queue)
-HasSizedLists-with_waiting tasks Receiving waiting queue sized few = record { receiving = few; sending = sized.sending; room = sized.room }
-HasSizedLists-with_waiting tasks Sending waiting queue sized few = record { receiving = sized.receiving; sending = few; room = sized.room }
+-- a state with another task of that number
+IsSized-task : (s : Snapshot) (task : ℕ) (new : TaskSnapshot) → IsSizedTask new → IsSizedPhase (numbers_of s) new.phase → IsSized s → IsSized (with_task s task new)
+IsSized-task s task new sized phase kept =
+    let same : length s.tasks ≡ length (set s.tasks task new) = sym (length-set s.tasks task new) in
+    record {
+      scheduling = record {
+        turn = kept.scheduling.turn;
+        cores = subst (λ n. All (IsTaskOrIdle n) s.cores) same kept.scheduling.cores;
+        ready = subst (λ n. All (λ t. t < n) s.ready) same kept.scheduling.ready;
+        room = subst (λ n. length s.ready ≤ n) same kept.scheduling.room;
+      };
+      tasks = record {
+        tasks = All-set IsSizedTask s.tasks task new sized kept.tasks.tasks;
+        phases = All-set (λ (t : TaskSnapshot). IsSizedPhase (numbers_of s) t.phase) s.tasks task new phase kept.tasks.phases;
+      };
+      objects = record { queues = subst (λ n. All (IsQueueFor n) s.queues) same kept.objects.queues };
+    }
 
-IsSizedList-tasks_in_list : (tasks : ℕ) (list : WaitingList) (queue : QueueSnapshot) → HasSizedLists tasks queue → IsSizedList tasks (tasks_in_list list queue)
-IsSizedList-tasks_in_list tasks Receiving queue sized = sized.receiving
-IsSizedList-tasks_in_list tasks Sending queue sized = sized.sending
+-- and with another queue
+IsSized-queue : (s : Snapshot) (queue : ℕ) (new : QueueSnapshot) → IsQueueFor (length s.tasks) new → IsSized s → IsSized (with_queue s queue new)
+IsSized-queue s queue new sized kept =
+    let same : numbers_of s ≡ numbers_of (with_queue s queue new) =
+    ap (λ (queues : ℕ). record (numbers_of s) { queues = queues }) (sym (length-set s.queues queue new)) in
+    record {
+      scheduling = record {
+        turn = kept.scheduling.turn;
+        cores = kept.scheduling.cores;
+        ready = kept.scheduling.ready;
+        room = kept.scheduling.room;
+      };
+      tasks = record {
+        tasks = kept.tasks.tasks;
+        phases = subst (λ (n : Numbers). All (λ (t : TaskSnapshot). IsSizedPhase n t.phase) s.tasks) same kept.tasks.phases;
+      };
+      objects = record { queues = All-set (IsQueueFor (length s.tasks)) s.queues queue new sized kept.objects.queues };
+    }
 
--- a queue with other items, or other tasks that wait
-IsKept-queue : (s : Inside) (queue : ℕ) (new : QueueSnapshot) → IsSizedQueue new → HasSizedLists (length s.tasks.items) new → IsKept s
-    → IsKept (record s { queues = with_item s.queues queue new })
-IsKept-queue s queue new sized lists kept = record {
-  sized = record {
-    turn = kept.sized.turn;
-    cores = kept.sized.cores;
-    ready = kept.sized.ready;
-    room = kept.sized.room;
-    tasks = kept.sized.tasks;
-    phases =
-        subst (λ (queues : ℕ). All (λ (task : TaskSnapshot). IsSizedPhase queues task.phase) s.tasks.items) (sym (length-set s.queues.items queue new))
-        kept.sized.phases;
-    queues = All-set IsSizedQueue s.queues.items queue new sized kept.sized.queues;
-    lists = All-set (HasSizedLists (length s.tasks.items)) s.queues.items queue new lists kept.sized.lists;
-  };
-  room = kept.room;
-}
+-- A task that was changed has a phase with objects that are there.
+phase_then : (s : Snapshot) (task : ℕ) (change : TaskChange) → IsSized s → task < length s.tasks → NamesObjects (numbers_of s) change
+    → IsSizedPhase (numbers_of s) (task_applied (task_at s task) change).phase
+phase_then s task (SetPc pc) sized there names = phase_sized s task sized there
+phase_then s task (SetReg register value) sized there names = phase_sized s task sized there
+phase_then s task (SetPhase phase) sized there names = names
+phase_then s task (SetData bytes) sized there names = phase_sized s task sized there
 
-IsSizedQueue-get_or : (s : Inside) (queue : ℕ) → queue < length s.queues.items → IsKept s → IsSizedQueue (get_or s.queues.items queue no_queue)
-IsSizedQueue-get_or s queue there kept = All-get_or IsSizedQueue s.queues.items queue no_queue there kept.sized.queues
+-- a change of a task
+pub IsKept-task : (s : Inside) (now : Snapshot) (task : ℕ) (change : TaskChange) (new : TaskSnapshot) → snapshot_of s ≡ now → Fits now (Task task change)
+    → new ≡ task_applied (task_at now task) change → IsKept s → IsKept (record s { tasks = with_item s.tasks task new })
+IsKept-task s now task change new e =
+    let P : Snapshot → Type 0 = λ t. Fits t (Task task change) → new ≡ task_applied (task_at t task) change → IsKept s
+    → IsKept (record s { tasks = with_item s.tasks task new }) in
+    subst P e (λ fits f kept.
+    let all = snapshot_of s in
+    let sized = (task_law.each_is_undone (task_at all task) change (task_sized all task kept.sized fits.0) fits.1).sized in
+    rw f (record {
+      sized = IsSized-task all task (task_applied (task_at all task) change) sized (phase_then all task change kept.sized fits.0 fits.2) kept.sized;
+      room = kept.room ∙ sym (length-set s.tasks.items task _);
+    }))
 
-HasSizedLists-get_or : (s : Inside) (queue : ℕ) → queue < length s.queues.items → IsKept s
-    → HasSizedLists (length s.tasks.items) (get_or s.queues.items queue no_queue)
-HasSizedLists-get_or s queue there kept = All-get_or (HasSizedLists (length s.tasks.items)) s.queues.items queue no_queue there kept.sized.lists
+-- a change of a queue
+pub IsKept-queue : (s : Inside) (now : Snapshot) (queue : ℕ) (change : QueueChange) (new : QueueSnapshot) → snapshot_of s ≡ now → Fits now (Queue queue change)
+    → new ≡ queue_applied (queue_at now queue) change → IsKept s → IsKept (record s { queues = with_item s.queues queue new })
+IsKept-queue s now queue change new e =
+    let P : Snapshot → Type 0 = λ t. Fits t (Queue queue change) → new ≡ queue_applied (queue_at t queue) change → IsKept s
+    → IsKept (record s { queues = with_item s.queues queue new }) in
+    subst P e (λ fits f kept.
+    let all = snapshot_of s in
+    let was = queue_sized all queue kept.sized fits.0 in
+    let law = queue_law.each_is_undone (queue_at all queue) change was.0 fits.1 in
+    rw f (record {
+      sized = IsSized-queue all queue (queue_applied (queue_at all queue) change) (law.sized, law.tasks ∙ was.1) kept.sized;
+      room = kept.room;
+    }))
 
--- the queue that stands at an index of the vector
+-- the task, and the queue, that stands at an index of the vector
+pub task_read : (s : Inside) (now : Snapshot) (task : ℕ) (read : TaskSnapshot) → snapshot_of s ≡ now → task < length now.tasks
+    → read ≡ get_or s.tasks.items task read → read ≡ task_at now task
+task_read s now task read e =
+    let P : Snapshot → Type 0 = λ t. task < length t.tasks → read ≡ get_or s.tasks.items task read → read ≡ task_at t task in
+    subst P e (λ there f. f ∙ get_or_default s.tasks.items task read no_task there)
+
 pub queue_read : (s : Inside) (now : Snapshot) (queue : ℕ) (read : QueueSnapshot) → snapshot_of s ≡ now → queue < length now.queues
     → read ≡ get_or s.queues.items queue read → read ≡ queue_at now queue
 queue_read s now queue read e =
     let P : Snapshot → Type 0 = λ t. queue < length t.queues → read ≡ get_or s.queues.items queue read → read ≡ queue_at t queue in
     subst P e (λ there f. f ∙ get_or_default s.queues.items queue read no_queue there)
-
--- other tasks wait in a list of a queue
-IsKept-waiting : (s : Inside) (queue : ℕ) (list : WaitingList) (waiting : List ℕ) (new : QueueSnapshot) → queue < length s.queues.items
-    → IsSizedList (length s.tasks.items) waiting
-    → new ≡ with_waiting list waiting (get_or s.queues.items queue no_queue) → IsKept s → IsKept (record s { queues = with_item s.queues queue new })
-IsKept-waiting s queue list waiting new there few e kept =
-    let lists =
-    HasSizedLists-with_waiting (length s.tasks.items) list waiting (get_or s.queues.items queue no_queue) (HasSizedLists-get_or s queue there kept) few in
-    rw e (IsKept-queue s queue (with_waiting list waiting (get_or s.queues.items queue no_queue)) (IsSizedQueue-get_or s queue there kept) lists kept)
-
--- one more task waits
-pub IsKept-insert : (s : Inside) (now : Snapshot) (queue index task : ℕ) (list : WaitingList) (new : QueueSnapshot) → snapshot_of s ≡ now
-    → queue < length now.queues
-    → index ≤ length (tasks_in_list list (queue_at now queue)) → length (tasks_in_list list (queue_at now queue)) < length now.tasks → task < length now.tasks
-    → new ≡ with_waiting list (insert (tasks_in_list list (queue_at now queue)) index task) (queue_at now queue) → IsKept s
-    → IsKept (record s { queues = with_item s.queues queue new })
-IsKept-insert s now queue index task list new e =
-    let P : Snapshot → Type 0 =
-    λ t. queue < length t.queues → index ≤ length (tasks_in_list list (queue_at t queue)) → length (tasks_in_list list (queue_at t queue)) < length t.tasks
-    → task < length t.tasks
-    → new ≡ with_waiting list (insert (tasks_in_list list (queue_at t queue)) index task) (queue_at t queue) → IsKept s
-    → IsKept (record s { queues = with_item s.queues queue new }) in
-    subst P e (λ there within room is_task f kept.
-    let waiting = tasks_in_list list (get_or s.queues.items queue no_queue) in
-    let few = IsSizedList-tasks_in_list (length s.tasks.items) list (get_or s.queues.items queue no_queue) (HasSizedLists-get_or s queue there kept) in
-    IsKept-waiting s queue list (insert waiting index task) new there
-    (All-insert (λ t. t < length s.tasks.items) waiting index task few.0 is_task, omega (arith, length-insert waiting index task within, room)) f kept)
-
--- a task waits no longer
-pub IsKept-delete : (s : Inside) (now : Snapshot) (queue index : ℕ) (list : WaitingList) (new : QueueSnapshot) → snapshot_of s ≡ now → queue < length now.queues
-    → index < length (tasks_in_list list (queue_at now queue))
-    → new ≡ with_waiting list (remove (tasks_in_list list (queue_at now queue)) index) (queue_at now queue)
-    → IsKept s → IsKept (record s { queues = with_item s.queues queue new })
-IsKept-delete s now queue index list new e =
-    let P : Snapshot → Type 0 = λ t. queue < length t.queues → index < length (tasks_in_list list (queue_at t queue))
-    → new ≡ with_waiting list (remove (tasks_in_list list (queue_at t queue)) index) (queue_at t queue) → IsKept s
-    → IsKept (record s { queues = with_item s.queues queue new }) in
-    subst P e (λ there within f kept.
-    let waiting = tasks_in_list list (get_or s.queues.items queue no_queue) in
-    let few = IsSizedList-tasks_in_list (length s.tasks.items) list (get_or s.queues.items queue no_queue) (HasSizedLists-get_or s queue there kept) in
-    IsKept-waiting s queue list (remove waiting index) new there
-    (All-remove (λ t. t < length s.tasks.items) waiting index few.0, omega (arith, length-remove waiting index within, few.1)) f kept)
-
--- the item at the front has left a queue
-pub IsKept-take : (s : Inside) (now : Snapshot) (queue : ℕ) (new : QueueSnapshot) → snapshot_of s ≡ now → queue < length now.queues
-    → new ≡ with_items (queue_at now queue) (drop 1 (queue_at now queue).items) → IsKept s → IsKept (record s { queues = with_item s.queues queue new })
-IsKept-take s now queue new e =
-    let P : Snapshot → Type 0 =
-    λ t. queue < length t.queues → new
-    ≡ with_items (queue_at t queue) (drop 1 (queue_at t queue).items) → IsKept s → IsKept (record s { queues = with_item s.queues queue new }) in
-    subst P e (λ there f kept.
-    let was = get_or s.queues.items queue no_queue in
-    let sized = IsSizedQueue-get_or s queue there kept in
-    let lists = HasSizedLists-get_or s queue there kept in
-    rw f (IsKept-queue s queue (with_items was (drop 1 was.items))
-    (omega (arith, length-drop 1 was.items, sized.0), All-drop (λ item. length item ≡ was.item_size) 1 was.items sized.1, sized.2)
-    (record { receiving = lists.receiving; sending = lists.sending; room = lists.room }) kept))
 
 -- joining a task makes a list one longer
 pub length-joined : (priorities tasks : List ℕ) (task : ℕ) → length (joined priorities tasks task) ≡ length tasks + 1
@@ -154,13 +150,18 @@ All-all_joined priorities zero limit h = All-nil (λ task. task < limit)
 All-all_joined priorities (suc n) limit h =
     All-insert (λ task. task < limit) (all_joined priorities n) _ n (All-all_joined priorities n limit (omega (arith, h))) (omega (arith, h))
 
--- nobody waits at a new queue
-HasSizedLists-queue_of_shape : (n tasks : ℕ) (shape : QueueShape) → n ≡ tasks → HasSizedLists tasks (queue_of_shape n shape)
-HasSizedLists-queue_of_shape n tasks shape same = record {
-  receiving = (All-nil (λ task. task < tasks), omega arith);
-  sending = (All-nil (λ task. task < tasks), omega arith);
-  room = same;
-}
+-- nobody waits at a new queue, and it has no items
+IsQueueFor-queue_of_shape : (n tasks : ℕ) (shape : QueueShape) → n ≡ tasks → IsQueueShape shape → IsQueueFor tasks (queue_of_shape n shape)
+IsQueueFor-queue_of_shape n tasks shape same limits = (
+  record {
+    room = omega arith;
+    items = All-nil (λ (item : List ℕ). length item ≡ shape.item_size);
+    small = omega (arith, limits.3);
+    receiving = (All-nil (λ task. task < n), omega arith);
+    sending = (All-nil (λ task. task < n), omega arith);
+  },
+  same,
+)
 
 -- a new state
 pub IsKept-new : (app : Application) (s : Inside) (n : ℕ) → IsApplication app → s.turn ≡ 0 → s.cores.items ≡ replicate app.cores None
@@ -169,29 +170,33 @@ pub IsKept-new : (app : Application) (s : Inside) (n : ℕ) → IsApplication ap
 IsKept-new app s n limits turn cores ready tasks queues =
     let count : length s.tasks.items ≡ n = omega (arith, ap length tasks, length-replicate n (fresh_task app.notes)) in
     let listed : s.ready.tasks ≡ all_joined (priorities_of app) n = ap (λ (l : TaskList). l.tasks) ready in
+    let HasPhase : TaskSnapshot → Type 0 = λ task. IsSizedPhase (numbers_of (snapshot_of s)) task.phase in
+    let Fits : QueueSnapshot → Type 0 = IsQueueFor (length s.tasks.items) in
     record {
       sized = record {
-        turn = omega (arith, turn);
-        cores =
-            All-same (IsTaskOrIdle (length s.tasks.items)) s.cores.items (replicate app.cores None) cores
-            (All-replicate (IsTaskOrIdle (length s.tasks.items)) app.cores None tt);
-        ready =
-            All-same (λ task. task < length s.tasks.items) s.ready.tasks (all_joined (priorities_of app) n) listed
-            (All-all_joined (priorities_of app) n (length s.tasks.items) (omega (arith, count)));
-        room = omega (arith, ap length listed, length-all_joined (priorities_of app) n, count);
-        tasks =
-            All-same IsSizedTask s.tasks.items (replicate n (fresh_task app.notes)) tasks
-            (All-replicate IsSizedTask n (fresh_task app.notes) (refl, omega arith));
-        phases = All-same (λ (task : TaskSnapshot). IsSizedPhase (length s.queues.items) task.phase) s.tasks.items (replicate n (fresh_task app.notes)) tasks
-            (All-replicate (λ (task : TaskSnapshot). IsSizedPhase (length s.queues.items) task.phase) n (fresh_task app.notes) tt);
-        queues = All-same IsSizedQueue s.queues.items (map (queue_of_shape n) app.queues) queues
-            (All-map IsSizedQueue (queue_of_shape n) app.queues
-            (All-weaker IsQueueShape (λ q. IsSizedQueue (queue_of_shape n q))
-            (λ q h. (omega arith, All-nil (λ (item : List ℕ). length item ≡ q.item_size), omega (arith, h.3))) app.queues limits.queues));
-        lists = All-same (HasSizedLists (length s.tasks.items)) s.queues.items (map (queue_of_shape n) app.queues) queues
-            (All-map (HasSizedLists (length s.tasks.items)) (queue_of_shape n) app.queues
-            (All-weaker IsQueueShape (λ q. HasSizedLists (length s.tasks.items) (queue_of_shape n q))
-            (λ q h. HasSizedLists-queue_of_shape n (length s.tasks.items) q (sym count)) app.queues limits.queues));
+        scheduling = record {
+          turn = omega (arith, turn);
+          cores =
+              All-same (IsTaskOrIdle (length s.tasks.items)) s.cores.items (replicate app.cores None) cores
+              (All-replicate (IsTaskOrIdle (length s.tasks.items)) app.cores None tt);
+          ready =
+              All-same (λ task. task < length s.tasks.items) s.ready.tasks (all_joined (priorities_of app) n) listed
+              (All-all_joined (priorities_of app) n (length s.tasks.items) (omega (arith, count)));
+          room = omega (arith, ap length listed, length-all_joined (priorities_of app) n, count);
+        };
+        tasks = record {
+          tasks =
+              All-same IsSizedTask s.tasks.items (replicate n (fresh_task app.notes)) tasks
+              (All-replicate IsSizedTask n (fresh_task app.notes) (refl, omega arith));
+          phases =
+              All-same HasPhase s.tasks.items (replicate n (fresh_task app.notes)) tasks (All-replicate HasPhase n (fresh_task app.notes) tt);
+        };
+        objects = record {
+          queues = All-same Fits s.queues.items (map (queue_of_shape n) app.queues) queues
+              (All-map Fits (queue_of_shape n) app.queues
+              (All-weaker IsQueueShape (λ q. Fits (queue_of_shape n q))
+              (λ q h. IsQueueFor-queue_of_shape n (length s.tasks.items) q (sym count) h) app.queues limits.queues));
+        };
       };
       room = ap (λ (l : TaskList). l.room) ready ∙ sym count;
     }

@@ -5,7 +5,7 @@ use Rattle.rd_notify.specs.Entries.{idle_entry}
 use Rattle.rd_queue.specs.QueueSnapshot.{QueueSnapshot}
 use Rattle.rd_queue.specs.Queues.{empty_queue}
 use Rattle.rd_app.specs.declared.app.QueueShape.{QueueShape}
-use Rattle.rd_app.specs.declared.phase.Phase.TheVariants.{Run}
+use Rattle.rd_state.specs.declared.phase.Phase.TheVariants.{Run}
 use Rattle.rd_app.specs.Application.{Application, priorities_of}
 use Rattle.rd_wait.specs.Joined.{joined}
 use Rattle.rd_state.specs.Snapshot.{Snapshot, TaskSnapshot}

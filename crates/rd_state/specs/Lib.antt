@@ -1,8 +1,9 @@
 -- The files of definitions of rd_state.
 pub mod Snapshot
 pub mod Waiting
-pub mod Change
 pub mod Sizes
+pub mod TaskChanges
+pub mod Change
 pub mod Inside
 pub mod Edit
 pub mod Undoing

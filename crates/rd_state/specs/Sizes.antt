@@ -1,10 +1,11 @@
 -- What holds of a state at any time, also in the middle of a step: members of lists are tasks, and
 -- lengths are within what there is room for.
-use Rattle.std.specs.Prelude.{ℕ, ◌≡◌, ◌<◌, ◌≤◌, ◌^◌, List, length, All, Option, IfSome}
+use Rattle.std.specs.Prelude.{ℕ, ◌≡◌, ◌<◌, ◌≤◌, ◌^◌, length, All, Option, IfSome}
 use Rattle.rd_queue.specs.QueueSnapshot.{QueueSnapshot}
-use Rattle.rd_app.specs.declared.phase.Phase.{Phase}
-use Rattle.rd_app.specs.declared.phase.Phase.TheVariants.{Run, Again, Wait, Ended}
-use Rattle.rd_state.specs.Snapshot.{Snapshot, TaskSnapshot}
+use Rattle.rd_queue.specs.Sizes.{IsSizedQueue}
+use Rattle.rd_state.specs.declared.phase.Phase.{Phase}
+use Rattle.rd_state.specs.declared.phase.Phase.TheVariants.{Run, Again, Wait, Ended}
+use Rattle.rd_state.specs.Snapshot.{Numbers, Snapshot, TaskSnapshot, numbers_of}
 use Rattle.rd_state.specs.Waiting.{IsPlace}
 
 -- a core's task, if it has one, is one of that many
@@ -18,34 +19,32 @@ IsSizedTask task = (length task.registers ≡ 8) × (length task.bytes ≤ 256)
 abbrev pub IsDeadline : Option ℕ → Type 0
 IsDeadline deadline = IfSome deadline (λ tick. tick < 2 ^ 33)
 
--- A task waits at a place that is there, where there are that many queues.
-abbrev pub IsSizedPhase : ℕ → Phase → Type 0
-IsSizedPhase queues Run = Unit {0}
-IsSizedPhase queues (Again deadline) = IsDeadline deadline
-IsSizedPhase queues (Wait place deadline) = IsPlace queues place × IsDeadline deadline
-IsSizedPhase queues Ended = Unit {0}
+-- A task waits at a place that is there, where there are so many objects.
+abbrev pub IsSizedPhase : Numbers → Phase → Type 0
+IsSizedPhase numbers Run = Unit {0}
+IsSizedPhase numbers (Again deadline) = IsDeadline deadline
+IsSizedPhase numbers (Wait place deadline) = IsPlace numbers place × IsDeadline deadline
+IsSizedPhase numbers Ended = Unit {0}
 
-abbrev pub IsSizedQueue : QueueSnapshot → Type 0
-IsSizedQueue queue =
-    (length queue.items ≤ queue.capacity) × All (λ item. length item ≡ queue.item_size) queue.items
-    × (queue.item_size ≤ 64)
+-- a queue with room for that many tasks in each of its lists
+abbrev pub IsQueueFor : ℕ → QueueSnapshot → Type 0
+IsQueueFor tasks queue = IsSizedQueue queue × (queue.tasks ≡ tasks)
 
--- Those that wait are tasks, and no more than there are.
-abbrev pub IsSizedList : ℕ → List ℕ → Type 0
-IsSizedList tasks waiting = All (λ task. task < tasks) waiting × (length waiting ≤ tasks)
-
--- Each list of a queue has room for all tasks.
-pub record HasSizedLists (tasks : ℕ) (queue : QueueSnapshot) : Type 0 where
-  pub receiving : IsSizedList tasks queue.receiving
-  pub sending : IsSizedList tasks queue.sending
-  pub room : queue.tasks ≡ tasks
-
-pub record IsSized (s : Snapshot) : Type 0 where
+-- who has the turn, who runs, and who is ready
+pub record IsSizedScheduling (s : Snapshot) : Type 0 where
   pub turn : s.turn ≤ length s.cores
   pub cores : All (IsTaskOrIdle (length s.tasks)) s.cores
   pub ready : All (λ task. task < length s.tasks) s.ready
   pub room : length s.ready ≤ length s.tasks
+
+pub record AreSizedTasks (s : Snapshot) : Type 0 where
   pub tasks : All IsSizedTask s.tasks
-  pub phases : All (λ task. IsSizedPhase (length s.queues) task.phase) s.tasks
-  pub queues : All IsSizedQueue s.queues
-  pub lists : All (HasSizedLists (length s.tasks)) s.queues
+  pub phases : All (λ task. IsSizedPhase (numbers_of s) task.phase) s.tasks
+
+pub record AreSizedObjects (s : Snapshot) : Type 0 where
+  pub queues : All (IsQueueFor (length s.tasks)) s.queues
+
+pub record IsSized (s : Snapshot) : Type 0 where
+  pub scheduling : IsSizedScheduling s
+  pub tasks : AreSizedTasks s
+  pub objects : AreSizedObjects s

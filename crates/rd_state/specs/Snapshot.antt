@@ -1,9 +1,9 @@
 -- The whole state of the target, as plain lists: what a contract sees of a `State`.
-use Rattle.std.specs.Prelude.{ℕ, ◌≡◌, List, [], Option, None, slice_index_or}
+use Rattle.std.specs.Prelude.{ℕ, ◌≡◌, List, [], length, Option, None, slice_index_or}
 use Rattle.rd_notify.specs.declared.notes.Entry.{Entry}
 use Rattle.rd_queue.specs.QueueSnapshot.{QueueSnapshot}
-use Rattle.rd_app.specs.declared.phase.Phase.{Phase}
-use Rattle.rd_app.specs.declared.phase.Phase.TheVariants.{Run}
+use Rattle.rd_state.specs.declared.phase.Phase.{Phase}
+use Rattle.rd_state.specs.declared.phase.Phase.TheVariants.{Run}
 
 -- a task: the number of the instruction that comes next, its 8 registers, its data, what it does,
 -- its notification entries
@@ -23,6 +23,13 @@ pub record Snapshot : Type 0 where
   pub ready : List ℕ
   pub tasks : List TaskSnapshot
   pub queues : List QueueSnapshot
+
+-- how many objects of each kind there are
+pub record Numbers : Type 0 where
+  pub queues : ℕ
+
+abbrev pub numbers_of : Snapshot → Numbers
+numbers_of s = record { queues = length s.queues }
 
 -- a state with no cores, no tasks and no objects
 abbrev pub hollow_state : Snapshot

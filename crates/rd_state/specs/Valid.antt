@@ -1,16 +1,20 @@
 -- What holds of a state between moves, for an application.
 use Rattle.std.specs.Prelude.{ℕ, ◌≡◌, ◌≢◌, ◌+◌, ◌<◌, Bool, true, false, List, length, map, All}
-use Rattle.std.specs.Prelude.{count_by, nat_eq, nat_lt, if◌then◌else◌, Option, Some, None, IsSome}
+use Rattle.std.specs.Prelude.{count_by, nat_eq, nat_lt, if◌then◌else◌, Option, Some, None, IsSome, option_map}
 use Rattle.rd_notify.specs.declared.notes.Entry.{Entry}
 use Rattle.rd_notify.specs.declared.notes.EntryState.TheVariants.{Waiting}
 use Rattle.rd_queue.specs.QueueSnapshot.{QueueSnapshot}
 use Rattle.rd_app.specs.declared.app.QueueShape.{QueueShape}
-use Rattle.rd_app.specs.declared.phase.Phase.{Phase}
-use Rattle.rd_app.specs.declared.phase.Phase.TheVariants.{Run, Again, Wait, Ended}
+use Rattle.rd_state.specs.declared.phase.Phase.{Phase}
+use Rattle.rd_state.specs.declared.phase.Phase.TheVariants.{Run, Again, Wait, Ended}
 use Rattle.rd_app.specs.declared.instr.Instr.{Instr}
 use Rattle.rd_app.specs.declared.instr.Instr.TheVariants as instr
-use Rattle.rd_app.specs.declared.phase.Place.{Place}
-use Rattle.rd_app.specs.declared.phase.Place.TheVariants.{Receive, Send}
+use Rattle.rd_app.specs.declared.instr.QueueCall.{QueueCall}
+use Rattle.rd_app.specs.declared.instr.QueueCall.TheVariants.{Send, Receive}
+use Rattle.rd_queue.specs.declared.waiting_list.WaitingList.{WaitingList}
+use Rattle.rd_queue.specs.declared.waiting_list.WaitingList.TheVariants.{Receiving, Sending}
+use Rattle.rd_state.specs.declared.phase.Place.{Place}
+use Rattle.rd_state.specs.declared.phase.Place.TheVariants as place
 use Rattle.rd_app.specs.Application.{Application, code_of, instr_at, priorities_of}
 use Rattle.rd_wait.specs.Joined.{IsInOrder}
 use Rattle.rd_state.specs.Snapshot.{Snapshot, task_at}
@@ -66,11 +70,15 @@ WaitsAtPlaces s =
     (place : Place) (task : ℕ) → task < length s.tasks
     → times_in_list task (waiting_at s place) ≡ times_waiting_at place (task_at s task).phase
 
+-- the list of a queue where a task waits for a call, if that has a block time
+abbrev pub list_of_call : QueueCall → Option WaitingList
+list_of_call (Send wait) = Some Sending
+list_of_call (Receive wait) = Some Receiving
+
 -- the place where a task waits for an instruction, if that is a call with a block time
 abbrev pub place_of_call : Instr → Option Place
-place_of_call (instr.Send queue wait) = Some (Send queue)
-place_of_call (instr.Receive queue wait) = Some (Receive queue)
-place_of_call _ = None
+place_of_call (instr.Local instr) = None
+place_of_call (instr.Queue queue call) = option_map (place.Queue queue) (list_of_call call)
 
 -- A task that tries again stands at a call with a block time. One that waits stands at the call of
 -- its place.

@@ -1,87 +1,29 @@
-//! The primitive changes.
+//! The primitive changes of the state.
 
 ghost use Rattle.std.specs.Prelude.{◌≡◌};
 ghost use Rattle.rd_state.specs.Change.{cost_of};
 
-use rd_app::phase::{Phase, Place};
-use rd_bytes::saved::SavedBytes;
+use crate::task_change::TaskChange;
+use rd_queue::change::QueueChange;
 
 /// A primitive change of the state: all that a move does is made of these, and each has an inverse
-/// among them. Tasks, cores, queues and registers go by number, an index counts from the front.
+/// among them. Tasks, cores and objects go by number, an index counts from the front.
 #[derive(Drop)]
 pub enum Change {
     /// It is this tick.
-    SetTick {
-        tick: u32,
-    },
+    SetTick { tick: u32 },
     /// The turn becomes this core's.
-    SetTurn {
-        turn: usize,
-    },
+    SetTurn { turn: usize },
     /// The core has this task, or none.
-    SetCore {
-        core: usize,
-        task: Option<usize>,
-    },
-    /// The task stands at this instruction.
-    SetPc {
-        task: usize,
-        pc: usize,
-    },
-    /// The task's register becomes the value.
-    SetReg {
-        task: usize,
-        register: usize,
-        value: u32,
-    },
-    /// The task is in this phase.
-    SetPhase {
-        task: usize,
-        phase: Phase,
-    },
-    /// The task's data becomes these bytes.
-    SetData {
-        task: usize,
-        bytes: SavedBytes,
-    },
+    SetCore { core: usize, task: Option<usize> },
     /// The task is put into the ready list at the index.
-    InsReady {
-        index: usize,
-        task: usize,
-    },
+    InsReady { index: usize, task: usize },
     /// The task at the index leaves the ready list.
-    DelReady {
-        index: usize,
-    },
-    /// The task is put into the list of those that wait at the place, at the index.
-    InsWait {
-        place: Place,
-        index: usize,
-        task: usize,
-    },
-    /// The task at the index leaves the list of those that wait at the place.
-    DelWait {
-        place: Place,
-        index: usize,
-    },
-    /// The item goes to the queue's back.
-    PutBack {
-        queue: usize,
-        item: SavedBytes,
-    },
-    /// The item at the queue's back leaves it.
-    TakeBack {
-        queue: usize,
-    },
-    /// The item goes to the queue's front.
-    PutFront {
-        queue: usize,
-        item: SavedBytes,
-    },
-    /// The item at the queue's front leaves it.
-    TakeFront {
-        queue: usize,
-    },
+    DelReady { index: usize },
+    /// The task changes so.
+    Task { task: usize, change: TaskChange },
+    /// The queue changes so.
+    Queue { queue: usize, change: QueueChange },
 }
 
 impl Change {
@@ -90,11 +32,13 @@ impl Change {
         ensures { result ≡ cost_of self.now }
     {
         match self {
-            Change::SetData { bytes, .. } => 1 + bytes.as_slice().len(),
-            Change::PutBack { item, .. } | Change::PutFront { item, .. } => {
-                1 + item.as_slice().len()
-            }
-            _ => 1,
+            Change::SetTick { .. }
+            | Change::SetTurn { .. }
+            | Change::SetCore { .. }
+            | Change::InsReady { .. }
+            | Change::DelReady { .. } => 1,
+            Change::Task { change, .. } => change.cost(),
+            Change::Queue { change, .. } => change.cost(),
         }
     }
 }

@@ -1,19 +1,18 @@
 //! A step in the middle: the state and the record of what was changed.
 
-ghost use Rattle.std.specs.Prelude.{◌≡◌, ◌+◌, ◌*◌, ◌<◌, length, slice_index};
-ghost use Rattle.std.specs.Prelude.{Ok, Option, IfSome, IfOk, OnOk, OnErr};
-ghost use Rattle.rd_wait.specs.Joined.{joined};
+ghost use Rattle.std.specs.Prelude.{◌≡◌, ◌<◌, ◌≤◌, length, insert, remove};
+ghost use Rattle.std.specs.Prelude.{OnOk, OnErr};
 ghost use Rattle.rd_state.specs.Change.{applied, inverse_of, cost_of, weight_of, Fits};
 ghost use Rattle.rd_state.specs.Edit.{Reaches};
-ghost use Rattle.rd_state.specs.Settled.{settled, settled_in, weakest_of, rank_of};
-ghost use Rattle.rd_state.specs.Settled.{after_one_round, seating_of};
-ghost use Rattle.rd_state.specs.Sizes.{IsTaskOrIdle};
 ghost use Rattle.rd_state.specs.Undoing.{undone, CanUndo};
+ghost use Rattle.rd_state.specs.Waiting.{HasPlace, waiting_at, with_waiting_at};
 
 use crate::change::Change;
+use crate::phase::Place;
 use crate::state::State;
 use crate::undo::{Undo, act};
 use rd_bytes::no_memory::NoMemory;
+use rd_queue::change::QueueChange;
 use std::alloc::Global;
 use std::marker::Model;
 
@@ -69,6 +68,48 @@ impl Editing {
     {
         self.state.sizes();
         act(&mut self.state, &mut self.undo, change)
+    }
+
+    /// Puts a task into the list of a place, at the index.
+    pub fn insert_waiting(
+        &mut self,
+        place: Place,
+        index: usize,
+        task: usize,
+    ) -> Result<(), NoMemory>
+        requires place { HasPlace self.old.now place }
+        requires within { index ≤ length (waiting_at self.old.now place) }
+        requires room { length (waiting_at self.old.now place) < length self.old.now.tasks }
+        requires task { task < length self.old.now.tasks }
+        ensures ok { OnOk result (Reaches self.old self.new
+            (with_waiting_at self.old.now place
+            (insert (waiting_at self.old.now place) index task)) 1) }
+        ensures err { OnErr result (self.new ≡ self.old) }
+    {
+        self.state.sizes();
+        match place {
+            Place::Queue { queue, list } => self.change(Change::Queue {
+                queue,
+                change: QueueChange::InsWait { list, index, task },
+            }),
+        }
+    }
+
+    /// Takes the task at the index out of the list of a place.
+    pub fn delete_waiting(&mut self, place: Place, index: usize) -> Result<(), NoMemory>
+        requires place { HasPlace self.old.now place }
+        requires within { index < length (waiting_at self.old.now place) }
+        ensures ok { OnOk result (Reaches self.old self.new
+            (with_waiting_at self.old.now place (remove (waiting_at self.old.now place) index))
+            1) }
+        ensures err { OnErr result (self.new ≡ self.old) }
+    {
+        match place {
+            Place::Queue { queue, list } => self.change(Change::Queue {
+                queue,
+                change: QueueChange::DelWait { list, index },
+            }),
+        }
     }
 
     /// Ends the step: the state goes back to its owner, and the record is handed out.

@@ -4,7 +4,9 @@
 mod boot;
 pub mod change;
 pub mod editing;
+pub mod phase;
 pub mod scheduling;
 pub mod state;
 pub mod task;
+pub mod task_change;
 pub mod undo;

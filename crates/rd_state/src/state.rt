@@ -1,25 +1,23 @@
 //! The whole state of the target: what is read of it, and each primitive change of it.
 
-ghost use Rattle.std.specs.Prelude.{◌≡◌, ◌-◌, ◌<◌, ◌≤◌, ◌↔◌, length, insert, remove};
-ghost use Rattle.std.specs.Prelude.{slice_get, All, Some, IfOk, IsOk, IsTrue};
+ghost use Rattle.std.specs.Prelude.{◌≡◌, ◌<◌, ◌≤◌, ◌↔◌, length, All, IfOk, IsOk, IsTrue};
 ghost use Rattle.rd_state.specs.Boot.{before_scheduling};
-ghost use Rattle.rd_queue.specs.Queues.{tasks_in_list, with_waiting};
-ghost use Rattle.rd_state.specs.Change.{applied, inverse_of, saved_bytes, with_queue, Fits};
+ghost use Rattle.rd_state.specs.Change.{applied, inverse_of, saved_bytes, Fits};
 ghost use Rattle.rd_state.specs.Settled.{weakest_of, rank_of};
 ghost use Rattle.rd_state.specs.Sizes.{IsSized, IsSizedPhase};
-ghost use Rattle.rd_state.specs.Snapshot.{hollow_state, task_at, queue_at, core_at};
+ghost use Rattle.rd_state.specs.Snapshot.{hollow_state, numbers_of, task_at, queue_at, core_at};
 ghost use Rattle.rd_state.specs.Snapshot.{SameScheduling, SameObjects};
 ghost use Rattle.rd_state.specs.Waiting.{HasPlace, waiting_at};
 
 use crate::boot::{all_ready, new_queues, new_tasks};
 use crate::change::Change;
+use crate::phase::{Phase, Place};
 use crate::task::Task;
+use crate::task_change::TaskChange;
 use rd_app::app::App;
-use rd_app::phase::{Phase, Place};
 use rd_bytes::no_memory::NoMemory;
-use rd_bytes::saved::SavedBytes;
+use rd_queue::change::QueueChange;
 use rd_queue::queue::Queue;
-use rd_queue::waiting_list::WaitingList;
 use rd_wait::prio_list::PrioList;
 use std::alloc::Global;
 use std::marker::Model;
@@ -248,7 +246,7 @@ impl State {
     pub fn phase(&self, task: usize) -> Phase
         requires { task < length self.now.tasks }
         ensures phase { result ≡ (task_at self.now task).phase }
-        ensures sized { IsSizedPhase (length self.now.queues) result }
+        ensures sized { IsSizedPhase (numbers_of self.now) result }
     {
         self.sizes();
         self.task(task).phase()
@@ -277,8 +275,7 @@ impl State {
         ensures room { result.now.room ≡ length self.now.tasks }
     {
         match place {
-            Place::Receive { queue } => self.queues[queue].waiting(WaitingList::Receiving),
-            Place::Send { queue } => self.queues[queue].waiting(WaitingList::Sending),
+            Place::Queue { queue, list } => self.queues[queue].waiting(list),
         }
     }
 
@@ -303,38 +300,6 @@ impl State {
         self.cores[core] = task;
     }
 
-    fn set_pc(&mut self, task: usize, pc: usize)
-        requires { Fits self.old (Change.SetPc task pc) }
-        ensures { self.new ≡ applied self.old (Change.SetPc task pc) }
-    {
-        let target = &mut self.tasks[task];
-        target.set_pc(pc);
-    }
-
-    fn set_register(&mut self, task: usize, register: usize, value: u32)
-        requires { Fits self.old (Change.SetReg task register value) }
-        ensures { self.new ≡ applied self.old (Change.SetReg task register value) }
-    {
-        let target = &mut self.tasks[task];
-        target.set_register(register, value);
-    }
-
-    fn set_phase(&mut self, task: usize, phase: Phase)
-        requires { Fits self.old (Change.SetPhase task phase) }
-        ensures { self.new ≡ applied self.old (Change.SetPhase task phase) }
-    {
-        let target = &mut self.tasks[task];
-        target.set_phase(phase);
-    }
-
-    fn set_data(&mut self, task: usize, bytes: &[u8])
-        requires { Fits self.old (Change.SetData task bytes.now) }
-        ensures { self.new ≡ applied self.old (Change.SetData task bytes.now) }
-    {
-        let target = &mut self.tasks[task];
-        target.set_bytes(bytes);
-    }
-
     fn insert_ready(&mut self, index: usize, task: usize)
         requires { Fits self.old (Change.InsReady index task) }
         ensures { self.new ≡ applied self.old (Change.InsReady index task) }
@@ -349,114 +314,35 @@ impl State {
         self.ready.remove_at(index);
     }
 
-    // Puts a task into a list of a queue.
-    fn insert_in_queue(&mut self, queue: usize, list: WaitingList, index: usize, task: usize)
-        requires queue { queue < length self.old.queues }
-        requires within { index ≤ length (tasks_in_list list (queue_at self.old queue)) }
-        requires room { length
-            (tasks_in_list list (queue_at self.old queue)) < length self.old.tasks }
-        requires task { task < length self.old.tasks }
-        ensures { self.new ≡ with_queue self.old queue
-            (with_waiting list (insert (tasks_in_list list (queue_at self.old queue)) index task)
-            (queue_at self.old queue)) }
+    fn change_task(&mut self, task: usize, change: &TaskChange)
+        requires { Fits self.old (Change.Task task change.now) }
+        ensures { self.new ≡ applied self.old (Change.Task task change.now) }
+    {
+        let target = &mut self.tasks[task];
+        target.apply(change);
+    }
+
+    fn change_queue(&mut self, queue: usize, change: &QueueChange)
+        requires { Fits self.old (Change.Queue queue change.now) }
+        ensures { self.new ≡ applied self.old (Change.Queue queue change.now) }
     {
         let target = &mut self.queues[queue];
-        target.insert(list, index, task);
-    }
-
-    // Takes a task out of a list of a queue.
-    fn delete_in_queue(&mut self, queue: usize, list: WaitingList, index: usize)
-        requires queue { queue < length self.old.queues }
-        requires within { index < length (tasks_in_list list (queue_at self.old queue)) }
-        ensures { self.new ≡ with_queue self.old queue
-            (with_waiting list (remove (tasks_in_list list (queue_at self.old queue)) index)
-            (queue_at self.old queue)) }
-    {
-        let target = &mut self.queues[queue];
-        target.remove(list, index);
-    }
-
-    fn insert_waiting(&mut self, place: Place, index: usize, task: usize)
-        requires { Fits self.old (Change.InsWait place index task) }
-        ensures { self.new ≡ applied self.old (Change.InsWait place index task) }
-    {
-        match place {
-            Place::Receive { queue } => {
-                self.insert_in_queue(queue, WaitingList::Receiving, index, task);
-            }
-            Place::Send { queue } => {
-                self.insert_in_queue(queue, WaitingList::Sending, index, task);
-            }
-        }
-    }
-
-    fn delete_waiting(&mut self, place: Place, index: usize)
-        requires { Fits self.old (Change.DelWait place index) }
-        ensures { self.new ≡ applied self.old (Change.DelWait place index) }
-    {
-        match place {
-            Place::Receive { queue } => self.delete_in_queue(queue, WaitingList::Receiving, index),
-            Place::Send { queue } => self.delete_in_queue(queue, WaitingList::Sending, index),
-        }
-    }
-
-    fn put_back(&mut self, queue: usize, item: &[u8])
-        requires { Fits self.old (Change.PutBack queue item.now) }
-        ensures { self.new ≡ applied self.old (Change.PutBack queue item.now) }
-    {
-        let target = &mut self.queues[queue];
-        target.put_back(item).unwrap();
-    }
-
-    fn take_back(&mut self, queue: usize)
-        requires { Fits self.old (Change.TakeBack queue) }
-        ensures { self.new ≡ applied self.old (Change.TakeBack queue) }
-    {
-        let target = &mut self.queues[queue];
-        target.unput();
-    }
-
-    fn put_front(&mut self, queue: usize, item: &[u8])
-        requires { Fits self.old (Change.PutFront queue item.now) }
-        ensures { self.new ≡ applied self.old (Change.PutFront queue item.now) }
-    {
-        let target = &mut self.queues[queue];
-        target.untake(item);
-    }
-
-    fn take_front(&mut self, queue: usize)
-        requires { Fits self.old (Change.TakeFront queue) }
-        ensures { self.new ≡ applied self.old (Change.TakeFront queue) }
-    {
-        let target = &mut self.queues[queue];
-        target.take().unwrap();
+        target.apply(change);
     }
 
     /// Makes a change. It takes no memory.
-    pub fn apply(&mut self, change: Change)
-        requires { Fits self.old change }
-        ensures { self.new ≡ applied self.old change }
+    pub fn apply(&mut self, change: &Change)
+        requires { Fits self.old change.now }
+        ensures { self.new ≡ applied self.old change.now }
     {
         match change {
-            Change::SetTick { tick } => self.set_tick(tick),
-            Change::SetTurn { turn } => self.set_turn(turn),
-            Change::SetCore { core, task } => self.set_core(core, task),
-            Change::SetPc { task, pc } => self.set_pc(task, pc),
-            Change::SetReg {
-                task,
-                register,
-                value,
-            } => self.set_register(task, register, value),
-            Change::SetPhase { task, phase } => self.set_phase(task, phase),
-            Change::SetData { task, bytes } => self.set_data(task, bytes.as_slice()),
-            Change::InsReady { index, task } => self.insert_ready(index, task),
-            Change::DelReady { index } => self.delete_ready(index),
-            Change::InsWait { place, index, task } => self.insert_waiting(place, index, task),
-            Change::DelWait { place, index } => self.delete_waiting(place, index),
-            Change::PutBack { queue, item } => self.put_back(queue, item.as_slice()),
-            Change::TakeBack { queue } => self.take_back(queue),
-            Change::PutFront { queue, item } => self.put_front(queue, item.as_slice()),
-            Change::TakeFront { queue } => self.take_front(queue),
+            Change::SetTick { tick } => self.set_tick(*tick),
+            Change::SetTurn { turn } => self.set_turn(*turn),
+            Change::SetCore { core, task } => self.set_core(*core, *task),
+            Change::InsReady { index, task } => self.insert_ready(*index, *task),
+            Change::DelReady { index } => self.delete_ready(*index),
+            Change::Task { task, change } => self.change_task(*task, change),
+            Change::Queue { queue, change } => self.change_queue(*queue, change),
         }
     }
 
@@ -474,46 +360,18 @@ impl State {
                 core: *core,
                 task: self.core(*core),
             }),
-            Change::SetPc { task, .. } => Ok(Change::SetPc {
-                task: *task,
-                pc: self.task(*task).pc(),
-            }),
-            Change::SetReg { task, register, .. } => Ok(Change::SetReg {
-                task: *task,
-                register: *register,
-                value: self.task(*task).register(*register),
-            }),
-            Change::SetPhase { task, .. } => Ok(Change::SetPhase {
-                task: *task,
-                phase: self.task(*task).phase(),
-            }),
-            Change::SetData { task, .. } => Ok(Change::SetData {
-                task: *task,
-                bytes: SavedBytes::from_slice(alloc, self.task(*task).bytes())?,
-            }),
             Change::InsReady { index, .. } => Ok(Change::DelReady { index: *index }),
             Change::DelReady { index } => Ok(Change::InsReady {
                 index: *index,
                 task: self.ready.as_slice()[*index],
             }),
-            Change::InsWait { place, index, .. } => Ok(Change::DelWait {
-                place: *place,
-                index: *index,
+            Change::Task { task, change } => Ok(Change::Task {
+                task: *task,
+                change: self.task(*task).inverse_of(alloc, change)?,
             }),
-            Change::DelWait { place, index } => Ok(Change::InsWait {
-                place: *place,
-                index: *index,
-                task: self.waiting(*place).as_slice()[*index],
-            }),
-            Change::PutBack { queue, .. } => Ok(Change::TakeBack { queue: *queue }),
-            Change::TakeBack { queue } => Ok(Change::PutBack {
+            Change::Queue { queue, change } => Ok(Change::Queue {
                 queue: *queue,
-                item: SavedBytes::from_slice(alloc, self.queue(*queue).last())?,
-            }),
-            Change::PutFront { queue, .. } => Ok(Change::TakeFront { queue: *queue }),
-            Change::TakeFront { queue } => Ok(Change::PutFront {
-                queue: *queue,
-                item: SavedBytes::from_slice(alloc, self.queue(*queue).first())?,
+                change: self.queue(*queue).inverse_of(alloc, change)?,
             }),
         }
     }

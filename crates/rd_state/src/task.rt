@@ -4,8 +4,8 @@ ghost use Rattle.std.specs.Prelude.{◌≡◌, ◌↔◌, IsTrue, ◌<◌, ◌�
 ghost use Rattle.std.specs.Prelude.{slice_index, slice_set, Some, IfOk};
 ghost use Rattle.rd_state.specs.Boot.{fresh_task};
 
+use crate::phase::Phase;
 use rd_app::instr::REGISTERS;
-use rd_app::phase::Phase;
 use rd_bytes::bytes::Bytes;
 use rd_notify::notes::Notes;
 use std::marker::Model;

@@ -11,8 +11,9 @@ use smallvec::SmallVec;
 use std::alloc::Global;
 use std::marker::Model;
 
-/// How many changes a record keeps without memory elsewhere.
-const INLINE: usize = 4;
+/// How many changes a record keeps without memory elsewhere: those of a call that sends or receives
+/// and passes the turn.
+const INLINE: usize = 6;
 
 /// The record of a move: the changes that undo it, in the order of recording. It can't be dropped:
 /// it ends in `State::back`, in a log or in `retire`.
@@ -49,7 +50,11 @@ impl Undo {
         requires { weight_of self.now < 2 ^ 64 }
         ensures { result ≡ weight_of self.now }
     {
-        self.changes.iter().map(|change| change.cost()).sum()
+        let mut weight = 0;
+        for change in self.changes.as_slice() {
+            weight += change.cost();
+        }
+        weight
     }
 
     fn push(&mut self, change: Change) -> Result<(), NoMemory>
@@ -72,7 +77,7 @@ pub fn act(state: &mut State, undo: &mut Undo, change: Change) -> Result<(), NoM
     let alloc = *undo.changes.allocator();
     let inverse = state.inverse_of(alloc, &change)?;
     undo.push(inverse)?;
-    state.apply(change);
+    state.apply(&change);
     Ok(())
 }
 
@@ -84,7 +89,8 @@ impl State {
     {
         let Undo { mut changes } = undo;
         while let Some(change) = changes.pop() {
-            self.apply(change);
+            self.apply(&change);
+            drop(change);
         }
     }
 }

@@ -3,9 +3,11 @@ use Rattle.std.specs.Prelude.{ℕ, ◌≡◌, List, [], ◌∷◌, Some, Ok, ref
 use Rattle.rd_notify.specs.Entries.{idle_entry}
 use Rattle.rd_queue.specs.QueueSnapshot.{QueueSnapshot}
 use Rattle.rd_app.specs.Builtin.{builtin}
-use Rattle.rd_app.specs.declared.phase.Phase.TheVariants.{Run}
+use Rattle.rd_state.specs.declared.phase.Phase.TheVariants.{Run}
 use Rattle.rd_state.specs.declared.change.Change.{Change}
-use Rattle.rd_state.specs.declared.change.Change.TheVariants.{SetPc, SetReg, PutBack}
+use Rattle.rd_state.specs.declared.change.Change.TheVariants.{Task, Queue}
+use Rattle.rd_state.specs.declared.task_change.TaskChange.TheVariants.{SetPc, SetReg}
+use Rattle.rd_queue.specs.declared.change.QueueChange.TheVariants.{PutBack}
 use Rattle.rd_state.specs.Boot.{boot_of}
 use Rattle.rd_state.specs.Change.{applied, inverse_of}
 use Rattle.rd_state.specs.Snapshot.{Snapshot, TaskSnapshot}
@@ -44,13 +46,13 @@ abbrev before : Snapshot
 before = state_of 1 (task_of 1 0 (65 ∷ [])) []
 
 abbrev put : Change
-put = PutBack 0 (65 ∷ [])
+put = Queue 0 (PutBack (65 ∷ []))
 
 abbrev answer : Change
-answer = SetReg 0 0 1
+answer = Task 0 (SetReg 0 1)
 
 abbrev onward : Change
-onward = SetPc 0 2
+onward = Task 0 (SetPc 2)
 
 undo_to_boot : undone (applied (applied (applied before put) answer) onward)
     (inverse_of before put ∷ inverse_of (applied before put) answer ∷ inverse_of (applied (applied before put) answer) onward ∷ [])

@@ -4,10 +4,13 @@ use Rattle.rd_notify.specs.Entries.{idle_entry}
 use Rattle.rd_queue.specs.QueueSnapshot.{QueueSnapshot}
 use Rattle.rd_app.specs.declared.instr.Instr.{Instr}
 use Rattle.rd_app.specs.declared.instr.Instr.TheVariants as instr
+use Rattle.rd_app.specs.declared.instr.LocalInstr.TheVariants.{End}
+use Rattle.rd_app.specs.declared.instr.QueueCall.TheVariants as call
+use Rattle.rd_queue.specs.declared.waiting_list.WaitingList.TheVariants.{Receiving}
 use Rattle.rd_app.specs.declared.instr.Operand.TheVariants.{Number}
-use Rattle.rd_app.specs.declared.phase.Phase.{Phase}
-use Rattle.rd_app.specs.declared.phase.Phase.TheVariants.{Run, Again, Wait}
-use Rattle.rd_app.specs.declared.phase.Place.TheVariants.{Receive}
+use Rattle.rd_state.specs.declared.phase.Phase.{Phase}
+use Rattle.rd_state.specs.declared.phase.Phase.TheVariants.{Run, Again, Wait}
+use Rattle.rd_state.specs.declared.phase.Place.TheVariants.{Queue}
 use Rattle.rd_app.specs.Application.{Application, max_delay}
 use Rattle.rd_app.specs.TaskScript.{TaskScript}
 use Rattle.rd_state.specs.Snapshot.{TaskSnapshot}
@@ -27,13 +30,13 @@ over_a_queue cores scripts = record {
 }
 
 abbrev receives : ℕ → Instr
-receives time = instr.Receive 0 (Number time)
+receives time = instr.Queue 0 (call.Receive (Number time))
 
 abbrev task_of : ℕ → ℕ → List ℕ → Phase → TaskSnapshot
 task_of pc r0 bytes phase = record { pc = pc; registers = r0 ∷ 0 ∷ 0 ∷ 0 ∷ 0 ∷ 0 ∷ 0 ∷ 0 ∷ []; bytes = bytes; phase = phase; entries = idle_entry ∷ [] }
 
 abbrev waits_for_item : Option ℕ → TaskSnapshot
-waits_for_item deadline = task_of 0 0 [] (Wait (Receive 0) deadline)
+waits_for_item deadline = task_of 0 0 [] (Wait (Queue 0 Receiving) deadline)
 
 abbrev queue_of : List (List ℕ) → List ℕ → QueueSnapshot
 queue_of items receiving = record { items = items; capacity = 1; item_size = 1; receiving = receiving; sending = []; tasks = 3 }
@@ -42,9 +45,9 @@ queue_of items receiving = record { items = items; capacity = 1; item_size = 1; 
 
 abbrev stolen : Application
 stolen = over_a_queue 2 (
-    record { priority = 2; code = receives max_delay ∷ instr.End ∷ [] }
-    ∷ record { priority = 3; code = receives 10 ∷ instr.End ∷ [] }
-    ∷ record { priority = 1; code = instr.Send 0 (Number 0) ∷ receives 0 ∷ instr.End ∷ [] } ∷ [])
+    record { priority = 2; code = receives max_delay ∷ instr.Local End ∷ [] }
+    ∷ record { priority = 3; code = receives 10 ∷ instr.Local End ∷ [] }
+    ∷ record { priority = 1; code = instr.Queue 0 (call.Send (Number 0)) ∷ receives 0 ∷ instr.Local End ∷ [] } ∷ [])
 
 -- The item is in the queue, and the receiver of the highest priority is awake.
 item_is_sent : state_after stolen (Core 0 ∷ Core 1 ∷ Core 0 ∷ [])
@@ -74,9 +77,9 @@ item_is_lost = refl
 
 abbrev timing_out : Application
 timing_out = over_a_queue 3 (
-    record { priority = 1; code = receives max_delay ∷ instr.End ∷ [] }
-    ∷ record { priority = 1; code = receives 1 ∷ instr.End ∷ [] }
-    ∷ record { priority = 1; code = receives max_delay ∷ instr.End ∷ [] } ∷ [])
+    record { priority = 1; code = receives max_delay ∷ instr.Local End ∷ [] }
+    ∷ record { priority = 1; code = receives 1 ∷ instr.Local End ∷ [] }
+    ∷ record { priority = 1; code = receives max_delay ∷ instr.Local End ∷ [] } ∷ [])
 
 second_times_out : state_after timing_out (Core 0 ∷ Core 1 ∷ Core 2 ∷ Tick ∷ [])
     ≡ Ok (record {

@@ -2,7 +2,7 @@
 use Rattle.std.proofs.Common.{◌≡◌, ◌∙◌, ℕ, zero, suc, ◌<◌, ◌≤◌, List, [], ◌∷◌, length, get_or, set, take, drop, refl, ap, arith}
 use Rattle.std.specs.Prelude.{All, insert, remove}
 use Rattle.std.specs.List.{AllByRecursion}
-use Rattle.std.proofs.lemmas.List.{set-set, set-get_or}
+use Rattle.std.proofs.lemmas.List.{get_or-set_same, set-set, set-get_or}
 use Rattle.std.proofs.lemmas.List.Elements.{All-append, All-take, All-drop, All-cons, All-from_recursion, recursion_from_All}
 
 pub All-remove : {X : Type 0} (P : X → Type 0) (xs : List X) (i : ℕ) → All P xs → All P (remove xs i)
@@ -28,6 +28,12 @@ pub set_back : {X : Type 0} (xs : List X) (i : ℕ) (d y : X) → set (set xs i 
 set_back xs i d y = set-set xs i y (get_or xs i d) ∙ set-get_or xs i d
 
 -- what holds of each member by recursion, after a member was put in
+-- a member that is changed, and then changed by f, which gives what was there
+pub replaced_back : {X : Type 0} (xs : List X) (i : ℕ) (d y : X) (f : X → X) → i < length xs → f y ≡ get_or xs i d
+    → set (set xs i y) i (f (get_or (set xs i y) i d)) ≡ xs
+replaced_back xs i d y f there undoes =
+    ap (λ t. set (set xs i y) i (f t)) (get_or-set_same xs i y d there) ∙ ap (λ t. set (set xs i y) i t) undoes ∙ set_back xs i d y
+
 pub AllByRecursion-insert : {X : Type 0} (P : X → Type 0) (xs : List X) (i : ℕ) (x : X) → AllByRecursion P xs → P x → AllByRecursion P (insert xs i x)
 AllByRecursion-insert P xs i x h here = recursion_from_All P (insert xs i x) (All-insert P xs i x (All-from_recursion P xs h) here)
 

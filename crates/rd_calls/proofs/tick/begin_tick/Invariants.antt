@@ -2,7 +2,7 @@
 use Rattle.std.proofs.Common.{◌+◌, ◌*◌}
 use Rattle.rd_app.specs.Application.{priorities_of}
 use Rattle.rd_state.specs.Edit.{Reaches}
-use Rattle.rd_calls.specs.Waking.{timed_out}
+use Rattle.rd_kernel.specs.Waking.{timed_out}
 use Rattle.rd_calls.proofs.tick.begin_tick.Given as goal
 
 abbrev pub invariant-loop-task : goal.invariant-loop-task

@@ -1,5 +1,5 @@
 -- The goals of `go` that the check left open.
-use Rattle.std.proofs.Common.{◌≡◌, ◌∙◌, List, ap, sym, rules}
+use Rattle.std.proofs.Common.{◌∙◌, List, ap, sym, rules}
 use Rattle.rd_calls.specs.declared.moves.Move.{Move}
 use Rattle.rd_calls.specs.Step.{step}
 use Rattle.rd_timeline.specs.History.{state_after}

@@ -1,0 +1,18 @@
+-- What steps take in a record at the most: changes, and the bytes that they carry.
+use Rattle.std.specs.Prelude.{ℕ, ◌+◌}
+
+-- a task's data replaced: the change, and the data from before
+abbrev pub data_cost : ℕ
+data_cost = 1 + 256
+
+-- an item that leaves its queue
+abbrev pub item_cost : ℕ
+item_cost = 1 + 64
+
+-- a task woken: its place, its phase, and the ready list
+abbrev pub waking_cost : ℕ
+waking_cost = 3
+
+-- what becomes of a caller: its answer, its phase and its next instruction
+abbrev pub ending_cost : ℕ
+ending_cost = 3

@@ -1,0 +1,72 @@
+-- What a kernel call does, and what becomes of its caller.
+use Rattle.std.specs.Prelude.{ℕ, ◌≡◌, ◌+◌, ◌<◌, ◌≤◌, List, length, if◌then◌else◌}
+use Rattle.rd_app.specs.declared.instr.Operand.{Operand}
+use Rattle.rd_app.specs.Application.{Application}
+use Rattle.rd_state.specs.declared.phase.Phase.TheVariants.{Run, Wait}
+use Rattle.rd_state.specs.declared.phase.Place.{Place}
+use Rattle.rd_state.specs.Edit.{Edit, Reaches}
+use Rattle.rd_state.specs.Sizes.{IsSizedPhase}
+use Rattle.rd_state.specs.Snapshot.{Numbers, Snapshot, numbers_of, task_at}
+use Rattle.rd_state.specs.Valid.{IsValid, seats_to_run}
+use Rattle.rd_kernel.specs.declared.outcome.Outcome.{Outcome}
+use Rattle.rd_kernel.specs.declared.outcome.Outcome.TheVariants.{Returns, Waits}
+use Rattle.rd_kernel.specs.Tasks.{with_idle_core, with_register, with_pc, with_phase}
+use Rattle.rd_kernel.specs.Waking.{deadline_of, may_wait, with_waiter, woken_first}
+
+-- A task that can run calls the kernel, at a valid state.
+pub record IsCalling (app : Application) (s : Snapshot) (task : ℕ) : Type 0 where
+  pub valid : IsValid app s
+  pub there : task < length s.tasks
+  pub runs : 1 ≤ seats_to_run (task_at s task).phase
+
+-- the state that a call leaves, and what becomes of the caller
+pub record Called : Type 0 where
+  pub state : Snapshot
+  pub outcome : Outcome
+
+-- pdPASS; errQUEUE_FULL and errQUEUE_EMPTY
+abbrev pub call_passes : Snapshot → Called
+call_passes s = record { state = s; outcome = Returns 1 }
+
+abbrev pub call_fails : Snapshot → Called
+call_fails s = record { state = s; outcome = Returns 0 }
+
+-- A call that can't be done waits at a place, where its block time lasts, and else fails.
+abbrev pub blocked : List ℕ → Snapshot → ℕ → Place → Operand → Called
+blocked priorities s task place wait =
+    if may_wait s task wait
+    then record {
+      state = with_waiter priorities s place task;
+      outcome = Waits place (deadline_of s task wait);
+    }
+    else call_fails s
+
+-- A call that was done passes, and the first who waits for what it leaves is woken. Whoever is woken
+-- isn't handed anything: it tries again when it runs.
+abbrev pub passed : List ℕ → Snapshot → Place → Called
+passed priorities s place = call_passes (woken_first priorities s place)
+
+-- the caller after its call: the answer stands in r0 and the script goes on
+abbrev pub returned : Snapshot → ℕ → ℕ → Snapshot
+returned s task answer =
+    with_pc (with_phase (with_register s task 0 answer) task Run) task ((task_at s task).pc + 1)
+
+-- and where it waits: it has left its core
+abbrev pub concluded : Called → ℕ → ℕ → Snapshot
+concluded called core task = concluded_as called.state core task called.outcome
+  where
+    concluded_as : Snapshot → ℕ → ℕ → Outcome → Snapshot
+    concluded_as s core task (Returns answer) = returned s task answer
+    concluded_as s core task (Waits place deadline) =
+        with_idle_core (with_phase s task (Wait place deadline)) core
+
+-- A task that is to wait, waits at a place that is there, until a deadline that is one.
+abbrev pub IsSizedOutcome : Numbers → Outcome → Type 0
+IsSizedOutcome numbers (Returns answer) = Unit {0}
+IsSizedOutcome numbers (Waits place deadline) = IsSizedPhase numbers (Wait place deadline)
+
+-- The call has been done, at that cost at the most, and this became of the caller.
+pub record DoesCall (old new : Edit) (called : Called) (cost : ℕ) (outcome : Outcome) : Type 0 where
+  pub comes : Reaches old new called.state cost
+  pub becomes : outcome ≡ called.outcome
+  pub sized : IsSizedOutcome (numbers_of new.now) outcome

@@ -1,0 +1,30 @@
+-- A state with one thing of a task changed.
+use Rattle.std.specs.Prelude.{ℕ, ◌+◌, List, None, slice_index, slice_set}
+use Rattle.rd_state.specs.declared.phase.Phase.{Phase}
+use Rattle.rd_state.specs.Snapshot.{Snapshot, task_at}
+use Rattle.rd_state.specs.Change.{with_task}
+
+abbrev pub register_at : Snapshot → ℕ → ℕ → ℕ
+register_at s task register = slice_index (task_at s task).registers register
+
+abbrev pub with_register : Snapshot → ℕ → ℕ → ℕ → Snapshot
+with_register s task register value =
+    with_task s task
+    (record (task_at s task) { registers = slice_set (task_at s task).registers register value })
+
+abbrev pub with_pc : Snapshot → ℕ → ℕ → Snapshot
+with_pc s task pc = with_task s task (record (task_at s task) { pc = pc })
+
+abbrev pub with_bytes : Snapshot → ℕ → List ℕ → Snapshot
+with_bytes s task bytes = with_task s task (record (task_at s task) { bytes = bytes })
+
+abbrev pub with_phase : Snapshot → ℕ → Phase → Snapshot
+with_phase s task phase = with_task s task (record (task_at s task) { phase = phase })
+
+-- the task stands at its next instruction
+abbrev pub advanced : Snapshot → ℕ → Snapshot
+advanced s task = with_pc s task ((task_at s task).pc + 1)
+
+-- the task leaves its core
+abbrev pub with_idle_core : Snapshot → ℕ → Snapshot
+with_idle_core s core = record s { cores = slice_set s.cores core None }

@@ -1,0 +1,59 @@
+//! What becomes of a caller, once its call was done.
+
+ghost use Rattle.std.specs.Prelude.{◌≡◌, ◌<◌, length, OnOk, OnErr};
+ghost use Rattle.rd_state.specs.Edit.{Reaches};
+ghost use Rattle.rd_state.specs.Sizes.{IsSizedPhase};
+ghost use Rattle.rd_state.specs.Snapshot.{numbers_of, task_at};
+ghost use Rattle.rd_kernel.specs.Costs.{ending_cost};
+ghost use Rattle.rd_kernel.specs.Outcomes.{IsSizedOutcome, concluded};
+ghost use Rattle.rd_kernel.specs.Tasks.{with_idle_core, with_phase};
+
+use crate::outcome::Outcome;
+use crate::steps::{return_from, set_phase};
+use rd_bytes::no_memory::NoMemory;
+use rd_state::change::Change;
+use rd_state::editing::Editing;
+use rd_state::phase::{Phase, Place};
+
+// Takes a task that waits off its core.
+fn begin_waiting(
+    editing: &mut Editing,
+    core: usize,
+    task: usize,
+    place: Place,
+    deadline: Option<u64>,
+) -> Result<(), NoMemory>
+    requires task { task < length editing.old.now.tasks }
+    requires core { core < length editing.old.now.cores }
+    requires sized { IsSizedPhase (numbers_of editing.old.now) (Phase.Wait place deadline) }
+    ensures ok { OnOk result (Reaches editing.old editing.new
+        (with_idle_core (with_phase editing.old.now task (Phase.Wait place deadline)) core) 2) }
+    ensures err { OnErr result (editing.new.base ≡ editing.old.base) }
+{
+    set_phase(editing, task, Phase::Wait { place, deadline })?;
+    editing.change(Change::SetCore { core, task: None })
+}
+
+/// What becomes of a caller: its call returns, or it waits and leaves its core.
+pub fn conclude(
+    editing: &mut Editing,
+    core: usize,
+    task: usize,
+    outcome: Outcome,
+) -> Result<(), NoMemory>
+    requires task { task < length editing.old.now.tasks }
+    requires core { core < length editing.old.now.cores }
+    requires pc { (task_at editing.old.now task).pc < 256 }
+    requires sized { IsSizedOutcome (numbers_of editing.old.now) outcome }
+    ensures ok { OnOk result (Reaches editing.old editing.new
+        (concluded (record { state = editing.old.now; outcome = outcome }) core task)
+        ending_cost) }
+    ensures err { OnErr result (editing.new.base ≡ editing.old.base) }
+{
+    match outcome {
+        Outcome::Returns(answer) => return_from(editing, task, answer),
+        Outcome::Waits { place, deadline } => {
+            begin_waiting(editing, core, task, place, deadline)
+        }
+    }
+}

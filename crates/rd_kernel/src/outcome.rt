@@ -1,0 +1,13 @@
+//! What becomes of a caller.
+
+use rd_state::phase::Place;
+
+/// What becomes of a task that calls the kernel.
+#[derive(Clone, Copy, Debug, PartialEq, Eq)]
+pub enum Outcome {
+    /// The call returns this answer.
+    Returns(u32),
+    /// The task waits at a place while the deadline, a tick, is
+    /// ahead; without end where there is none.
+    Waits { place: Place, deadline: Option<u64> },
+}

@@ -1,0 +1,115 @@
+//! Single changes in the middle of a step.
+ghost use Rattle.std.specs.Prelude.{◌≡◌, ◌+◌, ◌<◌, ◌≤◌, length, IsOk, OnOk, OnErr};
+ghost use Rattle.rd_state.specs.declared.phase.Phase.TheVariants.{Run};
+ghost use Rattle.rd_state.specs.Edit.{Reaches};
+ghost use Rattle.rd_state.specs.Sizes.{IsSizedPhase};
+ghost use Rattle.rd_state.specs.Snapshot.{numbers_of, task_at};
+ghost use Rattle.rd_kernel.specs.Costs.{data_cost, ending_cost};
+ghost use Rattle.rd_kernel.specs.Tasks.{with_register, with_pc, with_bytes, with_phase, advanced};
+ghost use Rattle.rd_kernel.specs.Outcomes.{returned};
+
+use rd_bytes::no_memory::NoMemory;
+use rd_bytes::saved::SavedBytes;
+use rd_state::change::Change;
+use rd_state::editing::Editing;
+use rd_state::phase::Phase;
+use rd_state::task_change::TaskChange;
+use std::alloc::Global;
+
+/// Sets a register of a task.
+pub fn set_register(
+    editing: &mut Editing,
+    task: usize,
+    register: usize,
+    value: u32,
+) -> Result<(), NoMemory>
+    requires task { task < length editing.old.now.tasks }
+    requires register { register < 8 }
+    ensures ok { OnOk result
+        (Reaches editing.old editing.new (with_register editing.old.now task register value) 1) }
+    ensures err { OnErr result (editing.new.base ≡ editing.old.base) }
+{
+    let change = TaskChange::SetReg { register, value };
+    editing.change(Change::Task { task, change })
+}
+
+/// Makes these bytes a task's data.
+pub fn set_bytes(
+    alloc: Global,
+    editing: &mut Editing,
+    task: usize,
+    bytes: &[u8],
+) -> Result<(), NoMemory>
+    requires task { task < length editing.old.now.tasks }
+    requires few { length bytes.now ≤ 256 }
+    ensures ok { OnOk result
+        (Reaches editing.old editing.new (with_bytes editing.old.now task bytes.now) data_cost) }
+    ensures err { OnErr result (editing.new.base ≡ editing.old.base) }
+{
+    editing.state().sizes();
+    let bytes = SavedBytes::from_slice(alloc, bytes)?;
+    let change = TaskChange::SetData { bytes };
+    editing.change(Change::Task { task, change })
+}
+
+/// Moves a task to another instruction of its script.
+pub fn set_pc(editing: &mut Editing, task: usize, pc: usize) -> Result<(), NoMemory>
+    requires { task < length editing.old.now.tasks }
+    ensures ok { OnOk result (Reaches editing.old editing.new (with_pc editing.old.now task pc) 1) }
+    ensures err { OnErr result (editing.new.base ≡ editing.old.base) }
+{
+    let change = TaskChange::SetPc { pc };
+    editing.change(Change::Task { task, change })
+}
+
+/// Moves a task to its next instruction.
+pub fn advance(editing: &mut Editing, task: usize) -> Result<(), NoMemory>
+    requires task { task < length editing.old.now.tasks }
+    requires pc { (task_at editing.old.now task).pc < 256 }
+    ensures ok { OnOk result (Reaches editing.old editing.new (advanced editing.old.now task) 1) }
+    ensures err { OnErr result (editing.new.base ≡ editing.old.base) }
+{
+    let pc = editing.state().task(task).pc();
+    set_pc(editing, task, pc + 1)
+}
+
+/// Puts a task into another phase.
+pub fn set_phase(editing: &mut Editing, task: usize, phase: Phase) -> Result<(), NoMemory>
+    requires task { task < length editing.old.now.tasks }
+    requires sized { IsSizedPhase (numbers_of editing.old.now) phase }
+    ensures ok { OnOk result
+        (Reaches editing.old editing.new (with_phase editing.old.now task phase) 1) }
+    ensures err { OnErr result (editing.new.base ≡ editing.old.base) }
+{
+    let change = TaskChange::SetPhase { phase };
+    editing.change(Change::Task { task, change })
+}
+
+/// Ends a task's call: its answer stands in r0, and its script goes on.
+pub fn return_from(editing: &mut Editing, task: usize, answer: u32) -> Result<(), NoMemory>
+    requires task { task < length editing.old.now.tasks }
+    requires pc { (task_at editing.old.now task).pc < 256 }
+    ensures ok { OnOk result
+        (Reaches editing.old editing.new (returned editing.old.now task answer) ending_cost) }
+    ensures err { OnErr result (editing.new.base ≡ editing.old.base) }
+{
+    let pc = editing.state().task(task).pc();
+    set_register(editing, task, 0, answer)?;
+    set_phase(editing, task, Phase::Run)?;
+    set_pc(editing, task, pc + 1)
+}
+
+/// Gives the turn to this core. If it has the turn already,
+/// nothing changes, and no memory is taken.
+pub fn set_turn(editing: &mut Editing, turn: usize) -> Result<(), NoMemory>
+    requires { turn ≤ length editing.old.now.cores }
+    ensures ok { OnOk result
+        (Reaches editing.old editing.new (record editing.old.now { turn = turn }) 1) }
+    ensures has_it { editing.old.now.turn ≡ turn → IsOk result }
+    ensures err { OnErr result (editing.new.base ≡ editing.old.base) }
+{
+    if editing.state().turn() == turn {
+        return Ok(());
+    }
+    editing.change(Change::SetTurn { turn })
+}

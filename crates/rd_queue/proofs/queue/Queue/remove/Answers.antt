@@ -1,0 +1,18 @@
+-- The goals of `Queue::remove` that the check left open.
+use Rattle.std.proofs.Common.{◌<◌}
+use Rattle.rd_wait.proofs.ListLaws.{All-remove}
+use Rattle.rd_queue.proofs.queue.Queue.remove.Goals as goal
+
+pub invariant_of-self : goal.invariant_of-self
+invariant_of-self c =
+    let kept = c.self.invariant in
+    let list = c.self.inside.receiving in
+    rw c.remove_at.ensures.rest
+    (kept.0, kept.1, kept.2, kept.3, kept.4, All-remove (λ task. task < list.room) list.tasks c.args.index kept.5, kept.6)
+
+pub invariant_of-self-in-Sending : goal.invariant_of-self-in-Sending
+invariant_of-self-in-Sending c =
+    let kept = c.self.invariant in
+    let list = c.self.inside.sending in
+    rw c.remove_at-in-Sending.ensures.rest
+    (kept.0, kept.1, kept.2, kept.3, kept.4, kept.5, All-remove (λ task. task < c.self.inside.receiving.room) list.tasks c.args.index kept.6)

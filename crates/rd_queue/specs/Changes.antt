@@ -1,0 +1,70 @@
+-- The primitive changes of a queue: what each does, at which queues it fits, and what undoes it.
+use Rattle.std.specs.Prelude.{ℕ, ◌≡◌, ◌-◌, ◌<◌, ◌≤◌, List, [], ◌∷◌, ◌++◌, length, take, drop}
+use Rattle.std.specs.Prelude.{insert, remove, slice_index, slice_index_or}
+use Rattle.rd_queue.specs.declared.change.QueueChange.{QueueChange}
+use Rattle.rd_queue.specs.declared.change.QueueChange.TheVariants.{InsWait, DelWait}
+use Rattle.rd_queue.specs.declared.change.QueueChange.TheVariants.{PutBack, TakeBack}
+use Rattle.rd_queue.specs.declared.change.QueueChange.TheVariants.{PutFront, TakeFront}
+use Rattle.rd_queue.specs.QueueSnapshot.{QueueSnapshot}
+use Rattle.rd_queue.specs.Queues.{tasks_in_list, with_items, with_waiting}
+use Rattle.rd_queue.specs.Sizes.{IsSizedQueue}
+
+-- the queue after a change
+abbrev pub queue_applied : QueueSnapshot → QueueChange → QueueSnapshot
+queue_applied queue (InsWait list index task) =
+    with_waiting list (insert (tasks_in_list list queue) index task) queue
+queue_applied queue (DelWait list index) =
+    with_waiting list (remove (tasks_in_list list queue) index) queue
+queue_applied queue (PutBack item) = with_items queue (queue.items ++ item ∷ [])
+queue_applied queue TakeBack = with_items queue (take (length queue.items - 1) queue.items)
+queue_applied queue (PutFront item) = with_items queue (item ∷ queue.items)
+queue_applied queue TakeFront = with_items queue (drop 1 queue.items)
+
+-- the change that undoes a change made at this queue
+abbrev pub queue_inverse_of : QueueSnapshot → QueueChange → QueueChange
+queue_inverse_of queue (InsWait list index task) = DelWait list index
+queue_inverse_of queue (DelWait list index) =
+    InsWait list index (slice_index (tasks_in_list list queue) index)
+queue_inverse_of queue (PutBack item) = TakeBack
+queue_inverse_of queue TakeBack =
+    PutBack (slice_index_or queue.items (length queue.items - 1) [])
+queue_inverse_of queue (PutFront item) = TakeFront
+queue_inverse_of queue TakeFront = PutFront (slice_index_or queue.items 0 [])
+
+-- The queue takes one more item, this one.
+abbrev pub HasRoomFor : QueueSnapshot → List ℕ → Type 0
+HasRoomFor queue item =
+    (length queue.items < queue.capacity) × (length item ≡ queue.item_size)
+
+-- The change names what is there, and there is room.
+abbrev pub QueueFits : QueueSnapshot → QueueChange → Type 0
+QueueFits queue (InsWait list index task) =
+    (index ≤ length (tasks_in_list list queue)) × (length (tasks_in_list list queue) < queue.tasks)
+    × (task < queue.tasks)
+QueueFits queue (DelWait list index) = index < length (tasks_in_list list queue)
+QueueFits queue (PutBack item) = HasRoomFor queue item
+QueueFits queue TakeBack = 0 < length queue.items
+QueueFits queue (PutFront item) = HasRoomFor queue item
+QueueFits queue TakeFront = 0 < length queue.items
+
+-- the bytes that a change carries
+abbrev pub queue_saved_bytes : QueueChange → ℕ
+queue_saved_bytes (InsWait list index task) = 0
+queue_saved_bytes (DelWait list index) = 0
+queue_saved_bytes (PutBack item) = length item
+queue_saved_bytes TakeBack = 0
+queue_saved_bytes (PutFront item) = length item
+queue_saved_bytes TakeFront = 0
+
+-- A change that is undone leaves the queue as it was, and what undoes it fits. The queue with the
+-- change made is one, with room for as many tasks.
+pub record QueueIsUndone (queue : QueueSnapshot) (change : QueueChange) : Type 0 where
+  pub back : queue_applied (queue_applied queue change) (queue_inverse_of queue change) ≡ queue
+  pub fits : QueueFits (queue_applied queue change) (queue_inverse_of queue change)
+  pub sized : IsSizedQueue (queue_applied queue change)
+  pub tasks : (queue_applied queue change).tasks ≡ queue.tasks
+
+-- whichever change it is, at whichever queue it fits
+abbrev pub EachQueueChangeIsUndone : Type 0
+EachQueueChangeIsUndone = (queue : QueueSnapshot) (change : QueueChange) → IsSizedQueue queue
+    → QueueFits queue change → QueueIsUndone queue change

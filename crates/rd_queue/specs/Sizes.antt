@@ -1,0 +1,14 @@
+-- What holds of every queue.
+use Rattle.std.specs.Prelude.{ℕ, ◌≡◌, ◌<◌, ◌≤◌, List, length, All}
+use Rattle.rd_queue.specs.QueueSnapshot.{QueueSnapshot}
+
+-- Those that wait are tasks, of which there are so many, and no more than there are.
+abbrev pub IsSizedList : ℕ → List ℕ → Type 0
+IsSizedList tasks waiting = All (λ task. task < tasks) waiting × (length waiting ≤ tasks)
+
+pub record IsSizedQueue (queue : QueueSnapshot) : Type 0 where
+  pub room : length queue.items ≤ queue.capacity
+  pub items : All (λ item. length item ≡ queue.item_size) queue.items
+  pub small : queue.item_size ≤ 64
+  pub receiving : IsSizedList queue.tasks queue.receiving
+  pub sending : IsSizedList queue.tasks queue.sending

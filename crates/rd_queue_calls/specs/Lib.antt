@@ -1,0 +1,2 @@
+-- The files of definitions of rd_queue_calls.
+pub mod QueueCalls

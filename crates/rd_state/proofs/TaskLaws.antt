@@ -1,0 +1,34 @@
+-- Changes of a task, undone each by its inverse.
+use Rattle.std.proofs.Common.{◌≡◌, ◌∙◌, ℕ, List, refl, ap}
+use Rattle.std.proofs.lemmas.List.{length-set}
+use Rattle.rd_state.specs.declared.task_change.TaskChange.{TaskChange}
+use Rattle.rd_state.specs.declared.task_change.TaskChange.TheVariants.{SetPc, SetReg, SetPhase, SetData}
+use Rattle.rd_state.specs.Sizes.{IsSizedTask}
+use Rattle.rd_state.specs.Snapshot.{TaskSnapshot}
+use Rattle.rd_state.specs.TaskChanges.{task_applied, task_inverse_of, TaskFits, EachTaskChangeIsUndone}
+use Rattle.rd_wait.proofs.ListLaws.{set_back}
+
+undoes : (task : TaskSnapshot) (change : TaskChange) → task_applied (task_applied task change) (task_inverse_of task change) ≡ task
+undoes task (SetPc pc) = refl
+undoes task (SetReg register value) = ap (λ (r : List ℕ). record task { registers = r }) (set_back task.registers register 0 value)
+undoes task (SetPhase phase) = refl
+undoes task (SetData bytes) = refl
+
+inverse_fits : (task : TaskSnapshot) (change : TaskChange) → IsSizedTask task → TaskFits change → TaskFits (task_inverse_of task change)
+inverse_fits task (SetPc pc) sized fits = tt
+inverse_fits task (SetReg register value) sized fits = fits
+inverse_fits task (SetPhase phase) sized fits = tt
+inverse_fits task (SetData bytes) sized fits = sized.1
+
+sized_then : (task : TaskSnapshot) (change : TaskChange) → IsSizedTask task → TaskFits change → IsSizedTask (task_applied task change)
+sized_then task (SetPc pc) sized fits = sized
+sized_then task (SetReg register value) sized fits = (length-set task.registers register value ∙ sized.0, sized.1)
+sized_then task (SetPhase phase) sized fits = sized
+sized_then task (SetData bytes) sized fits = (sized.0, fits)
+
+pub each_is_undone : EachTaskChangeIsUndone
+each_is_undone task change sized fits = record {
+  back = undoes task change;
+  fits = inverse_fits task change sized fits;
+  sized = sized_then task change sized fits;
+}

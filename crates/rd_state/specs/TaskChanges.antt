@@ -1,0 +1,47 @@
+-- The primitive changes of a task: what each does, and what undoes it.
+use Rattle.std.specs.Prelude.{ℕ, ◌≡◌, ◌<◌, ◌≤◌, length, slice_index, slice_set}
+use Rattle.rd_state.specs.declared.task_change.TaskChange.{TaskChange}
+use Rattle.rd_state.specs.declared.task_change.TaskChange.TheVariants.{SetPc, SetReg, SetPhase}
+use Rattle.rd_state.specs.declared.task_change.TaskChange.TheVariants.{SetData}
+use Rattle.rd_state.specs.Sizes.{IsSizedTask}
+use Rattle.rd_state.specs.Snapshot.{TaskSnapshot}
+
+-- the task after a change
+abbrev pub task_applied : TaskSnapshot → TaskChange → TaskSnapshot
+task_applied task (SetPc pc) = record task { pc = pc }
+task_applied task (SetReg register value) =
+    record task { registers = slice_set task.registers register value }
+task_applied task (SetPhase phase) = record task { phase = phase }
+task_applied task (SetData bytes) = record task { bytes = bytes }
+
+-- the change that undoes a change made at this task
+abbrev pub task_inverse_of : TaskSnapshot → TaskChange → TaskChange
+task_inverse_of task (SetPc pc) = SetPc task.pc
+task_inverse_of task (SetReg register value) = SetReg register (slice_index task.registers register)
+task_inverse_of task (SetPhase phase) = SetPhase task.phase
+task_inverse_of task (SetData bytes) = SetData task.bytes
+
+-- The register is there, and the bytes fit a task's data.
+abbrev pub TaskFits : TaskChange → Type 0
+TaskFits (SetPc pc) = Unit {0}
+TaskFits (SetReg register value) = register < 8
+TaskFits (SetPhase phase) = Unit {0}
+TaskFits (SetData bytes) = length bytes ≤ 256
+
+-- the bytes that a change carries
+abbrev pub task_saved_bytes : TaskChange → ℕ
+task_saved_bytes (SetPc pc) = 0
+task_saved_bytes (SetReg register value) = 0
+task_saved_bytes (SetPhase phase) = 0
+task_saved_bytes (SetData bytes) = length bytes
+
+-- A change that is undone leaves the task as it was, and what undoes it fits.
+pub record TaskIsUndone (task : TaskSnapshot) (change : TaskChange) : Type 0 where
+  pub back : task_applied (task_applied task change) (task_inverse_of task change) ≡ task
+  pub fits : TaskFits (task_inverse_of task change)
+  pub sized : IsSizedTask (task_applied task change)
+
+-- whichever change it is, at whichever task it fits
+abbrev pub EachTaskChangeIsUndone : Type 0
+EachTaskChangeIsUndone = (task : TaskSnapshot) (change : TaskChange) → IsSizedTask task
+    → TaskFits change → TaskIsUndone task change
