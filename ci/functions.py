@@ -16,11 +16,13 @@ IMPL = re.compile(
 
 @dataclasses.dataclass
 class Function:
-    """A function from its first line to its last, counted from 0."""
+    """A function from its first line to its last, counted from 0, and whether it belongs to a
+    trait: then no other may stand beside it."""
 
     first: int
     last: int
     path: str
+    is_of_trait: bool = False
 
 
 @dataclasses.dataclass
@@ -32,6 +34,7 @@ class Block:
     name: str
     function: object
     is_clause: bool
+    is_of_trait: bool
 
 
 def blanked(text):
@@ -84,10 +87,13 @@ def functions_of(crate, file, text, homes):
             name = re.search(r"\bfn\s+(\w+)", head)
             if name and not begun:
                 path = path_of(module_of(crate, file), blocks, name[1], homes)
-                begun = Function(bisect.bisect_left(ends, header + name.start()), 0, path)
+                first = bisect.bisect_left(ends, header + name.start())
+                begun = Function(first, 0, path, any(block.is_of_trait for block in blocks))
                 found.append(begun)
             is_clause = in_clause or bool(CLAUSE.search(head))
-            blocks.append(Block(*named(head), None if is_clause else begun, is_clause))
+            is_of_trait = bool(re.search(r"\btrait\b|\bimpl\b.*\bfor\b", head, re.DOTALL))
+            function = None if is_clause else begun
+            blocks.append(Block(*named(head), function, is_clause, is_of_trait))
             begun = begun if is_clause else None
         elif char == "}" and blocks:
             function = blocks.pop().function

@@ -1,6 +1,6 @@
 -- An application: what a contract sees of an `App`, and the limits that each keeps.
 use Rattle.std.specs.Prelude.{ℕ, ◌≡◌, ◌-◌, ◌^◌, ◌<◌, ◌≤◌, Bool, true, false}
-use Rattle.std.specs.Prelude.{List, [], length, map, slice_index_or, All}
+use Rattle.std.specs.Prelude.{List, [], length, map, slice_index_or, All, Option, Some}
 use Rattle.rd_app.specs.declared.app.QueueShape.{QueueShape}
 use Rattle.rd_app.specs.declared.app.Kind.{Kind}
 use Rattle.rd_app.specs.declared.app.Kind.TheVariants as kind
@@ -13,6 +13,8 @@ use Rattle.rd_app.specs.declared.instr.LocalInstr.TheVariants.{Set, Add, Move, D
 use Rattle.rd_app.specs.declared.instr.LocalInstr.TheVariants.{Jump, JumpZero, End}
 use Rattle.rd_app.specs.declared.instr.QueueCall.{QueueCall}
 use Rattle.rd_app.specs.declared.instr.QueueCall.TheVariants.{Send, Receive}
+use Rattle.rd_queue.specs.declared.waiting_list.WaitingList.{WaitingList}
+use Rattle.rd_queue.specs.declared.waiting_list.WaitingList.TheVariants.{Receiving, Sending}
 use Rattle.rd_app.specs.TaskScript.{TaskScript}
 use Rattle.rd_text.specs.Names.{AreNames}
 
@@ -72,6 +74,11 @@ IsLocalWithin len End = Unit {0}
 abbrev pub IsQueueCall : QueueCall → Type 0
 IsQueueCall (Send wait) = IsOperand wait
 IsQueueCall (Receive wait) = IsOperand wait
+
+-- the list of its queue where a task waits for a call, if that has a block time
+abbrev pub list_of_call : QueueCall → Option WaitingList
+list_of_call (Send wait) = Some Sending
+list_of_call (Receive wait) = Some Receiving
 
 -- Registers, instructions of the script and objects are there.
 abbrev pub IsWithin : Application → ℕ → Instr → Type 0

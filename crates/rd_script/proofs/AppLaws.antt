@@ -1,24 +1,24 @@
 -- An application that is read is what its file says, within the limits.
-use Rattle.std.proofs.Common.{IfOk, IsOkAnd, inl, inr, ◌∷◌, ◌<◌, ◌≡◌, ◌∙◌, ℕ, suc, ◌-◌, ◌^◌, ◌≤◌, true, codes, List, [], length, Option}
+use Rattle.std.proofs.Common.{IfOk, IsOkAnd, inl, inr, ◌∷◌, ◌<◌, ◌≡◌, ◌∙◌, ℕ, ◌-◌, ◌^◌, ◌≤◌, true, codes, List, [], length, Option}
 use Rattle.std.proofs.Common.{Some, None, IsUtf8, cond, false, Result, Ok, Err, ok_or, refl, sym, ap, subst, arith}
 use Rattle.std.proofs.lemmas.List.Elements.{All-from_recursion, recursion_from_All}
 use Rattle.std.proofs.lemmas.Str.{IsUtf8-from_is_utf8, is_utf8-from_IsUtf8}
 use Rattle.std.specs.Str.{is_utf8}
 use Rattle.serde_json.specs.Read.{read}
 use Rattle.serde_json.proofs.OnLiterals.{serde_json_on_literals}
-use Rattle.serde_json.specs.Data.{Data, number, unsigned, array, Items, no_items, item}
+use Rattle.serde_json.specs.Data.{Data, number, unsigned, array, Items, no_items}
 use Rattle.serde_json.specs.Events.{items_len}
 use Rattle.serde_json.specs.Find.{get}
-use Rattle.rd_app.specs.declared.app.QueueShape.{QueueShape}
 use Rattle.rd_script.specs.declared.error.AppError.{AppError}
 use Rattle.rd_script.specs.declared.error.AppError.TheVariants as fault
 use Rattle.rd_script.specs.Spelling.{◌>>=◌}
 use Rattle.rd_app.specs.Application.{Application, IsApplication, IsQueueShape, IsScript}
 use Rattle.rd_text.specs.Names.{AreNames}
-use Rattle.rd_script.specs.File.{TaskDraft, object_with, field, number_in, number_or, array_in, array_or_empty, queues_after, tasks_after}
+use Rattle.rd_script.specs.File.{TaskDraft, object_with, field, number_in, number_or, array_in, array_or_empty, queue_of, queues_after, task_of, tasks_after}
 use Rattle.rd_script.specs.File.{scripts_after, file_keys, AppDraft, draft_of, with_scripts, app_of, text_of, file_of, checked}
 use Rattle.rd_script.specs.File.{GivesFaultFirst, GivesOrNoMemory}
-use Rattle.rd_script.specs.Says.{IsNumberOr, IsArrayOrEmpty, AreQueues, Says, FileSays}
+use Rattle.rd_script.specs.Says.{IsNumberOr, IsArrayOrEmpty, IsQueue, AreQueues, Says, FileSays}
+use Rattle.rd_script.proofs.NamedLaws.{length_named, named_again, named_take}
 use Rattle.rd_app.specs.TaskScript.{TaskScript}
 use Rattle.rd_script.proofs.Steps.{bind_ok, ok_or_ok, then_is, chosen}
 use Rattle.rd_script.proofs.Values.{object_ok, field_ok, number_ok, array_ok, object_again, field_again, number_again, array_again, limits_again}
@@ -34,23 +34,6 @@ number_or_ok otherwise least most (Some d) n low high e = number_ok least most d
 array_or_ok : (most : ℕ) (o : Option Data) (ds : Items) → array_or_empty most o ≡ Ok ds → IsArrayOrEmpty o ds × (items_len ds ≤ most)
 array_or_ok most None ds e = let is : no_items ≡ ds = cc in (sym is, omega (arith, ap items_len is))
 array_or_ok most (Some d) ds e = let a = array_ok 0 most d ds e in (a.0, a.2)
-
-length_queues : (ds : Items) (names : List (List ℕ)) (shapes : List QueueShape) → AreQueues ds names shapes
-    → (length names ≡ items_len ds) × (length shapes ≡ items_len ds)
-length_queues no_items [] [] h = (refl, refl)
-length_queues no_items [] (s ∷ shapes) h = absurd h
-length_queues no_items (n ∷ names) shapes h = absurd h
-length_queues (item d ds) [] shapes h = absurd h
-length_queues (item d ds) (n ∷ names) [] h = absurd h
-length_queues (item d ds) (n ∷ names) (s ∷ shapes) h = let rest = length_queues ds names shapes h.1 in (ap suc rest.0, ap suc rest.1)
-
-length_drafts : (ds : Items) (names : List (List ℕ)) (drafts : List TaskDraft) → task.AreDrafts ds names drafts → length names ≡ items_len ds
-length_drafts no_items [] [] h = refl
-length_drafts no_items [] (s ∷ drafts) h = absurd h
-length_drafts no_items (n ∷ names) drafts h = absurd h
-length_drafts (item d ds) [] drafts h = absurd h
-length_drafts (item d ds) (n ∷ names) [] h = absurd h
-length_drafts (item d ds) (n ∷ names) (s ∷ drafts) h = ap suc (length_drafts ds names drafts h.1)
 
 -- the application was read so
 pub record IsRead (d : Data) (app : Application) (profile cores tasks : Data) (queue_items task_items : Items) (drafts : List TaskDraft) : Type 0 where
@@ -80,21 +63,25 @@ read_takes d app profile cores tasks queue_items task_items drafts read =
     let tick = number_or_ok 0 0 (2 ^ 32 - 1) (get (codes "tick") d) app.tick (omega arith) (omega arith) read.tick in
     let queue_array = array_or_ok 32 (get (codes "queues") d) queue_items read.queue_array in
     let task_array = array_ok 1 32 tasks task_items read.task_array in
-    let queues = queue.queues_take queue_items [] [] (app.queue_names, app.queues) read.queues (record { are_names = no_names; are_shapes = tt }) in
-    let taken = task.tasks_take task_items [] [] (app.task_names, drafts) read.drafts_are (record { are_names = no_names; are_drafts = tt }) in
+    let queues = 
+    named_take queue_of IsQueue IsQueueShape queue.queue_takes queue_items [] [] (app.queue_names, app.queues) read.queues
+    (record { are_names = no_names; are_things = tt }) in
+    let taken = 
+    named_take task_of task.IsDraft task.IsDraftInLimits task.task_takes task_items [] [] (app.task_names, drafts) read.drafts_are
+    (record { are_names = no_names; are_things = tt }) in
     let scripts = scripts_take app.queue_names drafts [] app.scripts read.scripts in
     let names_said : AreQueues queue_items app.queue_names app.queues =
     subst (λ (ns : List (List ℕ)). AreQueues queue_items ns app.queues) (sym queues.2.names_are)
-    (subst (AreQueues queue_items queues.0) (sym queues.2.shapes_are) queues.2.said) in
+    (subst (AreQueues queue_items queues.0) (sym queues.2.things_are) queues.2.said) in
     let drafts_said : task.AreDrafts task_items app.task_names drafts =
     subst (λ (ns : List (List ℕ)). task.AreDrafts task_items ns drafts) (sym taken.2.names_are)
-    (subst (task.AreDrafts task_items taken.0) (sym taken.2.drafts_are) taken.2.said) in
+    (subst (task.AreDrafts task_items taken.0) (sym taken.2.things_are) taken.2.said) in
     let scripts_said : AreScripts app.queue_names drafts app.scripts = subst (AreScripts app.queue_names drafts) (sym scripts.1) scripts.2 in
     let tasks_said = task.tasks_said app.queue_names task_items app.task_names drafts app.scripts drafts_said scripts_said in
-    let sizes = length_queues queue_items app.queue_names app.queues names_said in
-    let count = length_drafts task_items app.task_names drafts drafts_said in
+    let sizes = length_named IsQueue queue_items app.queue_names app.queues names_said in
+    let count = (length_named task.IsDraft task_items app.task_names drafts drafts_said).0 in
     let same : length app.queues ≡ length app.queue_names = omega (arith, sizes) in
-    let within = task.scripts_in_limits app app.queue_names drafts app.scripts same taken.2.kept.are_drafts scripts_said in (
+    let within = task.scripts_in_limits app app.queue_names drafts app.scripts same taken.2.kept.are_things scripts_said in (
       record {
         keys = object_ok file_keys d tt read.keys;
         profile_at = field_ok (codes "profile") d profile read.profile_at ∙ ap Some one.0;
@@ -113,7 +100,7 @@ read_takes d app profile cores tasks queue_items task_items drafts read =
         few_notes = notes.2;
         tick = omega (arith, tick);
         few_queues = omega (arith, queue_array, sizes);
-        queues = All-from_recursion IsQueueShape app.queues queues.2.kept.are_shapes;
+        queues = All-from_recursion IsQueueShape app.queues queues.2.kept.are_things;
         queue_names = sym same;
         named_queues = queues.2.kept.are_names;
         some_tasks = omega (arith, task_array, count, tasks_said.1);
@@ -245,11 +232,11 @@ app_read d app profile cores tasks queue_items task_items drafts read =
 
 pub app_again : (d : Data) (app : Application) (queue_items task_items : Items) → Says d app queue_items task_items → IsApplication app → app_of d ≡ Ok app
 app_again d app queue_items task_items says limits =
-    let sizes = length_queues queue_items app.queue_names app.queues says.queues in
+    let sizes = length_named IsQueue queue_items app.queue_names app.queues says.queues in
     let shapes = recursion_from_All IsQueueShape app.queues limits.queues in
     let scripts = recursion_from_All (IsScript app) app.scripts limits.scripts in
     let split = task.tasks_split app app.queue_names task_items app.task_names app.scripts says.tasks scripts in
-    let count = length_drafts task_items app.task_names split.0 split.1 in
+    let count = (length_named task.IsDraft task_items app.task_names split.0 split.1).0 in
     app_read d app (number (unsigned 1)) (number (unsigned app.cores)) (array task_items) queue_items task_items split.0 (record {
       keys = object_again file_keys d says.keys;
       profile_at = field_again (codes "profile") d _ says.profile_at;
@@ -260,10 +247,10 @@ app_again d app queue_items task_items says limits =
       notes = number_or_again 1 1 4 (get (codes "notes") d) app.notes says.notes_at (omega (arith, limits.some_notes)) limits.few_notes;
       tick = number_or_again 0 0 (2 ^ 32 - 1) (get (codes "tick") d) app.tick says.tick_at (omega arith) (omega (arith, limits.tick));
       queue_array = array_or_again 32 (get (codes "queues") d) queue_items says.queues_at (omega (arith, sizes, limits.few_queues));
-      queues = queue.queues_again queue_items [] [] app.queue_names app.queues says.queues limits.named_queues shapes;
+      queues = named_again queue_of IsQueue IsQueueShape queue.queue_again queue_items [] [] app.queue_names app.queues says.queues limits.named_queues shapes;
       task_array = array_again 1 32 (array task_items) task_items refl (omega (arith, count, limits.some_tasks, limits.task_names))
           (omega (arith, count, limits.few_tasks, limits.task_names));
-      drafts_are = task.tasks_again task_items [] [] app.task_names split.0 split.1 limits.named_tasks split.2;
+      drafts_are = named_again task_of task.IsDraft task.IsReadable task.draft_again task_items [] [] app.task_names split.0 split.1 limits.named_tasks split.2;
       scripts = scripts_again app.queue_names split.0 [] app.scripts split.3;
     })
 

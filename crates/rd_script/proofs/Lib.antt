@@ -3,6 +3,7 @@ pub mod FileLemmas
 pub mod Steps
 pub mod SpellingLaws
 pub mod Values
+pub mod NamedLaws
 pub mod QueueLaws
 pub mod ScriptLaws
 pub mod TaskLaws

@@ -1,122 +1,25 @@
 -- Scripts that are read are spelled by their texts, and what spells a script is read.
-use Rattle.std.proofs.Common.{◌≡◌, ◌∙◌, ℕ, zero, suc, ◌-◌, ◌<◌, ◌≤◌, ◌&&◌, ◌==◌, Bool, true, false, cond, codes, List, [], ◌∷◌, ◌++◌}
-use Rattle.std.proofs.Common.{length, slice_index, Option, Some, None, Result, Ok, Err, nat_le, nat_lt, ok_or, position, refl, sym, ap}
+use Rattle.std.proofs.Common.{◌≡◌, ◌∙◌, ℕ, zero, suc, ◌-◌, ◌≤◌, true, false, List, [], ◌∷◌, ◌++◌}
+use Rattle.std.proofs.Common.{length, Some, Ok, ok_or, refl, sym, ap}
 use Rattle.std.proofs.Common.{subst, append_assoc, arith}
-use Rattle.std.specs.Str.{bytes_eq}
-use Rattle.std.proofs.lemmas.Bool.Decides.{nat_tests}
-use Rattle.std.proofs.lemmas.List.Quantifiers.{position-Some}
-use Rattle.std.specs.Result.{result_ok}
-use Rattle.hex.specs.Hex.{decode_of}
-use Rattle.hex.proofs.HexLemmas.{decode_of-ok}
-use Rattle.rd_app.specs.declared.instr.Operand.{Operand}
-use Rattle.rd_app.specs.declared.instr.Operand.TheVariants as operand
 use Rattle.rd_app.specs.declared.instr.Instr.{Instr}
-use Rattle.rd_app.specs.declared.instr.Instr.TheVariants.{Local, Queue}
+use Rattle.rd_app.specs.declared.instr.Instr.TheVariants.{Local}
 use Rattle.rd_app.specs.declared.instr.LocalInstr.TheVariants as local
-use Rattle.rd_app.specs.declared.instr.QueueCall.TheVariants as call
-use Rattle.rd_app.specs.Application.{Application, IsOperand, IsWithin, IsScript, is_final, max_delay}
-use Rattle.rd_script.specs.Spelling.{◌>>=◌, register_of, operand_of, time_of, target_of}
+use Rattle.rd_app.specs.Application.{Application, IsWithin, IsScript, is_final}
+use Rattle.rd_script.specs.Spelling.{◌>>=◌}
 use Rattle.serde_json.specs.Data.{Data, null, boolean, number, string, array, object, Items, no_items, item}
 use Rattle.serde_json.specs.Events.{items_len}
 use Rattle.serde_json.specs.Find.{as_str}
 use Rattle.std.specs.List.{AllByRecursion, slice_get}
-use Rattle.std.specs.Option.{option_or}
 use Rattle.std.specs.Prelude.{option_map, unwrap_or, slice_index_or}
 use Rattle.std.proofs.lemmas.List.{append-nil}
 use Rattle.std.proofs.lemmas.List.Elements.{All-from_recursion}
 use Rattle.rd_script.specs.File.{TaskDraft, line_of, lines_after, ends, code_of, scripts_after}
 use Rattle.rd_script.specs.Says.{IsLine, AreLines, IsCode}
-use Rattle.rd_script.specs.Spells.{queue_named, Spells}
 use Rattle.rd_app.specs.TaskScript.{TaskScript}
-use Rattle.rd_text.specs.Words.{name_of, words_of, number_of, bytes_of, is_some_word}
-use Rattle.rd_script.proofs.SpellingLaws.{then_some, instr_takes, instr_again}
+use Rattle.rd_text.specs.Words.{words_of}
+use Rattle.rd_script.proofs.SpellingLaws.{instr_takes, instr_again, spells_within}
 use Rattle.rd_script.proofs.Steps.{bind_ok, guard_ok, ok_or_ok}
-use Rattle.rd_text.proofs.WordLemmas.{and_right}
-
--- the value that a test lets through
-some_if : {X : Type 0} (b : Bool) (x y : X) → cond b (Some x) None ≡ Some y → (b ≡ true) × (x ≡ y)
-some_if true x y e = (refl, cc)
-some_if false x y e = absurd cc
-
-register_small : (word : List ℕ) (register : ℕ) → register_of word ≡ Some register → register < 8
-register_small word register e =
-    let h =
-    some_if (length word == 2 && slice_index word 0 == 114 && nat_le 48 (slice_index word 1) && nat_le (slice_index word 1) 55)
-    (slice_index word 1 - 48) register e in
-    let last : nat_le (slice_index word 1) 55 ≡ true =
-    and_right (length word == 2 && slice_index word 0 == 114 && nat_le 48 (slice_index word 1)) (nat_le (slice_index word 1) 55) h.0 in
-    let small : slice_index word 1 ≤ 55 = grind (arith, nat_tests) in
-    omega (arith, h.1)
-
-target_small : (len : ℕ) (word : List ℕ) (target : ℕ) → target_of len word ≡ Some target → target < len
-target_small len word target e =
-    let n = then_some (λ target. cond (nat_lt target len) (Some target) None) (number_of word) target e in
-    let h = some_if (nat_lt n.0 len) n.0 target n.2 in
-    let below : n.0 < len = grind (arith, nat_tests) in
-    omega (arith, h.1)
-
-queue_there : (queues : List (List ℕ)) (word : List ℕ) (queue : ℕ) → queue_named queues word ≡ Some queue → queue < length queues
-queue_there queues word queue e =
-    let name = then_some (λ name. position (bytes_eq name) queues) (name_of word) queue e in
-    (position-Some (bytes_eq name.0) queues queue [] name.2).0
-
-option_if : {X : Type 0} (b : Bool) (o : Option X) (y : X) → cond b o None ≡ Some y → (b ≡ true) × (o ≡ Some y)
-option_if true o y e = (refl, e)
-option_if false o y e = absurd cc
-
-ok_some : {X E : Type 0} (r : Result X E) (x : X) → result_ok r ≡ Some x → r ≡ Ok x
-ok_some (Ok y) x e = let is : y ≡ x = cc in ap Ok is
-ok_some (Err d) x e = absurd cc
-
-decoded_few : (word bytes : List ℕ) → cond (is_some_word word && nat_le (length word) 512) (result_ok (decode_of word)) None ≡ Some bytes → length bytes ≤ 256
-decoded_few word bytes e =
-    let h = option_if (is_some_word word && nat_le (length word) 512) (result_ok (decode_of word)) bytes e in
-    let long : nat_le (length word) 512 ≡ true = and_right (is_some_word word) _ h.0 in
-    let few : length word ≤ 512 = grind (arith, nat_tests) in
-    let twice = (decode_of-ok word bytes (ok_some (decode_of word) bytes h.1)).2 in
-    omega (arith, twice)
-
-none_few : (bytes : List ℕ) → Some [] ≡ Some bytes → length bytes ≤ 256
-none_few bytes e = let is : [] ≡ bytes = cc in omega (arith, ap length is)
-
-bytes_few : (word bytes : List ℕ) → bytes_of word ≡ Some bytes → length bytes ≤ 256
-bytes_few word bytes =
-    elim (bytes_eq word (codes "-")) as
-    (λ b. cond b (Some []) (cond (is_some_word word && nat_le (length word) 512) (result_ok (decode_of word)) None) ≡ Some bytes → length bytes ≤ 256) [
-      | true ↦ none_few bytes
-      | false ↦ decoded_few word bytes
-    ]
-
--- an operand that is a register, or otherwise a number
-either_there : (register value : Option ℕ) (o : Operand) → ((r : ℕ) → register ≡ Some r → r < 8)
-    → option_or (option_map operand.Register register) (option_map operand.Number value) ≡ Some o → IsOperand o
-either_there (Some r) value o small e = let is : operand.Register r ≡ o = cc in subst IsOperand is (small r refl)
-either_there None (Some n) o small e = let is : operand.Number n ≡ o = cc in subst IsOperand is tt
-either_there None None o small e = absurd cc
-
-max_there : (o : Operand) → Some (operand.Number max_delay) ≡ Some o → IsOperand o
-max_there o e = let is : operand.Number max_delay ≡ o = cc in subst IsOperand is tt
-
-time_there : (word : List ℕ) (wait : Operand) → time_of word ≡ Some wait → IsOperand wait
-time_there word wait =
-    elim (bytes_eq word (codes "max")) as (λ b. cond b (Some (operand.Number max_delay)) (operand_of word) ≡ Some wait → IsOperand wait) [
-      | true ↦ max_there wait
-      | false ↦ either_there (register_of word) (number_of word) wait (register_small word)
-    ]
-
-pub spells_within : (app : Application) (queues : List (List ℕ)) (len : ℕ) (words : List (List ℕ)) (i : Instr) → length app.queues ≡ length queues
-    → Spells queues len words i → IsWithin app len i
-spells_within app queues len words (Local (local.Set a b)) sizes h = register_small h.0 a h.3
-spells_within app queues len words (Local (local.Add a b)) sizes h = register_small h.0 a h.3
-spells_within app queues len words (Local (local.Move a b)) sizes h = (register_small h.0 a h.3, register_small h.1 b h.4)
-spells_within app queues len words (Local (local.Data a)) sizes h = bytes_few h.0 a h.2
-spells_within app queues len words (Local (local.Pack a)) sizes h = register_small h.0 a h.2
-spells_within app queues len words (Local (local.Unpack a)) sizes h = register_small h.0 a h.2
-spells_within app queues len words (Local (local.Jump a)) sizes h = target_small len h.0 a h.2
-spells_within app queues len words (Local (local.JumpZero a b)) sizes h = (register_small h.0 a h.3, target_small len h.1 b h.4)
-spells_within app queues len words (Local local.End) sizes h = tt
-spells_within app queues len words (Queue a (call.Send b)) sizes h = (rw sizes (queue_there queues h.0 a h.3), time_there h.1 b h.4)
-spells_within app queues len words (Queue a (call.Receive b)) sizes h = (rw sizes (queue_there queues h.0 a h.3), time_there h.1 b h.4)
 
 -- ---- the texts of a task
 

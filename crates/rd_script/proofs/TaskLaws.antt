@@ -1,20 +1,17 @@
 -- A task that is read is spelled by its value, and what spells a task is read.
-use Rattle.std.proofs.Common.{◌≡◌, ◌∙◌, ℕ, suc, ◌≤◌, true, codes, List, [], ◌∷◌, ◌++◌, length, Some, Ok, refl, sym, ap, subst, append_assoc, arith}
+use Rattle.std.proofs.Common.{◌≡◌, ◌∙◌, ℕ, suc, ◌≤◌, true, codes, List, [], ◌∷◌, length, Some, Ok, refl, ap, subst, arith}
 use Rattle.serde_json.specs.Data.{Data, number, unsigned, string, array, Items, no_items, item}
 use Rattle.serde_json.specs.Events.{items_len}
 use Rattle.serde_json.specs.Find.{get}
 use Rattle.std.specs.List.{AllByRecursion}
-use Rattle.std.proofs.lemmas.List.{append-nil}
 use Rattle.rd_app.specs.declared.instr.Instr.{Instr}
 use Rattle.rd_app.specs.Application.{Application, IsScript}
-use Rattle.rd_text.specs.Names.{AreNames}
-use Rattle.rd_script.specs.Says.{AreTasks, AreLines}
+use Rattle.rd_script.specs.Says.{AreNamed, AreTasks, AreLines}
 use Rattle.rd_app.specs.TaskScript.{TaskScript}
-use Rattle.rd_script.specs.File.{is_object_with, object_with, field, number_in, array_in, new_name, are_texts, TaskDraft, task_keys, task_of, tasks_after}
+use Rattle.rd_script.specs.File.{is_object_with, object_with, field, number_in, array_in, new_name, are_texts, TaskDraft, task_keys, task_of}
 use Rattle.rd_script.proofs.Steps.{bind_ok, guard_ok, then_is}
 use Rattle.rd_script.proofs.Values.{object_again, field_again, name_again, array_again, limits_again, object_ok, field_ok, number_ok, array_ok, name_ok}
-use Rattle.rd_script.proofs.QueueLaws.{AllByRecursion-push}
-use Rattle.rd_text.proofs.NameLaws.{AreNames-push, IsNewName, IsNewName-in}
+use Rattle.rd_text.proofs.NameLaws.{IsNewName}
 use Rattle.rd_script.proofs.ScriptLaws.{AreScripts, is_script, length_lines}
 
 -- what a value says of a task
@@ -59,52 +56,7 @@ task_takes names d t e =
 -- ---- the tasks of an array
 
 abbrev pub AreDrafts : Items → List (List ℕ) → List TaskDraft → Type 0
-AreDrafts no_items [] [] = Unit {0}
-AreDrafts (item d ds) (name ∷ names) (draft ∷ drafts) = IsDraft d name draft × AreDrafts ds names drafts
-AreDrafts _ _ _ = ⊥
-
-pub record AreKept (names : List (List ℕ)) (drafts : List TaskDraft) : Type 0 where
-  pub are_names : AreNames names
-  pub are_drafts : AllByRecursion IsDraftInLimits drafts
-
--- the tasks that an array adds
-pub record Adds (ds : Items) (names : List (List ℕ)) (drafts : List TaskDraft) (t : List (List ℕ) × List TaskDraft) (more : List (List ℕ))
-    (others : List TaskDraft) : Type 0 where
-  pub names_are : t.0 ≡ names ++ more
-  pub drafts_are : t.1 ≡ drafts ++ others
-  pub said : AreDrafts ds more others
-  pub kept : AreKept t.0 t.1
-
-pub tasks_take : (ds : Items) (names : List (List ℕ)) (drafts : List TaskDraft) (t : List (List ℕ) × List TaskDraft) → tasks_after names drafts ds ≡ Ok t
-    → AreKept names drafts → (more : List (List ℕ)) × (others : List TaskDraft) × Adds ds names drafts t more others
-tasks_take no_items names drafts t e kept =
-    let is : (names, drafts) ≡ t = cc in (
-      [],
-      [],
-      record {
-        names_are = ap (λ (t : List (List ℕ) × List TaskDraft). t.0) (sym is) ∙ sym (append-nil names);
-        drafts_are = ap (λ (t : List (List ℕ) × List TaskDraft). t.1) (sym is) ∙ sym (append-nil drafts);
-        said = tt;
-        kept = subst (λ (t : List (List ℕ) × List TaskDraft). AreKept t.0 t.1) is kept;
-      },
-    )
-tasks_take (item d ds) names drafts t e kept =
-    let first = bind_ok (task_of names d) _ t e in
-    let taken = task_takes names d first.0 first.1 in
-    let rest =
-    tasks_take ds (names ++ first.0.0 ∷ []) (drafts ++ first.0.1 ∷ []) t first.2 (record {
-      are_names = AreNames-push names first.0.0 kept.are_names taken.1;
-      are_drafts = AllByRecursion-push IsDraftInLimits drafts first.0.1 kept.are_drafts taken.2;
-    }) in (
-      first.0.0 ∷ rest.0,
-      first.0.1 ∷ rest.1,
-      record {
-        names_are = rest.2.names_are ∙ append_assoc names (first.0.0 ∷ []) rest.0;
-        drafts_are = rest.2.drafts_are ∙ append_assoc drafts (first.0.1 ∷ []) rest.1;
-        said = (taken.0, rest.2.said);
-        kept = rest.2.kept;
-      },
-    )
+AreDrafts ds names drafts = AreNamed IsDraft ds names drafts
 
 -- drafts and their scripts are tasks
 pub tasks_said : (queues : List (List ℕ)) (ds : Items) (names : List (List ℕ)) (drafts : List TaskDraft) (scripts : List TaskScript) → AreDrafts ds names drafts
@@ -165,18 +117,9 @@ pub record IsReadable (draft : TaskDraft) : Type 0 where
   pub in_limits : IsDraftInLimits draft
   pub texts : are_texts draft.lines ≡ true
 
-pub tasks_again : (ds : Items) (names : List (List ℕ)) (drafts : List TaskDraft) (more : List (List ℕ)) (others : List TaskDraft) → AreDrafts ds more others
-    → AreNames (names ++ more) → AllByRecursion IsReadable others → tasks_after names drafts ds ≡ Ok (names ++ more, drafts ++ others)
-tasks_again no_items names drafts [] [] h are limits = rw (append-nil names, append-nil drafts) refl
-tasks_again no_items names drafts [] (s ∷ others) h are limits = absurd h
-tasks_again no_items names drafts (n ∷ more) others h are limits = absurd h
-tasks_again (item d ds) names drafts [] others h are limits = absurd h
-tasks_again (item d ds) names drafts (n ∷ more) [] h are limits = absurd h
-tasks_again (item d ds) names drafts (n ∷ more) (s ∷ others) h are limits =
-    let all : AreNames ((names ++ n ∷ []) ++ more) = subst AreNames (sym (append_assoc names (n ∷ []) more)) are in
-    then_is (task_of names d) _ (n, s) _ (task_again names d n s h.0 (IsNewName-in names n more are) limits.0.in_limits limits.0.texts)
-    (tasks_again ds (names ++ n ∷ []) (drafts ++ s ∷ []) more others h.1 all limits.1
-    ∙ rw (append_assoc names (n ∷ []) more, append_assoc drafts (s ∷ []) others) refl)
+pub draft_again : (names : List (List ℕ)) (d : Data) (name : List ℕ) (draft : TaskDraft) → IsDraft d name draft → IsNewName names name → IsReadable draft
+    → task_of names d ≡ Ok (name, draft)
+draft_again names d name draft h new ok = task_again names d name draft h new ok.in_limits ok.texts
 
 texts_said : (queues : List (List ℕ)) (len : ℕ) (lines : Items) (code : List Instr) → AreLines queues len lines code → are_texts lines ≡ true
 texts_said queues len no_items [] h = refl

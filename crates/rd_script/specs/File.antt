@@ -68,6 +68,19 @@ new_name names d = do
   name ← ok_or (as_str d) fault.Shape
   if is_name name && not (list_any (bytes_eq name) names) then Ok name else Err fault.Name
 
+-- ---- arrays of named things
+
+-- those before, and those of the array, each read over the names before it
+abbrev pub named_after : {X : Type 0} → (List (List ℕ) → Data → Result (List ℕ × X) AppError)
+    → List (List ℕ)
+    → List X
+    → Items
+    → Result (List (List ℕ) × List X) AppError
+named_after read names things no_items = Ok (names, things)
+named_after read names things (item d ds) = do
+  thing ← read names d
+  named_after read (names ++ thing.0 ∷ []) (things ++ thing.1 ∷ []) ds
+
 -- ---- queues
 
 abbrev pub queue_keys : List (List ℕ)
@@ -84,13 +97,9 @@ queue_of names d = do
   item_size ← number_in 1 64 item_size
   Ok (name, record { capacity = capacity; item_size = item_size })
 
--- those before, and those of the array
 abbrev pub queues_after : List (List ℕ) → List QueueShape → Items
     → Result (List (List ℕ) × List QueueShape) AppError
-queues_after names shapes no_items = Ok (names, shapes)
-queues_after names shapes (item d ds) = do
-  queue ← queue_of names d
-  queues_after (names ++ queue.0 ∷ []) (shapes ++ queue.1 ∷ []) ds
+queues_after names shapes ds = named_after queue_of names shapes ds
 
 -- ---- tasks
 
@@ -122,10 +131,7 @@ task_of names d = do
 
 abbrev pub tasks_after : List (List ℕ) → List TaskDraft → Items
     → Result (List (List ℕ) × List TaskDraft) AppError
-tasks_after names drafts no_items = Ok (names, drafts)
-tasks_after names drafts (item d ds) = do
-  task ← task_of names d
-  tasks_after (names ++ task.0 ∷ []) (drafts ++ task.1 ∷ []) ds
+tasks_after names drafts ds = named_after task_of names drafts ds
 
 -- ---- scripts
 

@@ -1,6 +1,5 @@
 -- What the contracts of this crate cite.
 pub mod Spelling
-pub mod Spells
 pub mod File
 pub mod Draft
 pub mod Says

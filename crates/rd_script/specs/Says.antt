@@ -8,7 +8,7 @@ use Rattle.rd_app.specs.declared.app.QueueShape.{QueueShape}
 use Rattle.rd_app.specs.declared.instr.Instr.{Instr}
 use Rattle.rd_app.specs.Application.{Application}
 use Rattle.rd_script.specs.File.{is_object_with, queue_keys, task_keys, file_keys, ends}
-use Rattle.rd_script.specs.Spells.{Spells}
+use Rattle.rd_script.specs.Spelling.{Spells}
 use Rattle.rd_app.specs.TaskScript.{TaskScript}
 use Rattle.rd_text.specs.Words.{words_of}
 
@@ -18,12 +18,16 @@ pub record IsQueue (d : Data) (name : List ℕ) (shape : QueueShape) : Type 0 wh
   pub length_at : get (codes "length") d ≡ Some (number (unsigned shape.capacity))
   pub item_at : get (codes "item") d ≡ Some (number (unsigned shape.item_size))
 
--- one after another
+-- The values of an array say these things of these names, one after another.
+abbrev pub AreNamed : {X : Type 0} → (Data → List ℕ → X → Type 0) → Items → List (List ℕ) → List X
+    → Type 0
+AreNamed Is no_items [] [] = Unit {0}
+AreNamed Is (item d ds) (name ∷ names) (thing ∷ things) =
+    Is d name thing × AreNamed Is ds names things
+AreNamed Is _ _ _ = ⊥
+
 abbrev pub AreQueues : Items → List (List ℕ) → List QueueShape → Type 0
-AreQueues no_items [] [] = Unit {0}
-AreQueues (item d ds) (name ∷ names) (shape ∷ shapes) =
-    IsQueue d name shape × AreQueues ds names shapes
-AreQueues _ _ _ = ⊥
+AreQueues ds names shapes = AreNamed IsQueue ds names shapes
 
 -- a text whose words spell the instruction
 abbrev pub IsLine : List (List ℕ) → ℕ → Data → Instr → Type 0
@@ -54,10 +58,8 @@ pub record IsTask
   pub code : IsCode queues lines script.code
 
 abbrev pub AreTasks : List (List ℕ) → Items → List (List ℕ) → List TaskScript → Type 0
-AreTasks queues no_items [] [] = Unit {0}
-AreTasks queues (item d ds) (name ∷ names) (script ∷ scripts) =
-    ((lines : Items) × IsTask queues d name script lines) × AreTasks queues ds names scripts
-AreTasks queues _ _ _ = ⊥
+AreTasks queues ds names scripts =
+    AreNamed (λ d name script. (lines : Items) × IsTask queues d name script lines) ds names scripts
 
 -- what stands at a key, or what it means to leave the key out
 abbrev pub IsNumberOr : ℕ → Option Data → ℕ → Type 0

@@ -12,6 +12,7 @@ use Rattle.rd_app.specs.declared.instr.Operand.TheVariants.{Number, Register}
 use Rattle.rd_app.specs.declared.instr.Instr.{Instr}
 use Rattle.rd_app.specs.declared.instr.Instr.TheVariants.{Local, Queue}
 use Rattle.rd_app.specs.declared.instr.LocalInstr.TheVariants as local
+use Rattle.rd_app.specs.declared.instr.QueueCall.{QueueCall}
 use Rattle.rd_app.specs.declared.instr.QueueCall.TheVariants as call
 use Rattle.rd_script.specs.declared.spelling.Keyword.{Keyword}
 use Rattle.rd_script.specs.declared.spelling.Keyword.TheVariants.{Set, Add, Move, Data, Pack}
@@ -20,20 +21,32 @@ use Rattle.rd_script.specs.declared.spelling.Keyword.TheVariants.{Send, Receive}
 use Rattle.rd_app.specs.Application.{max_delay}
 use Rattle.rd_text.specs.Words.{number_of, bytes_of, name_of}
 
+-- what each keyword is written as
+abbrev pub text_of : Keyword → List ℕ
+text_of Set = codes "set"
+text_of Add = codes "add"
+text_of Move = codes "move"
+text_of Data = codes "data"
+text_of Pack = codes "pack"
+text_of Unpack = codes "unpack"
+text_of Jump = codes "jump"
+text_of JumpZero = codes "jumpz"
+text_of End = codes "end"
+text_of Send = codes "send"
+text_of Receive = codes "recv"
+
+abbrev pub keywords : List Keyword
+keywords =
+    Set ∷ Add ∷ Move ∷ Data ∷ Pack ∷ Unpack ∷ Jump ∷ JumpZero ∷ End ∷ Send ∷ Receive ∷ []
+
+-- the first of these that is written so
+abbrev pub first_written : List ℕ → List Keyword → Option Keyword
+first_written word [] = None
+first_written word (keyword ∷ others) =
+    if bytes_eq word (text_of keyword) then Some keyword else first_written word others
+
 abbrev pub keyword_of : List ℕ → Option Keyword
-keyword_of word =
-    if bytes_eq word (codes "set") then Some Set
-    else if bytes_eq word (codes "add") then Some Add
-    else if bytes_eq word (codes "move") then Some Move
-    else if bytes_eq word (codes "data") then Some Data
-    else if bytes_eq word (codes "pack") then Some Pack
-    else if bytes_eq word (codes "unpack") then Some Unpack
-    else if bytes_eq word (codes "jump") then Some Jump
-    else if bytes_eq word (codes "jumpz") then Some JumpZero
-    else if bytes_eq word (codes "end") then Some End
-    else if bytes_eq word (codes "send") then Some Send
-    else if bytes_eq word (codes "recv") then Some Receive
-    else None
+keyword_of word = first_written word keywords
 
 -- `r0` to `r7`
 abbrev pub register_of : List ℕ → Option ℕ
@@ -100,53 +113,57 @@ queue_and_wait queues words = do
   queue ← queue_of queues name.0
   Ok (queue, wait.0)
 
--- the words after the first
-unfoldable pub operation_of : List (List ℕ) → ℕ → Keyword → List (List ℕ) → Result Instr AppError
-operation_of queues len Set words = do
-  register ← next_as register_of words
-  value ← next_as number_of register.1
-  _ ← no_more_words value.1
-  Ok (Local (local.Set register.0 value.0))
-operation_of queues len Add words = do
-  register ← next_as register_of words
-  value ← next_as number_of register.1
-  _ ← no_more_words value.1
-  Ok (Local (local.Add register.0 value.0))
-operation_of queues len Move words = do
-  into ← next_as register_of words
-  from ← next_as register_of into.1
-  _ ← no_more_words from.1
-  Ok (Local (local.Move into.0 from.0))
-operation_of queues len Data words = do
+-- ---- the keywords' rows
+
+-- The operands of a keyword, each as it is read, and the instruction that they make.
+pub data Form : Type 0 where
+  Alone : Instr → Form
+  One : (List ℕ → Option ℕ) → (ℕ → Instr) → Form
+  Two : (List ℕ → Option ℕ) → (List ℕ → Option ℕ) → (ℕ → ℕ → Instr) → Form
+  OfBytes : (List ℕ → Instr) → Form
+  OfQueue : (Operand → QueueCall) → Form
+
+-- in a script of that length
+abbrev pub form_of : ℕ → Keyword → Form
+form_of len Set = Two register_of number_of (λ register value. Local (local.Set register value))
+form_of len Add = Two register_of number_of (λ register value. Local (local.Add register value))
+form_of len Move = Two register_of register_of (λ into from. Local (local.Move into from))
+form_of len Data = OfBytes (λ bytes. Local (local.Data bytes))
+form_of len Pack = One register_of (λ register. Local (local.Pack register))
+form_of len Unpack = One register_of (λ register. Local (local.Unpack register))
+form_of len Jump = One (target_of len) (λ target. Local (local.Jump target))
+form_of len JumpZero =
+    Two register_of (target_of len) (λ register target. Local (local.JumpZero register target))
+form_of len End = Alone (Local local.End)
+form_of len Send = OfQueue (λ wait. call.Send wait)
+form_of len Receive = OfQueue (λ wait. call.Receive wait)
+
+-- ---- how a row is read
+
+-- the words after a keyword, over queues of these names
+unfoldable pub read_by : List (List ℕ) → Form → List (List ℕ) → Result Instr AppError
+read_by queues (Alone instr) words = do
+  _ ← no_more_words words
+  Ok instr
+read_by queues (One read make) words = do
+  x ← next_as read words
+  _ ← no_more_words x.1
+  Ok (make x.0)
+read_by queues (Two read also make) words = do
+  x ← next_as read words
+  y ← next_as also x.1
+  _ ← no_more_words y.1
+  Ok (make x.0 y.0)
+read_by queues (OfBytes make) words = do
   bytes ← next_as bytes_of words
   _ ← no_more_words bytes.1
-  Ok (Local (local.Data bytes.0))
-operation_of queues len Pack words = do
-  register ← next_as register_of words
-  _ ← no_more_words register.1
-  Ok (Local (local.Pack register.0))
-operation_of queues len Unpack words = do
-  register ← next_as register_of words
-  _ ← no_more_words register.1
-  Ok (Local (local.Unpack register.0))
-operation_of queues len Jump words = do
-  target ← next_as (target_of len) words
-  _ ← no_more_words target.1
-  Ok (Local (local.Jump target.0))
-operation_of queues len JumpZero words = do
-  register ← next_as register_of words
-  target ← next_as (target_of len) register.1
-  _ ← no_more_words target.1
-  Ok (Local (local.JumpZero register.0 target.0))
-operation_of queues len End words = do
-  _ ← no_more_words words
-  Ok (Local local.End)
-operation_of queues len Send words = do
+  Ok (make bytes.0)
+read_by queues (OfQueue call_with) words = do
   object ← queue_and_wait queues words
-  Ok (Queue object.0 (call.Send object.1))
-operation_of queues len Receive words = do
-  object ← queue_and_wait queues words
-  Ok (Queue object.0 (call.Receive object.1))
+  Ok (Queue object.0 (call_with object.1))
+
+abbrev pub operation_of : List (List ℕ) → ℕ → Keyword → List (List ℕ) → Result Instr AppError
+operation_of queues len keyword words = read_by queues (form_of len keyword) words
 
 -- the instruction of a text's words, or its fault: one in the form of a word comes before an
 -- unknown name
@@ -154,3 +171,47 @@ unfoldable pub instr_of : List (List ℕ) → ℕ → List (List ℕ) → Result
 instr_of queues len words = do
   keyword ← next_as keyword_of words
   operation_of queues len keyword.0 keyword.1
+
+-- ---- what a row spells
+
+-- one operand, which stands for x
+abbrev pub HasOne : {X : Type 0} → (List ℕ → Option X) → List (List ℕ) → X → Type 0
+HasOne read words x = (operand : List ℕ) × (words ≡ operand ∷ []) × (read operand ≡ Some x)
+
+-- two operands, which stand for x and y
+abbrev pub HasTwo : {X Y : Type 0} → (List ℕ → Option X) → (List ℕ → Option Y) → List (List ℕ) → X
+    → Y
+    → Type 0
+HasTwo read also words x y =
+    (first : List ℕ)
+    × (second : List ℕ)
+    × (words ≡ first ∷ second ∷ [])
+    × (read first ≡ Some x)
+    × (also second ≡ Some y)
+
+-- the number of the queue of that name
+abbrev pub queue_named : List (List ℕ) → List ℕ → Option ℕ
+queue_named queues word = option_and_then (λ name. position (bytes_eq name) queues) (name_of word)
+
+-- The words after a keyword are its operands and no more, and they make the instruction.
+abbrev pub IsFormed : List (List ℕ) → Form → List (List ℕ) → Instr → Type 0
+IsFormed queues (Alone made) words instr = (words ≡ []) × (made ≡ instr)
+IsFormed queues (One read make) words instr =
+    (x : ℕ) × HasOne read words x × (make x ≡ instr)
+IsFormed queues (Two read also make) words instr =
+    (x : ℕ) × (y : ℕ) × HasTwo read also words x y × (make x y ≡ instr)
+IsFormed queues (OfBytes make) words instr =
+    (bytes : List ℕ) × HasOne bytes_of words bytes × (make bytes ≡ instr)
+IsFormed queues (OfQueue call_with) words instr =
+    (queue : ℕ)
+    × (wait : Operand)
+    × HasTwo (queue_named queues) time_of words queue wait
+    × (Queue queue (call_with wait) ≡ instr)
+
+-- The words are a keyword and its operands: over queues of these names, in a script of that length.
+abbrev pub Spells : List (List ℕ) → ℕ → List (List ℕ) → Instr → Type 0
+Spells queues len words instr =
+    (keyword : Keyword)
+    × (operands : List (List ℕ))
+    × (words ≡ text_of keyword ∷ operands)
+    × IsFormed queues (form_of len keyword) operands instr

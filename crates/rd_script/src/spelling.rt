@@ -161,7 +161,7 @@ fn queue_and_wait(words: &mut Words<'_>, queues: &[&str]) -> Result<(usize, Oper
     Ok((queue_of(name, queues)?, wait))
 }
 
-#[tactic(auto, unfolding(crate::specs::Spelling::operation_of))]
+#[tactic(auto, unfolding(crate::specs::Spelling::read_by))]
 fn operation(
     keyword: Keyword,
     words: &mut Words<'_>,

@@ -9,13 +9,9 @@ use Rattle.rd_state.specs.declared.phase.Phase.{Phase}
 use Rattle.rd_state.specs.declared.phase.Phase.TheVariants.{Run, Again, Wait, Ended}
 use Rattle.rd_app.specs.declared.instr.Instr.{Instr}
 use Rattle.rd_app.specs.declared.instr.Instr.TheVariants as instr
-use Rattle.rd_app.specs.declared.instr.QueueCall.{QueueCall}
-use Rattle.rd_app.specs.declared.instr.QueueCall.TheVariants.{Send, Receive}
-use Rattle.rd_queue.specs.declared.waiting_list.WaitingList.{WaitingList}
-use Rattle.rd_queue.specs.declared.waiting_list.WaitingList.TheVariants.{Receiving, Sending}
 use Rattle.rd_state.specs.declared.phase.Place.{Place}
 use Rattle.rd_state.specs.declared.phase.Place.TheVariants as place
-use Rattle.rd_app.specs.Application.{Application, code_of, instr_at, priorities_of}
+use Rattle.rd_app.specs.Application.{Application, code_of, instr_at, list_of_call, priorities_of}
 use Rattle.rd_wait.specs.Joined.{IsInOrder}
 use Rattle.rd_state.specs.Snapshot.{Snapshot, task_at}
 use Rattle.rd_state.specs.Sizes.{IsSized}
@@ -69,11 +65,6 @@ abbrev pub WaitsAtPlaces : Snapshot → Type 0
 WaitsAtPlaces s =
     (place : Place) (task : ℕ) → task < length s.tasks
     → times_in_list task (waiting_at s place) ≡ times_waiting_at place (task_at s task).phase
-
--- the list of a queue where a task waits for a call, if that has a block time
-abbrev pub list_of_call : QueueCall → Option WaitingList
-list_of_call (Send wait) = Some Sending
-list_of_call (Receive wait) = Some Receiving
 
 -- the place where a task waits for an instruction, if that is a call with a block time
 abbrev pub place_of_call : Instr → Option Place

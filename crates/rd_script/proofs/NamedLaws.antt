@@ -1,0 +1,86 @@
+-- Arrays of named things: what is read of one is said by its values, and what its values say is read.
+use Rattle.std.proofs.Common.{◌≡◌, ◌∙◌, ℕ, suc, List, [], ◌∷◌, ◌++◌, length, Result, Ok, refl, sym, ap, subst, append_assoc}
+use Rattle.std.specs.List.{AllByRecursion}
+use Rattle.std.proofs.lemmas.List.{append-nil}
+use Rattle.serde_json.specs.Data.{Data, Items, no_items, item}
+use Rattle.serde_json.specs.Events.{items_len}
+use Rattle.rd_text.specs.Names.{AreNames}
+use Rattle.rd_text.proofs.NameLaws.{AreNames-push, IsNewName, IsNewName-in}
+use Rattle.rd_script.specs.declared.error.AppError.{AppError}
+use Rattle.rd_script.specs.File.{named_after}
+use Rattle.rd_script.specs.Says.{AreNamed}
+use Rattle.rd_script.proofs.Steps.{bind_ok, then_is}
+
+AllByRecursion-push : {X : Type 0} (P : X → Type 0) (xs : List X) (x : X) → AllByRecursion P xs → P x → AllByRecursion P (xs ++ x ∷ [])
+AllByRecursion-push P [] x h p = (p, tt)
+AllByRecursion-push P (y ∷ ys) x h p = (h.0, AllByRecursion-push P ys x h.1 p)
+
+-- there are as many names as things
+pub length_named : {X : Type 0} (Is : Data → List ℕ → X → Type 0) (ds : Items) (names : List (List ℕ)) (things : List X) → AreNamed Is ds names things
+    → (length names ≡ items_len ds) × (length things ≡ items_len ds)
+length_named Is no_items [] [] h = (refl, refl)
+length_named Is no_items [] (x ∷ things) h = absurd h
+length_named Is no_items (n ∷ names) things h = absurd h
+length_named Is (item d ds) [] things h = absurd h
+length_named Is (item d ds) (n ∷ names) [] h = absurd h
+length_named Is (item d ds) (n ∷ names) (x ∷ things) h = let rest = length_named Is ds names things h.1 in (ap suc rest.0, ap suc rest.1)
+
+pub record AreKept {X : Type 0} (InLimits : X → Type 0) (names : List (List ℕ)) (things : List X) : Type 0 where
+  pub are_names : AreNames names
+  pub are_things : AllByRecursion InLimits things
+
+-- what an array adds
+pub record Adds {X : Type 0} (Is : Data → List ℕ → X → Type 0) (InLimits : X → Type 0) (ds : Items) (names : List (List ℕ)) (things : List X)
+    (q : List (List ℕ) × List X) (more : List (List ℕ)) (others : List X) : Type 0 where
+  pub names_are : q.0 ≡ names ++ more
+  pub things_are : q.1 ≡ things ++ others
+  pub said : AreNamed Is ds more others
+  pub kept : AreKept InLimits q.0 q.1
+
+pub named_take : {X : Type 0} (read : List (List ℕ) → Data → Result (List ℕ × X) AppError) (Is : Data → List ℕ → X → Type 0) (InLimits : X → Type 0)
+    → ((names : List (List ℕ)) (d : Data) (t : List ℕ × X) → read names d ≡ Ok t → Is d t.0 t.1 × IsNewName names t.0 × InLimits t.1)
+    → (ds : Items) (names : List (List ℕ)) (things : List X) (q : List (List ℕ) × List X) → named_after read names things ds ≡ Ok q
+    → AreKept InLimits names things → (more : List (List ℕ)) × (others : List X) × Adds Is InLimits ds names things q more others
+named_take {X = X} read Is InLimits takes no_items names things q e kept =
+    let is : (names, things) ≡ q = cc in (
+      [],
+      [],
+      record {
+        names_are = ap (λ (q : List (List ℕ) × List X). q.0) (sym is) ∙ sym (append-nil names);
+        things_are = ap (λ (q : List (List ℕ) × List X). q.1) (sym is) ∙ sym (append-nil things);
+        said = tt;
+        kept = subst (λ (q : List (List ℕ) × List X). AreKept InLimits q.0 q.1) is kept;
+      },
+    )
+named_take read Is InLimits takes (item d ds) names things q e kept =
+    let first = bind_ok (read names d) _ q e in
+    let taken = takes names d first.0 first.1 in
+    let rest =
+    named_take read Is InLimits takes ds (names ++ first.0.0 ∷ []) (things ++ first.0.1 ∷ []) q first.2 (record {
+      are_names = AreNames-push names first.0.0 kept.are_names taken.1;
+      are_things = AllByRecursion-push InLimits things first.0.1 kept.are_things taken.2;
+    }) in (
+      first.0.0 ∷ rest.0,
+      first.0.1 ∷ rest.1,
+      record {
+        names_are = rest.2.names_are ∙ append_assoc names (first.0.0 ∷ []) rest.0;
+        things_are = rest.2.things_are ∙ append_assoc things (first.0.1 ∷ []) rest.1;
+        said = (taken.0, rest.2.said);
+        kept = rest.2.kept;
+      },
+    )
+
+pub named_again : {X : Type 0} (read : List (List ℕ) → Data → Result (List ℕ × X) AppError) (Is : Data → List ℕ → X → Type 0) (InLimits : X → Type 0)
+    → ((names : List (List ℕ)) (d : Data) (name : List ℕ) (x : X) → Is d name x → IsNewName names name → InLimits x → read names d ≡ Ok (name, x))
+    → (ds : Items) (names : List (List ℕ)) (things : List X) (more : List (List ℕ)) (others : List X) → AreNamed Is ds more others
+    → AreNames (names ++ more) → AllByRecursion InLimits others → named_after read names things ds ≡ Ok (names ++ more, things ++ others)
+named_again read Is InLimits again no_items names things [] [] h are limits = rw (append-nil names, append-nil things) refl
+named_again read Is InLimits again no_items names things [] (x ∷ others) h are limits = absurd h
+named_again read Is InLimits again no_items names things (n ∷ more) others h are limits = absurd h
+named_again read Is InLimits again (item d ds) names things [] others h are limits = absurd h
+named_again read Is InLimits again (item d ds) names things (n ∷ more) [] h are limits = absurd h
+named_again read Is InLimits again (item d ds) names things (n ∷ more) (x ∷ others) h are limits =
+    let all : AreNames ((names ++ n ∷ []) ++ more) = subst AreNames (sym (append_assoc names (n ∷ []) more)) are in
+    then_is (read names d) _ (n, x) _ (again names d n x h.0 (IsNewName-in names n more are) limits.0)
+    (named_again read Is InLimits again ds (names ++ n ∷ []) (things ++ x ∷ []) more others h.1 all limits.1
+    ∙ rw (append_assoc names (n ∷ []) more, append_assoc things (x ∷ []) others) refl)
