@@ -1,3 +1,4 @@
 -- What the contracts of this crate cite.
 pub mod Commands
+pub mod Lines
 pub mod Replies

@@ -1,5 +1,6 @@
-//! The commands of a session and the texts of its replies.
+//! The lines of a session: commands, and the texts of replies.
 #![tactic(auto)]
 
 pub mod command;
+pub mod lines;
 pub mod reply;

@@ -1,4 +1,2 @@
 -- Laws that several proofs cite.
 pub mod AnswerLaws
-pub mod LineLaws
-pub mod FaultLaws

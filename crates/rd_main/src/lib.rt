@@ -3,19 +3,15 @@
 
 ghost use Rattle.std.specs.Prelude.{◌≡◌, ◌≢◌, ◌≤◌, length, IfErr};
 ghost use Rattle.std.specs.IoError.{error_kind};
-ghost use Rattle.rd_main.specs.declared.fault.Fault.TheVariants.{BadLine};
+ghost use Rattle.rd_start.specs.declared.fault.Fault.TheVariants.{BadLine};
 
 pub mod answer;
-pub mod fault;
-pub mod file;
-pub mod lines;
-pub mod options;
 pub mod session;
 
-use crate::fault::Fault;
-use crate::file::load;
-use crate::options::{Request, Settings, options};
 use crate::session::Session;
+use rd_start::fault::Fault;
+use rd_start::file::load;
+use rd_start::options::{Request, Settings, options};
 use rd_timeline::timeline::Timeline;
 use std::alloc::AllocGlobal;
 use std::io;

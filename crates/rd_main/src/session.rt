@@ -4,7 +4,7 @@ ghost use Rattle.std.specs.Prelude.{◌≡◌, ◌≤◌, [], length, IfOk, IsEr
 ghost use Rattle.std.specs.Io.KnownBytes.{Appends};
 
 use crate::answer::put_answer;
-use crate::lines::{Front, Lines};
+use rd_command::lines::{Front, Lines};
 use rd_command::reply::{Refusal, Reply, append_reply};
 use rd_timeline::timeline::Timeline;
 use std::alloc::{AllocError, Global};

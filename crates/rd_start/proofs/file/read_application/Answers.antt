@@ -1,6 +1,6 @@
 -- The goals of read_application that the check left open.
-use Rattle.rd_main.proofs.FaultLaws.{not_said, reads_up_to, said}
-use Rattle.rd_main.proofs.file.read_application.Goals as goal
+use Rattle.rd_start.proofs.FaultLaws.{not_said, reads_up_to, said}
+use Rattle.rd_start.proofs.file.read_application.Goals as goal
 
 pub returns-clause-app : goal.returns-clause-app
 returns-clause-app g c =

@@ -1,7 +1,7 @@
 -- The goals of move_to_front that the check left open.
 use Rattle.std.proofs.Common.{◌∙◌, ◌-◌, ℕ, List, take, ap}
-use Rattle.rd_main.proofs.LineLaws.{moved_to_front}
-use Rattle.rd_main.proofs.lines.move_to_front.Goals as goal
+use Rattle.rd_command.proofs.LineLaws.{moved_to_front}
+use Rattle.rd_command.proofs.lines.move_to_front.Goals as goal
 
 pub returns : goal.returns
 returns c =

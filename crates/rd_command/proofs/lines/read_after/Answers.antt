@@ -1,6 +1,6 @@
 -- The goals of read_after that the check left open.
-use Rattle.rd_main.proofs.LineLaws.{read_adds}
-use Rattle.rd_main.proofs.lines.read_after.Goals as goal
+use Rattle.rd_command.proofs.LineLaws.{read_adds}
+use Rattle.rd_command.proofs.lines.read_after.Goals as goal
 
 pub returns-clause-ok : goal.returns-clause-ok
 returns-clause-ok g c =

@@ -4,7 +4,7 @@ ghost use Rattle.std.specs.Prelude.{◌≡◌, ◌+◌, ◌-◌, ◌<◌, ◌≤
 ghost use Rattle.std.specs.Prelude.{IfOk, OnErr};
 ghost use Rattle.std.specs.List.{position_or_len};
 ghost use Rattle.std.specs.Io.KnownBytes.{Consumes, IsAtEnd, Keeps};
-ghost use Rattle.rd_main.specs.Lines.{is_feed, front_of, without_return};
+ghost use Rattle.rd_command.specs.Lines.{is_feed, front_of, without_return};
 
 use std::alloc::{AllocError, Global};
 use std::io;

@@ -2,8 +2,8 @@
 use Rattle.std.specs.Prelude.{ℕ, ◌==◌, ◌-◌, ◌&&◌, Bool, List, length, take, nat_lt, slice_index}
 use Rattle.std.specs.Prelude.{if◌then◌else◌}
 use Rattle.std.specs.List.{position_or_len}
-use Rattle.rd_main.specs.declared.lines.Front.{Front}
-use Rattle.rd_main.specs.declared.lines.Front.TheVariants.{Line, TooLong, Part}
+use Rattle.rd_command.specs.declared.lines.Front.{Front}
+use Rattle.rd_command.specs.declared.lines.Front.TheVariants.{Line, TooLong, Part}
 
 abbrev pub is_feed : ℕ → Bool
 is_feed byte = byte == 10

@@ -6,11 +6,11 @@ use Rattle.rd_script.specs.declared.error.AppError.TheVariants as fault
 use Rattle.rd_app.specs.Application.{Application, IsApplication}
 use Rattle.rd_script.specs.File.{file_of}
 use Rattle.rd_script.specs.Says.{FileSays}
-use Rattle.rd_main.specs.declared.fault.Fault.{Fault}
-use Rattle.rd_main.specs.declared.fault.Fault.TheVariants.{BadLine, CannotRead, App, NoMemory}
-use Rattle.rd_main.specs.declared.options.Settings.{Settings}
-use Rattle.rd_main.specs.declared.options.Request.{Request}
-use Rattle.rd_main.specs.declared.options.Request.TheVariants.{Run, Help}
+use Rattle.rd_start.specs.declared.fault.Fault.{Fault}
+use Rattle.rd_start.specs.declared.fault.Fault.TheVariants.{BadLine, CannotRead, App, NoMemory}
+use Rattle.rd_start.specs.declared.options.Settings.{Settings}
+use Rattle.rd_start.specs.declared.options.Request.{Request}
+use Rattle.rd_start.specs.declared.options.Request.TheVariants.{Run, Help}
 
 -- 1 to 1,000,000 moves
 pub record IsWithinLimits (settings : Settings) : Type 0 where

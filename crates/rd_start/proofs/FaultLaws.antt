@@ -10,9 +10,9 @@ use Rattle.std.specs.declared.io.ErrorKind.{ErrorKind}
 use Rattle.std.specs.declared.io.Take.{Take}
 use Rattle.rd_app.specs.Application.{Application, IsApplication}
 use Rattle.rd_script.specs.Says.{FileSays}
-use Rattle.rd_main.specs.declared.fault.Fault.{Fault}
-use Rattle.rd_main.specs.declared.fault.Fault.TheVariants.{BadLine, CannotRead, App, NoMemory}
-use Rattle.rd_main.specs.Requests.{AreAllOf, IsFaultOf, IsFaultOfKind, IsFile, IsOfAFile, IsRefusalOf, IsSaidBy}
+use Rattle.rd_start.specs.declared.fault.Fault.{Fault}
+use Rattle.rd_start.specs.declared.fault.Fault.TheVariants.{BadLine, CannotRead, App, NoMemory}
+use Rattle.rd_start.specs.Requests.{AreAllOf, IsFaultOf, IsFaultOfKind, IsFile, IsOfAFile, IsRefusalOf, IsSaidBy}
 
 -- A file that can't be opened or read says nothing, whatever its bytes are.
 pub unread_is_fault : (known : Option (List ℕ)) (kind : ErrorKind) (fault : Fault) → IsFaultOfKind kind fault → IsFaultOf known fault

@@ -6,9 +6,9 @@ ghost use Rattle.std.specs.IoError.{error_kind};
 ghost use Rattle.rd_app.specs.Builtin.{builtin};
 ghost use Rattle.rd_app.specs.Application.{IsApplication};
 ghost use Rattle.rd_script.specs.Says.{FileSays};
-ghost use Rattle.rd_main.specs.Requests.{IsFile, IsOfAFile, IsFaultOf, IsFaultOfKind};
-ghost use Rattle.rd_main.specs.Requests.{IsRefusalOf, IsSaidBy};
-ghost use Rattle.rd_main.specs.declared.fault.Fault.TheVariants.{CannotRead, NoMemory};
+ghost use Rattle.rd_start.specs.Requests.{IsFile, IsOfAFile, IsFaultOf, IsFaultOfKind};
+ghost use Rattle.rd_start.specs.Requests.{IsRefusalOf, IsSaidBy};
+ghost use Rattle.rd_start.specs.declared.fault.Fault.TheVariants.{CannotRead, NoMemory};
 
 use crate::fault::Fault;
 use rd_app::app::App;

@@ -2,8 +2,8 @@
 
 ghost use Rattle.std.specs.Prelude.{◌≡◌, ◌≢◌};
 ghost use Rattle.std.specs.IoError.{error_kind};
-ghost use Rattle.rd_main.specs.Requests.{IsFaultOfKind};
-ghost use Rattle.rd_main.specs.declared.fault.Fault.TheVariants.{BadLine, NoMemory};
+ghost use Rattle.rd_start.specs.Requests.{IsFaultOfKind};
+ghost use Rattle.rd_start.specs.declared.fault.Fault.TheVariants.{BadLine, NoMemory};
 
 use rd_bytes::no_memory;
 use rd_script::error::AppError;

@@ -2,9 +2,9 @@
 
 ghost use Rattle.std.specs.Prelude.{◌≡◌, ◌≢◌, None, Ok, length, IfOk, IfErr, IsErr, IfSome};
 ghost use Rattle.clap.specs.Values.{kind_of};
-ghost use Rattle.rd_main.specs.Requests.{IsHelp, IsRequestWithinLimits, IsWithinLimits};
-ghost use Rattle.rd_main.specs.declared.fault.Fault.TheVariants.{BadLine, NoMemory};
-ghost use Rattle.rd_main.specs.declared.options.Request.TheVariants.{Run};
+ghost use Rattle.rd_start.specs.Requests.{IsHelp, IsRequestWithinLimits, IsWithinLimits};
+ghost use Rattle.rd_start.specs.declared.fault.Fault.TheVariants.{BadLine, NoMemory};
+ghost use Rattle.rd_start.specs.declared.options.Request.TheVariants.{Run};
 
 use crate::fault::Fault;
 use clap::error::ErrorKind;
