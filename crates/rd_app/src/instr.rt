@@ -17,8 +17,8 @@ pub enum Operand {
     Register { register: usize },
 }
 
-/// An instruction that touches nothing but its own task. Registers are 0 to 7, the instructions of a
-/// script are counted from 0.
+/// An instruction that touches nothing but its own task. Registers are 0 to 7, the instructions of
+/// a script are counted from 0.
 #[derive(Drop)]
 pub enum LocalInstr {
     /// `set R N`: the register becomes the value.

@@ -28,7 +28,8 @@ use Rattle.rd_kernel.specs.Waking.{is_due, timed_out}
 use Rattle.rd_kernel.proofs.ConsistentLaws.{IsValid-consistent, IsConsistent, IsConsistent-deadlines}
 use Rattle.rd_kernel.proofs.ConsistentLaws.{IsConsistent-seats, IsConsistent-valid}
 use Rattle.rd_kernel.proofs.ConsistentLaws.{all_have_time_left}
-use Rattle.rd_kernel.proofs.CallLaws.{RunsInstr, IsConsistent-advanced, IsConsistent-ended, IsConsistent-with_pc, due_idle, is_task_on_core, room_in_ready, runs_on_core}
+use Rattle.rd_kernel.proofs.CallLaws.{RunsInstr, IsConsistent-advanced, IsConsistent-ended, IsConsistent-with_pc, due_idle}
+use Rattle.rd_kernel.proofs.CallLaws.{is_task_on_core, room_in_ready, runs_on_core}
 use Rattle.rd_kernel.proofs.CallLaws.{runs_outside_calls}
 use Rattle.rd_queue_calls.proofs.QueueCallLaws.{IsConsistent-queue_call, queue_call-tick}
 use Rattle.rd_kernel.proofs.WakingLaws.{TimedOut, TimedOut-so_far, have_time_left_below}
@@ -65,13 +66,15 @@ IsConsistent-performed app s core task instr valid there runs has_core e is with
         → ((target : ℕ) → place_of_call instr
         ≡ None → target < length (code_of app task) → IsConsistent app (all_have_time_left s.tick) (with_pc s task target))
         → IsConsistent app (all_have_time_left s.tick) (performed (priorities_of app) s core task instr)
-    by_instr (Local (Set register value)) within next calls further jumps = further (set (task_at s task).registers register value) (task_at s task).bytes refl refl
+    by_instr (Local (Set register value)) within next calls further jumps =
+        further (set (task_at s task).registers register value) (task_at s task).bytes refl refl
     by_instr (Local (Add register value)) within next calls further jumps =
         further (set (task_at s task).registers register ((register_at s task register + value) % 2 ^ 32)) (task_at s task).bytes refl refl
     by_instr (Local (Move into from)) within next calls further jumps =
         further (set (task_at s task).registers into (register_at s task from)) (task_at s task).bytes refl refl
     by_instr (Local (Data bytes)) within next calls further jumps = further (task_at s task).registers bytes refl refl
-    by_instr (Local (Pack register)) within next calls further jumps = further (task_at s task).registers (to_le_bytes w32 (register_at s task register)) refl refl
+    by_instr (Local (Pack register)) within next calls further jumps =
+        further (task_at s task).registers (to_le_bytes w32 (register_at s task register)) refl refl
     by_instr (Local (Unpack register)) within next calls further jumps =
         further (set (task_at s task).registers register (unpacked s task)) (task_at s task).bytes refl refl
     by_instr (Local (Jump target)) within next calls further jumps = jumps target refl within
@@ -86,8 +89,8 @@ IsConsistent-performed app s core task instr valid there runs has_core e is with
         IsConsistent-queue_call app s core task queue call (calls refl) (omega (arith, within.0, queues))
 
 -- The last instruction of a script doesn't go on at the next.
-not_last : (app : Application) (script : TaskScript) (pc : ℕ) → IsScript app script → pc < length script.code → is_final (get_or script.code pc (Local End)) ≡ false
-    → pc + 1 < length script.code
+not_last : (app : Application) (script : TaskScript) (pc : ℕ) → IsScript app script → pc < length script.code
+    → is_final (get_or script.code pc (Local End)) ≡ false → pc + 1 < length script.code
 not_last app script pc ok within e =
     elim (cases_lt (pc + 1) (length script.code)) [
       | inl lt ↦ lt

@@ -55,7 +55,8 @@ fn play_core(
     ensures state { OnOk result (state.new ≡ core_step app.now state.old core task) }
     ensures undone { IfOk result (λ undo. undone state.new undo ≡ state.old) }
     ensures can_undo { IfOk result (λ undo. CanUndo state.new undo) }
-    ensures small { IfOk result (λ undo. weight_of undo ≤ instr_cost + 1 + 3 * length state.old.cores) }
+    ensures small { IfOk result
+        (λ undo. weight_of undo ≤ instr_cost + 1 + 3 * length state.old.cores) }
     ensures err { OnErr result (state.new ≡ state.old) }
     ensures valid { OnOk result (IsValid app.now state.new) }
     ensures settled { OnOk result (IsSettled (priorities_of app.now) state.new) }

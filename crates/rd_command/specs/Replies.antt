@@ -17,8 +17,9 @@ use Rattle.rd_state.specs.Sizes.{IsTaskOrIdle}
 use Rattle.rd_state.specs.Snapshot.{Snapshot, TaskSnapshot}
 use Rattle.rd_state.specs.Waiting.{IsPlace}
 use Rattle.rd_command.specs.declared.reply.Refusal.{Refusal}
-use Rattle.rd_command.specs.declared.reply.Refusal.TheVariants.{NoTask, TickLimit, TooFar, MovesFull}
-use Rattle.rd_command.specs.declared.reply.Refusal.TheVariants.{NoSuch, NoMemory, Syntax, LineTooLong}
+use Rattle.rd_command.specs.declared.reply.Refusal.TheVariants.{NoTask, TickLimit, TooFar}
+use Rattle.rd_command.specs.declared.reply.Refusal.TheVariants.{MovesFull, NoSuch, NoMemory}
+use Rattle.rd_command.specs.declared.reply.Refusal.TheVariants.{Syntax, LineTooLong}
 use Rattle.rd_command.specs.declared.reply.Reply.{Reply}
 use Rattle.rd_command.specs.declared.reply.Reply.TheVariants.{Done, Refused}
 

@@ -4,7 +4,8 @@ ghost use Rattle.std.specs.Prelude.{◌≡◌, option_map};
 ghost use Rattle.std.specs.Result.{result_ok};
 ghost use Rattle.rd_text.specs.Words.{words_of};
 ghost use Rattle.rd_command.specs.Commands.{asked, command_of, count_of};
-ghost use Rattle.rd_command.specs.Commands.{single_word_command, two_word_command, numbered_command};
+ghost use Rattle.rd_command.specs.Commands.{single_word_command, two_word_command};
+ghost use Rattle.rd_command.specs.Commands.{numbered_command};
 ghost use Rattle.rd_command.specs.Commands.{view_without_name, named_view};
 
 use rd_text::words::{Words, name, number};

@@ -4,9 +4,10 @@ ghost use Rattle.std.specs.Prelude.{◌≡◌, ◌+◌, ◌++◌, ◌<◌, ◌�
 ghost use Rattle.std.specs.Prelude.{All, IsOk, OnErr, OnOk, vec_capacity, vec_len};
 ghost use Rattle.rd_state.specs.Sizes.{IsTaskOrIdle};
 ghost use Rattle.rd_state.specs.Waiting.{IsPlace};
-ghost use Rattle.rd_command.specs.Replies.{line_of, refusal_text, reply_text, list_text, bytes_text};
-ghost use Rattle.rd_command.specs.Replies.{name_at, deadline_text, list_name, place_text, phase_text};
-ghost use Rattle.rd_command.specs.Replies.{entry_text};
+ghost use Rattle.rd_command.specs.Replies.{line_of, refusal_text, reply_text, list_text};
+ghost use Rattle.rd_command.specs.Replies.{bytes_text};
+ghost use Rattle.rd_command.specs.Replies.{name_at, deadline_text, list_name, place_text};
+ghost use Rattle.rd_command.specs.Replies.{phase_text, entry_text};
 ghost use Rattle.rd_command.specs.Replies.{counts_text, waiting_text, amounts_text, queue_text};
 ghost use Rattle.rd_command.specs.Replies.{running_core_text, state_text, task_text, is_task};
 ghost use Rattle.rd_command.specs.Replies.{seat_text, ticks_text, cores_text};

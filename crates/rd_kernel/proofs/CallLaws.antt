@@ -93,8 +93,8 @@ IsConsistent-with_pc app D s task pc there runs within at =
     }) refl (λ place. refl) at
 
 -- It is in Run, whichever of the phases that can run it was in.
-pub IsConsistent-with_run : (app : Application) (D : ℕ → Phase → Type 0) (s : Snapshot) (task : ℕ) → task < length s.tasks → 1 ≤ seats_to_run (task_at s task).phase
-    → D task Run → IsConsistent app D s → IsConsistent app D (with_phase s task Run)
+pub IsConsistent-with_run : (app : Application) (D : ℕ → Phase → Type 0) (s : Snapshot) (task : ℕ) → task < length s.tasks
+    → 1 ≤ seats_to_run (task_at s task).phase → D task Run → IsConsistent app D s → IsConsistent app D (with_phase s task Run)
 IsConsistent-with_run app D s task there runs asked at =
     let was = at.each task there in
     IsConsistent-task_replaced app D s task (record (task_at s task) { phase = Run }) there
@@ -182,8 +182,8 @@ IsConsistent-ended app D s core task there runs has_core e asked at =
     }
 
 -- It waits.
-pub IsConsistent-waiting : (app : Application) (D : ℕ → Phase → Type 0) (s : Snapshot) (core task : ℕ) (place : Place) (deadline : Option ℕ) → task < length s.tasks
-    → 1 ≤ seats_to_run (task_at s task).phase → core < length s.cores → core_at s core ≡ Some task
+pub IsConsistent-waiting : (app : Application) (D : ℕ → Phase → Type 0) (s : Snapshot) (core task : ℕ) (place : Place) (deadline : Option ℕ)
+    → task < length s.tasks → 1 ≤ seats_to_run (task_at s task).phase → core < length s.cores → core_at s core ≡ Some task
     → HasPlace s place → place_of_call (instr_at app task (task_at s task).pc) ≡ Some place → D task (Wait place deadline) → IsConsistent app D s
     → IsConsistent app D (with_idle_core (with_phase (with_waiter (priorities_of app) s place task) task (Wait place deadline)) core)
 IsConsistent-waiting app D s core task place deadline there runs has_core e has_place call asked at =

@@ -41,8 +41,8 @@ blocked priorities s task place wait =
     }
     else call_fails s
 
--- A call that was done passes, and the first who waits for what it leaves is woken. Whoever is woken
--- isn't handed anything: it tries again when it runs.
+-- A call that was done passes, and the first who waits for what it leaves is woken. Whoever is
+-- woken isn't handed anything: it tries again when it runs.
 abbrev pub passed : List ℕ → Snapshot → Place → Called
 passed priorities s place = call_passes (woken_first priorities s place)
 

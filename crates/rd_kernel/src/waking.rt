@@ -141,7 +141,8 @@ pub fn wake_first(editing: &mut Editing, priorities: &[u8], place: Place) -> Res
     requires room { 0 < length (waiting_at editing.old.now place) → ReadyHasRoom editing.old.now }
     requires priorities { length priorities.now ≡ length editing.old.now.tasks }
     ensures ok { OnOk result
-        (Reaches editing.old editing.new (woken_first priorities.now editing.old.now place) waking_cost) }
+        (Reaches editing.old editing.new (woken_first priorities.now editing.old.now place)
+        waking_cost) }
     ensures nobody { waiting_at editing.old.now place ≡ [] → IsOk result }
     ensures err { OnErr result (editing.new.base ≡ editing.old.base) }
 {
@@ -183,7 +184,8 @@ pub fn wake_if_due(editing: &mut Editing, priorities: &[u8], task: usize) -> Res
         → ReadyHasRoom editing.old.now }
     requires priorities { length priorities.now ≡ length editing.old.now.tasks }
     ensures ok { OnOk result
-        (Reaches editing.old editing.new (woken_if_due priorities.now editing.old.now task) waking_cost) }
+        (Reaches editing.old editing.new (woken_if_due priorities.now editing.old.now task)
+        waking_cost) }
     ensures early { is_due editing.old.now.tick (task_at editing.old.now task).phase ≡ false
         → IsOk result }
     ensures err { OnErr result (editing.new.base ≡ editing.old.base) }

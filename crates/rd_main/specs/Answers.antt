@@ -9,8 +9,10 @@ use Rattle.rd_calls.specs.declared.moves.PlayError.TheVariants as play
 use Rattle.rd_state.specs.Snapshot.{queue_at, task_at}
 use Rattle.rd_timeline.specs.Course.{CanGo, Course, IsFull, IsRefusedBy}
 use Rattle.rd_command.specs.Commands.{Asked, Step, Tick, Back, ShowQueue, ShowTask, ShowCores}
-use Rattle.rd_command.specs.Replies.{line_of, reply_text, queue_text, task_text, cores_text, is_task}
-use Rattle.rd_command.specs.declared.reply.Refusal.TheVariants.{NoTask, TickLimit, TooFar, MovesFull}
+use Rattle.rd_command.specs.Replies.{line_of, reply_text, queue_text, task_text, cores_text}
+use Rattle.rd_command.specs.Replies.{is_task}
+use Rattle.rd_command.specs.declared.reply.Refusal.TheVariants.{NoTask, TickLimit, TooFar}
+use Rattle.rd_command.specs.declared.reply.Refusal.TheVariants.{MovesFull}
 use Rattle.rd_command.specs.declared.reply.Refusal.TheVariants.{NoSuch, NoMemory, Syntax}
 use Rattle.rd_command.specs.declared.reply.Reply.{Reply}
 use Rattle.rd_command.specs.declared.reply.Reply.TheVariants.{Done, Refused}

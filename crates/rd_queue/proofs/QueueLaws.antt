@@ -26,7 +26,8 @@ last_pushed_after_take items some =
     let last = length items - 1 in
     sym (take_more items last [] (omega arith)) ∙ take_all (last + 1) items (omega arith)
 
-undoes : (queue : QueueSnapshot) (change : QueueChange) → QueueFits queue change → queue_applied (queue_applied queue change) (queue_inverse_of queue change) ≡ queue
+undoes : (queue : QueueSnapshot) (change : QueueChange) → QueueFits queue change
+    → queue_applied (queue_applied queue change) (queue_inverse_of queue change) ≡ queue
 undoes queue (InsWait Receiving index task) fits = ap (λ (ts : List ℕ). with_waiting Receiving ts queue) (remove-insert queue.receiving index task fits.0)
 undoes queue (InsWait Sending index task) fits = ap (λ (ts : List ℕ). with_waiting Sending ts queue) (remove-insert queue.sending index task fits.0)
 undoes queue (DelWait Receiving index) fits = ap (λ (ts : List ℕ). with_waiting Receiving ts queue) (insert-remove queue.receiving index 0 fits)
@@ -83,7 +84,8 @@ sized_then queue TakeBack sized fits =
     items_sized queue (take count queue.items) sized (omega (arith, length-take-le count queue.items (omega arith), sized.room))
     (All-take (λ (i : List ℕ). length i ≡ queue.item_size) count queue.items sized.items)
 sized_then queue (PutFront item) sized fits =
-    items_sized queue (item ∷ queue.items) sized (omega (arith, fits.0)) (All-cons (λ (i : List ℕ). length i ≡ queue.item_size) item queue.items fits.1 sized.items)
+    items_sized queue (item ∷ queue.items) sized (omega (arith, fits.0))
+    (All-cons (λ (i : List ℕ). length i ≡ queue.item_size) item queue.items fits.1 sized.items)
 sized_then queue TakeFront sized fits =
     items_sized queue (drop 1 queue.items) sized (omega (arith, length-drop 1 queue.items, sized.room))
     (All-drop (λ (i : List ℕ). length i ≡ queue.item_size) 1 queue.items sized.items)

@@ -54,7 +54,8 @@ taken app s core task queue instr calls there =
     let is : task_at p task ≡ x = task_now without_item task x calls.there in
     let same : length p.tasks ≡ length s.tasks = length-set s.tasks task x in
     record {
-      consistent = IsConsistent-with_values app D without_item task (task_at s task).registers first calls.there (IsConsistent-items app D s queue items there at);
+      consistent = IsConsistent-with_values app D without_item task (task_at s task).registers first calls.there
+          (IsConsistent-items app D s queue items there at);
       there = omega (arith, calls.there, same);
       runs = subst (λ (t : TaskSnapshot). 1 ≤ seats_to_run t.phase) (sym is) calls.runs;
       within = subst (λ (t : TaskSnapshot). t.pc + 1 < length (code_of app task)) (sym is) calls.within;

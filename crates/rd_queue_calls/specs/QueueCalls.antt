@@ -45,7 +45,8 @@ send_outcome priorities s task queue wait =
 -- and the first who waits for a free slot is woken
 abbrev pub receive_outcome : List ℕ → Snapshot → ℕ → ℕ → Operand → Called
 receive_outcome priorities s task queue wait =
-    if nat_eq (length (items_at s queue)) 0 then blocked priorities s task (Queue queue Receiving) wait
+    if nat_eq (length (items_at s queue)) 0
+    then blocked priorities s task (Queue queue Receiving) wait
     else passed priorities (with_item_taken s task queue) (Queue queue Sending)
 
 -- what a call of a queue does

@@ -63,10 +63,10 @@ read_takes d app profile cores tasks queue_items task_items drafts read =
     let tick = number_or_ok 0 0 (2 ^ 32 - 1) (get (codes "tick") d) app.tick (omega arith) (omega arith) read.tick in
     let queue_array = array_or_ok 32 (get (codes "queues") d) queue_items read.queue_array in
     let task_array = array_ok 1 32 tasks task_items read.task_array in
-    let queues = 
+    let queues =
     named_take queue_of IsQueue IsQueueShape queue.queue_takes queue_items [] [] (app.queue_names, app.queues) read.queues
     (record { are_names = no_names; are_things = tt }) in
-    let taken = 
+    let taken =
     named_take task_of task.IsDraft task.IsDraftInLimits task.task_takes task_items [] [] (app.task_names, drafts) read.drafts_are
     (record { are_names = no_names; are_things = tt }) in
     let scripts = scripts_take app.queue_names drafts [] app.scripts read.scripts in

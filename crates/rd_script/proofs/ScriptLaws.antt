@@ -111,7 +111,8 @@ scripts_again queues (draft ∷ drafts) before (script ∷ more) h =
     ∙ ap (λ (s : TaskScript). scripts_after queues (before ++ s ∷ []) drafts) same
     ∙ scripts_again queues drafts (before ++ script ∷ []) more h.2 ∙ ap Ok (append_assoc before (script ∷ []) more)
 
-last_final : (code : List Instr) (k : ℕ) → unwrap_or (option_map is_final (slice_get code k)) false ≡ true → is_final (slice_index_or code k (Local local.End)) ≡ true
+last_final : (code : List Instr) (k : ℕ) → unwrap_or (option_map is_final (slice_get code k)) false ≡ true
+    → is_final (slice_index_or code k (Local local.End)) ≡ true
 last_final [] k e = refl
 last_final (i ∷ code) zero e = e
 last_final (i ∷ code) (suc k) e = last_final code k e

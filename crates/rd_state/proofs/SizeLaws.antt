@@ -49,7 +49,8 @@ IsKept-remove s index h kept =
     }
 
 -- a state with another task of that number
-IsSized-task : (s : Snapshot) (task : ℕ) (new : TaskSnapshot) → IsSizedTask new → IsSizedPhase (numbers_of s) new.phase → IsSized s → IsSized (with_task s task new)
+IsSized-task : (s : Snapshot) (task : ℕ) (new : TaskSnapshot) → IsSizedTask new → IsSizedPhase (numbers_of s) new.phase → IsSized s
+    → IsSized (with_task s task new)
 IsSized-task s task new sized phase kept =
     let same : length s.tasks ≡ length (set s.tasks task new) = sym (length-set s.tasks task new) in
     record {

@@ -51,7 +51,8 @@ inverse_undoes s (Queue queue change) sized fits =
     (replaced_back s.queues queue no_queue (queue_applied was change) (λ q. queue_applied q (queue_inverse_of was change)) fits.0 back)
 
 -- The objects that a task named before a change are there.
-names_back : (s : Snapshot) (task : ℕ) (change : TaskChange) → IsSized s → task < length s.tasks → NamesObjects (numbers_of s) (task_inverse_of (task_at s task) change)
+names_back : (s : Snapshot) (task : ℕ) (change : TaskChange) → IsSized s → task < length s.tasks
+    → NamesObjects (numbers_of s) (task_inverse_of (task_at s task) change)
 names_back s task (SetPc pc) sized there = tt
 names_back s task (SetReg register value) sized there = tt
 names_back s task (SetPhase phase) sized there = phase_sized s task sized there

@@ -1,6 +1,7 @@
 -- What holds of a state between moves, for an application.
 use Rattle.std.specs.Prelude.{ℕ, ◌≡◌, ◌≢◌, ◌+◌, ◌<◌, Bool, true, false, List, length, map, All}
-use Rattle.std.specs.Prelude.{count_by, nat_eq, nat_lt, if◌then◌else◌, Option, Some, None, IsSome, option_map}
+use Rattle.std.specs.Prelude.{count_by, nat_eq, nat_lt, if◌then◌else◌}
+use Rattle.std.specs.Prelude.{Option, Some, None, IsSome, option_map}
 use Rattle.rd_notify.specs.declared.notes.Entry.{Entry}
 use Rattle.rd_notify.specs.declared.notes.EntryState.TheVariants.{Waiting}
 use Rattle.rd_queue.specs.QueueSnapshot.{QueueSnapshot}
