@@ -1,9 +1,9 @@
 //! An application: its cores, its queues, its tasks with their scripts, and their names.
 
-ghost use Rattle.std.specs.Prelude.{◌≡◌, ◌<◌, length, map, position, slice_get};
-ghost use Rattle.std.specs.Prelude.{Some, IfOk};
+ghost use Rattle.std.specs.Prelude.{◌≡◌, ◌<◌, ◌≤◌, length, map, position, slice_get};
+ghost use Rattle.std.specs.Prelude.{All, Some, IfOk};
 ghost use Rattle.std.specs.Str.{bytes_eq};
-ghost use Rattle.rd_app.specs.Application.{IsApplication, names_of, code_of};
+ghost use Rattle.rd_app.specs.Application.{IsApplication, IsWithin, names_of, code_of};
 ghost use Rattle.rd_app.specs.Application.{priorities_of};
 ghost use Rattle.rd_app.specs.Builtin.{builtin};
 ghost use Rattle.rd_app.specs.Inside.{application_of};
@@ -211,7 +211,9 @@ impl App {
     /// The instructions of the task's script.
     pub fn code(&self, task: usize) -> &[Instr]
         requires { task < length self.now.scripts }
-        ensures { result.now ≡ code_of self.now task }
+        ensures code { result.now ≡ code_of self.now task }
+        ensures few { length result.now ≤ 256 }
+        ensures within { All (IsWithin self.now (length result.now)) result.now }
     {
         let script = &self.parts.scripts[task];
         script.code.as_slice()

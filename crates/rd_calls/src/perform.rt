@@ -12,8 +12,8 @@ use crate::local::do_local;
 use rd_app::app::App;
 use rd_app::instr::Instr;
 use rd_bytes::no_memory::NoMemory;
+use rd_kernel::calling::can_call;
 use rd_kernel::conclude::conclude;
-use rd_kernel::room::task_on_core_runs;
 use rd_kernel::steps::set_turn;
 use rd_queue_calls::calls::call_queue;
 use rd_state::editing::Editing;
@@ -40,7 +40,7 @@ fn perform(
     match instr {
         Instr::Local { instr } => do_local(alloc, editing, core, task, instr),
         Instr::Queue { queue, call } => {
-            let outcome = call_queue(alloc, app, editing, task, *queue, *call)?;
+            let outcome = call_queue(app, editing, task, *queue, *call)?;
             conclude(editing, core, task, outcome)
         }
     }
@@ -63,8 +63,7 @@ pub fn move_core(
     ensures err { OnErr result (editing.new.base ≡ editing.old.base) }
 {
     app.limits();
-    editing.state().sizes();
-    task_on_core_runs(app, editing.state(), core, task);
+    can_call(app, editing.state(), core, task);
     let pc = editing.state().task(task).pc();
     let instr = &app.code(task)[pc];
     perform(alloc, app, editing, core, task, instr)?;

@@ -17,7 +17,6 @@ fn busy_from(cores: &[Option<usize>]) -> Option<usize>
 pub fn policy(state: &State) -> Move
     ensures { result ≡ policy_of state.now }
 {
-    state.sizes();
     let turn = state.turn();
     match busy_from(&state.cores()[turn..]) {
         Some(ahead) => Move::Core { core: turn + ahead },

@@ -8,16 +8,22 @@ use Rattle.rd_state.specs.Edit.{Edit, Reaches}
 use Rattle.rd_state.specs.Sizes.{IsSizedPhase}
 use Rattle.rd_state.specs.Snapshot.{Numbers, Snapshot, numbers_of, task_at}
 use Rattle.rd_state.specs.Valid.{IsValid, seats_to_run}
+use Rattle.rd_state.specs.Waiting.{HasPlace, waiting_at}
 use Rattle.rd_kernel.specs.declared.outcome.Outcome.{Outcome}
 use Rattle.rd_kernel.specs.declared.outcome.Outcome.TheVariants.{Returns, Waits}
 use Rattle.rd_kernel.specs.Tasks.{with_idle_core, with_register, with_pc, with_phase}
-use Rattle.rd_kernel.specs.Waking.{deadline_of, may_wait, with_waiter, woken_first}
+use Rattle.rd_kernel.specs.Waking.{ReadyHasRoom, deadline_of, may_wait, with_waiter, woken_first}
 
--- A task that can run calls the kernel, at a valid state.
+-- A task that can run calls the kernel, at a valid state. Wherever it may wait there is room for
+-- it, and the ready list has room for whomever it wakes.
 pub record IsCalling (app : Application) (s : Snapshot) (task : ℕ) : Type 0 where
   pub valid : IsValid app s
   pub there : task < length s.tasks
   pub runs : 1 ≤ seats_to_run (task_at s task).phase
+  pub room_to_wait : (place : Place) → HasPlace s place
+      → length (waiting_at s place) < length s.tasks
+  pub room_to_wake : (place : Place) → HasPlace s place → 0 < length (waiting_at s place)
+      → ReadyHasRoom s
 
 -- the state that a call leaves, and what becomes of the caller
 pub record Called : Type 0 where

@@ -1,8 +1,8 @@
 //! What every call of the kernel stands on: single changes of tasks, block times, waking, outcomes.
 #![tactic(auto)]
 
+pub mod calling;
 pub mod conclude;
 pub mod outcome;
-pub mod room;
 pub mod steps;
 pub mod waking;

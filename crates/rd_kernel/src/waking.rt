@@ -1,20 +1,21 @@
 //! Block times: tasks that begin to wait, and tasks that are woken.
 ghost use Rattle.std.specs.Prelude.{◌≡◌, ◌<◌, ◌≤◌, [], None, false, length, nat_eq};
 ghost use Rattle.std.specs.Prelude.{position, IfOk, IsOk, OnOk, OnErr, IsTrue};
-ghost use Rattle.rd_app.specs.Application.{IsOperand};
+ghost use Rattle.rd_app.specs.Application.{IsOperand, priorities_of};
 ghost use Rattle.rd_state.specs.Edit.{Reaches};
 ghost use Rattle.rd_state.specs.Sizes.{IsDeadline};
 ghost use Rattle.rd_state.specs.Snapshot.{task_at};
 ghost use Rattle.rd_state.specs.Valid.{is_ahead, seats_to_run};
 ghost use Rattle.rd_state.specs.Waiting.{HasPlace, waiting_at};
 ghost use Rattle.rd_kernel.specs.Costs.{waking_cost};
-ghost use Rattle.rd_kernel.specs.Outcomes.{DoesCall, blocked, passed};
+ghost use Rattle.rd_kernel.specs.Outcomes.{DoesCall, IsCalling, blocked, passed};
 ghost use Rattle.rd_kernel.specs.Waking.{value_of, deadline_after, deadline_of};
 ghost use Rattle.rd_kernel.specs.Waking.{may_wait, without_waiter, is_due};
 ghost use Rattle.rd_kernel.specs.Waking.{ReadyHasRoom, woken, woken_first, woken_if_due};
 
 use crate::outcome::Outcome;
 use crate::steps::set_phase;
+use rd_app::app::App;
 use rd_app::instr::{MAX_DELAY, Operand};
 use rd_bytes::no_memory::NoMemory;
 use rd_state::editing::Editing;
@@ -72,19 +73,17 @@ fn is_ahead(tick: u32, deadline: Option<u64>) -> bool
 /// time lasts, and else the call fails. The task is the last of those of its
 /// priority there. A call that fails takes no memory.
 pub fn block(
+    app: &App,
     editing: &mut Editing,
-    priorities: &[u8],
     task: usize,
     place: Place,
     wait: Operand,
 ) -> Result<Outcome, NoMemory>
-    requires task { task < length editing.old.now.tasks }
+    requires caller { IsCalling app.now editing.old.now task }
     requires place { HasPlace editing.old.now place }
-    requires room { length (waiting_at editing.old.now place) < length editing.old.now.tasks }
     requires register { IsOperand wait }
-    requires priorities { length priorities.now ≡ length editing.old.now.tasks }
     ensures ok { IfOk result (DoesCall editing.old editing.new
-        (blocked priorities.now editing.old.now task place wait) 1) }
+        (blocked (priorities_of app.now) editing.old.now task place wait) 1) }
     ensures at_once { may_wait editing.old.now task wait ≡ false → IsOk result }
     ensures err { OnErr result (editing.new.base ≡ editing.old.base) }
 {
@@ -92,10 +91,9 @@ pub fn block(
     if !is_ahead(editing.state().tick(), deadline) {
         return Ok(Outcome::Returns(0));
     }
-    let index = editing
-        .state()
-        .waiting(place)
-        .index_for(priorities, priorities[task]);
+    let priorities = app.priorities();
+    let waiting = editing.state().waiting(place);
+    let index = waiting.index_for(priorities, priorities[task]);
     editing.insert_waiting(place, index, task)?;
     Ok(Outcome::Waits { place, deadline })
 }

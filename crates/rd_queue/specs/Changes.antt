@@ -5,6 +5,8 @@ use Rattle.rd_queue.specs.declared.change.QueueChange.{QueueChange}
 use Rattle.rd_queue.specs.declared.change.QueueChange.TheVariants.{InsWait, DelWait}
 use Rattle.rd_queue.specs.declared.change.QueueChange.TheVariants.{PutBack, TakeBack}
 use Rattle.rd_queue.specs.declared.change.QueueChange.TheVariants.{PutFront, TakeFront}
+use Rattle.rd_queue.specs.declared.end.End.{End}
+use Rattle.rd_queue.specs.declared.end.End.TheVariants.{Back, Front}
 use Rattle.rd_queue.specs.QueueSnapshot.{QueueSnapshot}
 use Rattle.rd_queue.specs.Queues.{tasks_in_list, with_items, with_waiting}
 use Rattle.rd_queue.specs.Sizes.{IsSizedQueue}
@@ -30,6 +32,11 @@ queue_inverse_of queue TakeBack =
     PutBack (slice_index_or queue.items (length queue.items - 1) [])
 queue_inverse_of queue (PutFront item) = TakeFront
 queue_inverse_of queue TakeFront = PutFront (slice_index_or queue.items 0 [])
+
+-- the change that puts an item at an end
+abbrev pub put_at : End → List ℕ → QueueChange
+put_at Back item = PutBack item
+put_at Front item = PutFront item
 
 -- The queue takes one more item, this one.
 abbrev pub HasRoomFor : QueueSnapshot → List ℕ → Type 0

@@ -2,6 +2,7 @@
 #![tactic(auto)]
 
 pub mod change;
+pub mod end;
 pub mod item;
 pub mod queue;
 pub mod waiting_list;

@@ -4,8 +4,11 @@ ghost use Rattle.std.specs.Prelude.{◌≡◌, ◌+◌, ◌-◌, ◌<◌, ◌≤
 ghost use Rattle.std.specs.Prelude.{take, drop, insert, remove, slice_get, slice_index_or};
 ghost use Rattle.std.specs.Prelude.{Some, IsTrue, IsErr, IfOk, OnOk, OnErr};
 ghost use Rattle.rd_queue.specs.Sizes.{IsSizedQueue};
-ghost use Rattle.rd_queue.specs.Queues.{empty_queue, with_items, tasks_in_list, with_waiting};
+ghost use Rattle.rd_queue.specs.Queues.{empty_queue, fitted, with_items, tasks_in_list};
+ghost use Rattle.rd_queue.specs.Queues.{with_waiting};
+ghost use Rattle.rd_queue.specs.Changes.{put_at, queue_applied};
 
+use crate::end::End;
 use crate::item::Item;
 use crate::waiting_list::WaitingList;
 use rd_wait::prio_list::PrioList;
@@ -206,6 +209,20 @@ impl Queue {
         }
         self.items.push_back_reserved(Item::new(item));
         Ok(())
+    }
+
+    /// Puts the item that these bytes make, cut or filled up with zero bytes to the item size, at
+    /// an end of a queue that isn't full.
+    pub fn put_fitted(&mut self, end: End, bytes: &[u8])
+        requires { length self.old.items < self.old.capacity }
+        ensures { self.new
+            ≡ queue_applied self.old (put_at end (fitted self.old.item_size bytes.now)) }
+    {
+        let item = Item::fitted(bytes, self.item_size);
+        match end {
+            End::Back => self.items.push_back_reserved(item),
+            End::Front => self.items.push_front_reserved(item),
+        }
     }
 
     /// Takes the item at the front (`xQueueReceive`). An empty queue refuses, and stays as it was.

@@ -1,5 +1,5 @@
 -- What the calls of a queue keep of what makes a state valid.
-use Rattle.std.proofs.Common.{◌≡◌, ℕ, ◌+◌, ◌<◌, ◌≤◌, [], ◌∷◌, ◌++◌, List, length, get_or, drop, refl, ap, subst, sym, arith}
+use Rattle.std.proofs.Common.{◌≡◌, ℕ, ◌+◌, ◌<◌, ◌≤◌, [], ◌∷◌, ◌++◌, List, length, get_or, set, drop, refl, ap, subst, sym, arith}
 use Rattle.std.specs.Prelude.{nat_eq}
 use Rattle.std.proofs.lemmas.List.{length-set}
 use Rattle.rd_app.specs.declared.instr.Instr.{Instr}
@@ -10,12 +10,14 @@ use Rattle.rd_app.specs.Application.{Application, code_of, priorities_of}
 use Rattle.rd_queue.specs.declared.waiting_list.WaitingList.{WaitingList}
 use Rattle.rd_queue.specs.declared.waiting_list.WaitingList.TheVariants.{Receiving, Sending}
 use Rattle.rd_queue.specs.Queues.{with_items}
+use Rattle.rd_state.specs.declared.phase.Place.{Place}
 use Rattle.rd_state.specs.declared.phase.Place.TheVariants.{Queue}
 use Rattle.rd_state.specs.Change.{with_queue, items_at}
 use Rattle.rd_state.specs.Snapshot.{Snapshot, TaskSnapshot, task_at, queue_at}
 use Rattle.rd_state.specs.Valid.{seats_to_run, times_in_list}
-use Rattle.rd_state.specs.Waiting.{waiting_at}
+use Rattle.rd_state.specs.Waiting.{HasPlace, waiting_at}
 use Rattle.rd_kernel.specs.Outcomes.{concluded}
+use Rattle.rd_kernel.specs.Waking.{ReadyHasRoom}
 use Rattle.rd_kernel.proofs.ConsistentLaws.{IsConsistent, IsConsistent-items, IsConsistent-valid, all_have_time_left, task_now, waiting_at-with_items}
 use Rattle.rd_kernel.proofs.CallLaws.{IsDone, RunsInstr, IsConsistent-does_or_waits, IsConsistent-with_values, does_or_waits-tick, waits_is_task}
 use Rattle.rd_queue_calls.specs.QueueCalls.{is_full, queue_outcome, sent_item, with_item_sent, with_item_taken}
@@ -62,6 +64,15 @@ taken app s core task queue instr calls there =
       waiters = λ t some. subst (λ n. t < n) (sym same)
           (waits_is_task s (Queue queue Sending) t calls.valid.in_limits.sized there (waiters_stay s queue items Sending t there some));
     }
+
+-- The ready list has room for whoever is woken once a queue has other items.
+pub room_after_items : (s p : Snapshot) (queue : ℕ) (items : List (List ℕ)) (list : WaitingList) → queue < length s.queues
+    → ((place : Place) → HasPlace s place → 0 < length (waiting_at s place) → ReadyHasRoom s)
+    → p.queues ≡ set s.queues queue (with_items (queue_at s queue) items) → p.ready ≡ s.ready → length p.tasks ≡ length s.tasks
+    → 0 < length (waiting_at p (Queue queue list)) → ReadyHasRoom p
+room_after_items s p queue items list there room queues ready tasks some =
+    let waiting = waiting_at-with_items s p queue items (Queue queue list) there queues in
+    omega (arith, room (Queue queue list) there (omega (arith, some, ap length waiting)), ap length ready, tasks)
 
 -- A call of a queue leaves what stands, and the tick.
 pub IsConsistent-queue_call : (app : Application) (s : Snapshot) (core task queue : ℕ) (call : QueueCall) → RunsInstr app s core task (instr.Queue queue call)

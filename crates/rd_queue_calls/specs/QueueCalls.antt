@@ -31,8 +31,8 @@ with_item_sent s task queue =
 -- a queue's first item as the task's data
 abbrev pub with_item_taken : Snapshot → ℕ → ℕ → Snapshot
 with_item_taken s task queue =
-    with_bytes (with_queue s queue (with_items (queue_at s queue) (drop 1 (items_at s queue)))) task
-    (slice_index_or (items_at s queue) 0 [])
+    with_queue (with_bytes s task (slice_index_or (items_at s queue) 0 [])) queue
+    (with_items (queue_at s queue) (drop 1 (items_at s queue)))
 
 -- xQueueSend, xQueueSendToBack: where there is room, the item goes to the back, and the first who
 -- waits for one is woken. It isn't handed the item: it tries again when it runs.
@@ -59,7 +59,7 @@ abbrev pub send_cost : ℕ
 send_cost = 1 + waking_cost
 
 abbrev pub receive_cost : ℕ
-receive_cost = item_cost + data_cost + waking_cost
+receive_cost = data_cost + item_cost + waking_cost
 
 -- the most of them all
 abbrev pub queue_call_cost : ℕ

@@ -3,6 +3,7 @@
 ghost use Rattle.std.specs.Prelude.{◌≡◌, ◌+◌, ◌<◌, length, IfOk, OnOk, OnErr};
 ghost use Rattle.rd_app.specs.Application.{IsOperand, IsQueueCall, priorities_of};
 ghost use Rattle.rd_state.specs.Edit.{Reaches};
+ghost use Rattle.rd_state.specs.Sizes.{IsSized};
 ghost use Rattle.rd_state.specs.Snapshot.{queue_at, task_at};
 ghost use Rattle.rd_kernel.specs.Costs.{data_cost, item_cost};
 ghost use Rattle.rd_kernel.specs.Outcomes.{DoesCall, IsCalling};
@@ -13,57 +14,34 @@ ghost use Rattle.rd_queue_calls.specs.QueueCalls.{send_cost, receive_cost, queue
 use rd_app::app::App;
 use rd_app::instr::{Operand, QueueCall};
 use rd_bytes::no_memory::NoMemory;
-use rd_bytes::saved::SavedBytes;
 use rd_kernel::outcome::Outcome;
-use rd_kernel::room::{list_has_room, ready_has_room};
-use rd_kernel::steps::set_bytes;
 use rd_kernel::waking::{block, pass};
 use rd_queue::change::QueueChange;
-use rd_queue::item::Item;
+use rd_queue::end::End;
 use rd_queue::waiting_list::WaitingList;
 use rd_state::change::Change;
 use rd_state::editing::Editing;
 use rd_state::phase::Place;
-use std::alloc::Global;
-
-// The task's data goes to the queue's back.
-fn enqueue(alloc: Global, editing: &mut Editing, task: usize, queue: usize) -> Result<(), NoMemory>
-    requires task { task < length editing.old.now.tasks }
-    requires queue { queue < length editing.old.now.queues }
-    requires room { length (queue_at editing.old.now queue).items
-        < (queue_at editing.old.now queue).capacity }
-    ensures ok { OnOk result
-        (Reaches editing.old editing.new (with_item_sent editing.old.now task queue) 1) }
-    ensures err { OnErr result (editing.new.base ≡ editing.old.base) }
-{
-    editing.state().sizes();
-    let size = editing.state().queue(queue).item_size();
-    let item = Item::fitted(editing.state().task(task).bytes(), size);
-    let item = SavedBytes::from_slice(alloc, item.as_slice())?;
-    let change = QueueChange::PutBack { item };
-    editing.change(Change::Queue { queue, change })
-}
+use rd_state::transfer::Transfer;
 
 // The queue's first item becomes the task's data.
-fn dequeue(alloc: Global, editing: &mut Editing, task: usize, queue: usize) -> Result<(), NoMemory>
+fn dequeue(editing: &mut Editing, task: usize, queue: usize) -> Result<(), NoMemory>
     requires task { task < length editing.old.now.tasks }
     requires queue { queue < length editing.old.now.queues }
     requires some { 0 < length (queue_at editing.old.now queue).items }
+    requires sized { IsSized editing.old.now }
     ensures ok { OnOk result
         (Reaches editing.old editing.new (with_item_taken editing.old.now task queue)
-        (item_cost + data_cost)) }
+        (data_cost + item_cost)) }
     ensures err { OnErr result (editing.new.base ≡ editing.old.base) }
 {
-    editing.state().sizes();
-    let item = Item::new(editing.state().queue(queue).first());
+    editing.transfer(Transfer::FrontToData { queue, task })?;
     let change = QueueChange::TakeFront;
-    editing.change(Change::Queue { queue, change })?;
-    set_bytes(alloc, editing, task, item.as_slice())
+    editing.change(Change::Queue { queue, change })
 }
 
 // Puts the task's data at the queue's back (`xQueueSend`), or waits for room.
 fn send(
-    alloc: Global,
     app: &App,
     editing: &mut Editing,
     task: usize,
@@ -88,17 +66,15 @@ fn send(
         list: WaitingList::Receiving,
     };
     if editing.state().queue(queue).spaces() == 0 {
-        list_has_room(app, editing.state(), task, full);
-        return block(editing, app.priorities(), task, full, wait);
+        return block(app, editing, task, full, wait);
     }
-    ready_has_room(app, editing.state(), waiting);
-    enqueue(alloc, editing, task, queue)?;
+    let end = End::Back;
+    editing.transfer(Transfer::DataToQueue { task, queue, end })?;
     pass(editing, app.priorities(), waiting)
 }
 
 // Takes the queue's first item as the task's data (`xQueueReceive`), or waits for one.
 fn receive(
-    alloc: Global,
     app: &App,
     editing: &mut Editing,
     task: usize,
@@ -123,17 +99,14 @@ fn receive(
         list: WaitingList::Sending,
     };
     if editing.state().queue(queue).count() == 0 {
-        list_has_room(app, editing.state(), task, empty);
-        return block(editing, app.priorities(), task, empty, wait);
+        return block(app, editing, task, empty, wait);
     }
-    ready_has_room(app, editing.state(), waiting);
-    dequeue(alloc, editing, task, queue)?;
+    dequeue(editing, task, queue)?;
     pass(editing, app.priorities(), waiting)
 }
 
 /// Does a call of a queue.
 pub fn call_queue(
-    alloc: Global,
     app: &App,
     editing: &mut Editing,
     task: usize,
@@ -151,7 +124,7 @@ pub fn call_queue(
     ensures err { OnErr result (editing.new.base ≡ editing.old.base) }
 {
     match call {
-        QueueCall::Send { wait } => send(alloc, app, editing, task, queue, wait),
-        QueueCall::Receive { wait } => receive(alloc, app, editing, task, queue, wait),
+        QueueCall::Send { wait } => send(app, editing, task, queue, wait),
+        QueueCall::Receive { wait } => receive(app, editing, task, queue, wait),
     }
 }

@@ -3,6 +3,7 @@ pub mod TaskLaws
 pub mod UndoLaws
 pub mod SizeLaws
 pub mod EditLaws
+pub mod TransferLaws
 pub mod SettleLaws
 pub mod ScheduleLaws
 pub mod BootLaws

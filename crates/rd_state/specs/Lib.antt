@@ -4,6 +4,7 @@ pub mod Waiting
 pub mod Sizes
 pub mod TaskChanges
 pub mod Change
+pub mod Transfers
 pub mod Inside
 pub mod Edit
 pub mod Undoing

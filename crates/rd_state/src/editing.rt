@@ -4,13 +4,16 @@ ghost use Rattle.std.specs.Prelude.{◌≡◌, ◌<◌, ◌≤◌, length, inser
 ghost use Rattle.std.specs.Prelude.{OnOk, OnErr};
 ghost use Rattle.rd_state.specs.Change.{applied, inverse_of, cost_of, weight_of, Fits};
 ghost use Rattle.rd_state.specs.Edit.{Reaches};
+ghost use Rattle.rd_state.specs.Sizes.{IsSized};
+ghost use Rattle.rd_state.specs.Transfers.{change_of, CanTransfer};
 ghost use Rattle.rd_state.specs.Undoing.{undone, CanUndo};
 ghost use Rattle.rd_state.specs.Waiting.{HasPlace, waiting_at, with_waiting_at};
 
 use crate::change::Change;
 use crate::phase::Place;
 use crate::state::State;
-use crate::undo::{Undo, act};
+use crate::transfer::Transfer;
+use crate::undo::{Undo, act, act_transfer};
 use rd_bytes::no_memory::NoMemory;
 use rd_queue::change::QueueChange;
 use std::alloc::Global;
@@ -53,8 +56,10 @@ impl Editing {
 
     /// The state as it is now.
     pub fn state(&self) -> &State
-        ensures { result.now ≡ self.now.now }
+        ensures state { result.now ≡ self.now.now }
+        ensures sized { IsSized self.now.now }
     {
+        self.state.sizes();
         &self.state
     }
 
@@ -68,6 +73,19 @@ impl Editing {
     {
         self.state.sizes();
         act(&mut self.state, &mut self.undo, change)
+    }
+
+    /// Makes a transfer and records what undoes it. Where there is no memory for that, nothing has
+    /// changed.
+    pub fn transfer(&mut self, transfer: Transfer) -> Result<(), NoMemory>
+        requires { CanTransfer self.old.now transfer }
+        ensures ok { OnOk result (Reaches self.old self.new
+            (applied self.old.now (change_of self.old.now transfer))
+            (cost_of (inverse_of self.old.now (change_of self.old.now transfer)))) }
+        ensures err { OnErr result (self.new ≡ self.old) }
+    {
+        self.state.sizes();
+        act_transfer(&mut self.state, &mut self.undo, transfer)
     }
 
     /// Puts a task into the list of a place, at the index.

@@ -9,4 +9,5 @@ pub mod scheduling;
 pub mod state;
 pub mod task;
 pub mod task_change;
+pub mod transfer;
 pub mod undo;

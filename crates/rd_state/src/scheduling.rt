@@ -34,7 +34,6 @@ impl State {
         ensures weakest { result ≡ weakest_of priorities.now self.now.cores }
         ensures within { result < length self.now.cores }
     {
-        self.sizes();
         let mut weakest = 0;
         for core in 1..self.cores().len() {
             let rank = rank_of(priorities, self.core(core));
@@ -56,7 +55,6 @@ impl Editing {
             (record self.old.now { ready = joined priorities.now self.old.now.ready task }) 1) }
         ensures err { OnErr result (self.new ≡ self.old) }
     {
-        self.state().sizes();
         let index = self.state().ready().index_for(priorities, priorities[task]);
         self.change(Change::InsReady { index, task })
     }
@@ -71,7 +69,6 @@ impl Editing {
             (with_seats self.old.now (seated_on priorities.now (seating_of self.old.now) core)) 3) }
         ensures err { OnErr result (self.new.base ≡ self.old.base) }
     {
-        self.state().sizes();
         let running = self.state().core(core);
         self.change(Change::DelReady { index: 0 })?;
         if let Some(displaced) = running {
@@ -93,7 +90,6 @@ impl Editing {
             → after_one_round priorities.now (seating_of self.old.now) ≡ seating_of self.old.now }
         ensures err { OnErr result (self.new.base ≡ self.old.base) }
     {
-        self.state().sizes();
         let Some(head) = self.state().ready().first() else {
             return Ok(false);
         };
@@ -152,7 +148,6 @@ impl Editing {
             → IsOk result }
         ensures err { OnErr result (self.new.base ≡ self.old.base) }
     {
-        self.state().sizes();
         let Some(head) = self.state().ready().first() else {
             return Ok(());
         };

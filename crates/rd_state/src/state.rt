@@ -4,9 +4,10 @@ ghost use Rattle.std.specs.Prelude.{◌≡◌, ◌<◌, ◌≤◌, ◌↔◌, le
 ghost use Rattle.rd_state.specs.Boot.{before_scheduling};
 ghost use Rattle.rd_state.specs.Change.{applied, inverse_of, saved_bytes, Fits};
 ghost use Rattle.rd_state.specs.Settled.{weakest_of, rank_of};
-ghost use Rattle.rd_state.specs.Sizes.{IsSized, IsSizedPhase};
+ghost use Rattle.rd_state.specs.Sizes.{IsSized, IsSizedPhase, IsTaskOrIdle};
 ghost use Rattle.rd_state.specs.Snapshot.{hollow_state, numbers_of, task_at, queue_at, core_at};
 ghost use Rattle.rd_state.specs.Snapshot.{SameScheduling, SameObjects};
+ghost use Rattle.rd_state.specs.Transfers.{change_of, CanTransfer};
 ghost use Rattle.rd_state.specs.Waiting.{HasPlace, waiting_at};
 
 use crate::boot::{all_ready, new_queues, new_tasks};
@@ -14,9 +15,12 @@ use crate::change::Change;
 use crate::phase::{Phase, Place};
 use crate::task::Task;
 use crate::task_change::TaskChange;
+use crate::transfer::Transfer;
 use rd_app::app::App;
 use rd_bytes::no_memory::NoMemory;
+use rd_bytes::saved::SavedBytes;
 use rd_queue::change::QueueChange;
+use rd_queue::end::End;
 use rd_queue::queue::Queue;
 use rd_wait::prio_list::PrioList;
 use std::alloc::Global;
@@ -199,7 +203,8 @@ impl State {
 
     /// The core from which the next move is chosen.
     pub fn turn(&self) -> usize
-        ensures { result ≡ self.now.turn }
+        ensures turn { result ≡ self.now.turn }
+        ensures within { result ≤ length self.now.cores }
     {
         self.turn
     }
@@ -214,7 +219,8 @@ impl State {
     /// The task on a core.
     pub fn core(&self, core: usize) -> Option<usize>
         requires { core < length self.now.cores }
-        ensures { result ≡ core_at self.now core }
+        ensures core { result ≡ core_at self.now core }
+        ensures task { IsTaskOrIdle (length self.now.tasks) result }
     {
         self.cores[core]
     }
@@ -222,6 +228,7 @@ impl State {
     /// The tasks that are ready and not on a core, the first to run first.
     pub fn ready(&self) -> &PrioList
         ensures tasks { result.now.tasks ≡ self.now.ready }
+        ensures members { All (λ task. task < length self.now.tasks) self.now.ready }
         ensures room { result.now.room ≡ length self.now.tasks }
     {
         &self.ready
@@ -343,6 +350,64 @@ impl State {
             Change::DelReady { index } => self.delete_ready(*index),
             Change::Task { task, change } => self.change_task(*task, change),
             Change::Queue { queue, change } => self.change_queue(*queue, change),
+        }
+    }
+
+    fn put_data(&mut self, task: usize, queue: usize, end: End)
+        requires { CanTransfer self.old (Transfer.DataToQueue task queue end) }
+        ensures { self.new
+            ≡ applied self.old (change_of self.old (Transfer.DataToQueue task queue end)) }
+    {
+        let bytes = self.tasks[task].bytes();
+        let target = &mut self.queues[queue];
+        target.put_fitted(end, bytes);
+    }
+
+    fn take_data(&mut self, queue: usize, task: usize)
+        requires { CanTransfer self.old (Transfer.FrontToData queue task) }
+        ensures { self.new
+            ≡ applied self.old (change_of self.old (Transfer.FrontToData queue task)) }
+    {
+        let item = self.queues[queue].first();
+        let target = &mut self.tasks[task];
+        target.set_bytes(item);
+    }
+
+    /// Makes the change that a transfer stands for, with no copy of the bytes but the one that
+    /// stays. It takes no memory.
+    pub fn transfer(&mut self, transfer: Transfer)
+        requires { CanTransfer self.old transfer }
+        ensures { self.new ≡ applied self.old (change_of self.old transfer) }
+    {
+        match transfer {
+            Transfer::DataToQueue { task, queue, end } => self.put_data(task, queue, end),
+            Transfer::FrontToData { queue, task } => self.take_data(queue, task),
+        }
+    }
+
+    /// The change that undoes a transfer, made at this state. It needs memory only where more than
+    /// 16 bytes are saved.
+    pub fn inverse_of_transfer(&self, alloc: Global, transfer: Transfer) -> Result<Change, NoMemory>
+        requires { CanTransfer self.now transfer }
+        ensures inverse { IfOk result
+            (λ inverse. inverse ≡ inverse_of self.now (change_of self.now transfer)) }
+        ensures memory { saved_bytes (inverse_of self.now (change_of self.now transfer)) ≤ 16
+            → IsOk result }
+    {
+        match transfer {
+            Transfer::DataToQueue { queue, end, .. } => Ok(Change::Queue {
+                queue,
+                change: match end {
+                    End::Back => QueueChange::TakeBack,
+                    End::Front => QueueChange::TakeFront,
+                },
+            }),
+            Transfer::FrontToData { task, .. } => Ok(Change::Task {
+                task,
+                change: TaskChange::SetData {
+                    bytes: SavedBytes::from_slice(alloc, self.task(task).bytes())?,
+                },
+            }),
         }
     }
 

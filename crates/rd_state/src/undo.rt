@@ -2,10 +2,12 @@
 
 ghost use Rattle.std.specs.Prelude.{◌≡◌, ◌∷◌, ◌++◌, ◌^◌, ◌<◌, [], OnOk, OnErr};
 ghost use Rattle.rd_state.specs.Change.{applied, inverse_of, cost_of, weight_of, Fits};
+ghost use Rattle.rd_state.specs.Transfers.{change_of, CanTransfer};
 ghost use Rattle.rd_state.specs.Undoing.{undone, CanUndo, EachIsUndone};
 
 use crate::change::Change;
 use crate::state::State;
+use crate::transfer::Transfer;
 use rd_bytes::no_memory::NoMemory;
 use smallvec::SmallVec;
 use std::alloc::Global;
@@ -78,6 +80,23 @@ pub fn act(state: &mut State, undo: &mut Undo, change: Change) -> Result<(), NoM
     let inverse = state.inverse_of(alloc, &change)?;
     undo.push(inverse)?;
     state.apply(&change);
+    Ok(())
+}
+
+/// Makes a transfer, and adds the change that undoes it to the record. Where there is no memory for
+/// that, nothing has changed.
+pub fn act_transfer(state: &mut State, undo: &mut Undo, transfer: Transfer) -> Result<(), NoMemory>
+    requires { CanTransfer state.old transfer }
+    ensures state { OnOk result
+        (state.new ≡ applied state.old (change_of state.old transfer)) }
+    ensures record { OnOk result
+        (undo.new ≡ undo.old ++ inverse_of state.old (change_of state.old transfer) ∷ []) }
+    ensures err { OnErr result ((state.new ≡ state.old) × (undo.new ≡ undo.old)) }
+{
+    let alloc = *undo.changes.allocator();
+    let inverse = state.inverse_of_transfer(alloc, transfer)?;
+    undo.push(inverse)?;
+    state.transfer(transfer);
     Ok(())
 }
 

@@ -1,0 +1,10 @@
+//! The ends of a queue.
+
+/// Where an item is put into a queue.
+#[derive(Clone, Copy, Debug, PartialEq, Eq)]
+pub enum End {
+    /// After the other items (`xQueueSendToBack`).
+    Back,
+    /// Before the other items (`xQueueSendToFront`).
+    Front,
+}
