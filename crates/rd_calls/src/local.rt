@@ -1,9 +1,11 @@
 //! The instructions that touch nothing but their own task.
-ghost use Rattle.std.specs.Prelude.{◌≡◌, ◌<◌, ◌≤◌, length, slice_index, OnOk, OnErr};
+ghost use Rattle.std.specs.Prelude.{◌≡◌, ◌+◌, ◌<◌, ◌≤◌, length, slice_index, OnOk, OnErr};
 ghost use Rattle.std.specs.Int.{w32, from_le_bytes};
 ghost use Rattle.rd_state.specs.Edit.{Reaches};
 ghost use Rattle.rd_state.specs.Snapshot.{task_at};
-ghost use Rattle.rd_kernel.specs.Tasks.{register_at, with_idle_core, with_phase};
+ghost use Rattle.rd_kernel.specs.Costs.{data_cost};
+ghost use Rattle.rd_kernel.specs.Tasks.{register_at, with_register, with_bytes, advanced};
+ghost use Rattle.rd_kernel.specs.Tasks.{with_idle_core, with_phase};
 ghost use Rattle.rd_calls.specs.Local.{local_cost, local_step, NamesRegisters};
 
 use rd_app::instr::LocalInstr;
@@ -28,6 +30,42 @@ fn register_at(editing: &Editing, task: usize, register: usize) -> u32
     ensures { result ≡ register_at editing.now.now task register }
 {
     editing.state().task(task).register(register)
+}
+
+// A register gets a value, and the script goes on.
+fn put_register(
+    editing: &mut Editing,
+    task: usize,
+    register: usize,
+    value: u32,
+) -> Result<(), NoMemory>
+    requires task { task < length editing.old.now.tasks }
+    requires register { register < 8 }
+    requires pc { (task_at editing.old.now task).pc < 256 }
+    ensures ok { OnOk result (Reaches editing.old editing.new
+        (advanced (with_register editing.old.now task register value) task) 2) }
+    ensures err { OnErr result (editing.new.base ≡ editing.old.base) }
+{
+    set_register(editing, task, register, value)?;
+    advance(editing, task)
+}
+
+// The data becomes these bytes, and the script goes on.
+fn put_bytes(
+    alloc: Global,
+    editing: &mut Editing,
+    task: usize,
+    bytes: &[u8],
+) -> Result<(), NoMemory>
+    requires task { task < length editing.old.now.tasks }
+    requires few { length bytes.now ≤ 256 }
+    requires pc { (task_at editing.old.now task).pc < 256 }
+    ensures ok { OnOk result (Reaches editing.old editing.new
+        (advanced (with_bytes editing.old.now task bytes.now) task) (data_cost + 1)) }
+    ensures err { OnErr result (editing.new.base ≡ editing.old.base) }
+{
+    set_bytes(alloc, editing, task, bytes)?;
+    advance(editing, task)
 }
 
 // Ends a task: it leaves its core for good.
@@ -60,33 +98,23 @@ pub fn do_local(
     ensures err { OnErr result (editing.new.base ≡ editing.old.base) }
 {
     match instr {
-        LocalInstr::Set { register, value } => {
-            set_register(editing, task, *register, *value)?;
-            advance(editing, task)
-        }
+        LocalInstr::Set { register, value } => put_register(editing, task, *register, *value),
         LocalInstr::Add { register, value } => {
             let sum = register_at(editing, task, *register).wrapping_add(*value);
-            set_register(editing, task, *register, sum)?;
-            advance(editing, task)
+            put_register(editing, task, *register, sum)
         }
         LocalInstr::Move { into, from } => {
             let value = register_at(editing, task, *from);
-            set_register(editing, task, *into, value)?;
-            advance(editing, task)
+            put_register(editing, task, *into, value)
         }
-        LocalInstr::Data { bytes } => {
-            set_bytes(alloc, editing, task, bytes.as_slice())?;
-            advance(editing, task)
-        }
+        LocalInstr::Data { bytes } => put_bytes(alloc, editing, task, bytes.as_slice()),
         LocalInstr::Pack { register } => {
             let bytes = register_at(editing, task, *register).to_le_bytes();
-            set_bytes(alloc, editing, task, &bytes)?;
-            advance(editing, task)
+            put_bytes(alloc, editing, task, &bytes)
         }
         LocalInstr::Unpack { register } => {
             let value = unpacked(editing.state().task(task).bytes());
-            set_register(editing, task, *register, value)?;
-            advance(editing, task)
+            put_register(editing, task, *register, value)
         }
         LocalInstr::Jump { target } => set_pc(editing, task, *target),
         LocalInstr::JumpZero { register, target } => {

@@ -5,7 +5,8 @@ ghost use Rattle.rd_state.specs.Edit.{Reaches};
 ghost use Rattle.rd_state.specs.Sizes.{IsSizedPhase};
 ghost use Rattle.rd_state.specs.Snapshot.{numbers_of, task_at};
 ghost use Rattle.rd_kernel.specs.Costs.{data_cost, ending_cost};
-ghost use Rattle.rd_kernel.specs.Tasks.{with_register, with_pc, with_bytes, with_phase, advanced};
+ghost use Rattle.rd_kernel.specs.Tasks.{register_at, with_register, with_pc, with_bytes};
+ghost use Rattle.rd_kernel.specs.Tasks.{with_phase, advanced};
 ghost use Rattle.rd_kernel.specs.Outcomes.{returned};
 
 use rd_bytes::no_memory::NoMemory;
@@ -16,7 +17,7 @@ use rd_state::phase::Phase;
 use rd_state::task_change::TaskChange;
 use std::alloc::Global;
 
-/// Sets a register of a task.
+/// Sets a register of a task. If it has the value already, nothing changes, and no memory is taken.
 pub fn set_register(
     editing: &mut Editing,
     task: usize,
@@ -27,8 +28,12 @@ pub fn set_register(
     requires register { register < 8 }
     ensures ok { OnOk result
         (Reaches editing.old editing.new (with_register editing.old.now task register value) 1) }
+    ensures has_it { register_at editing.old.now task register ≡ value → IsOk result }
     ensures err { OnErr result (editing.new.base ≡ editing.old.base) }
 {
+    if editing.state().task(task).register(register) == value {
+        return Ok(());
+    }
     let change = TaskChange::SetReg { register, value };
     editing.change(Change::Task { task, change })
 }
@@ -73,14 +78,19 @@ pub fn advance(editing: &mut Editing, task: usize) -> Result<(), NoMemory>
     set_pc(editing, task, pc + 1)
 }
 
-/// Puts a task into another phase.
+/// Puts a task into another phase. If it is in that phase already, nothing changes, and no memory
+/// is taken.
 pub fn set_phase(editing: &mut Editing, task: usize, phase: Phase) -> Result<(), NoMemory>
     requires task { task < length editing.old.now.tasks }
     requires sized { IsSizedPhase (numbers_of editing.old.now) phase }
     ensures ok { OnOk result
         (Reaches editing.old editing.new (with_phase editing.old.now task phase) 1) }
+    ensures in_it { (task_at editing.old.now task).phase ≡ phase → IsOk result }
     ensures err { OnErr result (editing.new.base ≡ editing.old.base) }
 {
+    if editing.state().phase(task) == phase {
+        return Ok(());
+    }
     let change = TaskChange::SetPhase { phase };
     editing.change(Change::Task { task, change })
 }

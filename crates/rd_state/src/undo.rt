@@ -13,9 +13,9 @@ use smallvec::SmallVec;
 use std::alloc::Global;
 use std::marker::Model;
 
-/// How many changes a record keeps without memory elsewhere: those of a call that sends or receives
-/// and passes the turn.
-const INLINE: usize = 6;
+/// How many changes a record keeps without memory elsewhere: those of a call that receives at its
+/// first try and passes the turn.
+const INLINE: usize = 5;
 
 /// The record of a move: the changes that undo it, in the order of recording. It can't be dropped:
 /// it ends in `State::back`, in a log or in `retire`.
