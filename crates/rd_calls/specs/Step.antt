@@ -4,6 +4,8 @@ use Rattle.std.specs.Prelude.{if◌then◌else◌, Option, None, Some, is_some, 
 use Rattle.rd_app.specs.declared.instr.Instr.{Instr}
 use Rattle.rd_app.specs.declared.instr.Instr.TheVariants.{Local, Queue}
 use Rattle.rd_app.specs.Application.{Application, IsQueueCall, instr_at, priorities_of}
+use Rattle.rd_text.specs.declared.refusal.Refusal.{Refusal}
+use Rattle.rd_text.specs.declared.refusal.Refusal.TheVariants.{NoTask, TickLimit}
 use Rattle.rd_state.specs.declared.change.Change.{Change}
 use Rattle.rd_state.specs.Change.{weight_of}
 use Rattle.rd_state.specs.Settled.{settled, rotated}
@@ -15,8 +17,6 @@ use Rattle.rd_kernel.specs.Waking.{timed_out}
 use Rattle.rd_queue_calls.specs.QueueCalls.{queue_call_cost, queue_outcome}
 use Rattle.rd_calls.specs.declared.moves.Move.{Move}
 use Rattle.rd_calls.specs.declared.moves.Move.TheVariants.{Core, Tick}
-use Rattle.rd_calls.specs.declared.moves.PlayError.{PlayError}
-use Rattle.rd_calls.specs.declared.moves.PlayError.TheVariants.{NoTask, TickLimit}
 
 -- the state after an instruction of the task on a core
 abbrev pub performed : List ℕ → Snapshot → ℕ → ℕ → Instr → Snapshot
@@ -36,7 +36,7 @@ core_step app s core task =
     (record (performed (priorities_of app) s core task (next_instr app s task)) { turn = core + 1 })
 
 -- an idle core has no task that could
-abbrev pub step_of_core : Application → Snapshot → ℕ → Option ℕ → Result Snapshot PlayError
+abbrev pub step_of_core : Application → Snapshot → ℕ → Option ℕ → Result Snapshot Refusal
 step_of_core app s core None = Err NoTask
 step_of_core app s core (Some task) = Ok (core_step app s core task)
 
@@ -55,11 +55,11 @@ tick_step app s =
 abbrev pub last_tick : ℕ
 last_tick = 4294967295
 
-abbrev pub step_of_tick : Application → Snapshot → Result Snapshot PlayError
+abbrev pub step_of_tick : Application → Snapshot → Result Snapshot Refusal
 step_of_tick app s = if nat_lt s.tick last_tick then Ok (tick_step app s) else Err TickLimit
 
 -- the state after a move, or why there is none
-abbrev pub step : Application → Snapshot → Move → Result Snapshot PlayError
+abbrev pub step : Application → Snapshot → Move → Result Snapshot Refusal
 step app s (Core core) = step_of_core app s core (core_at s core)
 step app s Tick = step_of_tick app s
 

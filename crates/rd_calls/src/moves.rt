@@ -1,8 +1,6 @@
-//! Moves, and why one is refused.
+//! Moves.
 
 ghost use Rattle.std.specs.Prelude.{◌≡◌};
-
-use thiserror::Error;
 
 /// One move of the target.
 #[derive(Debug, Drop)]
@@ -23,18 +21,4 @@ impl Move {
             Move::Tick => Move::Tick,
         }
     }
-}
-
-/// Why a move wasn't made. The target is as it was.
-#[derive(Clone, Copy, Debug, PartialEq, Eq, Error)]
-pub enum PlayError {
-    /// The core is idle.
-    #[error("no task on this core")]
-    NoTask,
-    /// The tick is 4,294,967,295, and there is none after it.
-    #[error("no tick after the last one")]
-    TickLimit,
-    /// A growth was refused.
-    #[error("no memory")]
-    NoMemory,
 }

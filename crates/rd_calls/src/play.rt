@@ -1,7 +1,7 @@
 //! Moves, made whole or not at all.
 
-ghost use Rattle.std.specs.Prelude.{◌≡◌, ◌↔◌, ◌+◌, ◌*◌, ◌<◌, ◌≤◌, length, Ok, Err};
-ghost use Rattle.std.specs.Prelude.{Some, IfOk, OnOk, OnErr, IsOk, IsErrOf};
+ghost use Rattle.std.specs.Prelude.{◌≡◌, ◌↔◌, ◌+◌, ◌*◌, ◌<◌, ◌≤◌, ◌⊎◌, length, Ok, Err};
+ghost use Rattle.std.specs.Prelude.{Some, IfErr, IfOk, OnOk, OnErr, IsOk, IsErrOf};
 ghost use Rattle.rd_state.specs.Change.{weight_of};
 ghost use Rattle.rd_app.specs.Application.{priorities_of};
 ghost use Rattle.rd_state.specs.Settled.{IsSettled};
@@ -12,7 +12,7 @@ ghost use Rattle.rd_kernel.specs.Waking.{FirstTriesWait};
 ghost use Rattle.rd_calls.specs.Step.{step, core_step, instr_cost, tick_step, last_tick};
 ghost use Rattle.rd_calls.specs.Step.{IsMoveOf, IsSmall};
 
-use crate::moves::{Move, PlayError};
+use crate::moves::Move;
 use crate::perform::move_core;
 use crate::tick::move_tick;
 use rd_app::app::App;
@@ -20,6 +20,7 @@ use rd_bytes::no_memory::NoMemory;
 use rd_state::editing::Editing;
 use rd_state::state::State;
 use rd_state::undo::Undo;
+use rd_text::refusal::Refusal;
 use std::alloc::Global;
 use std::mem;
 
@@ -92,15 +93,17 @@ fn play_tick(alloc: Global, state: &mut State, app: &App) -> Result<Undo, NoMemo
 
 /// Makes a move and answers its record, which undoes it exactly. A refusal leaves the state as it
 /// was: `NoTask` where the core is idle, `TickLimit` where the tick is 4,294,967,295, `NoMemory`
-/// where a growth was refused.
-pub fn play(alloc: Global, state: &mut State, app: &App, action: Move) -> Result<Undo, PlayError>
+/// where a growth was refused. There is no other.
+pub fn play(alloc: Global, state: &mut State, app: &App, action: Move) -> Result<Undo, Refusal>
     requires valid { IsValid app.now state.old }
     requires named { IsMoveOf app.now action }
     ensures step { OnOk result (step app.now state.old action ≡ Ok state.new) }
-    ensures no_task { IsErrOf result PlayError.NoTask
-        ↔ (step app.now state.old action ≡ Err PlayError.NoTask) }
-    ensures tick_limit { IsErrOf result PlayError.TickLimit
-        ↔ (step app.now state.old action ≡ Err PlayError.TickLimit) }
+    ensures no_task { IsErrOf result Refusal.NoTask
+        ↔ (step app.now state.old action ≡ Err Refusal.NoTask) }
+    ensures tick_limit { IsErrOf result Refusal.TickLimit
+        ↔ (step app.now state.old action ≡ Err Refusal.TickLimit) }
+    ensures refusals { IfErr result (λ refusal.
+        (step app.now state.old action ≡ Err refusal) ⊎ (refusal ≡ Refusal.NoMemory)) }
     ensures err { OnErr result (state.new ≡ state.old) }
 
     // The record leads back, and is small.
@@ -115,12 +118,12 @@ pub fn play(alloc: Global, state: &mut State, app: &App, action: Move) -> Result
     match action {
         Move::Core { core } => {
             let Some(task) = state.core(core) else {
-                return Err(PlayError::NoTask);
+                return Err(Refusal::NoTask);
             };
-            play_core(alloc, state, app, core, task).map_err(|_| PlayError::NoMemory)
+            play_core(alloc, state, app, core, task).map_err(Refusal::from)
         }
-        Move::Tick if state.tick() == u32::MAX => Err(PlayError::TickLimit),
-        Move::Tick => play_tick(alloc, state, app).map_err(|_| PlayError::NoMemory),
+        Move::Tick if state.tick() == u32::MAX => Err(Refusal::TickLimit),
+        Move::Tick => play_tick(alloc, state, app).map_err(Refusal::from),
     }
 }
 

@@ -3,6 +3,10 @@ use Rattle.std.specs.Prelude.{ℕ, ◌==◌, ◌<◌, Bool, false, codes, decima
 use Rattle.std.specs.Prelude.{length, slice_index_or, All, Option, Some, None}
 use Rattle.std.specs.List.{flat_map}
 use Rattle.hex.specs.Hex.{encode_lower}
+use Rattle.rd_text.specs.declared.refusal.Refusal.{Refusal}
+use Rattle.rd_text.specs.declared.refusal.Refusal.TheVariants.{NoTask, TickLimit, TooFar}
+use Rattle.rd_text.specs.declared.refusal.Refusal.TheVariants.{MovesFull, NoSuch, NoMemory}
+use Rattle.rd_text.specs.declared.refusal.Refusal.TheVariants.{Syntax, LineTooLong}
 use Rattle.rd_notify.specs.declared.notes.Entry.{Entry}
 use Rattle.rd_notify.specs.declared.notes.EntryState.{EntryState}
 use Rattle.rd_notify.specs.declared.notes.EntryState.TheVariants.{Idle, Waiting, Received}
@@ -16,10 +20,6 @@ use Rattle.rd_state.specs.declared.phase.Place.TheVariants.{Queue}
 use Rattle.rd_state.specs.Sizes.{IsTaskOrIdle}
 use Rattle.rd_state.specs.Snapshot.{Snapshot, TaskSnapshot}
 use Rattle.rd_state.specs.Waiting.{IsPlace}
-use Rattle.rd_command.specs.declared.reply.Refusal.{Refusal}
-use Rattle.rd_command.specs.declared.reply.Refusal.TheVariants.{NoTask, TickLimit, TooFar}
-use Rattle.rd_command.specs.declared.reply.Refusal.TheVariants.{MovesFull, NoSuch, NoMemory}
-use Rattle.rd_command.specs.declared.reply.Refusal.TheVariants.{Syntax, LineTooLong}
 use Rattle.rd_command.specs.declared.reply.Reply.{Reply}
 use Rattle.rd_command.specs.declared.reply.Reply.TheVariants.{Done, Refused}
 

@@ -22,28 +22,8 @@ use rd_queue::waiting_list::WaitingList;
 use rd_state::phase::{Phase, Place};
 use rd_state::state::State;
 use rd_state::task::Task;
+use rd_text::refusal::Refusal;
 use std::alloc::AllocError;
-
-/// Why a command was refused.
-#[derive(Clone, Copy, Debug, PartialEq, Eq)]
-pub enum Refusal {
-    /// The core is idle.
-    NoTask,
-    /// There is no tick after this one.
-    TickLimit,
-    /// There are only so many moves to go back.
-    TooFar { done: usize },
-    /// The moves done are at their limit.
-    MovesFull,
-    /// There is no such core, queue or task.
-    NoSuch,
-    /// A growth was refused.
-    NoMemory,
-    /// The line is no command.
-    Syntax,
-    /// The line has more than 1,024 bytes.
-    LineTooLong,
-}
 
 /// What is answered to a command that makes moves or takes them back, or to one that is refused.
 #[derive(Clone, Copy, Debug, PartialEq, Eq)]

@@ -5,15 +5,12 @@ use Rattle.std.specs.Str.{bytes_eq}
 use Rattle.rd_calls.specs.Step.{step}
 use Rattle.rd_calls.specs.declared.moves.Move.{Move}
 use Rattle.rd_calls.specs.declared.moves.Move.TheVariants as move
-use Rattle.rd_calls.specs.declared.moves.PlayError.TheVariants as play
 use Rattle.rd_state.specs.Snapshot.{queue_at, task_at}
-use Rattle.rd_timeline.specs.Course.{CanGo, Course, IsFull, IsRefusedBy}
+use Rattle.rd_timeline.specs.Course.{Course, IsWhyNot}
 use Rattle.rd_command.specs.Commands.{Asked, Step, Tick, Back, ShowQueue, ShowTask, ShowCores}
 use Rattle.rd_command.specs.Replies.{line_of, reply_text, queue_text, task_text, cores_text}
 use Rattle.rd_command.specs.Replies.{is_task}
-use Rattle.rd_command.specs.declared.reply.Refusal.TheVariants.{NoTask, TickLimit, TooFar}
-use Rattle.rd_command.specs.declared.reply.Refusal.TheVariants.{MovesFull}
-use Rattle.rd_command.specs.declared.reply.Refusal.TheVariants.{NoSuch, NoMemory, Syntax}
+use Rattle.rd_text.specs.declared.refusal.Refusal.TheVariants.{TooFar, NoSuch, NoMemory, Syntax}
 use Rattle.rd_command.specs.declared.reply.Reply.{Reply}
 use Rattle.rd_command.specs.declared.reply.Reply.TheVariants.{Done, Refused}
 
@@ -27,14 +24,10 @@ pub record Goes (old : Course) (move : Move) (new : Course) : Type 0 where
   pub limit : new.limit ≡ old.limit
 
 -- the answers to a move; a refusal leaves the timeline, and one for want of memory comes only where
--- the move would be made
+-- the move would be made (`IsWhyNot`)
 abbrev pub MoveReply : Course → Move → Course → Reply → Type 0
 MoveReply old move new (Done at) = (at ≡ length new.done) × Goes old move new
-MoveReply old move new (Refused MovesFull) = IsFull old × (new ≡ old)
-MoveReply old move new (Refused NoTask) = IsRefusedBy old move play.NoTask × (new ≡ old)
-MoveReply old move new (Refused TickLimit) = IsRefusedBy old move play.TickLimit × (new ≡ old)
-MoveReply old move new (Refused NoMemory) = CanGo old move × (new ≡ old)
-MoveReply old move new reply = ⊥
+MoveReply old move new (Refused refusal) = IsWhyNot old move refusal × (new ≡ old)
 
 -- the answers to `step`: there is no such core, or its move is made or refused
 abbrev pub StepReply : Course → ℕ → Course → Reply → Type 0
@@ -52,9 +45,8 @@ pub record GoesBack (old : Course) (count : ℕ) (new : Course) : Type 0 where
 -- the answers to `back`; a refusal leaves the timeline
 abbrev pub BackReply : Course → ℕ → Course → Reply → Type 0
 BackReply old count new (Done at) = (at ≡ length new.done) × GoesBack old count new
-BackReply old count new (Refused (TooFar done)) =
-    (length old.done < count) × (done ≡ length old.done) × (new ≡ old)
-BackReply old count new reply = ⊥
+BackReply old count new (Refused refusal) =
+    (length old.done < count) × (refusal ≡ TooFar (length old.done)) × (new ≡ old)
 
 -- what was added meets this
 abbrev pub Adds : List ℕ → List ℕ → (List ℕ → Type 0) → Type 0

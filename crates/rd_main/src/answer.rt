@@ -11,9 +11,9 @@ use rd_app::app::Kind;
 use rd_calls::moves::Move;
 use rd_command::command::{Command, parse_line};
 use rd_command::reply::{
-    MAX_REPLY, Refusal, Reply, append_reply_reserved, core_of, show_cores, show_queue, show_task,
+    MAX_REPLY, Reply, append_reply_reserved, core_of, show_cores, show_queue, show_task,
 };
-use rd_timeline::timeline;
+use rd_text::refusal::Refusal;
 use rd_timeline::timeline::Timeline;
 use std::alloc::AllocError;
 
@@ -24,10 +24,7 @@ fn make(timeline: &mut Timeline, action: Move) -> Reply
 {
     match timeline.go(action) {
         Ok(at) => Reply::Done { at },
-        Err(timeline::Refusal::MovesFull) => refused(Refusal::MovesFull),
-        Err(timeline::Refusal::NoTask) => refused(Refusal::NoTask),
-        Err(timeline::Refusal::TickLimit) => refused(Refusal::TickLimit),
-        Err(timeline::Refusal::NoMemory) => refused(Refusal::NoMemory),
+        Err(refusal) => refused(refusal),
     }
 }
 
@@ -47,7 +44,7 @@ fn back(timeline: &mut Timeline, count: usize) -> Reply
 {
     match timeline.back(count) {
         Ok(at) => Reply::Done { at },
-        Err(timeline::TooFar { done }) => refused(Refusal::TooFar { done }),
+        Err(refusal) => refused(refusal),
     }
 }
 

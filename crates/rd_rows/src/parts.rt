@@ -9,8 +9,9 @@ use rd_state::change::Change;
 use rd_state::editing::Editing;
 use rd_state::phase::Place;
 use rd_state::state::State;
+use rd_text::refusal::Refusal;
 use rd_timeline::log::Log;
-use rd_timeline::timeline::{Refusal, Timeline, TooFar};
+use rd_timeline::timeline::Timeline;
 use std::alloc::Global;
 use std::process::Abort;
 use std::test::Fail;
@@ -30,7 +31,7 @@ fn goes_back_to_boot(rt: &impl Abort, alloc: Global, timeline: &mut Timeline) ->
     assert_eq!(rt; timeline.back(4), Ok(0));
     assert!(rt; timeline.target().same(&boot));
     assert_eq!(rt; timeline.left(), 4);
-    assert_eq!(rt; timeline.back(1), Err(TooFar { done: 0 }));
+    assert_eq!(rt; timeline.back(1), Err(Refusal::TooFar { done: 0 }));
     assert_eq!(rt; timeline.left(), 4);
     Ok(())
 }

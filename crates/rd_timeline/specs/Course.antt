@@ -1,10 +1,11 @@
 -- What a contract sees of a timeline.
-use Rattle.std.specs.Prelude.{ℕ, ◌≡◌, ◌≢◌, ◌≤◌, List, length, Err, IsOk}
+use Rattle.std.specs.Prelude.{ℕ, ◌≡◌, ◌≢◌, ◌≤◌, ◌⊎◌, List, length, Err, IsOk}
+use Rattle.rd_text.specs.declared.refusal.Refusal.{Refusal}
+use Rattle.rd_text.specs.declared.refusal.Refusal.TheVariants.{MovesFull, NoMemory}
 use Rattle.rd_app.specs.Application.{Application}
 use Rattle.rd_state.specs.declared.change.Change.{Change}
 use Rattle.rd_state.specs.Snapshot.{Snapshot}
 use Rattle.rd_calls.specs.declared.moves.Move.{Move}
-use Rattle.rd_calls.specs.declared.moves.PlayError.{PlayError}
 use Rattle.rd_calls.specs.Step.{step}
 use Rattle.rd_timeline.specs.History.{Retraces, CanRewind}
 
@@ -30,10 +31,17 @@ abbrev pub IsFull : Course → Type 0
 IsFull course = length course.done ≡ course.limit
 
 -- There is room for a move more, but the kernel's rules refuse this one.
-abbrev pub IsRefusedBy : Course → Move → PlayError → Type 0
+abbrev pub IsRefusedBy : Course → Move → Refusal → Type 0
 IsRefusedBy course move refusal =
     (length course.done ≢ course.limit) × (step course.app course.target move ≡ Err refusal)
 
 -- There is room for a move more, and the kernel's rules give the state after this one.
 abbrev pub CanGo : Course → Move → Type 0
 CanGo course move = (length course.done ≢ course.limit) × IsOk (step course.app course.target move)
+
+-- Why a move isn't made: the moves done are at their limit, or else the kernel's rules refuse it, or
+-- else there is no memory for it.
+abbrev pub IsWhyNot : Course → Move → Refusal → Type 0
+IsWhyNot course move refusal =
+    (IsFull course × (refusal ≡ MovesFull)) ⊎ IsRefusedBy course move refusal
+    ⊎ (CanGo course move × (refusal ≡ NoMemory))

@@ -1,5 +1,6 @@
 -- Lists of moves: the state that they give from the start, and the way back through their records.
 use Rattle.std.specs.Prelude.{ℕ, ◌≡◌, ◌≤◌, List, [], ◌∷◌, length, take, drop, fold, Result, Ok, Err}
+use Rattle.rd_text.specs.declared.refusal.Refusal.{Refusal}
 use Rattle.rd_app.specs.Application.{Application, priorities_of}
 use Rattle.rd_state.specs.declared.change.Change.{Change}
 use Rattle.rd_state.specs.Boot.{boot_of}
@@ -8,16 +9,15 @@ use Rattle.rd_state.specs.Snapshot.{Snapshot}
 use Rattle.rd_state.specs.Undoing.{undone, CanUndo}
 use Rattle.rd_state.specs.Valid.{IsValid}
 use Rattle.rd_calls.specs.declared.moves.Move.{Move}
-use Rattle.rd_calls.specs.declared.moves.PlayError.{PlayError}
 use Rattle.rd_calls.specs.Step.{step}
 
 -- one move more, where the ones before it gave a state
-abbrev pub stepped : Application → Result Snapshot PlayError → Move → Result Snapshot PlayError
+abbrev pub stepped : Application → Result Snapshot Refusal → Move → Result Snapshot Refusal
 stepped app (Ok s) move = step app s move
 stepped app (Err refusal) move = Err refusal
 
 -- the state that the moves give from boot, one after the other, or the first refusal
-abbrev pub state_after : Application → List Move → Result Snapshot PlayError
+abbrev pub state_after : Application → List Move → Result Snapshot Refusal
 state_after app moves = fold (stepped app) (Ok (boot_of app)) moves
 
 -- the state after the moves of these records are undone, the last one first

@@ -11,5 +11,4 @@ pub use Rattle.rd_state.specs.Undoing
 pub use Rattle.rd_state.specs.Boot
 pub use Rattle.rd_state.specs.Valid
 pub use Rattle.rd_app.specs.Application
-pub mod Refusals
 pub mod Runs

@@ -6,9 +6,10 @@ ghost use Rattle.rd_timeline.specs.History.{state_after};
 ghost use Rattle.rd_timeline.specs.Runs.{moves_of, makes_move, answered, all_answered};
 ghost use Rattle.rd_timeline.specs.Runs.{StopsBefore, IsRequestOf};
 
-use crate::timeline::{Refusal, Timeline};
+use crate::timeline::Timeline;
 use rd_bytes::no_memory::NoMemory;
 use rd_calls::moves::Move;
+use rd_text::refusal::Refusal;
 
 /// What one asks of a timeline.
 #[derive(Debug, Drop)]
@@ -36,11 +37,8 @@ impl Timeline {
         self.keeps();
         match request {
             Request::Go { action } => match self.go(action.copy()) {
-                Ok(_) => Ok(()),
-                Err(Refusal::MovesFull) => Ok(()),
-                Err(Refusal::NoTask) => Ok(()),
-                Err(Refusal::TickLimit) => Ok(()),
                 Err(Refusal::NoMemory) => Err(NoMemory),
+                Ok(_) | Err(_) => Ok(()),
             },
             Request::Back { count } => {
                 let _ = self.back(*count);

@@ -8,58 +8,20 @@ ghost use Rattle.rd_state.specs.Settled.{IsSettled};
 ghost use Rattle.rd_state.specs.Valid.{IsValid};
 ghost use Rattle.rd_calls.specs.Step.{step, IsMoveOf};
 ghost use Rattle.rd_timeline.specs.Course.{IsKept, IsFull, IsRefusedBy, CanGo};
+ghost use Rattle.rd_timeline.specs.Course.{IsWhyNot};
 ghost use Rattle.rd_timeline.specs.History.{state_after};
 
 use crate::journal::Journal;
 use crate::log::Log;
 use rd_app::app::App;
 use rd_bytes::no_memory::NoMemory;
-use rd_calls::moves::{Move, PlayError};
+use rd_calls::moves::Move;
 use rd_calls::play::play;
 use rd_state::state::State;
 use rd_state::undo::Undo;
+use rd_text::refusal::Refusal;
 use std::alloc::Global;
 use std::marker::Model;
-use thiserror::Error;
-
-/// Why a move wasn't made. The timeline is as it was.
-#[derive(Clone, Copy, Debug, PartialEq, Eq, Error)]
-pub enum Refusal {
-    /// The moves done are at their limit.
-    #[error("MovesFull")]
-    MovesFull,
-    /// The core is idle.
-    #[error("NoTask")]
-    NoTask,
-    /// There is no tick after this one.
-    #[error("TickLimit")]
-    TickLimit,
-    /// A growth was refused.
-    #[error("NoMemory")]
-    NoMemory,
-}
-
-impl From<PlayError> for Refusal {
-    ghost use Rattle.std.specs.Prelude.{◌≡◌};
-    ghost use Rattle.rd_timeline.specs.Refusals.{refusal_of};
-
-    ghost from_gives = { λ error refusal. refusal ≡ refusal_of error };
-
-    fn from(error: PlayError) -> Refusal {
-        match error {
-            PlayError::NoTask => Refusal::NoTask,
-            PlayError::TickLimit => Refusal::TickLimit,
-            PlayError::NoMemory => Refusal::NoMemory,
-        }
-    }
-}
-
-/// There are only so many moves to go back.
-#[derive(Clone, Copy, Debug, PartialEq, Eq, Error)]
-#[error("TooFar {done}")]
-pub struct TooFar {
-    pub done: usize,
-}
 
 /// The target with the moves that led to it. It can't be dropped: it ends in `close`.
 pub struct Timeline {
@@ -147,7 +109,8 @@ impl Timeline {
     /// Makes a move: it is laid on the moves done, and the moves undone are forgotten. Answers how
     /// many moves are done. A refusal leaves the timeline as it was: `MovesFull` where the moves
     /// done are at their limit, else `NoTask` where the core is idle and `TickLimit` where there is
-    /// no further tick, whatever memory is left, else `NoMemory` where a growth was refused.
+    /// no further tick, whatever memory is left, else `NoMemory` where a growth was refused. There
+    /// is no other.
     pub fn go(&mut self, action: Move) -> Result<usize, Refusal>
         requires named { IsMoveOf self.old.app action }
         ensures at { IfOk result (λ at. at ≡ length self.new.done) }
@@ -161,10 +124,11 @@ impl Timeline {
         // When it is refused, and that nothing has changed then.
         ensures moves_full { IsErrOf result Refusal.MovesFull ↔ IsFull self.old }
         ensures no_task { IsErrOf result Refusal.NoTask
-            ↔ IsRefusedBy self.old action PlayError.NoTask }
+            ↔ IsRefusedBy self.old action Refusal.NoTask }
         ensures tick_limit { IsErrOf result Refusal.TickLimit
-            ↔ IsRefusedBy self.old action PlayError.TickLimit }
+            ↔ IsRefusedBy self.old action Refusal.TickLimit }
         ensures no_memory { IsErrOf result Refusal.NoMemory → CanGo self.old action }
+        ensures refusals { IfErr result (IsWhyNot self.old action) }
         ensures err { OnErr result (self.new ≡ self.old) }
     {
         if self.at() == self.limit {
@@ -195,9 +159,9 @@ impl Timeline {
     }
 
     /// Goes back by `n` moves, which can be redone, the last one undone first. Answers how many
-    /// moves are done then. It takes no memory. `TooFar`, with the number of moves done, where
-    /// there are fewer; the timeline is then as it was.
-    pub fn back(&mut self, n: usize) -> Result<usize, TooFar>
+    /// moves are done then. It takes no memory. The only refusal is `TooFar` with the number of
+    /// moves done, where there are fewer; the timeline is then as it was.
+    pub fn back(&mut self, n: usize) -> Result<usize, Refusal>
         ensures ok { IsOk result ↔ (n ≤ length self.old.done) }
         ensures at { IfOk result (λ at. at ≡ length self.new.done) }
         ensures done { OnOk result (self.new.done ≡ take (length self.old.done - n) self.old.done) }
@@ -206,12 +170,13 @@ impl Timeline {
         ensures app { OnOk result (self.new.app ≡ self.old.app) }
         ensures limit { OnOk result (self.new.limit ≡ self.old.limit) }
         ensures leads { OnOk result (state_after self.new.app self.new.done ≡ Ok self.new.target) }
-        ensures too_far { IfErr result (λ error. error.done ≡ length self.old.done) }
+        ensures too_far { IfErr result (λ refusal.
+            refusal ≡ Refusal.TooFar (length self.old.done)) }
         ensures err { OnErr result (self.new ≡ self.old) }
     {
         let done = self.at();
         if n > done {
-            return Err(TooFar { done });
+            return Err(Refusal::TooFar { done });
         }
         for _ in 0..n {
             self.back_one();
