@@ -12,7 +12,6 @@ use crate::local::do_local;
 use rd_app::app::App;
 use rd_app::instr::Instr;
 use rd_bytes::no_memory::NoMemory;
-use rd_kernel::calling::can_call;
 use rd_kernel::conclude::conclude;
 use rd_kernel::steps::set_turn;
 use rd_queue_calls::calls::call_queue;
@@ -54,16 +53,14 @@ pub fn move_core(
     core: usize,
     task: usize,
 ) -> Result<(), NoMemory>
-    requires valid { IsValid app.now editing.old.now }
+    requires caller { IsCalling app.now editing.old.now task }
     requires core { core < length editing.old.now.cores }
-    requires task { core_at editing.old.now core ≡ Some task }
     ensures ok { OnOk result
         (Reaches editing.old editing.new (core_step app.now editing.old.now core task)
         (instr_cost + 1 + 3 * length editing.old.now.cores)) }
     ensures err { OnErr result (editing.new.base ≡ editing.old.base) }
 {
     app.limits();
-    can_call(app, editing.state(), core, task);
     let pc = editing.state().task(task).pc();
     let instr = &app.code(task)[pc];
     perform(alloc, app, editing, core, task, instr)?;

@@ -8,6 +8,7 @@ ghost use Rattle.rd_state.specs.Settled.{IsSettled};
 ghost use Rattle.rd_state.specs.Snapshot.{core_at};
 ghost use Rattle.rd_state.specs.Undoing.{undone, CanUndo};
 ghost use Rattle.rd_state.specs.Valid.{IsValid};
+ghost use Rattle.rd_kernel.specs.Outcomes.{IsCalling};
 ghost use Rattle.rd_kernel.specs.Waking.{FirstTriesWait};
 ghost use Rattle.rd_calls.specs.Step.{step, core_step, instr_cost, tick_step, last_tick};
 ghost use Rattle.rd_calls.specs.Step.{IsMoveOf, IsSmall};
@@ -17,6 +18,7 @@ use crate::perform::move_core;
 use crate::tick::move_tick;
 use rd_app::app::App;
 use rd_bytes::no_memory::NoMemory;
+use rd_kernel::calling::caller_on;
 use rd_state::editing::Editing;
 use rd_state::state::State;
 use rd_state::undo::Undo;
@@ -50,7 +52,7 @@ fn play_core(
     core: usize,
     task: usize,
 ) -> Result<Undo, NoMemory>
-    requires valid { IsValid app.now state.old }
+    requires caller { IsCalling app.now state.old task }
     requires core { core < length state.old.cores }
     requires task { core_at state.old core ≡ Some task }
     ensures state { OnOk result (state.new ≡ core_step app.now state.old core task) }
@@ -117,7 +119,7 @@ pub fn play(alloc: Global, state: &mut State, app: &App, action: Move) -> Result
 {
     match action {
         Move::Core { core } => {
-            let Some(task) = state.core(core) else {
+            let Some(task) = caller_on(app, state, core) else {
                 return Err(Refusal::NoTask);
             };
             play_core(alloc, state, app, core, task).map_err(Refusal::from)

@@ -1,7 +1,7 @@
 -- What calls keep of what makes a state valid: those that return, those that wait, and those that wake somebody.
 use Rattle.std.proofs.Common.{◌≡◌, ◌∙◌, ◌≢◌, ℕ, ◌+◌, ◌<◌, ◌≤◌, Bool, true, false, cond, List, [], ◌∷◌, length}
 use Rattle.std.proofs.Common.{set, Option, Some, None, refl, ap, subst, sym, arith}
-use Rattle.std.specs.Prelude.{is_some, nat_eq, slice_get}
+use Rattle.std.specs.Prelude.{is_some, nat_eq, slice_get, IfSome}
 use Rattle.std.proofs.lemmas.Bool.{false≢true}
 use Rattle.std.proofs.lemmas.Bool.Decides.{nat_tests}
 use Rattle.std.proofs.lemmas.List.{length-set}
@@ -25,7 +25,7 @@ use Rattle.rd_state.proofs.ScheduleLaws.{one_if}
 use Rattle.rd_state.proofs.ScheduleLaws.{times_in_list-cons, times_in_list-joined, times_on_cores-set}
 use Rattle.rd_state.proofs.UndoLaws.{IsSizedList-waiting_at}
 use Rattle.rd_kernel.specs.declared.outcome.Outcome.TheVariants.{Waits}
-use Rattle.rd_kernel.specs.Outcomes.{blocked, concluded, call_fails, passed, returned}
+use Rattle.rd_kernel.specs.Outcomes.{IsCalling, blocked, concluded, call_fails, passed, returned}
 use Rattle.rd_kernel.specs.Tasks.{with_idle_core, with_pc, with_phase, advanced}
 use Rattle.rd_kernel.specs.Waking.{deadline_of, is_due, may_wait, with_waiter, woken_first, woken_one}
 use Rattle.rd_kernel.proofs.ConsistentLaws.{TaskMoves, IsConsistent, IsConsistent-moved}
@@ -350,3 +350,18 @@ room_for_first app s place valid has_place some =
     let there = waits_is_task s place first.0 valid.in_limits.sized has_place first.1 in
     room_in_ready app (all_have_time_left s.tick) s first.0 (IsConsistent-valid app s valid) valid.in_limits.sized there
     (waits_idle place (task_at s first.0).phase (omega (arith, first.1, valid.places place first.0 there)))
+
+-- Whoever is on a core can call.
+pub calls_from : (app : Application) (s : Snapshot) (core : ℕ) (running : Option ℕ) → IsValid app s → core < length s.cores → running ≡ core_at s core
+    → IfSome running (IsCalling app s)
+calls_from app s core None valid has_core e = tt
+calls_from app s core (Some task) valid has_core e =
+    let there = is_task_on_core app s core task valid has_core (sym e) in
+    let runs = runs_on_core app s core task valid has_core (sym e) in
+    record {
+      valid = valid;
+      there = there;
+      runs = runs;
+      room_to_wait = λ place has_place. room_in_list app s task place valid there runs has_place;
+      room_to_wake = λ place has_place some. room_for_first app s place valid has_place some;
+    }

@@ -39,8 +39,8 @@ IsRefusedBy course move refusal =
 abbrev pub CanGo : Course → Move → Type 0
 CanGo course move = (length course.done ≢ course.limit) × IsOk (step course.app course.target move)
 
--- Why a move isn't made: the moves done are at their limit, or else the kernel's rules refuse it, or
--- else there is no memory for it.
+-- Why a move isn't made: the moves done are at their limit, or else the kernel's rules refuse it,
+-- or else there is no memory for it.
 abbrev pub IsWhyNot : Course → Move → Refusal → Type 0
 IsWhyNot course move refusal =
     (IsFull course × (refusal ≡ MovesFull)) ⊎ IsRefusedBy course move refusal

@@ -11,5 +11,6 @@ pub pass-requires-clause-room : goal.pass-requires-clause-room
 pass-requires-clause-room c =
     let s = c.args.editing.now.now in
     let now = c.in_ok-transfer.ensures.ok.now in
-    room_after_items s c.transfer.new.self.now c.args.queue (items_at s c.args.queue ++ sent_item s c.args.task c.args.queue ∷ []) Receiving c.requires.queue c.requires.caller.room_to_wake
+    let items = items_at s c.args.queue ++ sent_item s c.args.task c.args.queue ∷ [] in
+    room_after_items s c.transfer.new.self.now c.args.queue items Receiving c.requires.queue c.requires.caller.room_to_wake
     (ap (λ (t : Snapshot). t.queues) now) (ap (λ (t : Snapshot). t.ready) now) (ap (λ (t : Snapshot). length t.tasks) now)
