@@ -125,12 +125,14 @@ pub fn wake(editing: &mut Editing, priorities: &[u8], task: usize) -> Result<(),
     ensures awake { 1 ≤ seats_to_run (task_at editing.old.now task).phase → IsOk result }
     ensures err { OnErr result (editing.new.base ≡ editing.old.base) }
 {
-    let Phase::Wait { place, deadline } = editing.state().phase(task) else {
-        return Ok(());
-    };
-    leave_list(editing, place, task)?;
-    set_phase(editing, task, Phase::Again { deadline })?;
-    editing.join_ready(priorities, task)
+    match editing.state().phase(task) {
+        Phase::Wait { place, deadline } => {
+            leave_list(editing, place, task)?;
+            set_phase(editing, task, Phase::Again { deadline })?;
+            editing.join_ready(priorities, task)
+        }
+        Phase::Run | Phase::Again { .. } | Phase::Ended => Ok(()),
+    }
 }
 
 /// Wakes the first to be served at a place, if anyone waits there. Waking nobody takes no memory.

@@ -30,10 +30,10 @@ waiters_stay s queue items list t there some =
     let p = with_queue s queue (with_items (queue_at s queue) items) in
     omega (arith, some, ap (times_in_list t) (waiting_at-with_items s p queue items (Queue queue list) there refl))
 
-sent : (app : Application) (s : Snapshot) (core task queue : ℕ) (instr : Instr) → RunsInstr app s core task instr → queue < length s.queues
-    → IsDone app s (with_item_sent s task queue) task (Queue queue Receiving)
-sent app s core task queue instr calls there =
-    let items = items_at s queue ++ sent_item s task queue ∷ [] in
+-- A queue gets other items, and who waits for them is woken.
+with_items_done : (app : Application) (s : Snapshot) (core task queue : ℕ) (instr : Instr) (items : List (List ℕ)) → RunsInstr app s core task instr
+    → queue < length s.queues → IsDone app s (with_queue s queue (with_items (queue_at s queue) items)) task (Queue queue Receiving)
+with_items_done app s core task queue instr items calls there =
     let at = IsConsistent-valid app s calls.valid in
     record {
       consistent = IsConsistent-items app (all_have_time_left s.tick) s queue items there at;
@@ -43,6 +43,7 @@ sent app s core task queue instr calls there =
       waiters = λ t some. waits_is_task s (Queue queue Receiving) t calls.valid.in_limits.sized there (waiters_stay s queue items Receiving t there some);
     }
 
+-- Its first item becomes the caller's data, and who waits for a free slot is woken.
 taken : (app : Application) (s : Snapshot) (core task queue : ℕ) (instr : Instr) → RunsInstr app s core task instr → queue < length s.queues
     → IsDone app s (with_item_taken s task queue) task (Queue queue Sending)
 taken app s core task queue instr calls there =
@@ -80,7 +81,8 @@ pub IsConsistent-queue_call : (app : Application) (s : Snapshot) (core task queu
     → IsConsistent app (all_have_time_left s.tick) (concluded (queue_outcome (priorities_of app) s task queue call) core task)
 IsConsistent-queue_call app s core task queue (Send wait) calls there =
     IsConsistent-does_or_waits app s (with_item_sent s task queue) core task (instr.Queue queue (Send wait)) (Queue queue Sending) (Queue queue Receiving) wait
-    (is_full (queue_at s queue)) calls there refl (sent app s core task queue (instr.Queue queue (Send wait)) calls there)
+    (is_full (queue_at s queue)) calls there refl
+    (with_items_done app s core task queue (instr.Queue queue (Send wait)) (items_at s queue ++ sent_item s task queue ∷ []) calls there)
 IsConsistent-queue_call app s core task queue (Receive wait) calls there =
     IsConsistent-does_or_waits app s (with_item_taken s task queue) core task (instr.Queue queue (Receive wait)) (Queue queue Receiving) (Queue queue Sending)
     wait (nat_eq (length (items_at s queue)) 0) calls there refl (taken app s core task queue (instr.Queue queue (Receive wait)) calls there)
