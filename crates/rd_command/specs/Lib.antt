@@ -1,4 +1,5 @@
 -- What the contracts of this crate cite.
 pub mod Commands
 pub mod Lines
+pub mod Pages
 pub mod Replies

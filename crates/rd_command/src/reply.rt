@@ -1,4 +1,5 @@
 //! The text of replies.
+#![tactic(auto, using(crate::proofs::PageLaws::kept_then))]
 
 ghost use Rattle.std.specs.Prelude.{◌≡◌, ◌+◌, ◌++◌, ◌<◌, ◌≤◌, ◌∷◌, [], decimal, length, position};
 ghost use Rattle.std.specs.Prelude.{All, IsOk, OnErr, OnOk, vec_capacity, vec_len};
@@ -12,6 +13,7 @@ ghost use Rattle.rd_command.specs.Replies.{counts_text, waiting_text, amounts_te
 ghost use Rattle.rd_command.specs.Replies.{running_core_text, state_text, task_text, is_task};
 ghost use Rattle.rd_command.specs.Replies.{seat_text, ticks_text, cores_text};
 ghost use Rattle.rd_command.specs.Replies.{PlaceIsNamed, WaitersAreNamed, SeatedAreNamed};
+ghost use Rattle.rd_command.specs.Pages.{KeepsFront};
 
 use itoa::{Buffer, Integer};
 use rd_app::app::{App, Kind};
@@ -43,15 +45,18 @@ const MAX_DIGITS: usize = 20;
 // Whether there was memory for what is appended to a page.
 type Appended = Result<(), AllocError>;
 
-// Appends a text. The functions below append to a page in the same way what their name says.
+// Appends a text. The functions below append to a page in the same way what their name says. Where
+// memory runs out half-way, what they appended by then stays behind what the page had.
 fn append(page: &mut Vec<u8>, text: &[u8]) -> Appended
-    ensures { OnOk result (page.new.items ≡ page.old.items ++ text.now) }
+    ensures text { OnOk result (page.new.items ≡ page.old.items ++ text.now) }
+    ensures kept { KeepsFront page.old page.new }
 {
     page.extend_from_slice(text)
 }
 
 fn append_number<I: Integer>(page: &mut Vec<u8>, number: I) -> Appended
-    ensures { OnOk result (page.new.items ≡ page.old.items ++ I.text number) }
+    ensures text { OnOk result (page.new.items ≡ page.old.items ++ I.text number) }
+    ensures kept { KeepsFront page.old page.new }
 {
     append(page, Buffer::new().format(number).as_bytes())
 }
@@ -130,7 +135,8 @@ pub fn append_reply(page: &mut Vec<u8>, reply: Reply) -> Result<(), AllocError>
 // Two digits a byte; `-` for none.
 fn append_bytes(page: &mut Vec<u8>, bytes: &[u8]) -> Appended
     requires { length bytes.now ≤ MAX_BYTES }
-    ensures { OnOk result (page.new.items ≡ page.old.items ++ bytes_text bytes.now) }
+    ensures text { OnOk result (page.new.items ≡ page.old.items ++ bytes_text bytes.now) }
+    ensures kept { KeepsFront page.old page.new }
 {
     if bytes.is_empty() {
         return append(page, b"-");
@@ -145,6 +151,7 @@ fn append_bytes(page: &mut Vec<u8>, bytes: &[u8]) -> Appended
 fn append_comma(page: &mut Vec<u8>, index: usize) -> Appended
     ensures first { index ≡ 0 → OnOk result (page.new.items ≡ page.old.items) }
     ensures later { 1 ≤ index → OnOk result (page.new.items ≡ page.old.items ++ 44 ∷ []) }
+    ensures kept { KeepsFront page.old page.new }
 {
     if index > 0 {
         append(page, b",")?;
@@ -153,8 +160,9 @@ fn append_comma(page: &mut Vec<u8>, index: usize) -> Appended
 }
 
 fn append_items(page: &mut Vec<u8>, queue: &Queue) -> Appended
-    ensures { OnOk result (page.new.items
+    ensures text { OnOk result (page.new.items
         ≡ page.old.items ++ list_text bytes_text queue.now.items) }
+    ensures kept { KeepsFront page.old page.new }
 {
     if queue.count() == 0 {
         return append(page, b"-");
@@ -167,7 +175,8 @@ fn append_items(page: &mut Vec<u8>, queue: &Queue) -> Appended
 }
 
 fn append_number_list(page: &mut Vec<u8>, numbers: &[u32]) -> Appended
-    ensures { OnOk result (page.new.items ≡ page.old.items ++ list_text decimal numbers.now) }
+    ensures text { OnOk result (page.new.items ≡ page.old.items ++ list_text decimal numbers.now) }
+    ensures kept { KeepsFront page.old page.new }
 {
     if numbers.is_empty() {
         return append(page, b"-");
@@ -182,8 +191,9 @@ fn append_number_list(page: &mut Vec<u8>, numbers: &[u32]) -> Appended
 // The names of tasks.
 fn append_task_names(page: &mut Vec<u8>, app: &App, tasks: &[usize]) -> Appended
     requires { All (λ task. task < length app.now.task_names) tasks.now }
-    ensures { OnOk result (page.new.items
+    ensures text { OnOk result (page.new.items
         ≡ page.old.items ++ list_text (name_at app.now.task_names) tasks.now) }
+    ensures kept { KeepsFront page.old page.new }
 {
     if tasks.is_empty() {
         return append(page, b"-");
@@ -198,8 +208,9 @@ fn append_task_names(page: &mut Vec<u8>, app: &App, tasks: &[usize]) -> Appended
 // The name of the task that runs on a core; `-` for none.
 fn append_seat(page: &mut Vec<u8>, app: &App, running: Option<usize>) -> Appended
     requires { IsTaskOrIdle (length app.now.task_names) running }
-    ensures { OnOk result (page.new.items
+    ensures text { OnOk result (page.new.items
         ≡ page.old.items ++ seat_text app.now.task_names running) }
+    ensures kept { KeepsFront page.old page.new }
 {
     match running {
         Some(task) => append(page, app.name(Kind::Task, task).as_bytes()),
@@ -209,8 +220,9 @@ fn append_seat(page: &mut Vec<u8>, app: &App, running: Option<usize>) -> Appende
 
 fn append_seat_list(page: &mut Vec<u8>, app: &App, cores: &[Option<usize>]) -> Appended
     requires { All (IsTaskOrIdle (length app.now.task_names)) cores.now }
-    ensures { OnOk result (page.new.items
+    ensures text { OnOk result (page.new.items
         ≡ page.old.items ++ list_text (seat_text app.now.task_names) cores.now) }
+    ensures kept { KeepsFront page.old page.new }
 {
     if cores.is_empty() {
         return append(page, b"-");
@@ -223,7 +235,8 @@ fn append_seat_list(page: &mut Vec<u8>, app: &App, cores: &[Option<usize>]) -> A
 }
 
 fn append_entry(page: &mut Vec<u8>, entry: Entry) -> Appended
-    ensures { OnOk result (page.new.items ≡ page.old.items ++ entry_text entry) }
+    ensures text { OnOk result (page.new.items ≡ page.old.items ++ entry_text entry) }
+    ensures kept { KeepsFront page.old page.new }
 {
     append_number(page, entry.value)?;
     match entry.state {
@@ -234,7 +247,8 @@ fn append_entry(page: &mut Vec<u8>, entry: Entry) -> Appended
 }
 
 fn append_entry_list(page: &mut Vec<u8>, entries: &[Entry]) -> Appended
-    ensures { OnOk result (page.new.items ≡ page.old.items ++ list_text entry_text entries.now) }
+    ensures text { OnOk result (page.new.items ≡ page.old.items ++ list_text entry_text entries.now) }
+    ensures kept { KeepsFront page.old page.new }
 {
     if entries.is_empty() {
         return append(page, b"-");
@@ -248,7 +262,8 @@ fn append_entry_list(page: &mut Vec<u8>, entries: &[Entry]) -> Appended
 
 // A deadline's tick; `max` for none.
 fn append_deadline(page: &mut Vec<u8>, deadline: Option<u64>) -> Appended
-    ensures { OnOk result (page.new.items ≡ page.old.items ++ deadline_text deadline) }
+    ensures text { OnOk result (page.new.items ≡ page.old.items ++ deadline_text deadline) }
+    ensures kept { KeepsFront page.old page.new }
 {
     match deadline {
         Some(tick) => append_number(page, tick),
@@ -269,8 +284,9 @@ fn list_name(list: WaitingList) -> &'static [u8]
 // Where a task waits.
 fn append_place(page: &mut Vec<u8>, app: &App, place: Place) -> Appended
     requires { IsPlace (record { queues = length app.now.queue_names }) place }
-    ensures { OnOk result
+    ensures text { OnOk result
         (page.new.items ≡ page.old.items ++ place_text app.now.queue_names place) }
+    ensures kept { KeepsFront page.old page.new }
 {
     match place {
         Place::Queue { queue, list } => {
@@ -283,8 +299,9 @@ fn append_place(page: &mut Vec<u8>, app: &App, place: Place) -> Appended
 
 fn append_phase(page: &mut Vec<u8>, app: &App, phase: Phase) -> Appended
     requires { PlaceIsNamed app.now.queue_names phase }
-    ensures { OnOk result (page.new.items
+    ensures text { OnOk result (page.new.items
         ≡ page.old.items ++ phase_text app.now.queue_names phase) }
+    ensures kept { KeepsFront page.old page.new }
 {
     match phase {
         Phase::Run => append(page, b"run"),
@@ -304,7 +321,8 @@ fn append_phase(page: &mut Vec<u8>, app: &App, phase: Phase) -> Appended
 
 // The core that a task runs on; `-` for none.
 fn append_running_core(page: &mut Vec<u8>, core: Option<usize>) -> Appended
-    ensures { OnOk result (page.new.items ≡ page.old.items ++ running_core_text core) }
+    ensures text { OnOk result (page.new.items ≡ page.old.items ++ running_core_text core) }
+    ensures kept { KeepsFront page.old page.new }
 {
     match core {
         Some(core) => append_number(page, core),
@@ -312,14 +330,14 @@ fn append_running_core(page: &mut Vec<u8>, core: Option<usize>) -> Appended
     }
 }
 
-/// Writes the view of a queue onto the page, in place of what was there. An `Err` says that
-/// there is no memory for it; the page then has some beginning of the view.
+/// Appends the view of a queue. An `Err` says that there is no memory for it; the page may then
+/// have some part of it behind what it had.
 pub fn show_queue(page: &mut Vec<u8>, app: &App, name: &str, queue: &Queue) -> Appended
     requires { WaitersAreNamed app.now.task_names queue.now }
-    ensures { OnOk result (page.new.items
-        ≡ line_of (queue_text app.now.task_names name.now queue.now)) }
+    ensures text { OnOk result (page.new.items
+        ≡ page.old.items ++ line_of (queue_text app.now.task_names name.now queue.now)) }
+    ensures kept { KeepsFront page.old page.new }
 {
-    page.clear();
     append(page, b"queue ")?;
     append(page, name.as_bytes())?;
     append(page, b" ")?;
@@ -328,7 +346,8 @@ pub fn show_queue(page: &mut Vec<u8>, app: &App, name: &str, queue: &Queue) -> A
 
 // How many items there are, and how many there is room for.
 fn append_counts(page: &mut Vec<u8>, queue: &Queue) -> Appended
-    ensures { OnOk result (page.new.items ≡ page.old.items ++ counts_text queue.now) }
+    ensures text { OnOk result (page.new.items ≡ page.old.items ++ counts_text queue.now) }
+    ensures kept { KeepsFront page.old page.new }
 {
     append_number(page, queue.count())?;
     append(page, b"/")?;
@@ -338,8 +357,9 @@ fn append_counts(page: &mut Vec<u8>, queue: &Queue) -> Appended
 // The rest of a queue's view, from its amounts on.
 fn append_amounts(page: &mut Vec<u8>, app: &App, queue: &Queue) -> Appended
     requires { WaitersAreNamed app.now.task_names queue.now }
-    ensures { OnOk result (page.new.items
+    ensures text { OnOk result (page.new.items
         ≡ page.old.items ++ line_of (amounts_text app.now.task_names queue.now)) }
+    ensures kept { KeepsFront page.old page.new }
 {
     append_counts(page, queue)?;
     append(page, b" items ")?;
@@ -351,8 +371,9 @@ fn append_amounts(page: &mut Vec<u8>, app: &App, queue: &Queue) -> Appended
 // Who waits at a queue.
 fn append_waiting(page: &mut Vec<u8>, app: &App, queue: &Queue) -> Appended
     requires { WaitersAreNamed app.now.task_names queue.now }
-    ensures { OnOk result (page.new.items
+    ensures text { OnOk result (page.new.items
         ≡ page.old.items ++ waiting_text app.now.task_names queue.now) }
+    ensures kept { KeepsFront page.old page.new }
 {
     append(page, b" recv ")?;
     append_task_names(page, app, queue.waiting(WaitingList::Receiving).as_slice())?;
@@ -361,8 +382,8 @@ fn append_waiting(page: &mut Vec<u8>, app: &App, queue: &Queue) -> Appended
     append(page, b" set -")
 }
 
-/// Writes the view of a task onto the page, in place of what was there. An `Err` says that
-/// there is no memory for it; the page then has some beginning of the view.
+/// Appends the view of a task. An `Err` says that there is no memory for it; the page may then
+/// have some part of it behind what it had.
 pub fn show_task(
     page: &mut Vec<u8>,
     app: &App,
@@ -371,10 +392,10 @@ pub fn show_task(
     task: &Task,
 ) -> Appended
     requires { PlaceIsNamed app.now.queue_names task.now.phase }
-    ensures { OnOk result (page.new.items
-        ≡ line_of (task_text app.now.queue_names name.now core task.now)) }
+    ensures text { OnOk result (page.new.items
+        ≡ page.old.items ++ line_of (task_text app.now.queue_names name.now core task.now)) }
+    ensures kept { KeepsFront page.old page.new }
 {
-    page.clear();
     append(page, b"task ")?;
     append(page, name.as_bytes())?;
     append(page, b" core ")?;
@@ -388,7 +409,8 @@ pub fn show_task(
 
 // The rest of a task's view, from its registers on.
 fn append_state(page: &mut Vec<u8>, task: &Task) -> Appended
-    ensures { OnOk result (page.new.items ≡ page.old.items ++ line_of (state_text task.now)) }
+    ensures text { OnOk result (page.new.items ≡ page.old.items ++ line_of (state_text task.now)) }
+    ensures kept { KeepsFront page.old page.new }
 {
     append(page, b" regs ")?;
     append_number_list(page, task.registers())?;
@@ -399,13 +421,14 @@ fn append_state(page: &mut Vec<u8>, task: &Task) -> Appended
     append(page, b"\n")
 }
 
-/// Writes the view of the cores onto the page, in place of what was there. An `Err` says that
-/// there is no memory for it; the page then has some beginning of the view.
+/// Appends the view of the cores. An `Err` says that there is no memory for it; the page may then
+/// have some part of it behind what it had.
 pub fn show_cores(page: &mut Vec<u8>, app: &App, state: &State) -> Appended
     requires { SeatedAreNamed app.now.task_names state.now }
-    ensures { OnOk result (page.new.items ≡ line_of (cores_text app.now.task_names state.now)) }
+    ensures text { OnOk result (page.new.items
+        ≡ page.old.items ++ line_of (cores_text app.now.task_names state.now)) }
+    ensures kept { KeepsFront page.old page.new }
 {
-    page.clear();
     append(page, b"cores ")?;
     append_seat_list(page, app, state.cores())?;
     append(page, b" ready ")?;
@@ -415,7 +438,8 @@ pub fn show_cores(page: &mut Vec<u8>, app: &App, state: &State) -> Appended
 
 // The rest of the cores' view, from the tick on.
 fn append_ticks(page: &mut Vec<u8>, state: &State) -> Appended
-    ensures { OnOk result (page.new.items ≡ page.old.items ++ line_of (ticks_text state.now)) }
+    ensures text { OnOk result (page.new.items ≡ page.old.items ++ line_of (ticks_text state.now)) }
+    ensures kept { KeepsFront page.old page.new }
 {
     append(page, b" tick ")?;
     append_number(page, state.tick())?;

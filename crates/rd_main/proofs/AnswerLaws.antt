@@ -1,8 +1,9 @@
 -- Answers to lines, by the command that the line spells.
-use Rattle.std.proofs.Common.{◌≡◌, ◌∙◌, ℕ, ◌<◌, List, [], length, Option, Some, Result, Ok, Err, OnOk, refl, ap, subst, sym, arith, inl, inr}
+use Rattle.std.proofs.Common.{◌≡◌, ◌∙◌, ℕ, ◌<◌, List, [], ◌++◌, length, take, vec_len, Option, Some, Result, Ok, Err, OnOk, OnErr, refl, ap, subst, sym, arith, inl, inr}
 use Rattle.std.specs.Str.{bytes_eq}
 use Rattle.std.specs.Prelude.{All}
-use Rattle.std.proofs.lemmas.List.{length-map}
+use Rattle.std.specs.Global.{Vec}
+use Rattle.std.proofs.lemmas.List.{length-map, take_all}
 use Rattle.std.proofs.lemmas.List.Quantifiers.{position-Some}
 use Rattle.rd_app.specs.Application.{IsApplication}
 use Rattle.rd_state.specs.declared.phase.Phase.{Phase}
@@ -13,7 +14,8 @@ use Rattle.rd_state.proofs.UndoLaws.{phase_sized, queue_sized}
 use Rattle.rd_state.specs.Waiting.{IsPlace}
 use Rattle.rd_state.specs.Valid.{IsValid, shape_of}
 use Rattle.rd_timeline.specs.Course.{Course}
-use Rattle.rd_main.specs.Answers.{Adds, IsView, PutsPage, no_memory, number_named}
+use Rattle.rd_main.specs.Answers.{Adds, IsView, no_memory, number_named}
+use Rattle.rd_command.specs.Pages.{KeepsFront}
 use Rattle.rd_command.specs.Replies.{line_of, PlaceIsNamed, WaitersAreNamed, SeatedAreNamed}
 
 -- What has a name is there.
@@ -65,10 +67,12 @@ seated_named course limits valid =
       ready = subst (λ n. All (λ task. task < n) course.target.ready) tasks valid.in_limits.sized.scheduling.ready;
     }
 
--- the page of a view, or that there was no memory for it
-pub page_view : {T E : Type 0} (shown : Result T E) (number : Option ℕ) (view : ℕ → List ℕ) (n : ℕ) (before after page : List ℕ)
-    → number ≡ Some n → OnOk shown (page ≡ line_of (view n)) → PutsPage before shown page after
-    → Adds before after (IsView number view)
-page_view (Ok x) number view n before after page is text (inl put) = (page, put, subst (λ m. IsView m view page) (sym is) (inl text))
-page_view (Ok x) number view n before after page is text (inr put) = (no_memory, put, subst (λ m. IsView m view no_memory) (sym is) (inr refl))
-page_view (Err e) number view n before after page is text put = (no_memory, put, subst (λ m. IsView m view no_memory) (sym is) (inr refl))
+-- A view that was appended is the answer. One that wasn't finished is cut off, and `no NoMemory` is the answer.
+pub view_added : {T E : Type 0} (shown : Result T E) (number : Option ℕ) (view : ℕ → List ℕ) (n len : ℕ) (old page : Vec ℕ) (after : List ℕ)
+    → number ≡ Some n → len ≡ vec_len old → OnOk shown (page.items ≡ old.items ++ line_of (view n)) → KeepsFront old page
+    → OnOk shown (after ≡ page.items) → OnErr shown (after ≡ take len page.items ++ no_memory) → Adds old.items after (IsView number view)
+view_added (Ok x) number view n len old page after is all text kept ok err =
+    (line_of (view n), ok ∙ text, subst (λ m. IsView m view (line_of (view n))) (sym is) (inl refl))
+view_added (Err e) number view n len old page after is all text kept ok err =
+    let front : take len page.items ≡ old.items = kept.front len (omega (arith, all)) ∙ take_all len old.items (omega (arith, all, old.ok.0)) in
+    (no_memory, err ∙ ap (λ (items : List ℕ). items ++ no_memory) front, subst (λ m. IsView m view no_memory) (sym is) (inr refl))

@@ -1,6 +1,6 @@
 -- What is answered to a command, and what becomes of the timeline.
 use Rattle.std.specs.Prelude.{ℕ, ◌≡◌, ◌≢◌, ◌-◌, ◌<◌, ◌≤◌, ◌⊎◌, List, [], ◌∷◌, ◌++◌, length}
-use Rattle.std.specs.Prelude.{take, drop, position, Option, Some, None, Result, Ok, Err}
+use Rattle.std.specs.Prelude.{take, drop, position, Option, Some, None, Ok}
 use Rattle.std.specs.Str.{bytes_eq}
 use Rattle.rd_calls.specs.Step.{step}
 use Rattle.rd_calls.specs.declared.moves.Move.{Move}
@@ -58,11 +58,6 @@ no_such = line_of (reply_text (Refused NoSuch))
 
 abbrev pub no_memory : List ℕ
 no_memory = line_of (reply_text (Refused NoMemory))
-
--- The page is added where it was written, or that there is no memory.
-abbrev pub PutsPage : {T E : Type 0} → List ℕ → Result T E → List ℕ → List ℕ → Type 0
-PutsPage old (Ok done) page new = (new ≡ old ++ page) ⊎ (new ≡ old ++ no_memory)
-PutsPage old (Err error) page new = new ≡ old ++ no_memory
 
 -- A view, or `no NoMemory`.
 abbrev pub IsShown : List ℕ → List ℕ → Type 0

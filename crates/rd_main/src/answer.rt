@@ -1,10 +1,11 @@
 //! The answer to each command.
 
-ghost use Rattle.std.specs.Prelude.{◌≡◌, ◌+◌, ◌≤◌, IsOk, OnErr, OnOk, vec_capacity, vec_len};
+ghost use Rattle.std.specs.Prelude.{◌≡◌, ◌+◌, ◌++◌, ◌≤◌, take, IsOk, OnErr, OnOk};
+ghost use Rattle.std.specs.Prelude.{vec_capacity, vec_len};
 ghost use Rattle.rd_calls.specs.Step.{IsMoveOf};
 ghost use Rattle.rd_text.specs.Words.{words_of};
 ghost use Rattle.rd_command.specs.Commands.{command_of};
-ghost use Rattle.rd_main.specs.Answers.{MoveReply, StepReply, BackReply, IsAnswer, Adds, PutsPage};
+ghost use Rattle.rd_main.specs.Answers.{MoveReply, StepReply, BackReply, IsAnswer, Adds, no_memory};
 ghost use Rattle.rd_main.specs.Answers.{QueueLine, TaskLine, CoresLine};
 
 use rd_app::app::Kind;
@@ -54,18 +55,21 @@ fn refused(refusal: Refusal) -> Reply
     Reply::Refused { refusal }
 }
 
-// Appends what stands on the page, or that there was no memory for it.
-fn put_page(answers: &mut Vec<u8>, page: &[u8], shown: Result<(), AllocError>)
-    requires { vec_len answers.old + MAX_REPLY ≤ vec_capacity answers.old }
-    ensures { PutsPage answers.old.items shown page.now answers.new.items }
+// Ends a view that was appended behind so many bytes. What there is of one that memory ran out for
+// is cut off again, and the answer is that there was none.
+fn end_view(answers: &mut Vec<u8>, len: usize, shown: Result<(), AllocError>)
+    requires { len + MAX_REPLY ≤ vec_capacity answers.old }
+    ensures ok { OnOk shown (answers.new.items ≡ answers.old.items) }
+    ensures err { OnErr shown (answers.new.items ≡ take len answers.old.items ++ no_memory) }
 {
-    if shown.is_err() || answers.extend_from_slice(page).is_err() {
+    if shown.is_err() {
+        answers.truncate(len);
         append_reply_reserved(answers, refused(Refusal::NoMemory));
     }
 }
 
 // Appends the view of the queue of that name.
-fn put_queue(timeline: &Timeline, page: &mut Vec<u8>, answers: &mut Vec<u8>, name: &str)
+fn put_queue(timeline: &Timeline, answers: &mut Vec<u8>, name: &str)
     requires { vec_len answers.old + MAX_REPLY ≤ vec_capacity answers.old }
     ensures { Adds answers.old.items answers.new.items (QueueLine timeline.now name.now) }
 {
@@ -74,12 +78,14 @@ fn put_queue(timeline: &Timeline, page: &mut Vec<u8>, answers: &mut Vec<u8>, nam
     };
     timeline.app().limits();
     timeline.keeps();
-    let shown = show_queue(page, timeline.app(), name, timeline.target().queue(queue));
-    put_page(answers, page.as_slice(), shown);
+    let target = timeline.target();
+    let len = answers.len();
+    let shown = show_queue(answers, timeline.app(), name, target.queue(queue));
+    end_view(answers, len, shown);
 }
 
 // Appends the view of the task of that name.
-fn put_task(timeline: &Timeline, page: &mut Vec<u8>, answers: &mut Vec<u8>, name: &str)
+fn put_task(timeline: &Timeline, answers: &mut Vec<u8>, name: &str)
     requires { vec_len answers.old + MAX_REPLY ≤ vec_capacity answers.old }
     ensures { Adds answers.old.items answers.new.items (TaskLine timeline.now name.now) }
 {
@@ -90,23 +96,25 @@ fn put_task(timeline: &Timeline, page: &mut Vec<u8>, answers: &mut Vec<u8>, name
     timeline.keeps();
     let target = timeline.target();
     let core = core_of(target.cores(), task);
-    let shown = show_task(page, timeline.app(), name, core, target.task(task));
-    put_page(answers, page.as_slice(), shown);
+    let len = answers.len();
+    let shown = show_task(answers, timeline.app(), name, core, target.task(task));
+    end_view(answers, len, shown);
 }
 
 // Appends the view of the cores.
-fn put_cores(timeline: &Timeline, page: &mut Vec<u8>, answers: &mut Vec<u8>)
+fn put_cores(timeline: &Timeline, answers: &mut Vec<u8>)
     requires { vec_len answers.old + MAX_REPLY ≤ vec_capacity answers.old }
     ensures { Adds answers.old.items answers.new.items (CoresLine timeline.now) }
 {
     timeline.app().limits();
     timeline.keeps();
-    let shown = show_cores(page, timeline.app(), timeline.target());
-    put_page(answers, page.as_slice(), shown);
+    let len = answers.len();
+    let shown = show_cores(answers, timeline.app(), timeline.target());
+    end_view(answers, len, shown);
 }
 
 // Appends the answer to a line, where there is room for a reply.
-fn put_reserved(timeline: &mut Timeline, page: &mut Vec<u8>, answers: &mut Vec<u8>, line: &[u8])
+fn put_reserved(timeline: &mut Timeline, answers: &mut Vec<u8>, line: &[u8])
     requires { vec_len answers.old + MAX_REPLY ≤ vec_capacity answers.old }
     ensures { Adds answers.old.items answers.new.items
         (IsAnswer timeline.old (command_of (words_of line.now)) timeline.new) }
@@ -117,20 +125,19 @@ fn put_reserved(timeline: &mut Timeline, page: &mut Vec<u8>, answers: &mut Vec<u
         Ok(Command::Back { count }) => {
             append_reply_reserved(answers, back(timeline, count as usize));
         }
-        Ok(Command::ShowQueue { name }) => put_queue(timeline, page, answers, name),
-        Ok(Command::ShowTask { name }) => put_task(timeline, page, answers, name),
-        Ok(Command::ShowCores) => put_cores(timeline, page, answers),
+        Ok(Command::ShowQueue { name }) => put_queue(timeline, answers, name),
+        Ok(Command::ShowTask { name }) => put_task(timeline, answers, name),
+        Ok(Command::ShowCores) => put_cores(timeline, answers),
         Err(_) => append_reply_reserved(answers, refused(Refusal::Syntax)),
     }
 }
 
-/// Does what the line asks for, if it is a command, and appends the answer. A view is written on
-/// the page first, in place of what was there. Where there is no memory for a move or a view, the
-/// answer says so. An `Err` says that there is no memory for any answer, and then nothing was done;
-/// it comes only where the answers have no room for `MAX_REPLY` bytes more.
+/// Does what the line asks for, if it is a command, and appends the answer. Where there is no
+/// memory for a move or a view, the answer says so. An `Err` says that there is no memory for any
+/// answer, and then nothing was done; it comes only where the answers have no room for `MAX_REPLY`
+/// bytes more.
 pub fn put_answer(
     timeline: &mut Timeline,
-    page: &mut Vec<u8>,
     answers: &mut Vec<u8>,
     line: &[u8],
 ) -> Result<(), AllocError>
@@ -141,6 +148,6 @@ pub fn put_answer(
     ensures room { vec_len answers.old + MAX_REPLY ≤ vec_capacity answers.old → IsOk result }
 {
     answers.reserve(MAX_REPLY)?;
-    put_reserved(timeline, page, answers, line);
+    put_reserved(timeline, answers, line);
     Ok(())
 }

@@ -33,7 +33,6 @@ impl From<AllocError> for Ended {
 pub struct Session {
     lines: Lines,
     answers: Vec<u8>,
-    page: Vec<u8>,
 }
 
 impl Model for Session {
@@ -66,7 +65,6 @@ impl Session {
         Ok(Session {
             lines: Lines::new(alloc)?,
             answers: Vec::with_capacity(alloc, 2 * FULL)?,
-            page: Vec::with_capacity(alloc, FULL)?,
         })
     }
 
@@ -120,7 +118,7 @@ impl Session {
             match self.lines.front() {
                 Front::Line { len } => {
                     let line = self.lines.line(len);
-                    put_answer(timeline, &mut self.page, &mut self.answers, line)?;
+                    put_answer(timeline, &mut self.answers, line)?;
                     self.lines.advance(len + 1);
                     if self.answers.len() >= FULL {
                         send(&mut self.answers, writer)?;
@@ -147,7 +145,7 @@ impl Session {
     {
         let line = self.lines.rest();
         if !line.is_empty() {
-            put_answer(timeline, &mut self.page, &mut self.answers, line)?;
+            put_answer(timeline, &mut self.answers, line)?;
             send(&mut self.answers, writer)?;
         }
         Err(Ended)

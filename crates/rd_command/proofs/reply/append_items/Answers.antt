@@ -1,5 +1,6 @@
 -- The goals of append_items that the check left open.
 use Rattle.std.proofs.Common.{◌∙◌, ◌++◌, ℕ, List, [], ap, arith}
+use Rattle.rd_command.proofs.PageLaws.{kept_then}
 use Rattle.rd_command.proofs.TextLaws.{one_more, all_joined}
 use Rattle.rd_command.specs.Replies.{bytes_text}
 use Rattle.rd_command.proofs.reply.append_items.Goals as goal
@@ -7,12 +8,15 @@ use Rattle.rd_command.proofs.reply.append_items.Goals as goal
 pub loop-index-preserved : goal.loop-index-preserved
 loop-index-preserved c =
     let before = c.append_comma.new.page.items in
-    one_more bytes_text c.args.queue.now.items c.loop-index.index []
-    c.args.page.now.items c.loop-index.page.items before c.append_bytes.new.page.items
-    (omega arith) c.loop-index.invariant c.in_ok-append_comma.ensures.first c.in_ok-append_comma.ensures.later
-    (c.in_ok-append_bytes.ensures ∙ ap (λ (item : List ℕ). before ++ bytes_text item) c.item.ensures.item)
+    record {
+      text = one_more bytes_text c.args.queue.now.items c.loop-index.index []
+          c.args.page.now.items c.loop-index.page.items before c.append_bytes.new.page.items
+          (omega arith) c.loop-index.invariant.text c.in_ok-append_comma.ensures.first c.in_ok-append_comma.ensures.later
+          (c.in_ok-append_bytes.ensures.text ∙ ap (λ (item : List ℕ). before ++ bytes_text item) c.item.ensures.item);
+      kept = kept_then _ _ _ (kept_then _ _ _ c.loop-index.invariant.kept c.in_ok-append_comma.ensures.kept) c.in_ok-append_bytes.ensures.kept;
+    }
 
-pub returns : goal.returns
-returns c =
+pub returns-clause-text : goal.returns-clause-text
+returns-clause-text c =
     all_joined bytes_text c.args.queue.now.items c.loop-index.index c.args.page.now.items c.loop-index.page.items
-    (omega arith) (omega arith) c.loop-index.invariant
+    (omega arith) (omega arith) c.loop-index.invariant.text

@@ -1,10 +1,13 @@
 -- The goals of append_number_list that the check left open.
 use Rattle.std.proofs.Common.{decimal, arith}
+use Rattle.rd_command.proofs.PageLaws.{kept_then}
 use Rattle.rd_command.proofs.TextLaws.{one_more}
 use Rattle.rd_command.proofs.reply.append_number_list.Goals as goal
 
 pub loop-index-preserved : goal.loop-index-preserved
-loop-index-preserved c =
-    one_more decimal c.args.numbers.now c.loop-index.index 0
-    c.args.page.now.items c.loop-index.page.items c.append_comma.new.page.items c.append_number.new.page.items
-    (omega arith) c.loop-index.invariant c.in_ok-append_comma.ensures.first c.in_ok-append_comma.ensures.later c.in_ok-append_number.ensures
+loop-index-preserved c = record {
+  text = one_more decimal c.args.numbers.now c.loop-index.index 0
+      c.args.page.now.items c.loop-index.page.items c.append_comma.new.page.items c.append_number.new.page.items
+      (omega arith) c.loop-index.invariant.text c.in_ok-append_comma.ensures.first c.in_ok-append_comma.ensures.later c.in_ok-append_number.ensures.text;
+  kept = kept_then _ _ _ (kept_then _ _ _ c.loop-index.invariant.kept c.in_ok-append_comma.ensures.kept) c.in_ok-append_number.ensures.kept;
+}

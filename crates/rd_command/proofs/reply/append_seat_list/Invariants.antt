@@ -1,7 +1,11 @@
 -- What holds in each turn of append_seat_list's loop.
 use Rattle.std.proofs.Common.{◌≡◌, ◌++◌, take}
+use Rattle.rd_command.specs.Pages.{KeepsFront}
 use Rattle.rd_command.specs.Replies.{joined, seat_text}
 use Rattle.rd_command.proofs.reply.append_seat_list.Given as goal
 
 abbrev pub invariant-loop-index : goal.invariant-loop-index
-invariant-loop-index l = l.page.items ≡ l.fn.page.items ++ joined (seat_text l.app.task_names) (take l.index l.cores)
+invariant-loop-index l = record {
+  text : l.page.items ≡ l.fn.page.items ++ joined (seat_text l.app.task_names) (take l.index l.cores);
+  kept : KeepsFront l.fn.page l.page;
+}

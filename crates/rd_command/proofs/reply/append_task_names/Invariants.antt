@@ -1,7 +1,11 @@
 -- What holds in each turn of append_task_names's loop.
 use Rattle.std.proofs.Common.{◌≡◌, ◌++◌, take}
+use Rattle.rd_command.specs.Pages.{KeepsFront}
 use Rattle.rd_command.specs.Replies.{joined, name_at}
 use Rattle.rd_command.proofs.reply.append_task_names.Given as goal
 
 abbrev pub invariant-loop-index : goal.invariant-loop-index
-invariant-loop-index l = l.page.items ≡ l.fn.page.items ++ joined (name_at l.app.task_names) (take l.index l.tasks)
+invariant-loop-index l = record {
+  text : l.page.items ≡ l.fn.page.items ++ joined (name_at l.app.task_names) (take l.index l.tasks);
+  kept : KeepsFront l.fn.page l.page;
+}
