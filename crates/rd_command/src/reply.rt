@@ -247,7 +247,8 @@ fn append_entry(page: &mut Vec<u8>, entry: Entry) -> Appended
 }
 
 fn append_entry_list(page: &mut Vec<u8>, entries: &[Entry]) -> Appended
-    ensures text { OnOk result (page.new.items ≡ page.old.items ++ list_text entry_text entries.now) }
+    ensures text { OnOk result (page.new.items
+        ≡ page.old.items ++ list_text entry_text entries.now) }
     ensures kept { KeepsFront page.old page.new }
 {
     if entries.is_empty() {

@@ -1,5 +1,6 @@
 -- Answers to lines, by the command that the line spells.
-use Rattle.std.proofs.Common.{◌≡◌, ◌∙◌, ℕ, ◌<◌, List, [], ◌++◌, length, take, vec_len, Option, Some, Result, Ok, Err, OnOk, OnErr, refl, ap, subst, sym, arith, inl, inr}
+use Rattle.std.proofs.Common.{◌≡◌, ◌∙◌, ℕ, ◌<◌, List, [], ◌++◌, length, take, vec_len, Option, Some, Result, Ok, Err, OnOk, OnErr}
+use Rattle.std.proofs.Common.{refl, ap, subst, sym, arith, inl, inr}
 use Rattle.std.specs.Str.{bytes_eq}
 use Rattle.std.specs.Prelude.{All}
 use Rattle.std.specs.Global.{Vec}
