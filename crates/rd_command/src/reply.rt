@@ -46,7 +46,7 @@ const MAX_DIGITS: usize = 20;
 type Appended = Result<(), AllocError>;
 
 // Appends a text. The functions below append to a page in the same way what their name says. Where
-// memory runs out half-way, what they appended by then stays behind what the page had.
+// memory runs out half-way, what they appended by then stays after what the page had.
 fn append(page: &mut Vec<u8>, text: &[u8]) -> Appended
     ensures text { OnOk result (page.new.items ≡ page.old.items ++ text.now) }
     ensures kept { KeepsFront page.old page.new }
@@ -332,7 +332,7 @@ fn append_running_core(page: &mut Vec<u8>, core: Option<usize>) -> Appended
 }
 
 /// Appends the view of a queue. An `Err` says that there is no memory for it; the page may then
-/// have some part of it behind what it had.
+/// have some part of it after what it had.
 pub fn show_queue(page: &mut Vec<u8>, app: &App, name: &str, queue: &Queue) -> Appended
     requires { WaitersAreNamed app.now.task_names queue.now }
     ensures text { OnOk result (page.new.items
@@ -384,7 +384,7 @@ fn append_waiting(page: &mut Vec<u8>, app: &App, queue: &Queue) -> Appended
 }
 
 /// Appends the view of a task. An `Err` says that there is no memory for it; the page may then
-/// have some part of it behind what it had.
+/// have some part of it after what it had.
 pub fn show_task(
     page: &mut Vec<u8>,
     app: &App,
@@ -423,7 +423,7 @@ fn append_state(page: &mut Vec<u8>, task: &Task) -> Appended
 }
 
 /// Appends the view of the cores. An `Err` says that there is no memory for it; the page may then
-/// have some part of it behind what it had.
+/// have some part of it after what it had.
 pub fn show_cores(page: &mut Vec<u8>, app: &App, state: &State) -> Appended
     requires { SeatedAreNamed app.now.task_names state.now }
     ensures text { OnOk result (page.new.items

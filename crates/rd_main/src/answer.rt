@@ -55,7 +55,7 @@ fn refused(refusal: Refusal) -> Reply
     Reply::Refused { refusal }
 }
 
-// Ends a view that was appended behind so many bytes. What there is of one that memory ran out for
+// Ends a view that was appended after so many bytes. What there is of one that memory ran out for
 // is cut off again, and the answer is that there was none.
 fn end_view(answers: &mut Vec<u8>, len: usize, shown: Result<(), AllocError>)
     requires { len + MAX_REPLY ≤ vec_capacity answers.old }
