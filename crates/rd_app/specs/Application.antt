@@ -1,6 +1,6 @@
 -- An application: what a contract sees of an `App`, and the limits that each keeps.
 use Rattle.std.specs.Prelude.{ℕ, ◌≡◌, ◌-◌, ◌^◌, ◌<◌, ◌≤◌, Bool, true, false}
-use Rattle.std.specs.Prelude.{List, [], length, map, slice_index_or, All, Option, Some}
+use Rattle.std.specs.Prelude.{List, [], length, map, slice_index_or, All, Option, None, Some}
 use Rattle.rd_app.specs.declared.app.QueueShape.{QueueShape}
 use Rattle.rd_app.specs.declared.app.Kind.{Kind}
 use Rattle.rd_app.specs.declared.app.Kind.TheVariants as kind
@@ -12,7 +12,8 @@ use Rattle.rd_app.specs.declared.instr.LocalInstr.{LocalInstr}
 use Rattle.rd_app.specs.declared.instr.LocalInstr.TheVariants.{Set, Add, Move, Data, Pack, Unpack}
 use Rattle.rd_app.specs.declared.instr.LocalInstr.TheVariants.{Jump, JumpZero, End}
 use Rattle.rd_app.specs.declared.instr.QueueCall.{QueueCall}
-use Rattle.rd_app.specs.declared.instr.QueueCall.TheVariants.{Send, Receive}
+use Rattle.rd_app.specs.declared.instr.QueueCall.TheVariants.{Send, Receive, Peek}
+use Rattle.rd_app.specs.declared.instr.QueueCall.TheVariants.{Overwrite, Reset, Count, Spaces}
 use Rattle.rd_queue.specs.declared.waiting_list.WaitingList.{WaitingList}
 use Rattle.rd_queue.specs.declared.waiting_list.WaitingList.TheVariants.{Receiving, Sending}
 use Rattle.rd_app.specs.TaskScript.{TaskScript}
@@ -45,6 +46,10 @@ code_of app task = (script_of app task).code
 abbrev pub instr_at : Application → ℕ → ℕ → Instr
 instr_at app task pc = slice_index_or (code_of app task) pc (Local End)
 
+-- the shape of a queue
+abbrev pub shape_at : Application → ℕ → QueueShape
+shape_at app queue = slice_index_or app.queues queue (record { capacity = 0; item_size = 0 })
+
 -- the tasks' priorities, by number
 abbrev pub priorities_of : Application → List ℕ
 priorities_of app = map (λ script. script.priority) app.scripts
@@ -72,18 +77,39 @@ IsLocalWithin len End = Unit {0}
 
 -- The registers that a call of a queue names are there.
 abbrev pub IsQueueCall : QueueCall → Type 0
-IsQueueCall (Send wait) = IsOperand wait
+IsQueueCall (Send end wait) = IsOperand wait
 IsQueueCall (Receive wait) = IsOperand wait
+IsQueueCall (Peek wait) = IsOperand wait
+IsQueueCall Overwrite = Unit {0}
+IsQueueCall Reset = Unit {0}
+IsQueueCall Count = Unit {0}
+IsQueueCall Spaces = Unit {0}
+
+-- The call is one for a queue of that shape: only a queue for one item is overwritten.
+abbrev pub IsCallFor : QueueShape → QueueCall → Type 0
+IsCallFor shape (Send end wait) = Unit {0}
+IsCallFor shape (Receive wait) = Unit {0}
+IsCallFor shape (Peek wait) = Unit {0}
+IsCallFor shape Overwrite = shape.capacity ≡ 1
+IsCallFor shape Reset = Unit {0}
+IsCallFor shape Count = Unit {0}
+IsCallFor shape Spaces = Unit {0}
 
 -- the list of its queue where a task waits for a call, if that has a block time
 abbrev pub list_of_call : QueueCall → Option WaitingList
-list_of_call (Send wait) = Some Sending
+list_of_call (Send end wait) = Some Sending
 list_of_call (Receive wait) = Some Receiving
+list_of_call (Peek wait) = Some Receiving
+list_of_call Overwrite = None
+list_of_call Reset = None
+list_of_call Count = None
+list_of_call Spaces = None
 
 -- Registers, instructions of the script and objects are there.
 abbrev pub IsWithin : Application → ℕ → Instr → Type 0
 IsWithin app len (Local instr) = IsLocalWithin len instr
-IsWithin app len (Queue queue call) = (queue < length app.queues) × IsQueueCall call
+IsWithin app len (Queue queue call) =
+    (queue < length app.queues) × IsQueueCall call × IsCallFor (shape_at app queue) call
 
 -- does the script never go on at the next instruction?
 abbrev pub is_local_final : LocalInstr → Bool

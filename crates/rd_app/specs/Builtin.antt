@@ -4,6 +4,7 @@ use Rattle.rd_app.specs.declared.instr.Operand.TheVariants.{Number}
 use Rattle.rd_app.specs.declared.instr.Instr.TheVariants.{Local, Queue}
 use Rattle.rd_app.specs.declared.instr.LocalInstr.TheVariants.{Data, End}
 use Rattle.rd_app.specs.declared.instr.QueueCall.TheVariants.{Send}
+use Rattle.rd_queue.specs.declared.end.End.TheVariants.{Back}
 use Rattle.rd_app.specs.Application.{Application}
 
 abbrev pub builtin : Application
@@ -17,9 +18,9 @@ builtin = record {
     priority = 1;
     code =
         Local (Data (65 ∷ []))
-        ∷ Queue 0 (Send (Number 0))
-        ∷ Queue 0 (Send (Number 0))
-        ∷ Queue 0 (Send (Number 0))
+        ∷ Queue 0 (Send Back (Number 0))
+        ∷ Queue 0 (Send Back (Number 0))
+        ∷ Queue 0 (Send Back (Number 0))
         ∷ Local End
         ∷ [];
   } ∷ [];

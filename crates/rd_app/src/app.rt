@@ -10,6 +10,7 @@ ghost use Rattle.rd_app.specs.Inside.{application_of};
 
 use crate::instr::{Instr, LocalInstr, Operand, QueueCall};
 use rd_bytes::bytes::Bytes;
+use rd_queue::end::End;
 use rd_text::names::Names;
 use std::alloc::{AllocError, Global};
 use std::marker::Model;
@@ -125,6 +126,7 @@ impl App {
             item_size: 1,
         };
         let call = QueueCall::Send {
+            end: End::Back,
             wait: Operand::Number { value: 0 },
         };
         let code = vec![in alloc;

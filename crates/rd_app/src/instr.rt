@@ -1,6 +1,7 @@
 //! The instructions of a task's script.
 
 use rd_bytes::bytes::Bytes;
+use rd_queue::end::End;
 
 /// How many registers a task has.
 pub const REGISTERS: usize = 8;
@@ -44,12 +45,24 @@ pub enum LocalInstr {
 /// A call of a queue.
 #[derive(Clone, Copy, Debug, PartialEq, Eq)]
 pub enum QueueCall {
-    /// `send Q T`: puts the data at the queue's back, and waits for room up to the block time
-    /// (`xQueueSend`).
-    Send { wait: Operand },
+    /// `send Q T`, `front Q T`: puts the data at the queue's back, or at its front, and waits for
+    /// room up to the block time (`xQueueSend`, `xQueueSendToFront`).
+    Send { end: End, wait: Operand },
     /// `recv Q T`: takes the queue's first item as the data, and waits for one up to the block time
     /// (`xQueueReceive`).
     Receive { wait: Operand },
+    /// `peek Q T`: copies the queue's first item as the data, and waits for one up to the block
+    /// time (`xQueuePeek`).
+    Peek { wait: Operand },
+    /// `over Q`: puts the data into a queue with room for one item, in the place of the item that
+    /// is there (`xQueueOverwrite`).
+    Overwrite,
+    /// `qreset Q`: empties the queue (`xQueueReset`).
+    Reset,
+    /// `count Q`: the number of items (`uxQueueMessagesWaiting`).
+    Count,
+    /// `spaces Q`: the number of free slots (`uxQueueSpacesAvailable`).
+    Spaces,
 }
 
 /// One instruction of a task's script. Objects are counted from 0.

@@ -1,6 +1,6 @@
 //! The bytes that a change carries.
 
-ghost use Rattle.std.specs.Prelude.{◌≡◌, ◌≤◌, [], IfOk, IsOk, length};
+ghost use Rattle.std.specs.Prelude.{◌≡◌, ◌+◌, ◌≤◌, [], ◌++◌, IfOk, IsOk, OnOk, OnErr, length};
 
 use crate::no_memory::NoMemory;
 use smallvec::SmallVec;
@@ -17,14 +17,26 @@ pub struct SavedBytes {
 }
 
 impl Model for SavedBytes {
-    ghost use Rattle.std.specs.Prelude.{ℕ, List};
+    ghost use Rattle.std.specs.Prelude.{ℕ, ◌≤◌, List};
 
     ghost Value = { List ℕ };
 
     ghost view = { λ b. b.bytes.items };
+
+    // There is room in the value itself.
+    ghost invariant = { λ b. 16 ≤ b.bytes.capacity };
 }
 
 impl SavedBytes {
+    /// No bytes.
+    pub fn new(alloc: Global) -> SavedBytes
+        ensures { result ≡ [] }
+    {
+        SavedBytes {
+            bytes: SmallVec::new(alloc),
+        }
+    }
+
     /// These bytes. Up to 16 of them take no memory.
     pub fn from_slice(alloc: Global, bytes: &[u8]) -> Result<SavedBytes, NoMemory>
         ensures bytes { IfOk result (λ saved. saved ≡ bytes.now) }
@@ -32,6 +44,16 @@ impl SavedBytes {
     {
         let bytes = SmallVec::from_slice(alloc, bytes)?;
         Ok(SavedBytes { bytes })
+    }
+
+    /// Adds these bytes after the others. Up to 16 in all take no memory.
+    pub fn append(&mut self, bytes: &[u8]) -> Result<(), NoMemory>
+        ensures ok { OnOk result (self.new ≡ self.old ++ bytes.now) }
+        ensures short { length self.old + length bytes.now ≤ 16 → IsOk result }
+        ensures err { OnErr result (self.new ≡ self.old) }
+    {
+        self.bytes.extend_from_slice(bytes)?;
+        Ok(())
     }
 
     /// The bytes.

@@ -1,18 +1,22 @@
 -- Changes of a queue, undone each by its inverse.
-use Rattle.std.proofs.Common.{◌≡◌, ◌∙◌, ℕ, ◌+◌, ◌-◌, ◌<◌, ◌≤◌, List, [], ◌∷◌, ◌++◌, length, get_or, take, drop, refl, ap, sym, arith}
-use Rattle.std.proofs.lemmas.List.{length_push, take_at, take_all, take_more, drop_more, length-take-le, length-drop}
+use Rattle.std.proofs.Common.{◌≡◌, ◌∙◌, ℕ, zero, suc, ◌+◌, ◌-◌, ◌*◌, ◌/◌, ◌<◌, ◌≤◌, List, [], ◌∷◌, ◌++◌, length, get_or, set, take, drop, refl, ap, sym, arith}
+use Rattle.std.proofs.Math.Nat.{mul-div_cancel}
+use Rattle.std.proofs.lemmas.List.{append-nil, append_assoc, length-append, length_push, length-set, take_at, drop_at, take_all, take_more, take-append-drop, drop_more}
+use Rattle.std.proofs.lemmas.List.{length-take-le, length-drop}
 use Rattle.std.proofs.lemmas.List.Edits.{length-remove, length-insert}
-use Rattle.std.proofs.lemmas.List.Elements.{All-get_or, All-push, All-take, All-drop, All-cons}
+use Rattle.std.proofs.lemmas.List.Elements.{All-get_or, All-nil, All-cons, All-head, All-tail, All-push, All-set, All-take, All-drop}
+use Rattle.std.proofs.lemmas.List.Folds.{concat-append}
+use Rattle.std.specs.List.{concat}
 use Rattle.std.specs.Prelude.{All, insert, remove}
 use Rattle.rd_queue.specs.declared.change.QueueChange.{QueueChange}
-use Rattle.rd_queue.specs.declared.change.QueueChange.TheVariants.{InsWait, DelWait, PutBack, TakeBack, PutFront, TakeFront}
+use Rattle.rd_queue.specs.declared.change.QueueChange.TheVariants.{InsWait, DelWait, PutBack, TakeBack, PutFront, TakeFront, SetItem, Clear, Fill}
 use Rattle.rd_queue.specs.declared.waiting_list.WaitingList.{WaitingList}
 use Rattle.rd_queue.specs.declared.waiting_list.WaitingList.TheVariants.{Receiving, Sending}
 use Rattle.rd_queue.specs.QueueSnapshot.{QueueSnapshot}
-use Rattle.rd_queue.specs.Queues.{tasks_in_list, with_items, with_waiting}
+use Rattle.rd_queue.specs.Queues.{count_in, first_items, items_in, tasks_in_list, with_items, with_waiting}
 use Rattle.rd_queue.specs.Sizes.{IsSizedList, IsSizedQueue}
 use Rattle.rd_queue.specs.Changes.{queue_applied, queue_inverse_of, QueueFits, EachQueueChangeIsUndone}
-use Rattle.rd_wait.proofs.ListLaws.{All-insert, All-remove, remove-insert, insert-remove}
+use Rattle.rd_wait.proofs.ListLaws.{All-insert, All-remove, remove-insert, insert-remove, set_back}
 
 -- ---- items
 
@@ -26,16 +30,94 @@ last_pushed_after_take items some =
     let last = length items - 1 in
     sym (take_more items last [] (omega arith)) ∙ take_all (last + 1) items (omega arith)
 
-undoes : (queue : QueueSnapshot) (change : QueueChange) → QueueFits queue change
+-- ---- items one after the other
+
+-- their bytes, together
+length-concat : (size : ℕ) (items : List (List ℕ)) → All (λ (i : List ℕ). length i ≡ size) items → length (concat items) ≡ length items * size
+length-concat size [] all = omega arith
+length-concat size (item ∷ items) all =
+    let one : length item ≡ size = All-head (λ (i : List ℕ). length i ≡ size) item items all in
+    let rest = length-concat size items (All-tail (λ (i : List ℕ). length i ≡ size) item items all) in
+    omega (arith, length-append item (concat items), one, rest)
+
+count_in-concat : (size : ℕ) (items : List (List ℕ)) → 0 < size → All (λ (i : List ℕ). length i ≡ size) items → count_in size (concat items) ≡ length items
+count_in-concat size items some all = ap (λ n. n / size) (length-concat size items all) ∙ mul-div_cancel (length items) some
+
+-- They are read back from their bytes.
+first_items-concat : (size : ℕ) (items : List (List ℕ)) → All (λ (i : List ℕ). length i ≡ size) items
+    → first_items size (length items) (concat items) ≡ items
+first_items-concat size [] all = refl
+first_items-concat size (item ∷ items) all =
+    let one : length item ≡ size = All-head (λ (i : List ℕ). length i ≡ size) item items all in
+    let rest = first_items-concat size items (All-tail (λ (i : List ℕ). length i ≡ size) item items all) in
+    ap (λ (i : List ℕ). i ∷ first_items size (length items) (drop size (item ++ concat items))) (take_at item (concat items) size one)
+    ∙ ap (λ (bytes : List ℕ). item ∷ first_items size (length items) bytes) (drop_at item (concat items) size one)
+    ∙ ap (λ (is : List (List ℕ)). item ∷ is) rest
+
+items_in-concat : (size : ℕ) (items : List (List ℕ)) → 0 < size → All (λ (i : List ℕ). length i ≡ size) items → items_in size (concat items) ≡ items
+items_in-concat size items some all =
+    ap (λ count. first_items size count (concat items)) (count_in-concat size items some all) ∙ first_items-concat size items all
+
+-- the bytes of the items up to the one at an index, of which there are no more than of all
+pub concat-take_more : (items : List (List ℕ)) (index : ℕ) → index < length items
+    → concat (take (index + 1) items) ≡ concat (take index items) ++ get_or items index []
+concat-take_more items index there =
+    ap concat (take_more items index [] there) ∙ concat-append (take index items) (get_or items index [] ∷ [])
+    ∙ ap (λ last. concat (take index items) ++ last) (append-nil (get_or items index []))
+
+pub length-concat-take : (items : List (List ℕ)) (index : ℕ) → index < length items
+    → length (concat (take index items)) + length (get_or items index []) ≤ length (concat items)
+length-concat-take items index there =
+    let whole : concat (take (index + 1) items) ++ concat (drop (index + 1) items) ≡ concat items =
+    sym (concat-append (take (index + 1) items) (drop (index + 1) items)) ∙ ap concat (take-append-drop (index + 1) items) in
+    omega (
+      arith,
+      ap length whole,
+      length-append (concat (take (index + 1) items)) (concat (drop (index + 1) items)),
+      ap length (concat-take_more items index there),
+      length-append (concat (take index items)) (get_or items index []),
+    )
+
+-- one item more is read, and its bytes are left behind
+pub first_items-more : (items : List (List ℕ)) (size count more : ℕ) (bytes : List ℕ) (all : List (List ℕ)) → count ≡ suc more
+    → items ++ first_items size count bytes ≡ all → (items ++ take size bytes ∷ []) ++ first_items size more (drop size bytes) ≡ all
+first_items-more items size count more bytes all next so_far =
+    append_assoc items (take size bytes ∷ []) (first_items size more (drop size bytes))
+    ∙ ap (λ n. items ++ first_items size n bytes) (sym next) ∙ so_far
+
+pub whole_after : (size count more : ℕ) (bytes : List ℕ) → count ≡ suc more → length bytes ≡ count * size → length (drop size bytes) ≡ more * size
+whole_after size count more bytes next whole =
+    let all : length bytes ≡ suc more * size = whole ∙ ap (λ n. n * size) next in
+    omega (arith, all, length-drop size bytes)
+
+-- As many items are read as are asked for, each of that size.
+pub length-first_items : (size count : ℕ) (bytes : List ℕ) → length (first_items size count bytes) ≡ count
+length-first_items size zero bytes = refl
+length-first_items size (suc count) bytes = ap suc (length-first_items size count (drop size bytes))
+
+pub All-first_items : (size count : ℕ) (bytes : List ℕ) → length bytes ≡ count * size → All (λ (i : List ℕ). length i ≡ size) (first_items size count bytes)
+All-first_items size zero bytes whole = All-nil (λ (i : List ℕ). length i ≡ size)
+All-first_items size (suc count) bytes whole =
+    let more : size ≤ length bytes = omega (arith, whole) in
+    All-cons (λ (i : List ℕ). length i ≡ size) (take size bytes) (first_items size count (drop size bytes)) (length-take-le size bytes more)
+    (All-first_items size count (drop size bytes) (omega (arith, whole, length-drop size bytes)))
+
+-- ---- what undoes a change
+
+undoes : (queue : QueueSnapshot) (change : QueueChange) → IsSizedQueue queue → QueueFits queue change
     → queue_applied (queue_applied queue change) (queue_inverse_of queue change) ≡ queue
-undoes queue (InsWait Receiving index task) fits = ap (λ (ts : List ℕ). with_waiting Receiving ts queue) (remove-insert queue.receiving index task fits.0)
-undoes queue (InsWait Sending index task) fits = ap (λ (ts : List ℕ). with_waiting Sending ts queue) (remove-insert queue.sending index task fits.0)
-undoes queue (DelWait Receiving index) fits = ap (λ (ts : List ℕ). with_waiting Receiving ts queue) (insert-remove queue.receiving index 0 fits)
-undoes queue (DelWait Sending index) fits = ap (λ (ts : List ℕ). with_waiting Sending ts queue) (insert-remove queue.sending index 0 fits)
-undoes queue (PutBack item) fits = ap (λ items. with_items queue items) (last_taken_after_push queue.items item)
-undoes queue TakeBack fits = ap (λ items. with_items queue items) (last_pushed_after_take queue.items fits)
-undoes queue (PutFront item) fits = refl
-undoes queue TakeFront fits = ap (λ items. with_items queue items) (sym (drop_more queue.items 0 [] fits))
+undoes queue (InsWait Receiving index task) sized fits = ap (λ (ts : List ℕ). with_waiting Receiving ts queue) (remove-insert queue.receiving index task fits.0)
+undoes queue (InsWait Sending index task) sized fits = ap (λ (ts : List ℕ). with_waiting Sending ts queue) (remove-insert queue.sending index task fits.0)
+undoes queue (DelWait Receiving index) sized fits = ap (λ (ts : List ℕ). with_waiting Receiving ts queue) (insert-remove queue.receiving index 0 fits)
+undoes queue (DelWait Sending index) sized fits = ap (λ (ts : List ℕ). with_waiting Sending ts queue) (insert-remove queue.sending index 0 fits)
+undoes queue (PutBack item) sized fits = ap (λ items. with_items queue items) (last_taken_after_push queue.items item)
+undoes queue TakeBack sized fits = ap (λ items. with_items queue items) (last_pushed_after_take queue.items fits)
+undoes queue (PutFront item) sized fits = refl
+undoes queue TakeFront sized fits = ap (λ items. with_items queue items) (sym (drop_more queue.items 0 [] fits))
+undoes queue (SetItem index item) sized fits =
+    ap (λ items. with_items queue items) (set_back queue.items index [] item)
+undoes queue Clear sized fits = ap (λ items. with_items queue items) (items_in-concat queue.item_size queue.items sized.some_bytes sized.items)
+undoes queue (Fill bytes) sized fits = ap (λ items. with_items queue items) (sym fits.empty)
 
 -- ---- sizes
 
@@ -58,15 +140,15 @@ list_sized queue Sending sized = sized.sending
 waiting_sized : (queue : QueueSnapshot) (list : WaitingList) (waiting : List ℕ) → IsSizedQueue queue → IsSizedList queue.tasks waiting
     → IsSizedQueue (with_waiting list waiting queue)
 waiting_sized queue Receiving waiting sized few =
-    record { room = sized.room; items = sized.items; small = sized.small; receiving = few; sending = sized.sending }
+    record { room = sized.room; items = sized.items; some_room = sized.some_room; few = sized.few; some_bytes = sized.some_bytes; small = sized.small; receiving = few; sending = sized.sending }
 waiting_sized queue Sending waiting sized few =
-    record { room = sized.room; items = sized.items; small = sized.small; receiving = sized.receiving; sending = few }
+    record { room = sized.room; items = sized.items; some_room = sized.some_room; few = sized.few; some_bytes = sized.some_bytes; small = sized.small; receiving = sized.receiving; sending = few }
 
 items_sized : (queue : QueueSnapshot) (items : List (List ℕ)) → IsSizedQueue queue → length items ≤ queue.capacity
     → All (λ item. length item ≡ queue.item_size) items
     → IsSizedQueue (with_items queue items)
 items_sized queue items sized few all =
-    record { room = few; items = all; small = sized.small; receiving = sized.receiving; sending = sized.sending }
+    record { room = few; items = all; some_room = sized.some_room; few = sized.few; some_bytes = sized.some_bytes; small = sized.small; receiving = sized.receiving; sending = sized.sending }
 
 sized_then : (queue : QueueSnapshot) (change : QueueChange) → IsSizedQueue queue → QueueFits queue change → IsSizedQueue (queue_applied queue change)
 sized_then queue (InsWait list index task) sized fits =
@@ -89,6 +171,14 @@ sized_then queue (PutFront item) sized fits =
 sized_then queue TakeFront sized fits =
     items_sized queue (drop 1 queue.items) sized (omega (arith, length-drop 1 queue.items, sized.room))
     (All-drop (λ (i : List ℕ). length i ≡ queue.item_size) 1 queue.items sized.items)
+sized_then queue (SetItem index item) sized fits =
+    items_sized queue (set queue.items index item) sized (omega (arith, length-set queue.items index item, sized.room))
+    (All-set (λ (i : List ℕ). length i ≡ queue.item_size) queue.items index item fits.1 sized.items)
+sized_then queue Clear sized fits = items_sized queue [] sized (omega arith) (All-nil (λ (i : List ℕ). length i ≡ queue.item_size))
+sized_then queue (Fill bytes) sized fits =
+    let count = count_in queue.item_size bytes in
+    items_sized queue (items_in queue.item_size bytes) sized (omega (arith, length-first_items queue.item_size count bytes, fits.room))
+    (All-first_items queue.item_size count bytes fits.whole)
 
 -- ---- the inverse fits
 
@@ -116,6 +206,15 @@ inverse_fits queue TakeBack sized fits =
 inverse_fits queue (PutFront item) sized fits = omega arith
 inverse_fits queue TakeFront sized fits =
     (omega (arith, length-drop 1 queue.items, sized.room, fits), item_sized queue 0 sized fits)
+inverse_fits queue (SetItem index item) sized fits = (omega (arith, length-set queue.items index item, fits.0), item_sized queue index sized fits.0)
+inverse_fits queue Clear sized fits =
+    let count = count_in-concat queue.item_size queue.items sized.some_bytes sized.items in
+    record {
+      empty = refl;
+      whole = length-concat queue.item_size queue.items sized.items ∙ ap (λ n. n * queue.item_size) (sym count);
+      room = omega (arith, count, sized.room);
+    }
+inverse_fits queue (Fill bytes) sized fits = tt
 
 same_tasks : (queue : QueueSnapshot) (change : QueueChange) → (queue_applied queue change).tasks ≡ queue.tasks
 same_tasks queue (InsWait list index task) = refl
@@ -124,10 +223,13 @@ same_tasks queue (PutBack item) = refl
 same_tasks queue TakeBack = refl
 same_tasks queue (PutFront item) = refl
 same_tasks queue TakeFront = refl
+same_tasks queue (SetItem index item) = refl
+same_tasks queue Clear = refl
+same_tasks queue (Fill bytes) = refl
 
 pub each_is_undone : EachQueueChangeIsUndone
 each_is_undone queue change sized fits = record {
-  back = undoes queue change fits;
+  back = undoes queue change sized fits;
   fits = inverse_fits queue change sized fits;
   sized = sized_then queue change sized fits;
   tasks = same_tasks queue change;

@@ -1,14 +1,16 @@
 -- The primitive changes of a queue: what each does, at which queues it fits, and what undoes it.
-use Rattle.std.specs.Prelude.{ℕ, ◌≡◌, ◌-◌, ◌<◌, ◌≤◌, List, [], ◌∷◌, ◌++◌, length, take, drop}
-use Rattle.std.specs.Prelude.{insert, remove, slice_index, slice_index_or}
+use Rattle.std.specs.Prelude.{ℕ, ◌≡◌, ◌-◌, ◌*◌, ◌<◌, ◌≤◌, List, [], ◌∷◌, ◌++◌, length, take, drop}
+use Rattle.std.specs.Prelude.{insert, remove, slice_index, slice_index_or, slice_set}
+use Rattle.std.specs.List.{concat}
 use Rattle.rd_queue.specs.declared.change.QueueChange.{QueueChange}
 use Rattle.rd_queue.specs.declared.change.QueueChange.TheVariants.{InsWait, DelWait}
 use Rattle.rd_queue.specs.declared.change.QueueChange.TheVariants.{PutBack, TakeBack}
 use Rattle.rd_queue.specs.declared.change.QueueChange.TheVariants.{PutFront, TakeFront}
+use Rattle.rd_queue.specs.declared.change.QueueChange.TheVariants.{SetItem, Clear, Fill}
 use Rattle.rd_queue.specs.declared.end.End.{End}
 use Rattle.rd_queue.specs.declared.end.End.TheVariants.{Back, Front}
 use Rattle.rd_queue.specs.QueueSnapshot.{QueueSnapshot}
-use Rattle.rd_queue.specs.Queues.{tasks_in_list, with_items, with_waiting}
+use Rattle.rd_queue.specs.Queues.{count_in, items_in, tasks_in_list, with_items, with_waiting}
 use Rattle.rd_queue.specs.Sizes.{IsSizedQueue}
 
 -- the queue after a change
@@ -21,6 +23,9 @@ queue_applied queue (PutBack item) = with_items queue (queue.items ++ item ∷ [
 queue_applied queue TakeBack = with_items queue (take (length queue.items - 1) queue.items)
 queue_applied queue (PutFront item) = with_items queue (item ∷ queue.items)
 queue_applied queue TakeFront = with_items queue (drop 1 queue.items)
+queue_applied queue (SetItem index item) = with_items queue (slice_set queue.items index item)
+queue_applied queue Clear = with_items queue []
+queue_applied queue (Fill bytes) = with_items queue (items_in queue.item_size bytes)
 
 -- the change that undoes a change made at this queue
 abbrev pub queue_inverse_of : QueueSnapshot → QueueChange → QueueChange
@@ -32,6 +37,9 @@ queue_inverse_of queue TakeBack =
     PutBack (slice_index_or queue.items (length queue.items - 1) [])
 queue_inverse_of queue (PutFront item) = TakeFront
 queue_inverse_of queue TakeFront = PutFront (slice_index_or queue.items 0 [])
+queue_inverse_of queue (SetItem index item) = SetItem index (slice_index_or queue.items index [])
+queue_inverse_of queue Clear = Fill (concat queue.items)
+queue_inverse_of queue (Fill bytes) = Clear
 
 -- the change that puts an item at an end
 abbrev pub put_at : End → List ℕ → QueueChange
@@ -43,6 +51,12 @@ abbrev pub HasRoomFor : QueueSnapshot → List ℕ → Type 0
 HasRoomFor queue item =
     (length queue.items < queue.capacity) × (length item ≡ queue.item_size)
 
+-- The bytes are whole items, one after the other, and the queue has room for them all.
+pub record HasRoomForAll (queue : QueueSnapshot) (bytes : List ℕ) : Type 0 where
+  pub empty : queue.items ≡ []
+  pub whole : length bytes ≡ count_in queue.item_size bytes * queue.item_size
+  pub room : count_in queue.item_size bytes ≤ queue.capacity
+
 -- The change names what is there, and there is room.
 abbrev pub QueueFits : QueueSnapshot → QueueChange → Type 0
 QueueFits queue (InsWait list index task) =
@@ -53,6 +67,10 @@ QueueFits queue (PutBack item) = HasRoomFor queue item
 QueueFits queue TakeBack = 0 < length queue.items
 QueueFits queue (PutFront item) = HasRoomFor queue item
 QueueFits queue TakeFront = 0 < length queue.items
+QueueFits queue (SetItem index item) =
+    (index < length queue.items) × (length item ≡ queue.item_size)
+QueueFits queue Clear = Unit {0}
+QueueFits queue (Fill bytes) = HasRoomForAll queue bytes
 
 -- the bytes that a change carries
 abbrev pub queue_saved_bytes : QueueChange → ℕ
@@ -62,6 +80,9 @@ queue_saved_bytes (PutBack item) = length item
 queue_saved_bytes TakeBack = 0
 queue_saved_bytes (PutFront item) = length item
 queue_saved_bytes TakeFront = 0
+queue_saved_bytes (SetItem index item) = length item
+queue_saved_bytes Clear = 0
+queue_saved_bytes (Fill bytes) = length bytes
 
 -- A change that is undone leaves the queue as it was, and what undoes it fits. The queue with the
 -- change made is one, with room for as many tasks.

@@ -1,5 +1,6 @@
 -- Queues as lists of items and of waiting tasks.
-use Rattle.std.specs.Prelude.{ℕ, ◌++◌, Bool, true, false, List, [], take, replicate}
+use Rattle.std.specs.Prelude.{ℕ, zero, suc, ◌++◌, ◌/◌, Bool, true, false, List, [], ◌∷◌, length}
+use Rattle.std.specs.Prelude.{take, drop, replicate}
 use Rattle.rd_queue.specs.declared.waiting_list.WaitingList.{WaitingList}
 use Rattle.rd_queue.specs.declared.waiting_list.WaitingList.TheVariants.{Receiving, Sending}
 use Rattle.rd_queue.specs.QueueSnapshot.{QueueSnapshot}
@@ -14,6 +15,17 @@ empty_queue capacity item_size tasks = record {
   sending = [];
   tasks = tasks;
 }
+
+-- how many items of that size lie in these bytes, one after the other, and which these are
+abbrev pub count_in : ℕ → List ℕ → ℕ
+count_in size bytes = length bytes / size
+
+abbrev pub first_items : ℕ → ℕ → List ℕ → List (List ℕ)
+first_items size zero bytes = []
+first_items size (suc count) bytes = take size bytes ∷ first_items size count (drop size bytes)
+
+abbrev pub items_in : ℕ → List ℕ → List (List ℕ)
+items_in size bytes = first_items size (count_in size bytes) bytes
 
 -- the queue with these items in place of its own
 abbrev pub with_items : QueueSnapshot → List (List ℕ) → QueueSnapshot

@@ -9,6 +9,9 @@ IsSizedList tasks waiting = All (λ task. task < tasks) waiting × (length waiti
 pub record IsSizedQueue (queue : QueueSnapshot) : Type 0 where
   pub room : length queue.items ≤ queue.capacity
   pub items : All (λ item. length item ≡ queue.item_size) queue.items
+  pub some_room : 0 < queue.capacity
+  pub few : queue.capacity ≤ 64
+  pub some_bytes : 0 < queue.item_size
   pub small : queue.item_size ≤ 64
   pub receiving : IsSizedList queue.tasks queue.receiving
   pub sending : IsSizedList queue.tasks queue.sending

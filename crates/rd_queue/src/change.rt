@@ -36,6 +36,17 @@ pub enum QueueChange {
     },
     /// The item at the front leaves.
     TakeFront,
+    /// The item takes the place of the one at the index.
+    SetItem {
+        index: usize,
+        item: SavedBytes,
+    },
+    /// All items leave.
+    Clear,
+    /// An empty queue gets the items that these bytes are, one after the other.
+    Fill {
+        items: SavedBytes,
+    },
 }
 
 impl QueueChange {
@@ -44,13 +55,15 @@ impl QueueChange {
         ensures { result ≡ 1 + queue_saved_bytes self.now }
     {
         match self {
-            QueueChange::PutBack { item } | QueueChange::PutFront { item } => {
-                1 + item.as_slice().len()
-            }
+            QueueChange::PutBack { item }
+            | QueueChange::PutFront { item }
+            | QueueChange::SetItem { item, .. } => 1 + item.as_slice().len(),
+            QueueChange::Fill { items } => 1 + items.as_slice().len(),
             QueueChange::InsWait { .. }
             | QueueChange::DelWait { .. }
             | QueueChange::TakeBack
-            | QueueChange::TakeFront => 1,
+            | QueueChange::TakeFront
+            | QueueChange::Clear => 1,
         }
     }
 }
@@ -74,6 +87,9 @@ impl Queue {
             QueueChange::TakeFront => {
                 self.take().unwrap();
             }
+            QueueChange::SetItem { index, item } => self.set_item(*index, item.as_slice()),
+            QueueChange::Clear => self.clear(),
+            QueueChange::Fill { items } => self.fill(items.as_slice()),
         }
     }
 
@@ -104,6 +120,14 @@ impl Queue {
             QueueChange::TakeFront => Ok(QueueChange::PutFront {
                 item: SavedBytes::from_slice(alloc, self.first())?,
             }),
+            QueueChange::SetItem { index, .. } => Ok(QueueChange::SetItem {
+                index: *index,
+                item: SavedBytes::from_slice(alloc, self.item(*index))?,
+            }),
+            QueueChange::Clear => Ok(QueueChange::Fill {
+                items: self.saved_items(alloc)?,
+            }),
+            QueueChange::Fill { .. } => Ok(QueueChange::Clear),
         }
     }
 }

@@ -1,16 +1,21 @@
 //! A queue of items, and the tasks that wait at it.
 
-ghost use Rattle.std.specs.Prelude.{◌≡◌, ◌+◌, ◌-◌, ◌<◌, ◌≤◌, ◌↔◌, [], ◌∷◌, ◌++◌, length};
+ghost use Rattle.std.specs.Prelude.{◌≡◌, ◌+◌, ◌-◌, ◌*◌, ◌<◌, ◌≤◌, ◌↔◌, [], ◌∷◌, ◌++◌, length};
 ghost use Rattle.std.specs.Prelude.{take, drop, insert, remove, slice_get, slice_index_or};
-ghost use Rattle.std.specs.Prelude.{Some, IsTrue, IsErr, IfOk, OnOk, OnErr};
+ghost use Rattle.std.specs.Prelude.{slice_set, Some, IsTrue, IsOk, IsErr, IfOk, OnOk, OnErr};
 ghost use Rattle.rd_queue.specs.Sizes.{IsSizedQueue};
-ghost use Rattle.rd_queue.specs.Queues.{empty_queue, fitted, with_items, tasks_in_list};
-ghost use Rattle.rd_queue.specs.Queues.{with_waiting};
-ghost use Rattle.rd_queue.specs.Changes.{put_at, queue_applied};
+ghost use Rattle.std.specs.List.{concat};
+ghost use Rattle.std.specs.VecDeque.{deque_capacity};
+ghost use Rattle.rd_queue.specs.Queues.{count_in, empty_queue, fitted, items_in, with_items};
+ghost use Rattle.rd_queue.specs.Queues.{tasks_in_list, with_waiting};
+ghost use Rattle.rd_queue.specs.Changes.{HasRoomForAll, put_at, queue_applied};
+ghost use Rattle.rd_queue.specs.declared.change.QueueChange.TheVariants.{SetItem};
 
 use crate::end::End;
 use crate::item::Item;
 use crate::waiting_list::WaitingList;
+use rd_bytes::no_memory::NoMemory;
+use rd_bytes::saved::SavedBytes;
 use rd_wait::prio_list::PrioList;
 use std::alloc::{AllocError, Global};
 use std::collections::VecDeque;
@@ -54,11 +59,12 @@ impl Model for Queue {
       tasks = q.receiving.room;
     } };
 
-    // The items fit in the room, each has the size, and the room is reserved. Both lists have the
-    // same room, and those that wait are tasks.
+    // The items fit in the room, each has the size, and the room is reserved: for 1 to 64 items of
+    // 1 to 64 bytes. Both lists have the same room, and those that wait are tasks.
     ghost invariant = { λ q. (length q.items.items ≤ q.capacity)
         × All (λ item. length item ≡ q.item_size) q.items.items
-        × (q.capacity ≤ deque_capacity q.items) × (q.item_size ≤ 64)
+        × (q.capacity ≤ deque_capacity q.items) × (0 < q.capacity) × (q.capacity ≤ 64)
+        × (0 < q.item_size) × (q.item_size ≤ 64)
         × (q.sending.room ≡ q.receiving.room)
         × All (λ task. task < q.receiving.room) q.receiving.tasks
         × All (λ task. task < q.receiving.room) q.sending.tasks };
@@ -79,8 +85,37 @@ fn same_items(items: &VecDeque<Item>, others: &VecDeque<Item>) -> bool
     true
 }
 
+// The items' bytes, one after the other.
+fn bytes_of(alloc: Global, items: &VecDeque<Item>) -> Result<SavedBytes, NoMemory>
+    ensures bytes { IfOk result (λ saved. saved ≡ concat items.now.items) }
+    ensures short { length (concat items.now.items) ≤ 16 → IsOk result }
+{
+    let mut saved = SavedBytes::new(alloc);
+    for index in 0..items.len() {
+        saved.append(items[index].as_slice())?;
+    }
+    Ok(saved)
+}
+
+// Puts the items of that size that these bytes are, one after the other, at the back.
+fn push_all(items: &mut VecDeque<Item>, size: usize, bytes: &[u8])
+    requires some { 0 < size }
+    requires small { size ≤ 64 }
+    requires whole { length bytes.now ≡ count_in size bytes.now * size }
+    requires room { length items.old.items + count_in size bytes.now ≤ deque_capacity items.old }
+    ensures items { items.new.items ≡ items.old.items ++ items_in size bytes.now }
+    ensures capacity { deque_capacity items.new ≡ deque_capacity items.old }
+{
+    let mut rest = bytes;
+    for _index in 0..bytes.len() / size {
+        let (item, after) = rest.split_at(size);
+        items.push_back_reserved(Item::new(item));
+        rest = after;
+    }
+}
+
 impl Queue {
-    /// An empty queue with room for `capacity` items of `item_size` bytes, at most 64
+    /// An empty queue with room for `capacity` items, 1 to 64, of `item_size` bytes, 1 to 64
     /// (`xQueueCreate`), at which `tasks` tasks can wait in each list.
     pub fn new(
         alloc: Global,
@@ -88,7 +123,10 @@ impl Queue {
         item_size: usize,
         tasks: usize,
     ) -> Result<Queue, AllocError>
-        requires { item_size ≤ 64 }
+        requires some_room { 0 < capacity }
+        requires few { capacity ≤ 64 }
+        requires some_bytes { 0 < item_size }
+        requires small { item_size ≤ 64 }
         ensures { IfOk result (λ queue. queue ≡ empty_queue capacity item_size tasks) }
     {
         let items = VecDeque::with_capacity(alloc, capacity)?;
@@ -142,13 +180,15 @@ impl Queue {
     pub fn count(&self) -> usize
         ensures count { result ≡ length self.now.items }
         ensures within { result ≤ self.now.capacity }
+        ensures few { result ≤ 64 }
     {
         self.items.len()
     }
 
     /// How many slots are free (`uxQueueSpacesAvailable`).
     pub fn spaces(&self) -> usize
-        ensures { result + length self.now.items ≡ self.now.capacity }
+        ensures spaces { result + length self.now.items ≡ self.now.capacity }
+        ensures few { result ≤ 64 }
     {
         self.capacity - self.items.len()
     }
@@ -211,6 +251,31 @@ impl Queue {
         Ok(())
     }
 
+    /// Puts an item at the front (`xQueueSendToFront`). A full queue refuses, and stays as it was.
+    pub fn put_front(&mut self, item: &[u8]) -> Result<(), Full>
+        requires { length item.now ≡ self.old.item_size }
+        ensures full { IsErr result ↔ (length self.old.items ≡ self.old.capacity) }
+        ensures ok { OnOk result (self.new ≡ with_items self.old (item.now ∷ self.old.items)) }
+        ensures err { OnErr result (self.new ≡ self.old) }
+    {
+        if self.items.len() == self.capacity {
+            return Err(Full);
+        }
+        self.items.push_front_reserved(Item::new(item));
+        Ok(())
+    }
+
+    /// Makes an item the only one of a queue with room for one: it is put, or takes the place of
+    /// the one that is there (`xQueueOverwrite`).
+    pub fn overwrite(&mut self, item: &[u8])
+        requires single { self.old.capacity ≡ 1 }
+        requires size { length item.now ≡ self.old.item_size }
+        ensures { self.new ≡ with_items self.old (item.now ∷ []) }
+    {
+        self.items.truncate(0);
+        self.items.push_back_reserved(Item::new(item));
+    }
+
     /// Puts the item that these bytes make, cut or filled up with zero bytes to the item size, at
     /// an end of a queue that isn't full.
     pub fn put_fitted(&mut self, end: End, bytes: &[u8])
@@ -222,6 +287,27 @@ impl Queue {
         match end {
             End::Back => self.items.push_back_reserved(item),
             End::Front => self.items.push_front_reserved(item),
+        }
+    }
+
+    /// Puts the item that these bytes make, cut or filled up with zero bytes to the item size, in
+    /// the place of the one at `index`.
+    pub fn set_fitted(&mut self, index: usize, bytes: &[u8])
+        requires { index < length self.old.items }
+        ensures { self.new
+            ≡ queue_applied self.old (SetItem index (fitted self.old.item_size bytes.now)) }
+    {
+        self.items[index] = Item::fitted(bytes, self.item_size);
+    }
+
+    /// The item at the front (`xQueuePeek`). An empty queue refuses.
+    pub fn peek(&self) -> Result<&[u8], Empty>
+        ensures empty { IsErr result ↔ (self.now.items ≡ []) }
+        ensures item { IfOk result (λ item. slice_get self.now.items 0 ≡ Some item.now) }
+    {
+        match self.items.front() {
+            Some(item) => Ok(item.as_slice()),
+            None => Err(Empty),
         }
     }
 
@@ -252,6 +338,42 @@ impl Queue {
             ≡ with_items self.old (take (length self.old.items - 1) self.old.items) }
     {
         self.items.pop_back().unwrap()
+    }
+
+    /// Puts an item in the place of the one at `index`. It takes no memory.
+    pub fn set_item(&mut self, index: usize, item: &[u8])
+        requires there { index < length self.old.items }
+        requires size { length item.now ≡ self.old.item_size }
+        ensures { self.new ≡ with_items self.old (slice_set self.old.items index item.now) }
+    {
+        let target = &mut self.items[index];
+        *target = Item::new(item);
+    }
+
+    /// Empties the queue; those who wait stay (`xQueueReset`, but for whom it wakes). It takes no
+    /// memory.
+    pub fn clear(&mut self)
+        ensures { self.new ≡ with_items self.old [] }
+    {
+        self.items.truncate(0);
+    }
+
+    /// Fills an empty queue with the items that these bytes are, one after the other: what undoes
+    /// `clear`. It takes no memory.
+    pub fn fill(&mut self, bytes: &[u8])
+        requires { HasRoomForAll self.old bytes.now }
+        ensures { self.new ≡ with_items self.old (items_in self.old.item_size bytes.now) }
+    {
+        push_all(&mut self.items, self.item_size, bytes);
+    }
+
+    /// The bytes of all items, one after the other, the front first. Up to 16 of them take no
+    /// memory.
+    pub fn saved_items(&self, alloc: Global) -> Result<SavedBytes, NoMemory>
+        ensures bytes { IfOk result (λ saved. saved ≡ concat self.now.items) }
+        ensures short { length (concat self.now.items) ≤ 16 → IsOk result }
+    {
+        bytes_of(alloc, &self.items)
     }
 
     /// The tasks that wait to receive, or to send.
