@@ -25,7 +25,7 @@ use Rattle.rd_state.proofs.ScheduleLaws.{one_if}
 use Rattle.rd_state.proofs.ScheduleLaws.{times_in_list-cons, times_in_list-joined, times_on_cores-set}
 use Rattle.rd_state.proofs.UndoLaws.{IsSizedList-waiting_at}
 use Rattle.rd_kernel.specs.declared.outcome.Outcome.TheVariants.{Waits}
-use Rattle.rd_kernel.specs.Outcomes.{IsCalling, blocked, concluded, call_fails, passed, returned}
+use Rattle.rd_kernel.specs.Outcomes.{IsCalling, blocked, call_answers, call_fails, concluded, passed, returned}
 use Rattle.rd_kernel.specs.Tasks.{with_idle_core, with_pc, with_phase, advanced}
 use Rattle.rd_kernel.specs.Waking.{deadline_of, is_due, may_wait, with_waiter, woken_first, woken_one}
 use Rattle.rd_kernel.proofs.ConsistentLaws.{TaskMoves, IsConsistent, IsConsistent-moved}
@@ -265,6 +265,19 @@ pub record IsDone (app : Application) (s p : Snapshot) (task : ℕ) (waiting : P
   pub within : (task_at p task).pc + 1 < length (code_of app task)
   pub waiters : (t : ℕ) → 1 ≤ times_in_list t (waiting_at p waiting) → t < length p.tasks
 
+-- It wakes the first who waits for what it left.
+pub IsConsistent-done : (app : Application) (s p : Snapshot) (core task : ℕ) (waiting : Place) → IsDone app s p task waiting
+    → IsConsistent app (all_have_time_left s.tick) (concluded (passed (priorities_of app) p waiting) core task)
+IsConsistent-done app s p core task waiting done =
+    IsConsistent-passed app s.tick p (woken_first (priorities_of app) p waiting) task 1 done.there done.runs done.within done.consistent.tasks
+    (AfterWaking-woken_first app (all_have_time_left s.tick) p waiting task done.waiters (λ t deadline. tt) done.runs done.consistent)
+
+-- A call that changes nothing but its caller's answer.
+pub IsConsistent-answered : (app : Application) (s : Snapshot) (core task answer : ℕ) (instr : Instr) → RunsInstr app s core task instr
+    → IsConsistent app (all_have_time_left s.tick) (concluded (call_answers s answer) core task)
+IsConsistent-answered app s core task answer instr calls =
+    IsConsistent-returned app (all_have_time_left s.tick) s task answer calls.there calls.runs calls.within tt (IsConsistent-valid app s calls.valid)
+
 -- A call either can't be done, or is done and wakes the first who waits for what it left.
 pub IsConsistent-does_or_waits : (app : Application) (s p : Snapshot) (core task : ℕ) (instr : Instr) (place waiting : Place) (wait : Operand) (cannot : Bool)
     → RunsInstr app s core task instr → HasPlace s place → place_of_call instr ≡ Some place → IsDone app s p task waiting
@@ -278,8 +291,7 @@ IsConsistent-does_or_waits app s p core task instr place waiting wait cannot cal
       | true ↦
           IsConsistent-blocked app s core task place wait calls.there calls.runs calls.has_core calls.on_core there
           (ap place_of_call calls.at_instr ∙ at_place) calls.within at
-      | false ↦ IsConsistent-passed app s.tick p (woken_first priorities p waiting) task 1 done.there done.runs done.within done.consistent.tasks
-          (AfterWaking-woken_first app D p waiting task done.waiters (λ t deadline. tt) done.runs done.consistent)
+      | false ↦ IsConsistent-done app s p core task waiting done
     ]
 
 -- An instruction leaves the tick.

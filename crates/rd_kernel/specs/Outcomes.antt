@@ -30,12 +30,16 @@ pub record Called : Type 0 where
   pub state : Snapshot
   pub outcome : Outcome
 
+-- a call that returns
+abbrev pub call_answers : Snapshot → ℕ → Called
+call_answers s answer = record { state = s; outcome = Returns answer }
+
 -- pdPASS; errQUEUE_FULL and errQUEUE_EMPTY
 abbrev pub call_passes : Snapshot → Called
-call_passes s = record { state = s; outcome = Returns 1 }
+call_passes s = call_answers s 1
 
 abbrev pub call_fails : Snapshot → Called
-call_fails s = record { state = s; outcome = Returns 0 }
+call_fails s = call_answers s 0
 
 -- A call that can't be done waits at a place, where its block time lasts, and else fails.
 abbrev pub blocked : List ℕ → Snapshot → ℕ → Place → Operand → Called

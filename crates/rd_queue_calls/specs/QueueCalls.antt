@@ -1,58 +1,112 @@
 -- What the calls of a queue do.
-use Rattle.std.specs.Prelude.{ℕ, ◌+◌, ◌∷◌, ◌++◌, [], Bool, List, length, drop, nat_eq}
-use Rattle.std.specs.Prelude.{slice_index_or, if◌then◌else◌}
+use Rattle.std.specs.Prelude.{ℕ, ◌+◌, ◌-◌, [], Bool, List, length, drop, nat_eq}
+use Rattle.std.specs.Prelude.{slice_index_or, slice_set, if◌then◌else◌}
+use Rattle.std.specs.List.{concat}
 use Rattle.rd_app.specs.declared.instr.Operand.{Operand}
 use Rattle.rd_app.specs.declared.instr.QueueCall.{QueueCall}
-use Rattle.rd_app.specs.declared.instr.QueueCall.TheVariants.{Send, Receive}
+use Rattle.rd_app.specs.declared.instr.QueueCall.TheVariants.{Send, Receive, Peek}
+use Rattle.rd_app.specs.declared.instr.QueueCall.TheVariants.{Overwrite, Reset, Count, Spaces}
+use Rattle.rd_queue.specs.declared.end.End.{End}
+use Rattle.rd_queue.specs.declared.end.End.TheVariants.{Back}
 use Rattle.rd_queue.specs.declared.waiting_list.WaitingList.TheVariants.{Receiving, Sending}
+use Rattle.rd_queue.specs.Changes.{put_at, queue_applied}
 use Rattle.rd_queue.specs.QueueSnapshot.{QueueSnapshot}
 use Rattle.rd_queue.specs.Queues.{fitted, with_items}
 use Rattle.rd_state.specs.declared.phase.Place.TheVariants.{Queue}
 use Rattle.rd_state.specs.Change.{with_queue, items_at}
 use Rattle.rd_state.specs.Snapshot.{Snapshot, task_at, queue_at}
 use Rattle.rd_kernel.specs.Costs.{data_cost, item_cost, waking_cost}
-use Rattle.rd_kernel.specs.Outcomes.{Called, blocked, passed}
+use Rattle.rd_kernel.specs.Outcomes.{Called, blocked, call_answers, passed}
 use Rattle.rd_kernel.specs.Tasks.{with_bytes}
 
--- Is there no free slot?
+-- Is there no free slot? Is there no item?
 abbrev pub is_full : QueueSnapshot → Bool
 is_full queue = nat_eq (length queue.items) queue.capacity
+
+abbrev pub is_empty : QueueSnapshot → Bool
+is_empty queue = nat_eq (length queue.items) 0
 
 -- the item that a task sends: its data, at the queue's item size
 abbrev pub sent_item : Snapshot → ℕ → ℕ → List ℕ
 sent_item s task queue = fitted (queue_at s queue).item_size (task_at s task).bytes
 
--- the item at a queue's back
-abbrev pub with_item_sent : Snapshot → ℕ → ℕ → Snapshot
-with_item_sent s task queue =
+-- the item put at an end of the queue
+abbrev pub with_item_sent : Snapshot → ℕ → ℕ → End → Snapshot
+with_item_sent s task queue end =
     with_queue s queue
-    (with_items (queue_at s queue) (items_at s queue ++ sent_item s task queue ∷ []))
+    (queue_applied (queue_at s queue) (put_at end (sent_item s task queue)))
+
+-- the item as a queue's only one, whether it is put or takes the place of the one that is there
+abbrev pub with_item_over : Snapshot → ℕ → ℕ → Snapshot
+with_item_over s task queue =
+    if is_empty (queue_at s queue) then with_item_sent s task queue Back
+    else with_queue s queue
+    (with_items (queue_at s queue)
+    (slice_set (items_at s queue) 0 (sent_item s task queue)))
 
 -- a queue's first item as the task's data
+abbrev pub with_item_peeked : Snapshot → ℕ → ℕ → Snapshot
+with_item_peeked s task queue = with_bytes s task (slice_index_or (items_at s queue) 0 [])
+
+-- the same, and the item has left the queue
 abbrev pub with_item_taken : Snapshot → ℕ → ℕ → Snapshot
 with_item_taken s task queue =
-    with_queue (with_bytes s task (slice_index_or (items_at s queue) 0 [])) queue
+    with_queue (with_item_peeked s task queue) queue
     (with_items (queue_at s queue) (drop 1 (items_at s queue)))
 
--- xQueueSend, xQueueSendToBack: where there is room, the item goes to the back, and the first who
--- waits for one is woken. It isn't handed the item: it tries again when it runs.
-abbrev pub send_outcome : List ℕ → Snapshot → ℕ → ℕ → Operand → Called
-send_outcome priorities s task queue wait =
+-- a queue without items
+abbrev pub with_no_items : Snapshot → ℕ → Snapshot
+with_no_items s queue = with_queue s queue (with_items (queue_at s queue) [])
+
+-- xQueueSend, xQueueSendToBack, xQueueSendToFront: where there is room, the item goes to that end,
+-- and the first who waits for one is woken. It isn't handed the item: it tries again when it runs.
+abbrev pub send_outcome : List ℕ → Snapshot → ℕ → ℕ → End → Operand → Called
+send_outcome priorities s task queue end wait =
     if is_full (queue_at s queue) then blocked priorities s task (Queue queue Sending) wait
-    else passed priorities (with_item_sent s task queue) (Queue queue Receiving)
+    else passed priorities (with_item_sent s task queue end) (Queue queue Receiving)
 
 -- xQueueReceive: where there is an item, the one at the front leaves and becomes the caller's data,
 -- and the first who waits for a free slot is woken
 abbrev pub receive_outcome : List ℕ → Snapshot → ℕ → ℕ → Operand → Called
 receive_outcome priorities s task queue wait =
-    if nat_eq (length (items_at s queue)) 0
-    then blocked priorities s task (Queue queue Receiving) wait
+    if is_empty (queue_at s queue) then blocked priorities s task (Queue queue Receiving) wait
     else passed priorities (with_item_taken s task queue) (Queue queue Sending)
+
+-- xQueuePeek: where there is an item, the one at the front becomes the caller's data and stays, and
+-- the first who waits for an item is woken
+abbrev pub peek_outcome : List ℕ → Snapshot → ℕ → ℕ → Operand → Called
+peek_outcome priorities s task queue wait =
+    if is_empty (queue_at s queue) then blocked priorities s task (Queue queue Receiving) wait
+    else passed priorities (with_item_peeked s task queue) (Queue queue Receiving)
+
+-- xQueueOverwrite: the item becomes the queue's only one, and the first who waits for one is woken
+abbrev pub overwrite_outcome : List ℕ → Snapshot → ℕ → ℕ → Called
+overwrite_outcome priorities s task queue =
+    passed priorities (with_item_over s task queue) (Queue queue Receiving)
+
+-- xQueueReset: the items are gone, and the first who waits for a free slot is woken
+abbrev pub reset_outcome : List ℕ → Snapshot → ℕ → Called
+reset_outcome priorities s queue =
+    passed priorities (with_no_items s queue) (Queue queue Sending)
+
+-- uxQueueMessagesWaiting, uxQueueSpacesAvailable: how many items there are, and free slots
+abbrev pub count_outcome : Snapshot → ℕ → Called
+count_outcome s queue = call_answers s (length (items_at s queue))
+
+abbrev pub spaces_outcome : Snapshot → ℕ → Called
+spaces_outcome s queue =
+    call_answers s ((queue_at s queue).capacity - length (items_at s queue))
 
 -- what a call of a queue does
 abbrev pub queue_outcome : List ℕ → Snapshot → ℕ → ℕ → QueueCall → Called
-queue_outcome priorities s task queue (Send wait) = send_outcome priorities s task queue wait
+queue_outcome priorities s task queue (Send end wait) =
+    send_outcome priorities s task queue end wait
 queue_outcome priorities s task queue (Receive wait) = receive_outcome priorities s task queue wait
+queue_outcome priorities s task queue (Peek wait) = peek_outcome priorities s task queue wait
+queue_outcome priorities s task queue Overwrite = overwrite_outcome priorities s task queue
+queue_outcome priorities s task queue Reset = reset_outcome priorities s queue
+queue_outcome priorities s task queue Count = count_outcome s queue
+queue_outcome priorities s task queue Spaces = spaces_outcome s queue
 
 -- What they take in a record at the most. An item that is put carries nothing.
 abbrev pub send_cost : ℕ
@@ -61,6 +115,25 @@ send_cost = 1 + waking_cost
 abbrev pub receive_cost : ℕ
 receive_cost = data_cost + item_cost + waking_cost
 
--- the most of them all
+abbrev pub peek_cost : ℕ
+peek_cost = data_cost + waking_cost
+
+abbrev pub overwrite_cost : ℕ
+overwrite_cost = item_cost + waking_cost
+
+abbrev pub reset_cost : ℕ
+reset_cost = 1 + waking_cost
+
+-- the bytes of the items that a call drops
+abbrev pub dropped_by : Snapshot → ℕ → QueueCall → ℕ
+dropped_by s queue (Send end wait) = 0
+dropped_by s queue (Receive wait) = 0
+dropped_by s queue (Peek wait) = 0
+dropped_by s queue Overwrite = 0
+dropped_by s queue Reset = length (concat (items_at s queue))
+dropped_by s queue Count = 0
+dropped_by s queue Spaces = 0
+
+-- the most of them all, beside the bytes that a reset drops
 abbrev pub queue_call_cost : ℕ
 queue_call_cost = receive_cost

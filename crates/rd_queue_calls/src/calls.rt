@@ -1,15 +1,19 @@
 //! The calls of queues.
 
 ghost use Rattle.std.specs.Prelude.{◌≡◌, ◌+◌, ◌<◌, length, IfOk, OnOk, OnErr};
+ghost use Rattle.std.specs.List.{concat};
 ghost use Rattle.rd_app.specs.Application.{IsOperand, IsQueueCall, priorities_of};
 ghost use Rattle.rd_state.specs.Edit.{Reaches};
 ghost use Rattle.rd_state.specs.Sizes.{IsSized};
 ghost use Rattle.rd_state.specs.Snapshot.{queue_at, task_at};
 ghost use Rattle.rd_kernel.specs.Costs.{data_cost, item_cost};
 ghost use Rattle.rd_kernel.specs.Outcomes.{DoesCall, IsCalling};
-ghost use Rattle.rd_queue_calls.specs.QueueCalls.{with_item_sent, with_item_taken};
-ghost use Rattle.rd_queue_calls.specs.QueueCalls.{send_outcome, receive_outcome, queue_outcome};
-ghost use Rattle.rd_queue_calls.specs.QueueCalls.{send_cost, receive_cost, queue_call_cost};
+ghost use Rattle.rd_queue_calls.specs.QueueCalls.{with_item_taken, with_item_over};
+ghost use Rattle.rd_queue_calls.specs.QueueCalls.{send_outcome, receive_outcome, peek_outcome};
+ghost use Rattle.rd_queue_calls.specs.QueueCalls.{overwrite_outcome, reset_outcome};
+ghost use Rattle.rd_queue_calls.specs.QueueCalls.{queue_outcome, dropped_by};
+ghost use Rattle.rd_queue_calls.specs.QueueCalls.{send_cost, receive_cost, peek_cost};
+ghost use Rattle.rd_queue_calls.specs.QueueCalls.{overwrite_cost, reset_cost, queue_call_cost};
 
 use rd_app::app::App;
 use rd_app::instr::{Operand, QueueCall};
@@ -40,37 +44,61 @@ fn dequeue(editing: &mut Editing, task: usize, queue: usize) -> Result<(), NoMem
     editing.change(Change::Queue { queue, change })
 }
 
-// Puts the task's data at the queue's back (`xQueueSend`), or waits for room.
+// The task's data becomes the queue's only item.
+fn overwrite_item(editing: &mut Editing, task: usize, queue: usize) -> Result<(), NoMemory>
+    requires task { task < length editing.old.now.tasks }
+    requires queue { queue < length editing.old.now.queues }
+    requires sized { IsSized editing.old.now }
+    ensures ok { OnOk result (Reaches editing.old editing.new
+        (with_item_over editing.old.now task queue) item_cost) }
+    ensures err { OnErr result (editing.new.base ≡ editing.old.base) }
+{
+    if editing.state().queue(queue).count() > 0 {
+        return editing.transfer(Transfer::DataOverFront { task, queue });
+    }
+    let end = End::Back;
+    editing.transfer(Transfer::DataToQueue { task, queue, end })
+}
+
+// Where tasks wait for an item of the queue, and for a free slot.
+fn receiving(queue: usize) -> Place
+    ensures { result ≡ Place.Queue queue WaitingList.Receiving }
+{
+    let list = WaitingList::Receiving;
+    Place::Queue { queue, list }
+}
+
+fn sending(queue: usize) -> Place
+    ensures { result ≡ Place.Queue queue WaitingList.Sending }
+{
+    let list = WaitingList::Sending;
+    Place::Queue { queue, list }
+}
+
+// Puts the task's data at an end of the queue (`xQueueSend`, `xQueueSendToFront`), or waits for
+// room.
 fn send(
     app: &App,
     editing: &mut Editing,
     task: usize,
     queue: usize,
+    end: End,
     wait: Operand,
 ) -> Result<Outcome, NoMemory>
     requires caller { IsCalling app.now editing.old.now task }
     requires queue { queue < length editing.old.now.queues }
     requires register { IsOperand wait }
     ensures ok { IfOk result (DoesCall editing.old editing.new
-        (send_outcome (priorities_of app.now) editing.old.now task queue wait) send_cost) }
+        (send_outcome (priorities_of app.now) editing.old.now task queue end wait) send_cost) }
     ensures stays { OnOk result
         ((task_at editing.new.now task).pc ≡ (task_at editing.old.now task).pc) }
     ensures err { OnErr result (editing.new.base ≡ editing.old.base) }
 {
-    let full = Place::Queue {
-        queue,
-        list: WaitingList::Sending,
-    };
-    let waiting = Place::Queue {
-        queue,
-        list: WaitingList::Receiving,
-    };
     if editing.state().queue(queue).spaces() == 0 {
-        return block(app, editing, task, full, wait);
+        return block(app, editing, task, sending(queue), wait);
     }
-    let end = End::Back;
     editing.transfer(Transfer::DataToQueue { task, queue, end })?;
-    pass(editing, app.priorities(), waiting)
+    pass(editing, app.priorities(), receiving(queue))
 }
 
 // Takes the queue's first item as the task's data (`xQueueReceive`), or waits for one.
@@ -90,19 +118,71 @@ fn receive(
         ((task_at editing.new.now task).pc ≡ (task_at editing.old.now task).pc) }
     ensures err { OnErr result (editing.new.base ≡ editing.old.base) }
 {
-    let empty = Place::Queue {
-        queue,
-        list: WaitingList::Receiving,
-    };
-    let waiting = Place::Queue {
-        queue,
-        list: WaitingList::Sending,
-    };
     if editing.state().queue(queue).count() == 0 {
-        return block(app, editing, task, empty, wait);
+        return block(app, editing, task, receiving(queue), wait);
     }
     dequeue(editing, task, queue)?;
-    pass(editing, app.priorities(), waiting)
+    pass(editing, app.priorities(), sending(queue))
+}
+
+// Copies the queue's first item as the task's data (`xQueuePeek`), or waits for one.
+fn peek(
+    app: &App,
+    editing: &mut Editing,
+    task: usize,
+    queue: usize,
+    wait: Operand,
+) -> Result<Outcome, NoMemory>
+    requires caller { IsCalling app.now editing.old.now task }
+    requires queue { queue < length editing.old.now.queues }
+    requires register { IsOperand wait }
+    ensures ok { IfOk result (DoesCall editing.old editing.new
+        (peek_outcome (priorities_of app.now) editing.old.now task queue wait) peek_cost) }
+    ensures stays { OnOk result
+        ((task_at editing.new.now task).pc ≡ (task_at editing.old.now task).pc) }
+    ensures err { OnErr result (editing.new.base ≡ editing.old.base) }
+{
+    if editing.state().queue(queue).count() == 0 {
+        return block(app, editing, task, receiving(queue), wait);
+    }
+    editing.transfer(Transfer::FrontToData { queue, task })?;
+    pass(editing, app.priorities(), receiving(queue))
+}
+
+// Makes the task's data the queue's only item (`xQueueOverwrite`).
+fn overwrite(
+    app: &App,
+    editing: &mut Editing,
+    task: usize,
+    queue: usize,
+) -> Result<Outcome, NoMemory>
+    requires caller { IsCalling app.now editing.old.now task }
+    requires queue { queue < length editing.old.now.queues }
+    ensures ok { IfOk result (DoesCall editing.old editing.new
+        (overwrite_outcome (priorities_of app.now) editing.old.now task queue) overwrite_cost) }
+    ensures stays { OnOk result
+        ((task_at editing.new.now task).pc ≡ (task_at editing.old.now task).pc) }
+    ensures err { OnErr result (editing.new.base ≡ editing.old.base) }
+{
+    overwrite_item(editing, task, queue)?;
+    pass(editing, app.priorities(), receiving(queue))
+}
+
+// Empties the queue (`xQueueReset`).
+fn reset(app: &App, editing: &mut Editing, task: usize, queue: usize) -> Result<Outcome, NoMemory>
+    requires caller { IsCalling app.now editing.old.now task }
+    requires queue { queue < length editing.old.now.queues }
+    ensures ok { IfOk result (DoesCall editing.old editing.new
+        (reset_outcome (priorities_of app.now) editing.old.now queue)
+        (reset_cost + length (concat (queue_at editing.old.now queue).items))) }
+    ensures stays { OnOk result
+        ((task_at editing.new.now task).pc ≡ (task_at editing.old.now task).pc) }
+    ensures err { OnErr result (editing.new.base ≡ editing.old.base) }
+{
+    let _ = task;
+    let change = QueueChange::Clear;
+    editing.change(Change::Queue { queue, change })?;
+    pass(editing, app.priorities(), sending(queue))
 }
 
 /// Does a call of a queue.
@@ -118,13 +198,24 @@ pub fn call_queue(
     requires registers { IsQueueCall call }
     ensures ok { IfOk result (DoesCall editing.old editing.new
         (queue_outcome (priorities_of app.now) editing.old.now task queue call)
-        queue_call_cost) }
+        (queue_call_cost + dropped_by editing.old.now queue call)) }
     ensures stays { OnOk result
         ((task_at editing.new.now task).pc ≡ (task_at editing.old.now task).pc) }
     ensures err { OnErr result (editing.new.base ≡ editing.old.base) }
 {
     match call {
-        QueueCall::Send { wait } => send(app, editing, task, queue, wait),
+        QueueCall::Send { end, wait } => send(app, editing, task, queue, end, wait),
         QueueCall::Receive { wait } => receive(app, editing, task, queue, wait),
+        QueueCall::Peek { wait } => peek(app, editing, task, queue, wait),
+        QueueCall::Overwrite => overwrite(app, editing, task, queue),
+        QueueCall::Reset => reset(app, editing, task, queue),
+        QueueCall::Count => {
+            let count = editing.state().queue(queue).count();
+            Ok(Outcome::Returns(count as u32))
+        }
+        QueueCall::Spaces => {
+            let spaces = editing.state().queue(queue).spaces();
+            Ok(Outcome::Returns(spaces as u32))
+        }
     }
 }

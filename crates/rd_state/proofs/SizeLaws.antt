@@ -157,7 +157,10 @@ IsQueueFor-queue_of_shape n tasks shape same limits = (
   record {
     room = omega arith;
     items = All-nil (λ (item : List ℕ). length item ≡ shape.item_size);
-    small = omega (arith, limits.3);
+    some_room = limits.0;
+    few = limits.1;
+    some_bytes = limits.2;
+    small = limits.3;
     receiving = (All-nil (λ task. task < n), omega arith);
     sending = (All-nil (λ task. task < n), omega arith);
   },

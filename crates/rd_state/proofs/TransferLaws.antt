@@ -9,7 +9,7 @@ use Rattle.rd_queue.specs.Changes.{put_at, QueueFits}
 use Rattle.rd_queue.specs.QueueSnapshot.{QueueSnapshot}
 use Rattle.rd_queue.specs.Queues.{fitted}
 use Rattle.rd_state.specs.declared.transfer.Transfer.{Transfer}
-use Rattle.rd_state.specs.declared.transfer.Transfer.TheVariants.{DataToQueue, FrontToData}
+use Rattle.rd_state.specs.declared.transfer.Transfer.TheVariants.{DataToQueue, DataOverFront, FrontToData}
 use Rattle.rd_state.specs.declared.change.Change.{Change}
 use Rattle.rd_state.specs.Change.{applied, cost_of, inverse_of, Fits, items_at}
 use Rattle.rd_state.specs.Edit.{Edit, Reaches}
@@ -40,6 +40,8 @@ first_is_short s queue sized there some =
 pub transfer_fits : (s : Snapshot) (transfer : Transfer) → IsSized s → CanTransfer s transfer → Fits s (change_of s transfer)
 transfer_fits s (DataToQueue task queue end) sized can =
     (can.1, put_fits (queue_at s queue) end (queue_at s queue).item_size (task_at s task).bytes can.2 refl)
+transfer_fits s (DataOverFront task queue) sized can =
+    (can.1, (can.2, length-fitted (queue_at s queue).item_size (task_at s task).bytes))
 transfer_fits s (FrontToData queue task) sized can = (can.1, omega (arith, first_is_short s queue sized can.0 can.2), tt)
 
 -- what `act_transfer` makes of a state and its record

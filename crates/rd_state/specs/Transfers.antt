@@ -1,12 +1,14 @@
 -- Bytes that go from one part of the state to another: the change that each transfer makes.
 use Rattle.std.specs.Prelude.{◌<◌, [], length, slice_index_or}
+use Rattle.rd_queue.specs.declared.change.QueueChange.TheVariants.{SetItem}
 use Rattle.rd_queue.specs.Changes.{put_at}
 use Rattle.rd_queue.specs.Queues.{fitted}
 use Rattle.rd_state.specs.declared.change.Change.{Change}
 use Rattle.rd_state.specs.declared.change.Change.TheVariants.{Task, Queue}
 use Rattle.rd_state.specs.declared.task_change.TaskChange.TheVariants.{SetData}
 use Rattle.rd_state.specs.declared.transfer.Transfer.{Transfer}
-use Rattle.rd_state.specs.declared.transfer.Transfer.TheVariants.{DataToQueue, FrontToData}
+use Rattle.rd_state.specs.declared.transfer.Transfer.TheVariants.{DataToQueue, DataOverFront}
+use Rattle.rd_state.specs.declared.transfer.Transfer.TheVariants.{FrontToData}
 use Rattle.rd_state.specs.Change.{items_at}
 use Rattle.rd_state.specs.Snapshot.{Snapshot, task_at, queue_at}
 
@@ -14,12 +16,16 @@ use Rattle.rd_state.specs.Snapshot.{Snapshot, task_at, queue_at}
 abbrev pub change_of : Snapshot → Transfer → Change
 change_of s (DataToQueue task queue end) =
     Queue queue (put_at end (fitted (queue_at s queue).item_size (task_at s task).bytes))
+change_of s (DataOverFront task queue) =
+    Queue queue (SetItem 0 (fitted (queue_at s queue).item_size (task_at s task).bytes))
 change_of s (FrontToData queue task) = Task task (SetData (slice_index_or (items_at s queue) 0 []))
 
--- Both parts are there, with room for an item or an item.
+-- Both parts are there, with room for an item or with one.
 abbrev pub CanTransfer : Snapshot → Transfer → Type 0
 CanTransfer s (DataToQueue task queue end) =
     (task < length s.tasks) × (queue < length s.queues)
     × (length (items_at s queue) < (queue_at s queue).capacity)
+CanTransfer s (DataOverFront task queue) =
+    (task < length s.tasks) × (queue < length s.queues) × (0 < length (items_at s queue))
 CanTransfer s (FrontToData queue task) =
     (queue < length s.queues) × (task < length s.tasks) × (0 < length (items_at s queue))

@@ -363,6 +363,16 @@ impl State {
         target.put_fitted(end, bytes);
     }
 
+    fn put_over(&mut self, task: usize, queue: usize)
+        requires { CanTransfer self.old (Transfer.DataOverFront task queue) }
+        ensures { self.new
+            ≡ applied self.old (change_of self.old (Transfer.DataOverFront task queue)) }
+    {
+        let bytes = self.tasks[task].bytes();
+        let target = &mut self.queues[queue];
+        target.set_fitted(0, bytes);
+    }
+
     fn take_data(&mut self, queue: usize, task: usize)
         requires { CanTransfer self.old (Transfer.FrontToData queue task) }
         ensures { self.new
@@ -381,6 +391,7 @@ impl State {
     {
         match transfer {
             Transfer::DataToQueue { task, queue, end } => self.put_data(task, queue, end),
+            Transfer::DataOverFront { task, queue } => self.put_over(task, queue),
             Transfer::FrontToData { queue, task } => self.take_data(queue, task),
         }
     }
@@ -400,6 +411,13 @@ impl State {
                 change: match end {
                     End::Back => QueueChange::TakeBack,
                     End::Front => QueueChange::TakeFront,
+                },
+            }),
+            Transfer::DataOverFront { queue, .. } => Ok(Change::Queue {
+                queue,
+                change: QueueChange::SetItem {
+                    index: 0,
+                    item: SavedBytes::from_slice(alloc, self.queue(queue).first())?,
                 },
             }),
             Transfer::FrontToData { task, .. } => Ok(Change::Task {

@@ -11,5 +11,6 @@ pub pass-requires-clause-room : goal.pass-requires-clause-room
 pass-requires-clause-room c =
     let s = c.args.editing.now.now in
     let now = c.in_ok-dequeue.ensures.ok.now in
-    room_after_items s c.dequeue.new.editing.now c.args.queue (drop 1 (items_at s c.args.queue)) Sending c.requires.queue c.requires.caller.room_to_wake
-    (ap (λ (t : Snapshot). t.queues) now) (ap (λ (t : Snapshot). t.ready) now) (ap (λ (t : Snapshot). length t.tasks) now ∙ length-set s.tasks c.args.task _)
+    rw c.sending.ensures
+    (room_after_items s c.dequeue.new.editing.now c.args.queue (drop 1 (items_at s c.args.queue)) Sending c.requires.queue c.requires.caller.room_to_wake
+    (ap (λ (t : Snapshot). t.queues) now) (ap (λ (t : Snapshot). t.ready) now) (ap (λ (t : Snapshot). length t.tasks) now ∙ length-set s.tasks c.args.task _))
