@@ -14,7 +14,7 @@ use Rattle.rd_calls.specs.Local.{local_step, NamesRegisters}
 use Rattle.rd_kernel.specs.Costs.{ending_cost}
 use Rattle.rd_kernel.specs.Outcomes.{concluded}
 use Rattle.rd_kernel.specs.Waking.{timed_out}
-use Rattle.rd_queue_calls.specs.QueueCalls.{queue_call_cost, queue_outcome}
+use Rattle.rd_queue_calls.specs.QueueCalls.{dropped_by, queue_call_cost, queue_outcome}
 use Rattle.rd_calls.specs.declared.moves.Move.{Move}
 use Rattle.rd_calls.specs.declared.moves.Move.TheVariants.{Core, Tick}
 
@@ -77,16 +77,32 @@ move_from turn (Some ahead) = Core (turn + ahead)
 abbrev pub policy_of : Snapshot → Move
 policy_of s = move_from s.turn (position is_some (drop s.turn s.cores))
 
+-- the bytes of the items that an instruction drops, and those that a move does
+abbrev pub dropped_by_instr : Snapshot → Instr → ℕ
+dropped_by_instr s (Local instr) = 0
+dropped_by_instr s (Queue queue call) = dropped_by s queue call
+
+abbrev pub dropped_by_task : Application → Snapshot → Option ℕ → ℕ
+dropped_by_task app s None = 0
+dropped_by_task app s (Some task) = dropped_by_instr s (next_instr app s task)
+
+abbrev pub dropped_by_move : Application → Snapshot → Move → ℕ
+dropped_by_move app s (Core core) = dropped_by_task app s (core_at s core)
+dropped_by_move app s Tick = 0
+
 -- The record of a move is small: its weight has a bound that only the numbers of tasks and cores
--- enter, apart from the bytes of one task's data and one item.
-abbrev pub IsSmall : Snapshot → List Change → Type 0
-IsSmall s changes = weight_of changes ≤ 4 * length s.tasks + 6 * length s.cores + 16 + 512
+-- enter, apart from the bytes of one task's data and one item, and those that a reset drops.
+abbrev pub IsSmall : Application → Snapshot → Move → List Change → Type 0
+IsSmall app s move changes =
+    weight_of changes
+    ≤ 4 * length s.tasks + 6 * length s.cores + 16 + 512 + dropped_by_move app s move
 
 -- The registers and objects that an instruction names are there.
 abbrev pub NamesParts : Numbers → Instr → Type 0
 NamesParts numbers (Local instr) = NamesRegisters instr
 NamesParts numbers (Queue queue call) = (queue < numbers.queues) × IsQueueCall call
 
--- What an instruction takes in a record at the most: a call, and what becomes of its caller.
-abbrev pub instr_cost : ℕ
-instr_cost = queue_call_cost + ending_cost
+-- What an instruction takes in a record at the most: a call, what becomes of its caller, and the
+-- bytes that it drops.
+abbrev pub instr_cost : Snapshot → Instr → ℕ
+instr_cost s instr = queue_call_cost + ending_cost + dropped_by_instr s instr

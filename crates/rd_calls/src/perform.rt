@@ -6,7 +6,8 @@ ghost use Rattle.rd_state.specs.Edit.{Reaches};
 ghost use Rattle.rd_state.specs.Snapshot.{core_at, numbers_of, task_at};
 ghost use Rattle.rd_state.specs.Valid.{IsValid};
 ghost use Rattle.rd_kernel.specs.Outcomes.{IsCalling};
-ghost use Rattle.rd_calls.specs.Step.{performed, core_step, instr_cost, NamesParts};
+ghost use Rattle.rd_calls.specs.Step.{performed, core_step, instr_cost};
+ghost use Rattle.rd_calls.specs.Step.{next_instr, NamesParts};
 
 use crate::local::do_local;
 use rd_app::app::App;
@@ -33,7 +34,7 @@ fn perform(
     requires names { NamesParts (numbers_of editing.old.now) instr.now }
     ensures ok { OnOk result (Reaches editing.old editing.new
         (performed (priorities_of app.now) editing.old.now core task instr.now)
-        instr_cost) }
+        (instr_cost editing.old.now instr.now)) }
     ensures err { OnErr result (editing.new.base ≡ editing.old.base) }
 {
     match instr {
@@ -57,7 +58,8 @@ pub fn move_core(
     requires core { core < length editing.old.now.cores }
     ensures ok { OnOk result
         (Reaches editing.old editing.new (core_step app.now editing.old.now core task)
-        (instr_cost + 1 + 3 * length editing.old.now.cores)) }
+        (instr_cost editing.old.now (next_instr app.now editing.old.now task)
+        + 1 + 3 * length editing.old.now.cores)) }
     ensures err { OnErr result (editing.new.base ≡ editing.old.base) }
 {
     app.limits();

@@ -11,6 +11,7 @@ ghost use Rattle.rd_state.specs.Valid.{IsValid};
 ghost use Rattle.rd_kernel.specs.Outcomes.{IsCalling};
 ghost use Rattle.rd_kernel.specs.Waking.{FirstTriesWait};
 ghost use Rattle.rd_calls.specs.Step.{step, core_step, instr_cost, tick_step, last_tick};
+ghost use Rattle.rd_calls.specs.Step.{next_instr};
 ghost use Rattle.rd_calls.specs.Step.{IsMoveOf, IsSmall};
 
 use crate::moves::Move;
@@ -59,7 +60,8 @@ fn play_core(
     ensures undone { IfOk result (λ undo. undone state.new undo ≡ state.old) }
     ensures can_undo { IfOk result (λ undo. CanUndo state.new undo) }
     ensures small { IfOk result
-        (λ undo. weight_of undo ≤ instr_cost + 1 + 3 * length state.old.cores) }
+        (λ undo. weight_of undo ≤ instr_cost state.old (next_instr app.now state.old task)
+        + 1 + 3 * length state.old.cores) }
     ensures err { OnErr result (state.new ≡ state.old) }
     ensures valid { OnOk result (IsValid app.now state.new) }
     ensures settled { OnOk result (IsSettled (priorities_of app.now) state.new) }
@@ -111,7 +113,7 @@ pub fn play(alloc: Global, state: &mut State, app: &App, action: Move) -> Result
     // The record leads back, and is small.
     ensures undone { IfOk result (λ undo. undone state.new undo ≡ state.old) }
     ensures can_undo { IfOk result (λ undo. CanUndo state.new undo) }
-    ensures small { IfOk result (λ undo. IsSmall state.old undo) }
+    ensures small { IfOk result (λ undo. IsSmall app.now state.old action undo) }
 
     // A valid state stays valid, and nothing is left to schedule between moves.
     ensures valid { OnOk result (IsValid app.now state.new) }
