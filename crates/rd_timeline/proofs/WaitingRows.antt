@@ -7,6 +7,7 @@ use Rattle.rd_app.specs.declared.instr.Instr.TheVariants as instr
 use Rattle.rd_app.specs.declared.instr.LocalInstr.TheVariants.{End}
 use Rattle.rd_app.specs.declared.instr.QueueCall.TheVariants as call
 use Rattle.rd_queue.specs.declared.waiting_list.WaitingList.TheVariants.{Receiving}
+use Rattle.rd_queue.specs.declared.end.End.TheVariants.{Back}
 use Rattle.rd_app.specs.declared.instr.Operand.TheVariants.{Number}
 use Rattle.rd_state.specs.declared.phase.Phase.{Phase}
 use Rattle.rd_state.specs.declared.phase.Phase.TheVariants.{Run, Again, Wait}
@@ -47,7 +48,7 @@ abbrev stolen : Application
 stolen = over_a_queue 2 (
     record { priority = 2; code = receives max_delay ∷ instr.Local End ∷ [] }
     ∷ record { priority = 3; code = receives 10 ∷ instr.Local End ∷ [] }
-    ∷ record { priority = 1; code = instr.Queue 0 (call.Send (Number 0)) ∷ receives 0 ∷ instr.Local End ∷ [] } ∷ [])
+    ∷ record { priority = 1; code = instr.Queue 0 (call.Send Back (Number 0)) ∷ receives 0 ∷ instr.Local End ∷ [] } ∷ [])
 
 -- The item is in the queue, and the receiver of the highest priority is awake.
 item_is_sent : state_after stolen (Core 0 ∷ Core 1 ∷ Core 0 ∷ [])
