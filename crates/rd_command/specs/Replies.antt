@@ -1,6 +1,6 @@
 -- The text of replies.
 use Rattle.std.specs.Prelude.{ℕ, ◌==◌, ◌<◌, Bool, false, codes, decimal, List, [], ◌∷◌, ◌++◌}
-use Rattle.std.specs.Prelude.{length, slice_index_or, All, Option, Some, None}
+use Rattle.std.specs.Prelude.{length, slice_index_or, All, Option, Some, None, IfSome}
 use Rattle.std.specs.List.{flat_map}
 use Rattle.hex.specs.Hex.{encode_lower}
 use Rattle.rd_text.specs.declared.refusal.Refusal.{Refusal}
@@ -18,6 +18,7 @@ use Rattle.rd_state.specs.declared.phase.Phase.TheVariants.{Run, Again, Wait, En
 use Rattle.rd_state.specs.declared.phase.Place.{Place}
 use Rattle.rd_state.specs.declared.phase.Place.TheVariants.{Queue}
 use Rattle.rd_state.specs.Sizes.{IsTaskOrIdle}
+use Rattle.rd_state.specs.Phases.{waits_at}
 use Rattle.rd_state.specs.Snapshot.{Snapshot, TaskSnapshot}
 use Rattle.rd_state.specs.Waiting.{IsPlace}
 use Rattle.rd_command.specs.declared.reply.Reply.{Reply}
@@ -87,10 +88,7 @@ phase_text queues Ended = codes "ended"
 
 -- The place where a task waits, if it waits, has a name.
 abbrev pub PlaceIsNamed : List (List ℕ) → Phase → Type 0
-PlaceIsNamed queues Run = Unit {0}
-PlaceIsNamed queues (Again deadline) = Unit {0}
-PlaceIsNamed queues (Wait place deadline) = IsPlace (record { queues = length queues }) place
-PlaceIsNamed queues Ended = Unit {0}
+PlaceIsNamed queues phase = IfSome (waits_at phase) (IsPlace (record { queues = length queues }))
 
 abbrev pub entry_state_text : EntryState → List ℕ
 entry_state_text Idle = codes "idle"

@@ -1,7 +1,7 @@
 -- What calls keep of what makes a state valid: those that return, those that wait, and those that wake somebody.
 use Rattle.std.proofs.Common.{◌≡◌, ◌∙◌, ◌≢◌, ℕ, ◌+◌, ◌<◌, ◌≤◌, Bool, true, false, cond, List, [], ◌∷◌, length}
 use Rattle.std.proofs.Common.{set, Option, Some, None, refl, ap, subst, sym, arith}
-use Rattle.std.specs.Prelude.{is_some, nat_eq, slice_get, IfSome}
+use Rattle.std.specs.Prelude.{is_some, nat_eq, not, ◌&&◌, slice_get, IfSome}
 use Rattle.std.proofs.lemmas.Bool.{false≢true}
 use Rattle.std.proofs.lemmas.Bool.Decides.{nat_tests}
 use Rattle.std.proofs.lemmas.List.{length-set}
@@ -17,8 +17,9 @@ use Rattle.rd_wait.specs.Joined.{joined, IsInOrder}
 use Rattle.rd_wait.proofs.JoinedLaws.{IsInOrder-joined}
 use Rattle.rd_state.specs.Change.{with_task}
 use Rattle.rd_state.specs.Sizes.{IsSized, IsTaskOrIdle}
+use Rattle.rd_state.specs.Phases.{can_run, kept_deadline, waits_at}
 use Rattle.rd_state.specs.Snapshot.{Snapshot, TaskSnapshot, task_at, core_at}
-use Rattle.rd_state.specs.Valid.{IsValid, PhaseFitsCall, is_ahead, is_on, place_of_call, seats_to_run}
+use Rattle.rd_state.specs.Valid.{IsValid, PhaseFitsCall, is_ahead, is_at_place, is_on, place_of_call, seats_to_run}
 use Rattle.rd_state.specs.Valid.{times_in_list, times_on_cores, times_waiting_at}
 use Rattle.rd_state.specs.Waiting.{HasPlace, waiting_at}
 use Rattle.rd_state.proofs.ScheduleLaws.{one_if}
@@ -33,7 +34,7 @@ use Rattle.rd_kernel.proofs.ConsistentLaws.{IsConsistent-task_replaced, IsConsis
 use Rattle.rd_kernel.proofs.ConsistentLaws.{IsConsistentTask, all_have_time_left, same_place-self}
 use Rattle.rd_kernel.proofs.ConsistentLaws.{task_now, task_or_other, waiting_at-same_queues}
 use Rattle.rd_kernel.proofs.WakingLaws.{AfterWaking, AfterWaking-woken_first}
-use Rattle.rd_kernel.proofs.WakingLaws.{member_has, room_for, waits_nowhere, times_waiting_at-at_most_one, woken_from-tick}
+use Rattle.rd_kernel.proofs.WakingLaws.{has_seat, member_has, room_for, waiter_is_idle, waits_nowhere, times_waiting_at-at_most_one, woken_from-tick}
 
 -- ---- who can run
 
@@ -62,10 +63,7 @@ runs_outside_calls (Wait place deadline) instr runs none at = absurd (omega (ari
 runs_outside_calls Ended instr runs none at = absurd (omega (arith, runs))
 
 pub seats_to_run-one : (phase : Phase) → 1 ≤ seats_to_run phase → seats_to_run phase ≡ 1
-seats_to_run-one Run h = refl
-seats_to_run-one (Again deadline) h = refl
-seats_to_run-one (Wait place deadline) h = absurd (omega (arith, h))
-seats_to_run-one Ended h = absurd (omega (arith, h))
+seats_to_run-one phase h = ap one_if (has_seat (can_run phase) h)
 
 -- ---- what a task does by itself
 
@@ -327,10 +325,7 @@ room_in_list app s task place valid there runs has_place =
     (valid.places place task there ∙ waits_nowhere place (task_at s task).phase runs)
 
 pub seats_to_run-at_most_one : (phase : Phase) → seats_to_run phase ≤ 1
-seats_to_run-at_most_one Run = omega arith
-seats_to_run-at_most_one (Again deadline) = omega arith
-seats_to_run-at_most_one (Wait place deadline) = omega arith
-seats_to_run-at_most_one Ended = omega arith
+seats_to_run-at_most_one phase = elim (can_run phase) as (λ b. cond b 1 0 ≤ 1) [ true ↦ omega arith | false ↦ omega arith ]
 
 -- The ready list has room for a task that can't run.
 pub room_in_ready : (app : Application) (D : ℕ → Phase → Type 0) (s : Snapshot) (task : ℕ) → IsConsistent app D s → IsSized s → task < length s.tasks
@@ -339,17 +334,20 @@ room_in_ready app D s task at sized there idle =
     room_for s.ready (length s.tasks) task sized.scheduling.ready (λ t h. omega (arith, at.placed_once t h, seats_to_run-at_most_one (task_at s t).phase)) there
     (omega (arith, at.placed_once task there, idle))
 
+-- Who waits somewhere can't run, and so who is due.
 pub waits_idle : (place : Place) (phase : Phase) → 1 ≤ times_waiting_at place phase → seats_to_run phase ≡ 0
-waits_idle place Run h = absurd (omega (arith, h))
-waits_idle place (Again deadline) h = absurd (omega (arith, h))
-waits_idle place (Wait other deadline) h = refl
-waits_idle place Ended h = absurd (omega (arith, h))
+waits_idle place phase = by_place (waits_at phase) refl
+  where
+    by_place : (o : Option Place) → waits_at phase ≡ o → 1 ≤ cond (is_at_place place o) 1 0 → seats_to_run phase ≡ 0
+    by_place None e h = absurd (omega (arith, h))
+    by_place (Some other) e h = waiter_is_idle phase other e
 
 pub due_idle : (tick : ℕ) (phase : Phase) → is_due tick phase ≡ true → seats_to_run phase ≡ 0
-due_idle tick Run e = cc
-due_idle tick (Again deadline) e = cc
-due_idle tick (Wait place deadline) e = refl
-due_idle tick Ended e = cc
+due_idle tick phase = by_place (waits_at phase) refl
+  where
+    by_place : (o : Option Place) → waits_at phase ≡ o → (is_some o && not (is_ahead tick (kept_deadline phase))) ≡ true → seats_to_run phase ≡ 0
+    by_place None e due = absurd (false≢true due)
+    by_place (Some place) e due = waiter_is_idle phase place e
 
 pub first_waits : (tasks : List ℕ) → 0 < length tasks → (task : ℕ) × (1 ≤ times_in_list task tasks)
 first_waits [] some = absurd (omega (arith, some))

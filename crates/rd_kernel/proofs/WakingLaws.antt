@@ -1,7 +1,7 @@
 -- Waking keeps what makes a state valid.
 use Rattle.std.proofs.Common.{◌≡◌, ◌∙◌, ◌≢◌, ℕ, zero, suc, ◌+◌, ◌<◌, ◌≤◌, Bool, true, false, cond, List, [], ◌∷◌}
 use Rattle.std.proofs.Common.{length, get_or, set, Option, Some, None, refl, ap, subst, sym, arith, inl, inr}
-use Rattle.std.specs.Prelude.{All, is_some, nat_eq, nat_lt, not, ◌||◌, position, remove, slice_get}
+use Rattle.std.specs.Prelude.{All, IfSome, is_some, nat_eq, nat_lt, not, ◌&&◌, ◌||◌, position, remove, slice_get}
 use Rattle.std.specs.List.{AllByRecursion, IsDistinct, list_any, position_or_len}
 use Rattle.std.proofs.lemmas.Bool.{cases_eq, false≢true}
 use Rattle.std.proofs.lemmas.Bool.Decides.{nat_tests}
@@ -15,13 +15,14 @@ use Rattle.rd_state.specs.declared.phase.Place.{Place}
 use Rattle.rd_app.specs.Application.{Application, instr_at, priorities_of}
 use Rattle.rd_wait.specs.Joined.{joined}
 use Rattle.rd_wait.proofs.JoinedLaws.{IsInOrder-joined, IsInOrder-remove}
+use Rattle.rd_state.specs.Phases.{can_run, kept_deadline, tries_again, waits_at}
 use Rattle.rd_state.specs.Snapshot.{Snapshot, TaskSnapshot, no_task, task_at}
-use Rattle.rd_state.specs.Valid.{PhaseFitsCall, place_of_call, HasTimeLeft, is_ahead, seats_to_run, times_in_list, times_on_cores, times_waiting_at}
-use Rattle.rd_state.specs.Waiting.{same_place, waiting_at}
+use Rattle.rd_state.specs.Valid.{FitsCall, HasTimeLeft, is_ahead, is_at_place, place_of_call, seats_to_run, times_in_list, times_on_cores, times_waiting_at}
+use Rattle.rd_state.specs.Waiting.{waiting_at}
 use Rattle.rd_state.proofs.ScheduleLaws.{one_if, times_in_list-cons, times_in_list-joined}
 use Rattle.rd_app.specs.Application.{max_delay}
-use Rattle.rd_kernel.specs.Waking.{FirstTriesWait, deadline_after, is_first, kept_deadline, value_of, is_due}
-use Rattle.rd_kernel.specs.Waking.{queues_without, timed_out, woken, woken_from, woken_first, woken_one}
+use Rattle.rd_kernel.specs.Waking.{FirstTriesWait, deadline_after, is_first, value_of, is_due}
+use Rattle.rd_kernel.specs.Waking.{queues_without, timed_out, woken, woken_at, woken_from, woken_first, woken_one}
 use Rattle.rd_kernel.proofs.ConsistentLaws.{TaskMoves, IsConsistent, IsConsistent-deadlines, IsConsistent-moved, place_there, same_place-self}
 
 -- ---- where a task stands in a list
@@ -114,26 +115,42 @@ room_for tasks n task all once there none =
 
 -- ---- waking
 
--- A task in this phase can't be on a core or ready, and one in the other waits nowhere.
+pub none_is_some : {X : Type 0} (x : X) → None ≡ Some x → ⊥
+none_is_some x e = cc
+
+-- A task that can run waits nowhere.
+pub runner_waits_nowhere : (phase : Phase) → can_run phase ≡ true → waits_at phase ≡ None
+runner_waits_nowhere Run e = refl
+runner_waits_nowhere (Again deadline) e = refl
+runner_waits_nowhere (Wait place deadline) e = absurd (false≢true e)
+runner_waits_nowhere Ended e = refl
+
+-- It is one that has a seat.
+pub has_seat : (runs : Bool) → 1 ≤ cond runs 1 0 → runs ≡ true
+has_seat true h = refl
+has_seat false h = absurd (omega (arith, h))
+
 pub waits_nowhere : (place : Place) (phase : Phase) → 1 ≤ seats_to_run phase → times_waiting_at place phase ≡ 0
-waits_nowhere place Run h = refl
-waits_nowhere place (Again deadline) h = refl
-waits_nowhere place (Wait other deadline) h = absurd (omega (arith, h))
-waits_nowhere place Ended h = refl
+waits_nowhere place phase h = ap (λ o. one_if (is_at_place place o)) (runner_waits_nowhere phase (has_seat (can_run phase) h))
 
 pub times_waiting_at-at_most_one : (place : Place) (phase : Phase) → times_waiting_at place phase ≤ 1
-times_waiting_at-at_most_one place Run = omega arith
-times_waiting_at-at_most_one place (Again deadline) = omega arith
-times_waiting_at-at_most_one place (Wait other deadline) = elim (same_place place other) as (λ b. cond b 1 0 ≤ 1) [ true ↦ omega arith | false ↦ omega arith ]
-times_waiting_at-at_most_one place Ended = omega arith
+times_waiting_at-at_most_one place phase = elim (is_at_place place (waits_at phase)) as (λ b. cond b 1 0 ≤ 1) [ true ↦ omega arith | false ↦ omega arith ]
 
 -- what a task is that waited and is woken
 abbrev with_phase_again : TaskSnapshot → Option ℕ → TaskSnapshot
 with_phase_again x deadline = record x { phase = Again deadline }
 
+-- One that waits has no seat.
+pub waiter_is_idle : (phase : Phase) (place : Place) → waits_at phase ≡ Some place → seats_to_run phase ≡ 0
+waiter_is_idle phase place waits = by_seat (can_run phase) refl
+  where
+    by_seat : (b : Bool) → can_run phase ≡ b → one_if b ≡ 0
+    by_seat true e = absurd (none_is_some place (sym (runner_waits_nowhere phase e) ∙ waits))
+    by_seat false e = refl
+
 -- How a task that waits goes, when it is woken.
 TaskMoves-again : (app : Application) (D : ℕ → Phase → Type 0) (s : Snapshot) (task : ℕ) (place : Place) (deadline : Option ℕ)
-    (f : FoundInList task (waiting_at s place)) → task < length s.tasks → (task_at s task).phase ≡ Wait place deadline
+    (f : FoundInList task (waiting_at s place)) → task < length s.tasks → waits_at (task_at s task).phase ≡ Some place
     → 1 ≤ times_in_list task (waiting_at s place) → D task (Again deadline) → IsConsistent app D s
     → TaskMoves app D s task (with_phase_again (task_at s task) deadline) place s.cores (joined (priorities_of app) s.ready task)
     (remove (waiting_at s place) f.index)
@@ -148,8 +165,8 @@ TaskMoves-again app D s task place deadline f there waits some asked at =
     let other : (t : ℕ) → t ≢ task → one_if (nat_eq t task) ≡ 0 =
     λ t differs. let e : nat_eq t task ≡ false = grind (arith, nat_tests, differs) in ap one_if e in
     let once : times_in_list task list ≤ 1 = omega (arith, at.places place task there, times_waiting_at-at_most_one place (task_at s task).phase) in
-    let idle : times_in_list task s.ready + times_on_cores task s.cores ≡ 0 = at.placed_once task there ∙ ap seats_to_run waits in
-    let call : place_of_call instr ≡ Some place = subst (λ phase. PhaseFitsCall phase instr) waits was.call in
+    let idle : times_in_list task s.ready + times_on_cores task s.cores ≡ 0 = at.placed_once task there ∙ waiter_is_idle (task_at s task).phase place waits in
+    let call : place_of_call instr ≡ Some place = subst (λ o. FitsCall instr o (tries_again (task_at s task).phase)) waits was.call in
     record {
       there = there;
       consistent = record { pc = was.pc; notes = was.notes; call = ap is_some call; deadline = asked; entries = was.entries };
@@ -159,46 +176,49 @@ TaskMoves-again app D s task place deadline f there waits some asked at =
       ready_order = IsInOrder-joined (priorities_of app) s.ready task at.waiting_lists.ready;
       has_place = place_there s place task some;
       waits = omega (arith, times_without task, self, once);
-      waits_elsewhere = λ q differs. sym (ap (times_waiting_at q) waits ∙ ap one_if differs);
+      waits_elsewhere = λ q differs. sym (ap (λ o. one_if (is_at_place q o)) waits ∙ ap one_if differs);
       others_wait = λ t differs. omega (arith, times_without t, other t differs);
       waiting_order = IsInOrder-remove (priorities_of app) list f.index (at.waiting_lists.waiting place);
     }
 
 -- How often a task that waits stands in its list.
-waits_there : (app : Application) (D : ℕ → Phase → Type 0) (s : Snapshot) (task : ℕ) (place : Place) (deadline : Option ℕ) → task < length s.tasks
-    → (task_at s task).phase ≡ Wait place deadline → IsConsistent app D s → 1 ≤ times_in_list task (waiting_at s place)
-waits_there app D s task place deadline there waits at =
-    omega (arith, at.places place task there, ap (times_waiting_at place) waits, ap one_if (same_place-self place))
+waits_there : (app : Application) (D : ℕ → Phase → Type 0) (s : Snapshot) (task : ℕ) (place : Place) → task < length s.tasks
+    → waits_at (task_at s task).phase ≡ Some place → IsConsistent app D s → 1 ≤ times_in_list task (waiting_at s place)
+waits_there app D s task place there waits at =
+    omega (arith, at.places place task there, ap (λ o. one_if (is_at_place place o)) waits, ap one_if (same_place-self place))
 
-IsConsistent-woken_from : (app : Application) (D : ℕ → Phase → Type 0) (s : Snapshot) (task : ℕ) (phase : Phase) → task < length s.tasks
-    → (task_at s task).phase ≡ phase → ((deadline : Option ℕ) → D task (Again deadline))
-    → IsConsistent app D s → IsConsistent app D (woken_from (priorities_of app) s task phase)
-IsConsistent-woken_from app D s task Run there e asked at = at
-IsConsistent-woken_from app D s task (Again deadline) there e asked at = at
-IsConsistent-woken_from app D s task (Wait place deadline) there e asked at =
-    let some = waits_there app D s task place deadline there e at in
+IsConsistent-woken_at : (app : Application) (D : ℕ → Phase → Type 0) (s : Snapshot) (task : ℕ) (o : Option Place) (deadline : Option ℕ) → task < length s.tasks
+    → waits_at (task_at s task).phase ≡ o → D task (Again deadline) → IsConsistent app D s
+    → IsConsistent app D (woken_at (priorities_of app) s task o deadline)
+IsConsistent-woken_at app D s task None deadline there e asked at = at
+IsConsistent-woken_at app D s task (Some place) deadline there e asked at =
+    let some = waits_there app D s task place there e at in
     let f = find_in_list (waiting_at s place) task some in
     let ready = joined (priorities_of app) s.ready task in
     let x = with_phase_again (task_at s task) deadline in
     subst (λ (o : Option ℕ). IsConsistent app D (record s { ready = ready; tasks = set s.tasks task x; queues = queues_without s place o })) (sym f.is_at)
     (IsConsistent-moved app D s task x place s.cores ready (remove (waiting_at s place) f.index)
-    (TaskMoves-again app D s task place deadline f there e some (asked deadline) at) at)
-IsConsistent-woken_from app D s task Ended there e asked at = at
+    (TaskMoves-again app D s task place deadline f there e some asked at) at)
 
 pub IsConsistent-woken : (app : Application) (D : ℕ → Phase → Type 0) (s : Snapshot) (task : ℕ) → task < length s.tasks
     → ((deadline : Option ℕ) → D task (Again deadline)) → IsConsistent app D s → IsConsistent app D (woken (priorities_of app) s task)
-IsConsistent-woken app D s task there asked at = IsConsistent-woken_from app D s task (task_at s task).phase there refl asked at
+IsConsistent-woken app D s task there asked at =
+    let phase = (task_at s task).phase in
+    IsConsistent-woken_at app D s task (waits_at phase) (kept_deadline phase) there refl (asked (kept_deadline phase)) at
 
 -- A task that can run is as it was when another one is woken.
-woken_from-keeps : (priorities : List ℕ) (s : Snapshot) (task other : ℕ) (phase : Phase) → (task_at s task).phase ≡ phase
-    → 1 ≤ seats_to_run (task_at s other).phase → task_at (woken_from priorities s task phase) other ≡ task_at s other
-woken_from-keeps priorities s task other Run e runs = refl
-woken_from-keeps priorities s task other (Again deadline) e runs = refl
-woken_from-keeps priorities s task other (Wait place deadline) e runs = elim (cases_eq other task) [
-  | inl same ↦ absurd (omega (arith, runs, ap (λ t. seats_to_run (task_at s t).phase) same, ap seats_to_run e))
+woken_at-keeps : (priorities : List ℕ) (s : Snapshot) (task other : ℕ) (o : Option Place) (deadline : Option ℕ) → waits_at (task_at s task).phase ≡ o
+    → 1 ≤ seats_to_run (task_at s other).phase → task_at (woken_at priorities s task o deadline) other ≡ task_at s other
+woken_at-keeps priorities s task other None deadline e runs = refl
+woken_at-keeps priorities s task other (Some place) deadline e runs = elim (cases_eq other task) [
+  | inl same ↦ absurd (omega (arith, runs, ap (λ t. seats_to_run (task_at s t).phase) same, waiter_is_idle (task_at s task).phase place e))
   | inr differs ↦ get_or-set_other s.tasks task other (with_phase_again (task_at s task) deadline) no_task differs
 ]
-woken_from-keeps priorities s task other Ended e runs = refl
+
+woken-keeps : (priorities : List ℕ) (s : Snapshot) (task other : ℕ) → 1 ≤ seats_to_run (task_at s other).phase
+    → task_at (woken priorities s task) other ≡ task_at s other
+woken-keeps priorities s task other =
+    woken_at-keeps priorities s task other (waits_at (task_at s task).phase) (kept_deadline (task_at s task).phase) refl
 
 -- The first at a place is woken, if anyone waits there.
 pub record AfterWaking (app : Application) (D : ℕ → Phase → Type 0) (s p : Snapshot) (caller : ℕ) : Type 0 where
@@ -221,7 +241,7 @@ AfterWaking-woken_first app D s place caller members asked runs at =
       | None ↦ λ e. record { consistent = at; same_caller = refl }
       | Some t ↦ λ e. record {
         consistent = IsConsistent-woken app D s t (members t (first_is_listed (waiting_at s place) t e)) (asked t) at;
-        same_caller = woken_from-keeps (priorities_of app) s t caller (task_at s t).phase refl runs;
+        same_caller = woken-keeps (priorities_of app) s t caller runs;
       }
     ] in
     by_head (slice_get (waiting_at s place) 0) refl
@@ -233,30 +253,33 @@ abbrev pub have_time_left_below : ℕ → ℕ → ℕ → Phase → Type 0
 have_time_left_below tick n task phase = task < n → HasTimeLeft tick phase
 
 pub woken_from-tick : (priorities : List ℕ) (s : Snapshot) (task : ℕ) (phase : Phase) → (woken_from priorities s task phase).tick ≡ s.tick
-woken_from-tick priorities s task Run = refl
-woken_from-tick priorities s task (Again deadline) = refl
-woken_from-tick priorities s task (Wait place deadline) = refl
-woken_from-tick priorities s task Ended = refl
+woken_from-tick priorities s task phase =
+    elim (waits_at phase) as (λ o. (woken_at priorities s task o (kept_deadline phase)).tick ≡ s.tick) [ None ↦ refl | Some place ↦ refl ]
 
 -- A task that isn't due waits for a deadline ahead.
 not_due : (tick : ℕ) (phase : Phase) → is_due tick phase ≡ false → HasTimeLeft tick phase
-not_due tick Run e = tt
-not_due tick (Again deadline) e = tt
-not_due tick (Wait place deadline) e = not_false (is_ahead tick deadline) e
+not_due tick phase = by_place (waits_at phase)
   where
     not_false : (b : Bool) → not b ≡ false → b ≡ true
     not_false true e = refl
     not_false false e = cc
-not_due tick Ended e = tt
+
+    by_place : (o : Option Place) → (is_some o && not (is_ahead tick (kept_deadline phase))) ≡ false
+        → IfSome o (λ place. is_ahead tick (kept_deadline phase) ≡ true)
+    by_place None e = tt
+    by_place (Some place) e = not_false (is_ahead tick (kept_deadline phase)) e
 
 -- One that is due doesn't wait once it is woken.
 due_again : (priorities : List ℕ) (s : Snapshot) (tick task : ℕ) (phase : Phase) → task < length s.tasks → is_due tick phase ≡ true
     → HasTimeLeft tick (task_at (woken_from priorities s task phase) task).phase
-due_again priorities s tick task Run there e = cc
-due_again priorities s tick task (Again deadline) there e = cc
-due_again priorities s tick task (Wait place deadline) there e =
-    subst (λ (x : TaskSnapshot). HasTimeLeft tick x.phase) (sym (get_or-set_same s.tasks task (with_phase_again (task_at s task) deadline) no_task there)) tt
-due_again priorities s tick task Ended there e = cc
+due_again priorities s tick task phase there = by_place (waits_at phase)
+  where
+    by_place : (o : Option Place) → (is_some o && not (is_ahead tick (kept_deadline phase))) ≡ true
+        → HasTimeLeft tick (task_at (woken_at priorities s task o (kept_deadline phase)) task).phase
+    by_place None e = absurd (false≢true e)
+    by_place (Some place) e =
+        subst (λ (x : TaskSnapshot). HasTimeLeft tick x.phase)
+        (sym (get_or-set_same s.tasks task (with_phase_again (task_at s task) (kept_deadline phase)) no_task there)) tt
 
 pub record TimedOut (app : Application) (n : ℕ) (s p : Snapshot) : Type 0 where
   pub tick : p.tick ≡ s.tick

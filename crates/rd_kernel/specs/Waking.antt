@@ -1,15 +1,16 @@
 -- Block times: tasks that begin to wait, and tasks that are woken.
-use Rattle.std.specs.Prelude.{ℕ, ◌≡◌, zero, suc, ◌+◌, ◌<◌, Bool, true, false, List}
+use Rattle.std.specs.Prelude.{ℕ, ◌≡◌, zero, suc, ◌+◌, ◌<◌, ◌&&◌, Bool, true, List, is_some}
 use Rattle.std.specs.Prelude.{length, nat_eq, nat_lt, not, position, remove, slice_get}
 use Rattle.std.specs.Prelude.{if◌then◌else◌, Option, None, Some}
 use Rattle.rd_queue.specs.QueueSnapshot.{QueueSnapshot}
 use Rattle.rd_app.specs.declared.instr.Operand.{Operand}
 use Rattle.rd_app.specs.declared.instr.Operand.TheVariants.{Number, Register}
 use Rattle.rd_state.specs.declared.phase.Phase.{Phase}
-use Rattle.rd_state.specs.declared.phase.Phase.TheVariants.{Run, Again, Wait, Ended}
+use Rattle.rd_state.specs.declared.phase.Phase.TheVariants.{Again}
 use Rattle.rd_state.specs.declared.phase.Place.{Place}
 use Rattle.rd_app.specs.Application.{max_delay}
 use Rattle.rd_wait.specs.Joined.{joined}
+use Rattle.rd_state.specs.Phases.{can_run, kept_deadline, tries_again, waits_at}
 use Rattle.rd_state.specs.Snapshot.{Snapshot, task_at}
 use Rattle.rd_state.specs.Valid.{is_ahead}
 use Rattle.rd_state.specs.Waiting.{waiting_at, queues_then, with_waiting_at}
@@ -22,17 +23,7 @@ value_of s task (Register register) = register_at s task register
 
 -- Is a call of a task in this phase its first try?
 abbrev pub is_first : Phase → Bool
-is_first Run = true
-is_first (Again deadline) = false
-is_first (Wait place deadline) = false
-is_first Ended = false
-
--- the deadline that a task was given at its first try
-abbrev pub kept_deadline : Phase → Option ℕ
-kept_deadline Run = None
-kept_deadline (Again deadline) = deadline
-kept_deadline (Wait place deadline) = deadline
-kept_deadline Ended = None
+is_first phase = can_run phase && not (tries_again phase)
 
 -- the deadline of a block time that begins at a tick
 abbrev pub deadline_after : ℕ → ℕ → Option ℕ
@@ -77,13 +68,15 @@ ReadyHasRoom s = length s.ready < length s.tasks
 
 -- A task that waits leaves its list, is to try its call
 -- again with its deadline, and joins the ready list.
-abbrev pub woken_from : List ℕ → Snapshot → ℕ → Phase → Snapshot
-woken_from priorities s task Run = s
-woken_from priorities s task (Again deadline) = s
-woken_from priorities s task (Wait place deadline) =
+abbrev pub woken_at : List ℕ → Snapshot → ℕ → Option Place → Option ℕ → Snapshot
+woken_at priorities s task None deadline = s
+woken_at priorities s task (Some place) deadline =
     record (with_phase (without_waiter s place task) task (Again deadline))
     { ready = joined priorities s.ready task }
-woken_from priorities s task Ended = s
+
+abbrev pub woken_from : List ℕ → Snapshot → ℕ → Phase → Snapshot
+woken_from priorities s task phase =
+    woken_at priorities s task (waits_at phase) (kept_deadline phase)
 
 abbrev pub woken : List ℕ → Snapshot → ℕ → Snapshot
 woken priorities s task = woken_from priorities s task (task_at s task).phase
@@ -98,10 +91,7 @@ woken_first priorities s place = woken_one priorities s (slice_get (waiting_at s
 
 -- Is it the end of a task's waiting?
 abbrev pub is_due : ℕ → Phase → Bool
-is_due tick Run = false
-is_due tick (Again deadline) = false
-is_due tick (Wait place deadline) = not (is_ahead tick deadline)
-is_due tick Ended = false
+is_due tick phase = is_some (waits_at phase) && not (is_ahead tick (kept_deadline phase))
 
 abbrev pub woken_if_due : List ℕ → Snapshot → ℕ → Snapshot
 woken_if_due priorities s task =

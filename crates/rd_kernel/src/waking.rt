@@ -52,10 +52,11 @@ fn deadline_of(editing: &Editing, task: usize, wait: Operand) -> Option<u64>
     ensures deadline { result ≡ deadline_of editing.now.now task wait }
     ensures sized { IsDeadline result }
 {
-    match editing.state().phase(task) {
-        Phase::Run => deadline_after(editing.state().tick(), value_of(editing, task, wait)),
-        Phase::Again { deadline } | Phase::Wait { deadline, .. } => deadline,
-        Phase::Ended => None,
+    let phase = editing.state().phase(task);
+    if phase == Phase::Run {
+        deadline_after(editing.state().tick(), value_of(editing, task, wait))
+    } else {
+        phase.kept_deadline()
     }
 }
 
@@ -125,14 +126,14 @@ pub fn wake(editing: &mut Editing, priorities: &[u8], task: usize) -> Result<(),
     ensures awake { 1 ≤ seats_to_run (task_at editing.old.now task).phase → IsOk result }
     ensures err { OnErr result (editing.new.base ≡ editing.old.base) }
 {
-    match editing.state().phase(task) {
-        Phase::Wait { place, deadline } => {
-            leave_list(editing, place, task)?;
-            set_phase(editing, task, Phase::Again { deadline })?;
-            editing.join_ready(priorities, task)
-        }
-        Phase::Run | Phase::Again { .. } | Phase::Ended => Ok(()),
-    }
+    let phase = editing.state().phase(task);
+    let Some(place) = phase.waits_at() else {
+        return Ok(());
+    };
+    let deadline = phase.kept_deadline();
+    leave_list(editing, place, task)?;
+    set_phase(editing, task, Phase::Again { deadline })?;
+    editing.join_ready(priorities, task)
 }
 
 /// Wakes the first to be served at a place, if anyone waits there. Waking nobody takes no memory.
@@ -171,10 +172,8 @@ fn is_due(editing: &Editing, task: usize) -> bool
     requires { task < length editing.now.now.tasks }
     ensures { result ≡ is_due editing.now.now.tick (task_at editing.now.now task).phase }
 {
-    match editing.state().phase(task) {
-        Phase::Wait { deadline, .. } => !is_ahead(editing.state().tick(), deadline),
-        Phase::Run | Phase::Again { .. } | Phase::Ended => false,
-    }
+    let phase = editing.state().phase(task);
+    phase.waits_at().is_some() && !is_ahead(editing.state().tick(), phase.kept_deadline())
 }
 
 /// Wakes a task whose time is up; any other stays as it is, which takes no memory.

@@ -1,6 +1,7 @@
 -- The files of definitions of rd_state.
 pub mod Snapshot
 pub mod Waiting
+pub mod Phases
 pub mod Sizes
 pub mod TaskChanges
 pub mod Change

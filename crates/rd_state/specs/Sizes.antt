@@ -1,10 +1,11 @@
 -- What holds of a state at any time, also in the middle of a step: members of lists are tasks, and
 -- lengths are within what there is room for.
-use Rattle.std.specs.Prelude.{ℕ, ◌≡◌, ◌<◌, ◌≤◌, ◌^◌, length, All, Option, IfSome}
+use Rattle.std.specs.Prelude.{ℕ, ◌≡◌, ◌<◌, ◌≤◌, ◌^◌, length, All, Option, Some, None, IfSome}
 use Rattle.rd_queue.specs.QueueSnapshot.{QueueSnapshot}
 use Rattle.rd_queue.specs.Sizes.{IsSizedQueue}
 use Rattle.rd_state.specs.declared.phase.Phase.{Phase}
-use Rattle.rd_state.specs.declared.phase.Phase.TheVariants.{Run, Again, Wait, Ended}
+use Rattle.rd_state.specs.declared.phase.Place.{Place}
+use Rattle.rd_state.specs.Phases.{kept_deadline, waits_at}
 use Rattle.rd_state.specs.Snapshot.{Numbers, Snapshot, TaskSnapshot, numbers_of}
 use Rattle.rd_state.specs.Waiting.{IsPlace}
 
@@ -20,11 +21,12 @@ abbrev pub IsDeadline : Option ℕ → Type 0
 IsDeadline deadline = IfSome deadline (λ tick. tick < 2 ^ 33)
 
 -- A task waits at a place that is there, where there are so many objects.
+abbrev IsSizedWait : Numbers → Option Place → Option ℕ → Type 0
+IsSizedWait numbers None deadline = IsDeadline deadline
+IsSizedWait numbers (Some place) deadline = IsPlace numbers place × IsDeadline deadline
+
 abbrev pub IsSizedPhase : Numbers → Phase → Type 0
-IsSizedPhase numbers Run = Unit {0}
-IsSizedPhase numbers (Again deadline) = IsDeadline deadline
-IsSizedPhase numbers (Wait place deadline) = IsPlace numbers place × IsDeadline deadline
-IsSizedPhase numbers Ended = Unit {0}
+IsSizedPhase numbers phase = IsSizedWait numbers (waits_at phase) (kept_deadline phase)
 
 -- a queue with room for that many tasks in each of its lists
 abbrev pub IsQueueFor : ℕ → QueueSnapshot → Type 0

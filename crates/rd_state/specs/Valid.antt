@@ -1,13 +1,13 @@
 -- What holds of a state between moves, for an application.
 use Rattle.std.specs.Prelude.{ℕ, ◌≡◌, ◌≢◌, ◌+◌, ◌<◌, Bool, true, false, List, length, map, All}
 use Rattle.std.specs.Prelude.{count_by, nat_eq, nat_lt, if◌then◌else◌}
-use Rattle.std.specs.Prelude.{Option, Some, None, IsSome, option_map}
+use Rattle.std.specs.Prelude.{Option, Some, None, IsSome, IfSome, option_map}
 use Rattle.rd_notify.specs.declared.notes.Entry.{Entry}
 use Rattle.rd_notify.specs.declared.notes.EntryState.TheVariants.{Waiting}
 use Rattle.rd_queue.specs.QueueSnapshot.{QueueSnapshot}
 use Rattle.rd_app.specs.declared.app.QueueShape.{QueueShape}
 use Rattle.rd_state.specs.declared.phase.Phase.{Phase}
-use Rattle.rd_state.specs.declared.phase.Phase.TheVariants.{Run, Again, Wait, Ended}
+use Rattle.rd_state.specs.Phases.{can_run, kept_deadline, tries_again, waits_at}
 use Rattle.rd_app.specs.declared.instr.Instr.{Instr}
 use Rattle.rd_app.specs.declared.instr.Instr.TheVariants as instr
 use Rattle.rd_state.specs.declared.phase.Place.{Place}
@@ -43,10 +43,7 @@ times_on_cores task cores = count_by (is_on task) cores
 
 -- how often a task of this phase stands on a core or in the ready list
 abbrev pub seats_to_run : Phase → ℕ
-seats_to_run Run = 1
-seats_to_run (Again deadline) = 1
-seats_to_run (Wait place deadline) = 0
-seats_to_run Ended = 0
+seats_to_run phase = if can_run phase then 1 else 0
 
 -- A task that can run is on one core or once in the ready list, not both; any other is in neither.
 abbrev pub PlacedOnce : Snapshot → Type 0
@@ -55,11 +52,12 @@ PlacedOnce s =
     → times_in_list task s.ready + times_on_cores task s.cores ≡ seats_to_run (task_at s task).phase
 
 -- how often a task of this phase stands in the list of a place
+abbrev pub is_at_place : Place → Option Place → Bool
+is_at_place place None = false
+is_at_place place (Some other) = same_place place other
+
 abbrev pub times_waiting_at : Place → Phase → ℕ
-times_waiting_at place Run = 0
-times_waiting_at place (Again deadline) = 0
-times_waiting_at place (Wait other deadline) = if same_place place other then 1 else 0
-times_waiting_at place Ended = 0
+times_waiting_at place phase = if is_at_place place (waits_at phase) then 1 else 0
 
 -- A task stands in the list of each place as often as its phase says.
 abbrev pub WaitsAtPlaces : Snapshot → Type 0
@@ -72,13 +70,15 @@ abbrev pub place_of_call : Instr → Option Place
 place_of_call (instr.Local instr) = None
 place_of_call (instr.Queue queue call) = option_map (place.Queue queue) (list_of_call call)
 
--- A task that tries again stands at a call with a block time. One that waits stands at the call of
--- its place.
+-- A task that waits stands at the call of its place. One that tries again stands at a call with a
+-- block time.
+abbrev pub FitsCall : Instr → Option Place → Bool → Type 0
+FitsCall instr (Some place) again = place_of_call instr ≡ Some place
+FitsCall instr None true = IsSome (place_of_call instr)
+FitsCall instr None false = Unit {0}
+
 abbrev pub PhaseFitsCall : Phase → Instr → Type 0
-PhaseFitsCall Run instr = Unit {0}
-PhaseFitsCall (Again deadline) instr = IsSome (place_of_call instr)
-PhaseFitsCall (Wait place deadline) instr = place_of_call instr ≡ Some place
-PhaseFitsCall Ended instr = Unit {0}
+PhaseFitsCall phase instr = FitsCall instr (waits_at phase) (tries_again phase)
 
 abbrev pub PhasesFitScripts : Application → Snapshot → Type 0
 PhasesFitScripts app s =
@@ -92,10 +92,8 @@ is_ahead tick (Some deadline) = nat_lt tick deadline
 
 -- A task waits for as long as its deadline is ahead.
 abbrev pub HasTimeLeft : ℕ → Phase → Type 0
-HasTimeLeft tick Run = Unit {0}
-HasTimeLeft tick (Again deadline) = Unit {0}
-HasTimeLeft tick (Wait place deadline) = is_ahead tick deadline ≡ true
-HasTimeLeft tick Ended = Unit {0}
+HasTimeLeft tick phase =
+    IfSome (waits_at phase) (λ place. is_ahead tick (kept_deadline phase) ≡ true)
 
 abbrev pub WaitersHaveTimeLeft : Snapshot → Type 0
 WaitersHaveTimeLeft s =

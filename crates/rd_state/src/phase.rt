@@ -1,5 +1,8 @@
 //! What a task is doing, and where it can wait.
 
+ghost use Rattle.std.specs.Prelude.{◌≡◌};
+ghost use Rattle.rd_state.specs.Phases.{kept_deadline, waits_at};
+
 use rd_queue::waiting_list::WaitingList;
 
 /// What a task is doing.
@@ -14,6 +17,28 @@ pub enum Phase {
     Wait { place: Place, deadline: Option<u64> },
     /// It has done `end`.
     Ended,
+}
+
+impl Phase {
+    /// The place where the task waits, if it does.
+    pub fn waits_at(self) -> Option<Place>
+        ensures { result ≡ waits_at self }
+    {
+        match self {
+            Phase::Wait { place, .. } => Some(place),
+            Phase::Run | Phase::Again { .. } | Phase::Ended => None,
+        }
+    }
+
+    /// The deadline, a tick, that its call was given at the first try; none where there is none.
+    pub fn kept_deadline(self) -> Option<u64>
+        ensures { result ≡ kept_deadline self }
+    {
+        match self {
+            Phase::Again { deadline } | Phase::Wait { deadline, .. } => deadline,
+            Phase::Run | Phase::Ended => None,
+        }
+    }
 }
 
 /// Where a task can wait. Each such place has its list of tasks.
