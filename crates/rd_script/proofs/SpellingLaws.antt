@@ -17,6 +17,7 @@ use Rattle.rd_app.specs.Application.{Application, IsOperand, IsWithin, max_delay
 use Rattle.rd_script.specs.declared.error.AppError.TheVariants as fault
 use Rattle.rd_script.specs.declared.spelling.Keyword.{Keyword}
 use Rattle.rd_script.specs.declared.spelling.Keyword.TheVariants.{Set, Add, Move, Data, Pack, Unpack, Jump, JumpZero, End, Send, Receive}
+use Rattle.rd_script.specs.Objects.{Objects, objects_of}
 use Rattle.rd_script.specs.Spelling.{◌>>=◌, text_of, keywords, first_written, keyword_of, register_of, target_of, operand_of, time_of, next_as, no_more_words}
 use Rattle.rd_script.specs.Spelling.{queue_of, queue_and_wait, Form, Alone, One, Two, OfBytes, OfQueue, form_of, read_by, operation_of, instr_of}
 use Rattle.rd_script.specs.Spelling.{HasOne, HasTwo, queue_named, IsFormed, Spells}
@@ -89,48 +90,48 @@ two_ok read also words make i e =
     let rest = second.1 ∙ ap (λ (ws : List (List ℕ)). second.0 ∷ ws) (no_more_ok y.0.1 end.0 end.1) in
     (x.0.0, y.0.0, (first.0, second.0, first.1 ∙ ap (λ (ws : List (List ℕ)). first.0 ∷ ws) rest, first.2, second.2), is)
 
-queue_and_wait_ok : (queues : List (List ℕ)) (words : List (List ℕ)) (object : ℕ × Operand) → queue_and_wait queues words ≡ Ok object
-    → HasTwo (queue_named queues) time_of words object.0 object.1
+queue_and_wait_ok : (objects : Objects) (words : List (List ℕ)) (object : ℕ × Operand) → queue_and_wait objects words ≡ Ok object
+    → HasTwo (queue_named objects) time_of words object.0 object.1
 unfolding queue_and_wait
-queue_and_wait_ok queues words object e =
+queue_and_wait_ok objects words object e =
     let x = bind_ok (next_as name_of words) _ object e in
     let y = bind_ok (next_as time_of x.0.1) _ object x.2 in
     let end = bind_ok (no_more_words y.0.1) _ object y.2 in
-    let queue = bind_ok (queue_of queues x.0.0) _ object end.2 in
+    let queue = bind_ok (queue_of objects x.0.0) _ object end.2 in
     let first = next_as_ok name_of words x.0 x.1 in
     let second = next_as_ok time_of x.0.1 y.0 y.1 in
-    let found = ok_or_ok (position (bytes_eq x.0.0) queues) queue.0 _ queue.1 in
+    let found = ok_or_ok (position (bytes_eq x.0.0) objects.queue_names) queue.0 _ queue.1 in
     let rest = second.1 ∙ ap (λ (ws : List (List ℕ)). second.0 ∷ ws) (no_more_ok y.0.1 end.0 end.1) in
     let is : (queue.0, y.0.0) ≡ object = cc in
-    subst (λ (o : ℕ × Operand). HasTwo (queue_named queues) time_of words o.0 o.1) is (
+    subst (λ (o : ℕ × Operand). HasTwo (queue_named objects) time_of words o.0 o.1) is (
       first.0,
       second.0,
       first.1 ∙ ap (λ (ws : List (List ℕ)). first.0 ∷ ws) rest,
-      ap (λ (o : Option (List ℕ)). option_and_then (λ name. position (bytes_eq name) queues) o) first.2 ∙ found,
+      ap (λ (o : Option (List ℕ)). option_and_then (λ name. position (bytes_eq name) objects.queue_names) o) first.2 ∙ found,
       second.2,
     )
 
-form_takes : (queues : List (List ℕ)) (form : Form) (words : List (List ℕ)) (i : Instr) → read_by queues form words ≡ Ok i → IsFormed queues form words i
+form_takes : (objects : Objects) (form : Form) (words : List (List ℕ)) (i : Instr) → read_by objects form words ≡ Ok i → IsFormed objects form words i
 unfolding read_by
-form_takes queues (Alone made) words i e =
+form_takes objects (Alone made) words i e =
     let end = bind_ok (no_more_words words) _ i e in
     let is : made ≡ i = cc in
     (no_more_ok words end.0 end.1, is)
-form_takes queues (One read make) words i e = one_ok read words make i e
-form_takes queues (Two read also make) words i e = two_ok read also words make i e
-form_takes queues (OfBytes make) words i e = one_ok bytes_of words make i e
-form_takes queues (OfQueue call_with) words i e =
-    let object = bind_ok (queue_and_wait queues words) _ i e in
+form_takes objects (One read make) words i e = one_ok read words make i e
+form_takes objects (Two read also make) words i e = two_ok read also words make i e
+form_takes objects (OfBytes make) words i e = one_ok bytes_of words make i e
+form_takes objects (OfQueue call_with) words i e =
+    let object = bind_ok (queue_and_wait objects words) _ i e in
     let is : Queue object.0.0 (call_with object.0.1) ≡ i = cc in
-    (object.0.0, object.0.1, queue_and_wait_ok queues words object.0 object.1, is)
+    (object.0.0, object.0.1, queue_and_wait_ok objects words object.0 object.1, is)
 
-pub instr_takes : (queues : List (List ℕ)) (len : ℕ) (words : List (List ℕ)) (i : Instr) → instr_of queues len words ≡ Ok i → Spells queues len words i
+pub instr_takes : (objects : Objects) (len : ℕ) (words : List (List ℕ)) (i : Instr) → instr_of objects len words ≡ Ok i → Spells objects len words i
 unfolding instr_of
-instr_takes queues len words i e =
+instr_takes objects len words i e =
     let k = bind_ok (next_as keyword_of words) _ i e in
     let word = next_as_ok keyword_of words k.0 k.1 in
     let is = word.1 ∙ ap (λ (w : List ℕ). w ∷ k.0.1) (keyword_in word.0 keywords k.0.0 word.2) in
-    (k.0.0, k.0.1, is, form_takes queues (form_of len k.0.0) k.0.1 i k.2)
+    (k.0.0, k.0.1, is, form_takes objects (form_of len k.0.0) k.0.1 i k.2)
 
 -- ---- what spells an instruction is read
 
@@ -153,32 +154,32 @@ pub then_some : {X Y : Type 0} (f : X → Option Y) (o : Option X) (y : Y) → o
 then_some f (Some x) y e = (x, refl, e)
 then_some f None y e = absurd cc
 
-queue_and_wait_again : (queues : List (List ℕ)) (first second : List ℕ) (queue : ℕ) (wait : Operand) → queue_named queues first ≡ Some queue
-    → time_of second ≡ Some wait → queue_and_wait queues (first ∷ second ∷ []) ≡ Ok (queue, wait)
+queue_and_wait_again : (objects : Objects) (first second : List ℕ) (queue : ℕ) (wait : Operand) → queue_named objects first ≡ Some queue
+    → time_of second ≡ Some wait → queue_and_wait objects (first ∷ second ∷ []) ≡ Ok (queue, wait)
 unfolding queue_and_wait
-queue_and_wait_again queues first second queue wait e f =
-    let name = then_some (λ name. position (bytes_eq name) queues) (name_of first) queue e in
-    found_again name_of time_of (λ name. position (bytes_eq name) queues) first second name.0 wait queue name.1 f name.2
+queue_and_wait_again objects first second queue wait e f =
+    let name = then_some (λ name. position (bytes_eq name) objects.queue_names) (name_of first) queue e in
+    found_again name_of time_of (λ name. position (bytes_eq name) objects.queue_names) first second name.0 wait queue name.1 f name.2
 
-form_again : (queues : List (List ℕ)) (form : Form) (words : List (List ℕ)) (i : Instr) → IsFormed queues form words i → read_by queues form words ≡ Ok i
+form_again : (objects : Objects) (form : Form) (words : List (List ℕ)) (i : Instr) → IsFormed objects form words i → read_by objects form words ≡ Ok i
 unfolding read_by
-form_again queues (Alone made) words i h = ap (read_by queues (Alone made)) h.0 ∙ ap Ok h.1
-form_again queues (One read make) words i h = ap (read_by queues (One read make)) h.1.1 ∙ one_again read h.1.0 make h.0 h.1.2 ∙ ap Ok h.2
-form_again queues (Two read also make) words i h =
-    ap (read_by queues (Two read also make)) h.2.2 ∙ two_again read also h.2.0 h.2.1 make h.0 h.1 h.2.3 h.2.4 ∙ ap Ok h.3
-form_again queues (OfBytes make) words i h = ap (read_by queues (OfBytes make)) h.1.1 ∙ one_again bytes_of h.1.0 make h.0 h.1.2 ∙ ap Ok h.2
-form_again queues (OfQueue call_with) words i h =
-    ap (read_by queues (OfQueue call_with)) h.2.2
-    ∙ ap (λ r. r >>= λ object. Ok (Queue object.0 (call_with object.1))) (queue_and_wait_again queues h.2.0 h.2.1 h.0 h.1 h.2.3 h.2.4) ∙ ap Ok h.3
+form_again objects (Alone made) words i h = ap (read_by objects (Alone made)) h.0 ∙ ap Ok h.1
+form_again objects (One read make) words i h = ap (read_by objects (One read make)) h.1.1 ∙ one_again read h.1.0 make h.0 h.1.2 ∙ ap Ok h.2
+form_again objects (Two read also make) words i h =
+    ap (read_by objects (Two read also make)) h.2.2 ∙ two_again read also h.2.0 h.2.1 make h.0 h.1 h.2.3 h.2.4 ∙ ap Ok h.3
+form_again objects (OfBytes make) words i h = ap (read_by objects (OfBytes make)) h.1.1 ∙ one_again bytes_of h.1.0 make h.0 h.1.2 ∙ ap Ok h.2
+form_again objects (OfQueue call_with) words i h =
+    ap (read_by objects (OfQueue call_with)) h.2.2
+    ∙ ap (λ r. r >>= λ object. Ok (Queue object.0 (call_with object.1))) (queue_and_wait_again objects h.2.0 h.2.1 h.0 h.1 h.2.3 h.2.4) ∙ ap Ok h.3
 
-pub instr_again : (queues : List (List ℕ)) (len : ℕ) (words : List (List ℕ)) (i : Instr) → Spells queues len words i → instr_of queues len words ≡ Ok i
+pub instr_again : (objects : Objects) (len : ℕ) (words : List (List ℕ)) (i : Instr) → Spells objects len words i → instr_of objects len words ≡ Ok i
 unfolding instr_of
-instr_again queues len words i h =
+instr_again objects len words i h =
     let read : next_as keyword_of (text_of h.0 ∷ h.1) ≡ Ok (h.0, h.1) =
     ap (λ o. ok_or (option_map (λ k. (k, h.1)) o) fault.Instr) (keyword_again h.0) in
-    ap (instr_of queues len) h.2
-    ∙ then_is (next_as keyword_of (text_of h.0 ∷ h.1)) (λ k. operation_of queues len k.0 k.1) (h.0, h.1) (Ok i) read
-    (form_again queues (form_of len h.0) h.1 i h.3)
+    ap (instr_of objects len) h.2
+    ∙ then_is (next_as keyword_of (text_of h.0 ∷ h.1)) (λ k. operation_of objects len k.0 k.1) (h.0, h.1) (Ok i) read
+    (form_again objects (form_of len h.0) h.1 i h.3)
 
 -- ---- what is spelled is within its application
 
@@ -204,10 +205,10 @@ target_small len word target e =
     let below : n.0 < len = grind (arith, nat_tests) in
     omega (arith, h.1)
 
-queue_there : (queues : List (List ℕ)) (word : List ℕ) (queue : ℕ) → queue_named queues word ≡ Some queue → queue < length queues
-queue_there queues word queue e =
-    let name = then_some (λ name. position (bytes_eq name) queues) (name_of word) queue e in
-    (position-Some (bytes_eq name.0) queues queue [] name.2).0
+queue_there : (objects : Objects) (word : List ℕ) (queue : ℕ) → queue_named objects word ≡ Some queue → queue < length objects.queue_names
+queue_there objects word queue e =
+    let name = then_some (λ name. position (bytes_eq name) objects.queue_names) (name_of word) queue e in
+    (position-Some (bytes_eq name.0) objects.queue_names queue [] name.2).0
 
 option_if : {X : Type 0} (b : Bool) (o : Option X) (y : X) → cond b o None ≡ Some y → (b ≡ true) × (o ≡ Some y)
 option_if true o y e = (refl, e)
@@ -253,22 +254,22 @@ time_there word wait =
       | false ↦ either_there (register_of word) (number_of word) wait (register_small word)
     ]
 
-form_within : (app : Application) (queues : List (List ℕ)) (len : ℕ) (k : Keyword) (words : List (List ℕ)) (i : Instr) → length app.queues ≡ length queues
-    → IsFormed queues (form_of len k) words i → IsWithin app len i
-form_within app queues len Set words i sizes h = subst (IsWithin app len) h.3 (register_small h.2.0 h.0 h.2.3)
-form_within app queues len Add words i sizes h = subst (IsWithin app len) h.3 (register_small h.2.0 h.0 h.2.3)
-form_within app queues len Move words i sizes h = subst (IsWithin app len) h.3 (register_small h.2.0 h.0 h.2.3, register_small h.2.1 h.1 h.2.4)
-form_within app queues len Data words i sizes h = subst (IsWithin app len) h.2 (bytes_few h.1.0 h.0 h.1.2)
-form_within app queues len Pack words i sizes h = subst (IsWithin app len) h.2 (register_small h.1.0 h.0 h.1.2)
-form_within app queues len Unpack words i sizes h = subst (IsWithin app len) h.2 (register_small h.1.0 h.0 h.1.2)
-form_within app queues len Jump words i sizes h = subst (IsWithin app len) h.2 (target_small len h.1.0 h.0 h.1.2)
-form_within app queues len JumpZero words i sizes h = subst (IsWithin app len) h.3 (register_small h.2.0 h.0 h.2.3, target_small len h.2.1 h.1 h.2.4)
-form_within app queues len End words i sizes h = subst (IsWithin app len) h.1 tt
-form_within app queues len Send words i sizes h =
-    subst (IsWithin app len) h.3 (rw sizes (queue_there queues h.2.0 h.0 h.2.3), time_there h.2.1 h.1 h.2.4)
-form_within app queues len Receive words i sizes h =
-    subst (IsWithin app len) h.3 (rw sizes (queue_there queues h.2.0 h.0 h.2.3), time_there h.2.1 h.1 h.2.4)
+form_within : (app : Application) (len : ℕ) (k : Keyword) (words : List (List ℕ)) (i : Instr) → length app.queues ≡ length app.queue_names
+    → IsFormed (objects_of app) (form_of len k) words i → IsWithin app len i
+form_within app len Set words i sizes h = subst (IsWithin app len) h.3 (register_small h.2.0 h.0 h.2.3)
+form_within app len Add words i sizes h = subst (IsWithin app len) h.3 (register_small h.2.0 h.0 h.2.3)
+form_within app len Move words i sizes h = subst (IsWithin app len) h.3 (register_small h.2.0 h.0 h.2.3, register_small h.2.1 h.1 h.2.4)
+form_within app len Data words i sizes h = subst (IsWithin app len) h.2 (bytes_few h.1.0 h.0 h.1.2)
+form_within app len Pack words i sizes h = subst (IsWithin app len) h.2 (register_small h.1.0 h.0 h.1.2)
+form_within app len Unpack words i sizes h = subst (IsWithin app len) h.2 (register_small h.1.0 h.0 h.1.2)
+form_within app len Jump words i sizes h = subst (IsWithin app len) h.2 (target_small len h.1.0 h.0 h.1.2)
+form_within app len JumpZero words i sizes h = subst (IsWithin app len) h.3 (register_small h.2.0 h.0 h.2.3, target_small len h.2.1 h.1 h.2.4)
+form_within app len End words i sizes h = subst (IsWithin app len) h.1 tt
+form_within app len Send words i sizes h =
+    subst (IsWithin app len) h.3 (rw sizes (queue_there (objects_of app) h.2.0 h.0 h.2.3), time_there h.2.1 h.1 h.2.4, tt)
+form_within app len Receive words i sizes h =
+    subst (IsWithin app len) h.3 (rw sizes (queue_there (objects_of app) h.2.0 h.0 h.2.3), time_there h.2.1 h.1 h.2.4, tt)
 
-pub spells_within : (app : Application) (queues : List (List ℕ)) (len : ℕ) (words : List (List ℕ)) (i : Instr) → length app.queues ≡ length queues
-    → Spells queues len words i → IsWithin app len i
-spells_within app queues len words i sizes h = form_within app queues len h.0 h.1 i sizes h.3
+pub spells_within : (app : Application) (len : ℕ) (words : List (List ℕ)) (i : Instr) → length app.queues ≡ length app.queue_names
+    → Spells (objects_of app) len words i → IsWithin app len i
+spells_within app len words i sizes h = form_within app len h.0 h.1 i sizes h.3

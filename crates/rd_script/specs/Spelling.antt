@@ -19,6 +19,8 @@ use Rattle.rd_script.specs.declared.spelling.Keyword.TheVariants.{Set, Add, Move
 use Rattle.rd_script.specs.declared.spelling.Keyword.TheVariants.{Unpack, Jump, JumpZero, End}
 use Rattle.rd_script.specs.declared.spelling.Keyword.TheVariants.{Send, Receive}
 use Rattle.rd_app.specs.Application.{max_delay}
+use Rattle.rd_queue.specs.declared.end.End.TheVariants.{Back}
+use Rattle.rd_script.specs.Objects.{Objects}
 use Rattle.rd_text.specs.Words.{number_of, bytes_of, name_of}
 
 -- what each keyword is written as
@@ -72,8 +74,8 @@ operand_of word =
 abbrev pub time_of : List ℕ → Option Operand
 time_of word = if bytes_eq word (codes "max") then Some (Number max_delay) else operand_of word
 
-abbrev pub queue_of : List (List ℕ) → List ℕ → Result ℕ AppError
-queue_of queues name = ok_or (position (bytes_eq name) queues) fault.Name
+abbrev pub queue_of : Objects → List ℕ → Result ℕ AppError
+queue_of objects name = ok_or (position (bytes_eq name) objects.queue_names) fault.Name
 
 -- ---- from the first word to the last
 
@@ -105,12 +107,12 @@ abbrev pub Takes : {X : Type 0} → Result X AppError → List (List ℕ)
 Takes result left read = TakesBy (λ x. x) result left read
 
 -- a queue's name and a block time, and no more
-unfoldable pub queue_and_wait : List (List ℕ) → List (List ℕ) → Result (ℕ × Operand) AppError
-queue_and_wait queues words = do
+unfoldable pub queue_and_wait : Objects → List (List ℕ) → Result (ℕ × Operand) AppError
+queue_and_wait objects words = do
   name ← next_as name_of words
   wait ← next_as time_of name.1
   _ ← no_more_words wait.1
-  queue ← queue_of queues name.0
+  queue ← queue_of objects name.0
   Ok (queue, wait.0)
 
 -- ---- the keywords' rows
@@ -135,42 +137,42 @@ form_of len Jump = One (target_of len) (λ target. Local (local.Jump target))
 form_of len JumpZero =
     Two register_of (target_of len) (λ register target. Local (local.JumpZero register target))
 form_of len End = Alone (Local local.End)
-form_of len Send = OfQueue (λ wait. call.Send wait)
+form_of len Send = OfQueue (λ wait. call.Send Back wait)
 form_of len Receive = OfQueue (λ wait. call.Receive wait)
 
 -- ---- how a row is read
 
--- the words after a keyword, over queues of these names
-unfoldable pub read_by : List (List ℕ) → Form → List (List ℕ) → Result Instr AppError
-read_by queues (Alone instr) words = do
+-- the words after a keyword, over these objects
+unfoldable pub read_by : Objects → Form → List (List ℕ) → Result Instr AppError
+read_by objects (Alone instr) words = do
   _ ← no_more_words words
   Ok instr
-read_by queues (One read make) words = do
+read_by objects (One read make) words = do
   x ← next_as read words
   _ ← no_more_words x.1
   Ok (make x.0)
-read_by queues (Two read also make) words = do
+read_by objects (Two read also make) words = do
   x ← next_as read words
   y ← next_as also x.1
   _ ← no_more_words y.1
   Ok (make x.0 y.0)
-read_by queues (OfBytes make) words = do
+read_by objects (OfBytes make) words = do
   bytes ← next_as bytes_of words
   _ ← no_more_words bytes.1
   Ok (make bytes.0)
-read_by queues (OfQueue call_with) words = do
-  object ← queue_and_wait queues words
+read_by objects (OfQueue call_with) words = do
+  object ← queue_and_wait objects words
   Ok (Queue object.0 (call_with object.1))
 
-abbrev pub operation_of : List (List ℕ) → ℕ → Keyword → List (List ℕ) → Result Instr AppError
-operation_of queues len keyword words = read_by queues (form_of len keyword) words
+abbrev pub operation_of : Objects → ℕ → Keyword → List (List ℕ) → Result Instr AppError
+operation_of objects len keyword words = read_by objects (form_of len keyword) words
 
 -- the instruction of a text's words, or its fault: one in the form of a word comes before an
 -- unknown name
-unfoldable pub instr_of : List (List ℕ) → ℕ → List (List ℕ) → Result Instr AppError
-instr_of queues len words = do
+unfoldable pub instr_of : Objects → ℕ → List (List ℕ) → Result Instr AppError
+instr_of objects len words = do
   keyword ← next_as keyword_of words
-  operation_of queues len keyword.0 keyword.1
+  operation_of objects len keyword.0 keyword.1
 
 -- ---- what a row spells
 
@@ -190,28 +192,29 @@ HasTwo read also words x y =
     × (also second ≡ Some y)
 
 -- the number of the queue of that name
-abbrev pub queue_named : List (List ℕ) → List ℕ → Option ℕ
-queue_named queues word = option_and_then (λ name. position (bytes_eq name) queues) (name_of word)
+abbrev pub queue_named : Objects → List ℕ → Option ℕ
+queue_named objects word =
+    option_and_then (λ name. position (bytes_eq name) objects.queue_names) (name_of word)
 
 -- The words after a keyword are its operands and no more, and they make the instruction.
-abbrev pub IsFormed : List (List ℕ) → Form → List (List ℕ) → Instr → Type 0
-IsFormed queues (Alone made) words instr = (words ≡ []) × (made ≡ instr)
-IsFormed queues (One read make) words instr =
+abbrev pub IsFormed : Objects → Form → List (List ℕ) → Instr → Type 0
+IsFormed objects (Alone made) words instr = (words ≡ []) × (made ≡ instr)
+IsFormed objects (One read make) words instr =
     (x : ℕ) × HasOne read words x × (make x ≡ instr)
-IsFormed queues (Two read also make) words instr =
+IsFormed objects (Two read also make) words instr =
     (x : ℕ) × (y : ℕ) × HasTwo read also words x y × (make x y ≡ instr)
-IsFormed queues (OfBytes make) words instr =
+IsFormed objects (OfBytes make) words instr =
     (bytes : List ℕ) × HasOne bytes_of words bytes × (make bytes ≡ instr)
-IsFormed queues (OfQueue call_with) words instr =
+IsFormed objects (OfQueue call_with) words instr =
     (queue : ℕ)
     × (wait : Operand)
-    × HasTwo (queue_named queues) time_of words queue wait
+    × HasTwo (queue_named objects) time_of words queue wait
     × (Queue queue (call_with wait) ≡ instr)
 
--- The words are a keyword and its operands: over queues of these names, in a script of that length.
-abbrev pub Spells : List (List ℕ) → ℕ → List (List ℕ) → Instr → Type 0
-Spells queues len words instr =
+-- The words are a keyword and its operands: over these objects, in a script of that length.
+abbrev pub Spells : Objects → ℕ → List (List ℕ) → Instr → Type 0
+Spells objects len words instr =
     (keyword : Keyword)
     × (operands : List (List ℕ))
     × (words ≡ text_of keyword ∷ operands)
-    × IsFormed queues (form_of len keyword) operands instr
+    × IsFormed objects (form_of len keyword) operands instr

@@ -1,15 +1,18 @@
 //! Reads an instruction from its words.
 
 ghost use Rattle.std.specs.Prelude.{◌≡◌};
+ghost use Rattle.rd_script.specs.Objects.{objects_view};
 ghost use Rattle.rd_script.specs.Spelling.{Takes, TakesBy, next_as, no_more_words};
 ghost use Rattle.rd_script.specs.Spelling.{keyword_of, register_of, target_of, operand_of, time_of};
 ghost use Rattle.rd_script.specs.Spelling.{queue_of, queue_and_wait};
 ghost use Rattle.rd_script.specs.Spelling.{operation_of, instr_of};
-ghost use Rattle.rd_text.specs.Words.{texts, words_of, number_of, name_of, bytes_of};
+ghost use Rattle.rd_text.specs.Words.{words_of, number_of, name_of, bytes_of};
 
 use crate::error::AppError;
+use crate::objects::Objects;
 use rd_app::instr::{Instr, LocalInstr, MAX_DELAY, Operand, QueueCall};
 use rd_bytes::bytes::Bytes;
+use rd_queue::end::End;
 use rd_text::words::{Words, bytes, name, number};
 
 /// The first word of an instruction.
@@ -138,10 +141,10 @@ fn no_more_words(words: &mut Words<'_>) -> Result<(), AppError>
     }
 }
 
-fn queue_of(name: &str, queues: &[&str]) -> Result<usize, AppError>
-    ensures { result ≡ queue_of (texts queues.now) name.now }
+fn queue_of(name: &str, objects: &Objects<'_>) -> Result<usize, AppError>
+    ensures { result ≡ queue_of (objects_view objects.now) name.now }
 {
-    for (index, queue) in queues.iter().enumerate() {
+    for (index, queue) in objects.queues.names.as_slice().iter().enumerate() {
         if name == *queue {
             return Ok(index);
         }
@@ -152,23 +155,26 @@ fn queue_of(name: &str, queues: &[&str]) -> Result<usize, AppError>
 // The queue and the block time of a call, and no more words. A fault in the form of a word comes
 // before a name that nothing has.
 #[tactic(auto, unfolding(crate::specs::Spelling::queue_and_wait))]
-fn queue_and_wait(words: &mut Words<'_>, queues: &[&str]) -> Result<(usize, Operand), AppError>
-    ensures { result ≡ queue_and_wait (texts queues.now) words.old }
+fn queue_and_wait(
+    words: &mut Words<'_>,
+    objects: &Objects<'_>,
+) -> Result<(usize, Operand), AppError>
+    ensures { result ≡ queue_and_wait (objects_view objects.now) words.old }
 {
     let name = next_name(words)?;
     let wait = next_time(words)?;
     no_more_words(words)?;
-    Ok((queue_of(name, queues)?, wait))
+    Ok((queue_of(name, objects)?, wait))
 }
 
 #[tactic(auto, unfolding(crate::specs::Spelling::read_by))]
 fn operation(
     keyword: Keyword,
     words: &mut Words<'_>,
-    queues: &[&str],
+    objects: &Objects<'_>,
     len: usize,
 ) -> Result<Instr, AppError>
-    ensures { result ≡ operation_of (texts queues.now) len keyword words.old }
+    ensures { result ≡ operation_of (objects_view objects.now) len keyword words.old }
 {
     let instr = match keyword {
         Keyword::Set => LocalInstr::Set {
@@ -201,12 +207,15 @@ fn operation(
         },
         Keyword::End => LocalInstr::End,
         Keyword::Send => {
-            let (queue, wait) = queue_and_wait(words, queues)?;
-            let call = QueueCall::Send { wait };
+            let (queue, wait) = queue_and_wait(words, objects)?;
+            let call = QueueCall::Send {
+                end: End::Back,
+                wait,
+            };
             return Ok(Instr::Queue { queue, call });
         }
         Keyword::Receive => {
-            let (queue, wait) = queue_and_wait(words, queues)?;
+            let (queue, wait) = queue_and_wait(words, objects)?;
             let call = QueueCall::Receive { wait };
             return Ok(Instr::Queue { queue, call });
         }
@@ -215,13 +224,13 @@ fn operation(
     Ok(Instr::Local { instr })
 }
 
-/// The instruction of a text, in a script of that length over those queues.
+/// The instruction of a text, in a script of that length over those objects.
 #[tactic(auto, unfolding(crate::specs::Spelling::instr_of))]
-pub(crate) fn read_instr(text: &[u8], queues: &[&str], len: usize) -> Result<Instr, AppError>
-    ensures { result ≡ instr_of (texts queues.now) len (words_of text.now) }
+pub(crate) fn read_instr(text: &[u8], objects: &Objects<'_>, len: usize) -> Result<Instr, AppError>
+    ensures { result ≡ instr_of (objects_view objects.now) len (words_of text.now) }
 {
     let mut words = Words::new(text);
     let word = words.next().ok_or(AppError::Instr)?;
     let keyword = keyword_of(word).ok_or(AppError::Instr)?;
-    operation(keyword, &mut words, queues, len)
+    operation(keyword, &mut words, objects, len)
 }
