@@ -60,8 +60,7 @@ pub record IsTask
 
 abbrev pub AreTasks : Objects → Items → List (List ℕ) → List TaskScript → Type 0
 AreTasks objects ds names scripts =
-    AreNamed (λ d name script. (lines : Items) × IsTask objects d name script lines)
-    ds names scripts
+    AreNamed (λ d name task. (lines : Items) × IsTask objects d name task lines) ds names scripts
 
 -- what stands at a key, or what it means to leave the key out
 abbrev pub IsNumberOr : ℕ → Option Data → ℕ → Type 0
