@@ -11,6 +11,7 @@ use Rattle.serde_json.specs.Events.{items_len}
 use Rattle.serde_json.specs.Find.{get}
 use Rattle.rd_script.specs.declared.error.AppError.{AppError}
 use Rattle.rd_script.specs.declared.error.AppError.TheVariants as fault
+use Rattle.rd_script.specs.Objects.{objects_of}
 use Rattle.rd_script.specs.Spelling.{◌>>=◌}
 use Rattle.rd_app.specs.Application.{Application, IsApplication, IsQueueShape, IsScript}
 use Rattle.rd_text.specs.Names.{AreNames}
@@ -49,7 +50,7 @@ pub record IsRead (d : Data) (app : Application) (profile cores tasks : Data) (q
   pub queues : queues_after [] [] queue_items ≡ Ok (app.queue_names, app.queues)
   pub task_array : array_in 1 32 tasks ≡ Ok task_items
   pub drafts_are : tasks_after [] [] task_items ≡ Ok (app.task_names, drafts)
-  pub scripts : scripts_after app.queue_names [] drafts ≡ Ok app.scripts
+  pub scripts : scripts_after (objects_of app) [] drafts ≡ Ok app.scripts
 
 no_names : AreNames []
 no_names = record { named = refl; distinct = refl }
@@ -69,19 +70,19 @@ read_takes d app profile cores tasks queue_items task_items drafts read =
     let taken =
     named_take task_of task.IsDraft task.IsDraftInLimits task.task_takes task_items [] [] (app.task_names, drafts) read.drafts_are
     (record { are_names = no_names; are_things = tt }) in
-    let scripts = scripts_take app.queue_names drafts [] app.scripts read.scripts in
+    let scripts = scripts_take (objects_of app) drafts [] app.scripts read.scripts in
     let names_said : AreQueues queue_items app.queue_names app.queues =
     subst (λ (ns : List (List ℕ)). AreQueues queue_items ns app.queues) (sym queues.2.names_are)
     (subst (AreQueues queue_items queues.0) (sym queues.2.things_are) queues.2.said) in
     let drafts_said : task.AreDrafts task_items app.task_names drafts =
     subst (λ (ns : List (List ℕ)). task.AreDrafts task_items ns drafts) (sym taken.2.names_are)
     (subst (task.AreDrafts task_items taken.0) (sym taken.2.things_are) taken.2.said) in
-    let scripts_said : AreScripts app.queue_names drafts app.scripts = subst (AreScripts app.queue_names drafts) (sym scripts.1) scripts.2 in
-    let tasks_said = task.tasks_said app.queue_names task_items app.task_names drafts app.scripts drafts_said scripts_said in
+    let scripts_said : AreScripts (objects_of app) drafts app.scripts = subst (AreScripts (objects_of app) drafts) (sym scripts.1) scripts.2 in
+    let tasks_said = task.tasks_said (objects_of app) task_items app.task_names drafts app.scripts drafts_said scripts_said in
     let sizes = length_named IsQueue queue_items app.queue_names app.queues names_said in
     let count = (length_named task.IsDraft task_items app.task_names drafts drafts_said).0 in
     let same : length app.queues ≡ length app.queue_names = omega (arith, sizes) in
-    let within = task.scripts_in_limits app app.queue_names drafts app.scripts same taken.2.kept.are_things scripts_said in (
+    let within = task.scripts_in_limits app drafts app.scripts same taken.2.kept.are_things scripts_said in (
       record {
         keys = object_ok file_keys d tt read.keys;
         profile_at = field_ok (codes "profile") d profile read.profile_at ∙ ap Some one.0;
@@ -129,8 +130,8 @@ app_with draft scripts = record {
   cores = draft.cores;
   notes = draft.notes;
   tick = draft.tick;
-  queues = draft.queues;
-  queue_names = draft.queue_names;
+  queues = draft.objects.queues;
+  queue_names = draft.objects.queue_names;
   scripts = scripts;
   task_names = draft.task_names;
 }
@@ -140,7 +141,7 @@ pub app_takes : (d : Data) (app : Application) → app_of d ≡ Ok app
 unfolding draft_of
 app_takes d app e =
     let drafted = bind_ok (draft_of d) with_scripts app e in
-    let scripts = bind_ok (scripts_after drafted.0.queue_names [] drafted.0.tasks) _ app drafted.2 in
+    let scripts = bind_ok (scripts_after drafted.0.objects [] drafted.0.tasks) _ app drafted.2 in
     let keys = bind_ok (object_with file_keys d) _ drafted.0 drafted.1 in
     let profile = bind_ok (field (codes "profile") d) _ drafted.0 keys.2 in
     let cores = bind_ok (field (codes "cores") d) _ drafted.0 profile.2 in
@@ -157,8 +158,7 @@ app_takes d app e =
       cores = core_count.0;
       notes = notes.0;
       tick = tick.0;
-      queues = queues.0.1;
-      queue_names = queues.0.0;
+      objects = record { queue_names = queues.0.0; queues = queues.0.1 };
       tasks = drafts.0.1;
       task_names = drafts.0.0;
     } in
@@ -178,7 +178,7 @@ app_takes d app e =
       queues = queues.1;
       task_array = task_items.1;
       drafts_are = drafts.1;
-      scripts = ap (λ (draft : AppDraft). scripts_after draft.queue_names [] draft.tasks) draft_is ∙ scripts.1;
+      scripts = ap (λ (draft : AppDraft). scripts_after draft.objects [] draft.tasks) draft_is ∙ scripts.1;
     }) in
     (queue_items.0, task_items.0, subst (λ (app : Application). Says d app queue_items.0 task_items.0) is all.0, subst IsApplication is all.1)
 
@@ -199,8 +199,7 @@ draft_from app drafts = record {
   cores = app.cores;
   notes = app.notes;
   tick = app.tick;
-  queues = app.queues;
-  queue_names = app.queue_names;
+  objects = objects_of app;
   tasks = drafts;
   task_names = app.task_names;
 }
@@ -228,14 +227,14 @@ app_read : (d : Data) (app : Application) (profile cores tasks : Data) (queue_it
     → IsRead d app profile cores tasks queue_items task_items drafts → app_of d ≡ Ok app
 app_read d app profile cores tasks queue_items task_items drafts read =
     then_is (draft_of d) with_scripts (draft_from app drafts) _ (draft_read d app profile cores tasks queue_items task_items drafts read)
-    (then_is (scripts_after app.queue_names [] drafts) _ app.scripts _ read.scripts refl)
+    (then_is (scripts_after (objects_of app) [] drafts) _ app.scripts _ read.scripts refl)
 
 pub app_again : (d : Data) (app : Application) (queue_items task_items : Items) → Says d app queue_items task_items → IsApplication app → app_of d ≡ Ok app
 app_again d app queue_items task_items says limits =
     let sizes = length_named IsQueue queue_items app.queue_names app.queues says.queues in
     let shapes = recursion_from_All IsQueueShape app.queues limits.queues in
     let scripts = recursion_from_All (IsScript app) app.scripts limits.scripts in
-    let split = task.tasks_split app app.queue_names task_items app.task_names app.scripts says.tasks scripts in
+    let split = task.tasks_split app (objects_of app) task_items app.task_names app.scripts says.tasks scripts in
     let count = (length_named task.IsDraft task_items app.task_names split.0 split.1).0 in
     app_read d app (number (unsigned 1)) (number (unsigned app.cores)) (array task_items) queue_items task_items split.0 (record {
       keys = object_again file_keys d says.keys;
@@ -251,7 +250,7 @@ app_again d app queue_items task_items says limits =
       task_array = array_again 1 32 (array task_items) task_items refl (omega (arith, count, limits.some_tasks, limits.task_names))
           (omega (arith, count, limits.few_tasks, limits.task_names));
       drafts_are = named_again task_of task.IsDraft task.IsReadable task.draft_again task_items [] [] app.task_names split.0 split.1 limits.named_tasks split.2;
-      scripts = scripts_again app.queue_names split.0 [] app.scripts split.3;
+      scripts = scripts_again (objects_of app) split.0 [] app.scripts split.3;
     })
 
 -- ---- the bytes of a file
@@ -294,18 +293,18 @@ pub at_any : (r : Result Application AppError) (read : Result Application AppErr
 at_any (Ok app) read h = h
 at_any (Err e) read h = λ other. elim h [ inl is ↦ is | inr memory ↦ absurd (other memory.0) ]
 
-kept_app : (d : Data) (draft : AppDraft) (r : Result (List TaskScript) AppError) → draft_of d ≡ Ok draft → scripts_after draft.queue_names [] draft.tasks ≡ r
+kept_app : (d : Data) (draft : AppDraft) (r : Result (List TaskScript) AppError) → draft_of d ≡ Ok draft → scripts_after draft.objects [] draft.tasks ≡ r
     → checked r ≡ Ok tt
     → IsOkAnd (r >>= λ scripts. Ok (app_with draft scripts)) IsApplication
 kept_app d draft (Ok scripts) drafted e h =
     (app_takes d (app_with draft scripts)
-    (then_is (draft_of d) with_scripts draft _ drafted (then_is (scripts_after draft.queue_names [] draft.tasks) _ scripts _ e refl))).3
+    (then_is (draft_of d) with_scripts draft _ drafted (then_is (scripts_after draft.objects [] draft.tasks) _ scripts _ e refl))).3
 kept_app d draft (Err x) drafted e h = absurd cc
 
 -- a draft whose scripts were checked is an application within the limits
-pub checked_app : (d : Data) (draft : AppDraft) → draft_of d ≡ Ok draft → checked (scripts_after draft.queue_names [] draft.tasks) ≡ Ok tt
+pub checked_app : (d : Data) (draft : AppDraft) → draft_of d ≡ Ok draft → checked (scripts_after draft.objects [] draft.tasks) ≡ Ok tt
     → IsOkAnd (with_scripts draft) IsApplication
-checked_app d draft drafted h = kept_app d draft (scripts_after draft.queue_names [] draft.tasks) drafted refl h
+checked_app d draft drafted h = kept_app d draft (scripts_after draft.objects [] draft.tasks) drafted refl h
 
 pub file_again : (bytes : List ℕ) (app : Application) → FileSays bytes app → IsApplication app → file_of bytes ≡ Ok app
 file_again bytes app says limits =

@@ -6,6 +6,7 @@ use Rattle.rd_app.specs.declared.instr.Instr.{Instr}
 use Rattle.rd_app.specs.declared.instr.Instr.TheVariants.{Local}
 use Rattle.rd_app.specs.declared.instr.LocalInstr.TheVariants as local
 use Rattle.rd_app.specs.Application.{Application, IsWithin, IsScript, is_final}
+use Rattle.rd_script.specs.Objects.{Objects, objects_of}
 use Rattle.rd_script.specs.Spelling.{◌>>=◌}
 use Rattle.serde_json.specs.Data.{Data, null, boolean, number, string, array, object, Items, no_items, item}
 use Rattle.serde_json.specs.Events.{items_len}
@@ -31,85 +32,85 @@ text_is (string s) text e = let is : s ≡ text = cc in ap string is
 text_is (array ds) text e = absurd cc
 text_is (object ms) text e = absurd cc
 
-line_takes : (queues : List (List ℕ)) (len : ℕ) (d : Data) (i : Instr) → line_of queues len d ≡ Ok i → IsLine queues len d i
-line_takes queues len d i e =
+line_takes : (objects : Objects) (len : ℕ) (d : Data) (i : Instr) → line_of objects len d ≡ Ok i → IsLine objects len d i
+line_takes objects len d i e =
     let text = bind_ok (ok_or (as_str d) _) _ i e in
-    (text.0, text_is d text.0 (ok_or_ok (as_str d) text.0 _ text.1), instr_takes queues len (words_of text.0) i text.2)
+    (text.0, text_is d text.0 (ok_or_ok (as_str d) text.0 _ text.1), instr_takes objects len (words_of text.0) i text.2)
 
-line_again : (queues : List (List ℕ)) (len : ℕ) (d : Data) (i : Instr) → IsLine queues len d i → line_of queues len d ≡ Ok i
-line_again queues len d i h = ap (line_of queues len) h.1 ∙ instr_again queues len (words_of h.0) i h.2
+line_again : (objects : Objects) (len : ℕ) (d : Data) (i : Instr) → IsLine objects len d i → line_of objects len d ≡ Ok i
+line_again objects len d i h = ap (line_of objects len) h.1 ∙ instr_again objects len (words_of h.0) i h.2
 
-lines_take : (queues : List (List ℕ)) (len : ℕ) (ds : Items) (before code : List Instr) → lines_after queues len before ds ≡ Ok code
-    → (more : List Instr) × (code ≡ before ++ more) × AreLines queues len ds more
-lines_take queues len no_items before code e = let is : before ≡ code = cc in ([], sym is ∙ sym (append-nil before), tt)
-lines_take queues len (item d ds) before code e =
-    let first = bind_ok (line_of queues len d) _ code e in
-    let rest = lines_take queues len ds (before ++ first.0 ∷ []) code first.2 in
-    (first.0 ∷ rest.0, rest.1 ∙ append_assoc before (first.0 ∷ []) rest.0, (line_takes queues len d first.0 first.1, rest.2))
+lines_take : (objects : Objects) (len : ℕ) (ds : Items) (before code : List Instr) → lines_after objects len before ds ≡ Ok code
+    → (more : List Instr) × (code ≡ before ++ more) × AreLines objects len ds more
+lines_take objects len no_items before code e = let is : before ≡ code = cc in ([], sym is ∙ sym (append-nil before), tt)
+lines_take objects len (item d ds) before code e =
+    let first = bind_ok (line_of objects len d) _ code e in
+    let rest = lines_take objects len ds (before ++ first.0 ∷ []) code first.2 in
+    (first.0 ∷ rest.0, rest.1 ∙ append_assoc before (first.0 ∷ []) rest.0, (line_takes objects len d first.0 first.1, rest.2))
 
-lines_again : (queues : List (List ℕ)) (len : ℕ) (ds : Items) (before more : List Instr) → AreLines queues len ds more
-    → lines_after queues len before ds ≡ Ok (before ++ more)
-lines_again queues len no_items before [] h = ap Ok (sym (append-nil before))
-lines_again queues len no_items before (i ∷ more) h = absurd h
-lines_again queues len (item d ds) before [] h = absurd h
-lines_again queues len (item d ds) before (i ∷ more) h =
-    ap (λ r. r >>= λ i. lines_after queues len (before ++ i ∷ []) ds) (line_again queues len d i h.0)
-    ∙ lines_again queues len ds (before ++ i ∷ []) more h.1 ∙ ap Ok (append_assoc before (i ∷ []) more)
+lines_again : (objects : Objects) (len : ℕ) (ds : Items) (before more : List Instr) → AreLines objects len ds more
+    → lines_after objects len before ds ≡ Ok (before ++ more)
+lines_again objects len no_items before [] h = ap Ok (sym (append-nil before))
+lines_again objects len no_items before (i ∷ more) h = absurd h
+lines_again objects len (item d ds) before [] h = absurd h
+lines_again objects len (item d ds) before (i ∷ more) h =
+    ap (λ r. r >>= λ i. lines_after objects len (before ++ i ∷ []) ds) (line_again objects len d i h.0)
+    ∙ lines_again objects len ds (before ++ i ∷ []) more h.1 ∙ ap Ok (append_assoc before (i ∷ []) more)
 
-pub length_lines : (queues : List (List ℕ)) (len : ℕ) (ds : Items) (code : List Instr) → AreLines queues len ds code → length code ≡ items_len ds
-length_lines queues len no_items [] h = refl
-length_lines queues len no_items (i ∷ code) h = absurd h
-length_lines queues len (item d ds) [] h = absurd h
-length_lines queues len (item d ds) (i ∷ code) h = ap suc (length_lines queues len ds code h.1)
+pub length_lines : (objects : Objects) (len : ℕ) (ds : Items) (code : List Instr) → AreLines objects len ds code → length code ≡ items_len ds
+length_lines objects len no_items [] h = refl
+length_lines objects len no_items (i ∷ code) h = absurd h
+length_lines objects len (item d ds) [] h = absurd h
+length_lines objects len (item d ds) (i ∷ code) h = ap suc (length_lines objects len ds code h.1)
 
-within_lines : (app : Application) (queues : List (List ℕ)) (len : ℕ) (ds : Items) (code : List Instr) → length app.queues ≡ length queues
-    → AreLines queues len ds code → AllByRecursion (IsWithin app len) code
-within_lines app queues len no_items [] sizes h = tt
-within_lines app queues len no_items (i ∷ code) sizes h = absurd h
-within_lines app queues len (item d ds) [] sizes h = absurd h
-within_lines app queues len (item d ds) (i ∷ code) sizes h =
-    (spells_within app queues len (words_of h.0.0) i sizes h.0.2, within_lines app queues len ds code sizes h.1)
+within_lines : (app : Application) (len : ℕ) (ds : Items) (code : List Instr) → length app.queues ≡ length app.queue_names
+    → AreLines (objects_of app) len ds code → AllByRecursion (IsWithin app len) code
+within_lines app len no_items [] sizes h = tt
+within_lines app len no_items (i ∷ code) sizes h = absurd h
+within_lines app len (item d ds) [] sizes h = absurd h
+within_lines app len (item d ds) (i ∷ code) sizes h =
+    (spells_within app len (words_of h.0.0) i sizes h.0.2, within_lines app len ds code sizes h.1)
 
-pub code_takes : (queues : List (List ℕ)) (lines : Items) (code : List Instr) → code_of queues lines ≡ Ok code → IsCode queues lines code
+pub code_takes : (objects : Objects) (lines : Items) (code : List Instr) → code_of objects lines ≡ Ok code → IsCode objects lines code
 unfolding code_of
-code_takes queues lines code e =
-    let all = bind_ok (lines_after queues (items_len lines) [] lines) _ code e in
-    let taken = lines_take queues (items_len lines) lines [] all.0 all.1 in
+code_takes objects lines code e =
+    let all = bind_ok (lines_after objects (items_len lines) [] lines) _ code e in
+    let taken = lines_take objects (items_len lines) lines [] all.0 all.1 in
     let end = guard_ok (ends all.0) all.0 code _ all.2 in
-    subst (λ (code : List Instr). AreLines queues (items_len lines) lines code × (ends code ≡ true)) end.1
-    (subst (AreLines queues (items_len lines) lines) (sym taken.1) taken.2, end.0)
+    subst (λ (code : List Instr). AreLines objects (items_len lines) lines code × (ends code ≡ true)) end.1
+    (subst (AreLines objects (items_len lines) lines) (sym taken.1) taken.2, end.0)
 
-pub code_again : (queues : List (List ℕ)) (lines : Items) (code : List Instr) → IsCode queues lines code → code_of queues lines ≡ Ok code
+pub code_again : (objects : Objects) (lines : Items) (code : List Instr) → IsCode objects lines code → code_of objects lines ≡ Ok code
 unfolding code_of
-code_again queues lines code h = rw (lines_again queues (items_len lines) lines [] code h.0, h.1) refl
+code_again objects lines code h = rw (lines_again objects (items_len lines) lines [] code h.0, h.1) refl
 
 -- the scripts of drafts
-abbrev pub AreScripts : List (List ℕ) → List TaskDraft → List TaskScript → Type 0
-AreScripts queues [] [] = Unit {0}
-AreScripts queues (draft ∷ drafts) (script ∷ scripts) =
-    (draft.priority ≡ script.priority) × IsCode queues draft.lines script.code × AreScripts queues drafts scripts
-AreScripts queues _ _ = ⊥
+abbrev pub AreScripts : Objects → List TaskDraft → List TaskScript → Type 0
+AreScripts objects [] [] = Unit {0}
+AreScripts objects (draft ∷ drafts) (script ∷ scripts) =
+    (draft.priority ≡ script.priority) × IsCode objects draft.lines script.code × AreScripts objects drafts scripts
+AreScripts objects _ _ = ⊥
 
-pub scripts_take : (queues : List (List ℕ)) (drafts : List TaskDraft) (before scripts : List TaskScript) → scripts_after queues before drafts ≡ Ok scripts
-    → (more : List TaskScript) × (scripts ≡ before ++ more) × AreScripts queues drafts more
-scripts_take queues [] before scripts e = let is : before ≡ scripts = cc in ([], sym is ∙ sym (append-nil before), tt)
-scripts_take queues (draft ∷ drafts) before scripts e =
-    let code = bind_ok (code_of queues draft.lines) _ scripts e in
+pub scripts_take : (objects : Objects) (drafts : List TaskDraft) (before scripts : List TaskScript) → scripts_after objects before drafts ≡ Ok scripts
+    → (more : List TaskScript) × (scripts ≡ before ++ more) × AreScripts objects drafts more
+scripts_take objects [] before scripts e = let is : before ≡ scripts = cc in ([], sym is ∙ sym (append-nil before), tt)
+scripts_take objects (draft ∷ drafts) before scripts e =
+    let code = bind_ok (code_of objects draft.lines) _ scripts e in
     let script : TaskScript = record { priority = draft.priority; code = code.0 } in
-    let rest = scripts_take queues drafts (before ++ script ∷ []) scripts code.2 in
-    (script ∷ rest.0, rest.1 ∙ append_assoc before (script ∷ []) rest.0, (refl, code_takes queues draft.lines code.0 code.1, rest.2))
+    let rest = scripts_take objects drafts (before ++ script ∷ []) scripts code.2 in
+    (script ∷ rest.0, rest.1 ∙ append_assoc before (script ∷ []) rest.0, (refl, code_takes objects draft.lines code.0 code.1, rest.2))
 
-pub scripts_again : (queues : List (List ℕ)) (drafts : List TaskDraft) (before more : List TaskScript) → AreScripts queues drafts more
-    → scripts_after queues before drafts ≡ Ok (before ++ more)
-scripts_again queues [] before [] h = ap Ok (sym (append-nil before))
-scripts_again queues [] before (s ∷ more) h = absurd h
-scripts_again queues (draft ∷ drafts) before [] h = absurd h
-scripts_again queues (draft ∷ drafts) before (script ∷ more) h =
+pub scripts_again : (objects : Objects) (drafts : List TaskDraft) (before more : List TaskScript) → AreScripts objects drafts more
+    → scripts_after objects before drafts ≡ Ok (before ++ more)
+scripts_again objects [] before [] h = ap Ok (sym (append-nil before))
+scripts_again objects [] before (s ∷ more) h = absurd h
+scripts_again objects (draft ∷ drafts) before [] h = absurd h
+scripts_again objects (draft ∷ drafts) before (script ∷ more) h =
     let same : record { priority = draft.priority; code = script.code } ≡ script = ap (λ (p : ℕ). record { priority = p; code = script.code }) h.0 in
-    ap (λ r. r >>= λ code. scripts_after queues (before ++ record { priority = draft.priority; code = code } ∷ []) drafts)
-    (code_again queues draft.lines script.code h.1)
-    ∙ ap (λ (s : TaskScript). scripts_after queues (before ++ s ∷ []) drafts) same
-    ∙ scripts_again queues drafts (before ++ script ∷ []) more h.2 ∙ ap Ok (append_assoc before (script ∷ []) more)
+    ap (λ r. r >>= λ code. scripts_after objects (before ++ record { priority = draft.priority; code = code } ∷ []) drafts)
+    (code_again objects draft.lines script.code h.1)
+    ∙ ap (λ (s : TaskScript). scripts_after objects (before ++ s ∷ []) drafts) same
+    ∙ scripts_again objects drafts (before ++ script ∷ []) more h.2 ∙ ap Ok (append_assoc before (script ∷ []) more)
 
 last_final : (code : List Instr) (k : ℕ) → unwrap_or (option_map is_final (slice_get code k)) false ≡ true
     → is_final (slice_index_or code k (Local local.End)) ≡ true
@@ -117,11 +118,11 @@ last_final [] k e = refl
 last_final (i ∷ code) zero e = e
 last_final (i ∷ code) (suc k) e = last_final code k e
 
-pub is_script : (app : Application) (queues : List (List ℕ)) (lines : Items) (script : TaskScript) → length app.queues ≡ length queues → script.priority ≤ 31
-    → 1 ≤ items_len lines → items_len lines ≤ 256 → IsCode queues lines script.code → IsScript app script
-is_script app queues lines script sizes low some few h =
-    let len = length_lines queues (items_len lines) lines script.code h.0 in
-    let within = within_lines app queues (items_len lines) lines script.code sizes h.0 in
+pub is_script : (app : Application) (lines : Items) (script : TaskScript) → length app.queues ≡ length app.queue_names → script.priority ≤ 31
+    → 1 ≤ items_len lines → items_len lines ≤ 256 → IsCode (objects_of app) lines script.code → IsScript app script
+is_script app lines script sizes low some few h =
+    let len = length_lines (objects_of app) (items_len lines) lines script.code h.0 in
+    let within = within_lines app (items_len lines) lines script.code sizes h.0 in
     record {
       priority = low;
       some = omega arith;

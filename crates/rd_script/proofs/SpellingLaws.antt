@@ -9,20 +9,30 @@ use Rattle.std.proofs.lemmas.List.Quantifiers.{position-Some}
 use Rattle.std.proofs.lemmas.Slice.Eq.{bytes_eq-Decides}
 use Rattle.hex.specs.Hex.{decode_of}
 use Rattle.hex.proofs.HexLemmas.{decode_of-ok}
+use Rattle.rd_app.specs.declared.app.QueueShape.{QueueShape}
 use Rattle.rd_app.specs.declared.instr.Instr.{Instr}
-use Rattle.rd_app.specs.declared.instr.Instr.TheVariants.{Queue}
+use Rattle.rd_app.specs.declared.instr.Instr.TheVariants.{Local, Queue}
+use Rattle.rd_app.specs.declared.instr.LocalInstr.{LocalInstr}
+use Rattle.rd_app.specs.declared.instr.QueueCall.{QueueCall}
+use Rattle.rd_app.specs.declared.instr.QueueCall.TheVariants as call
 use Rattle.rd_app.specs.declared.instr.Operand.{Operand}
 use Rattle.rd_app.specs.declared.instr.Operand.TheVariants as operand
-use Rattle.rd_app.specs.Application.{Application, IsOperand, IsWithin, max_delay}
+use Rattle.rd_app.specs.Application.{Application, IsOperand, IsLocalWithin, IsQueueCall, IsCallFor, IsWithin, max_delay}
+use Rattle.rd_script.specs.declared.error.AppError.{AppError}
 use Rattle.rd_script.specs.declared.error.AppError.TheVariants as fault
 use Rattle.rd_script.specs.declared.spelling.Keyword.{Keyword}
-use Rattle.rd_script.specs.declared.spelling.Keyword.TheVariants.{Set, Add, Move, Data, Pack, Unpack, Jump, JumpZero, End, Send, Receive}
-use Rattle.rd_script.specs.Spelling.{◌>>=◌, text_of, keywords, first_written, keyword_of, register_of, target_of, operand_of, time_of, next_as, no_more_words}
-use Rattle.rd_script.specs.Spelling.{queue_of, queue_and_wait, Form, Alone, One, Two, OfBytes, OfQueue, form_of, read_by, operation_of, instr_of}
-use Rattle.rd_script.specs.Spelling.{HasOne, HasTwo, queue_named, IsFormed, Spells}
+use Rattle.rd_script.specs.declared.spelling.Keyword.TheVariants as kind
+use Rattle.rd_script.specs.declared.spelling.LocalKeyword.{LocalKeyword}
+use Rattle.rd_script.specs.declared.spelling.LocalKeyword.TheVariants.{Set, Add, Move, Data, Pack, Unpack, Jump, JumpZero, End}
+use Rattle.rd_script.specs.declared.spelling.QueueKeyword.{QueueKeyword}
+use Rattle.rd_script.specs.declared.spelling.QueueKeyword.TheVariants.{Send, Front, Receive, Peek, Overwrite, Reset, Count, Spaces}
+use Rattle.rd_script.specs.Objects.{Objects, objects_of, queue_shape}
+use Rattle.rd_script.specs.Spelling.{◌>>=◌, local_text, queue_text, text_of, keywords, first_written, keyword_of, register_of, target_of, operand_of, time_of}
+use Rattle.rd_script.specs.Spelling.{next_as, no_more_words, Form, Alone, One, Two, OfBytes, OfTime, local_form, queue_form, read_by}
+use Rattle.rd_script.specs.Spelling.{is_call_for, queue_of, operation_of, instr_of, HasOne, HasTwo, IsFormed, queue_named, IsOperation, Spells}
 use Rattle.rd_text.specs.Words.{bytes_of, is_some_word, name_of, number_of}
 use Rattle.rd_text.proofs.WordLemmas.{and_right}
-use Rattle.rd_script.proofs.Steps.{bind_ok, ok_or_ok, then_is}
+use Rattle.rd_script.proofs.Steps.{bind_ok, guard_ok, ok_or_ok, then_is}
 
 -- ---- keywords
 
@@ -38,18 +48,30 @@ keyword_in word (first ∷ others) k e =
       | false ↦ λ same. keyword_in word others k
     ] refl e
 
+local_keyword_again : (k : LocalKeyword) → keyword_of (local_text k) ≡ Some (kind.Local k)
+local_keyword_again Set = refl
+local_keyword_again Add = refl
+local_keyword_again Move = refl
+local_keyword_again Data = refl
+local_keyword_again Pack = refl
+local_keyword_again Unpack = refl
+local_keyword_again Jump = refl
+local_keyword_again JumpZero = refl
+local_keyword_again End = refl
+
+queue_keyword_again : (k : QueueKeyword) → keyword_of (queue_text k) ≡ Some (kind.Queue k)
+queue_keyword_again Send = refl
+queue_keyword_again Front = refl
+queue_keyword_again Receive = refl
+queue_keyword_again Peek = refl
+queue_keyword_again Overwrite = refl
+queue_keyword_again Reset = refl
+queue_keyword_again Count = refl
+queue_keyword_again Spaces = refl
+
 keyword_again : (k : Keyword) → keyword_of (text_of k) ≡ Some k
-keyword_again Set = refl
-keyword_again Add = refl
-keyword_again Move = refl
-keyword_again Data = refl
-keyword_again Pack = refl
-keyword_again Unpack = refl
-keyword_again Jump = refl
-keyword_again JumpZero = refl
-keyword_again End = refl
-keyword_again Send = refl
-keyword_again Receive = refl
+keyword_again (kind.Local k) = local_keyword_again k
+keyword_again (kind.Queue k) = queue_keyword_again k
 
 -- ---- what is read is spelled
 
@@ -67,118 +89,152 @@ no_more_ok : (words : List (List ℕ)) (u : Unit {0}) → no_more_words words �
 no_more_ok [] u e = refl
 no_more_ok (word ∷ words) u e = absurd cc
 
-one_ok : {X : Type 0} (read : List ℕ → Option X) (words : List (List ℕ)) (make : X → Instr) (i : Instr)
-    → (next_as read words >>= λ x. no_more_words x.1 >>= λ _. Ok (make x.0)) ≡ Ok i → (x : X) × HasOne read words x × (make x ≡ i)
-one_ok read words make i e =
-    let x = bind_ok (next_as read words) _ i e in
-    let end = bind_ok (no_more_words x.0.1) _ i x.2 in
+one_ok : {X A : Type 0} (read : List ℕ → Option X) (make : X → A) (words : List (List ℕ)) (y : A × List (List ℕ))
+    → (next_as read words >>= λ x. let made : A × List (List ℕ) = (make x.0, x.1) in Ok made) ≡ Ok y → y.1 ≡ []
+    → (x : X) × HasOne read words x × (make x ≡ y.0)
+one_ok {A = A} read make words y e end =
+    let x = bind_ok (next_as read words) _ y e in
     let word = next_as_ok read words x.0 x.1 in
-    let is : make x.0.0 ≡ i = cc in
-    (x.0.0, (word.0, word.1 ∙ ap (λ (ws : List (List ℕ)). word.0 ∷ ws) (no_more_ok x.0.1 end.0 end.1), word.2), is)
+    let made : A × List (List ℕ) = (make x.0.0, x.0.1) in
+    let is : made ≡ y = cc in
+    let last = ap (λ (p : A × List (List ℕ)). p.1) is ∙ end in
+    (x.0.0, (word.0, word.1 ∙ ap (λ (ws : List (List ℕ)). word.0 ∷ ws) last, word.2), ap (λ (p : A × List (List ℕ)). p.0) is)
 
-two_ok : {X Y : Type 0} (read : List ℕ → Option X) (also : List ℕ → Option Y) (words : List (List ℕ)) (make : X → Y → Instr) (i : Instr)
-    → (next_as read words >>= λ x. next_as also x.1 >>= λ y. no_more_words y.1 >>= λ _. Ok (make x.0 y.0)) ≡ Ok i
-    → (x : X) × (y : Y) × HasTwo read also words x y × (make x y ≡ i)
-two_ok read also words make i e =
-    let x = bind_ok (next_as read words) _ i e in
-    let y = bind_ok (next_as also x.0.1) _ i x.2 in
-    let end = bind_ok (no_more_words y.0.1) _ i y.2 in
+two_ok : {X Y A : Type 0} (read : List ℕ → Option X) (also : List ℕ → Option Y) (make : X → Y → A) (words : List (List ℕ)) (z : A × List (List ℕ))
+    → (next_as read words >>= λ x. next_as also x.1 >>= λ y. let made : A × List (List ℕ) = (make x.0 y.0, y.1) in Ok made) ≡ Ok z → z.1 ≡ []
+    → (x : X) × (y : Y) × HasTwo read also words x y × (make x y ≡ z.0)
+two_ok {A = A} read also make words z e end =
+    let x = bind_ok (next_as read words) _ z e in
+    let y = bind_ok (next_as also x.0.1) _ z x.2 in
     let first = next_as_ok read words x.0 x.1 in
     let second = next_as_ok also x.0.1 y.0 y.1 in
-    let is : make x.0.0 y.0.0 ≡ i = cc in
-    let rest = second.1 ∙ ap (λ (ws : List (List ℕ)). second.0 ∷ ws) (no_more_ok y.0.1 end.0 end.1) in
-    (x.0.0, y.0.0, (first.0, second.0, first.1 ∙ ap (λ (ws : List (List ℕ)). first.0 ∷ ws) rest, first.2, second.2), is)
-
-queue_and_wait_ok : (queues : List (List ℕ)) (words : List (List ℕ)) (object : ℕ × Operand) → queue_and_wait queues words ≡ Ok object
-    → HasTwo (queue_named queues) time_of words object.0 object.1
-unfolding queue_and_wait
-queue_and_wait_ok queues words object e =
-    let x = bind_ok (next_as name_of words) _ object e in
-    let y = bind_ok (next_as time_of x.0.1) _ object x.2 in
-    let end = bind_ok (no_more_words y.0.1) _ object y.2 in
-    let queue = bind_ok (queue_of queues x.0.0) _ object end.2 in
-    let first = next_as_ok name_of words x.0 x.1 in
-    let second = next_as_ok time_of x.0.1 y.0 y.1 in
-    let found = ok_or_ok (position (bytes_eq x.0.0) queues) queue.0 _ queue.1 in
-    let rest = second.1 ∙ ap (λ (ws : List (List ℕ)). second.0 ∷ ws) (no_more_ok y.0.1 end.0 end.1) in
-    let is : (queue.0, y.0.0) ≡ object = cc in
-    subst (λ (o : ℕ × Operand). HasTwo (queue_named queues) time_of words o.0 o.1) is (
-      first.0,
-      second.0,
-      first.1 ∙ ap (λ (ws : List (List ℕ)). first.0 ∷ ws) rest,
-      ap (λ (o : Option (List ℕ)). option_and_then (λ name. position (bytes_eq name) queues) o) first.2 ∙ found,
-      second.2,
+    let made : A × List (List ℕ) = (make x.0.0 y.0.0, y.0.1) in
+    let is : made ≡ z = cc in
+    let last = second.1 ∙ ap (λ (ws : List (List ℕ)). second.0 ∷ ws) (ap (λ (p : A × List (List ℕ)). p.1) is ∙ end) in (
+      x.0.0,
+      y.0.0,
+      (first.0, second.0, first.1 ∙ ap (λ (ws : List (List ℕ)). first.0 ∷ ws) last, first.2, second.2),
+      ap (λ (p : A × List (List ℕ)). p.0) is,
     )
 
-form_takes : (queues : List (List ℕ)) (form : Form) (words : List (List ℕ)) (i : Instr) → read_by queues form words ≡ Ok i → IsFormed queues form words i
+-- what a form reads to the last word
+form_takes : {X : Type 0} (form : Form X) (words : List (List ℕ)) (y : X × List (List ℕ)) → read_by form words ≡ Ok y → y.1 ≡ [] → IsFormed form words y.0
 unfolding read_by
-form_takes queues (Alone made) words i e =
-    let end = bind_ok (no_more_words words) _ i e in
-    let is : made ≡ i = cc in
-    (no_more_ok words end.0 end.1, is)
-form_takes queues (One read make) words i e = one_ok read words make i e
-form_takes queues (Two read also make) words i e = two_ok read also words make i e
-form_takes queues (OfBytes make) words i e = one_ok bytes_of words make i e
-form_takes queues (OfQueue call_with) words i e =
-    let object = bind_ok (queue_and_wait queues words) _ i e in
-    let is : Queue object.0.0 (call_with object.0.1) ≡ i = cc in
-    (object.0.0, object.0.1, queue_and_wait_ok queues words object.0 object.1, is)
+form_takes {X = X} (Alone made) words y e end =
+    let done : X × List (List ℕ) = (made, words) in
+    let is : done ≡ y = cc in
+    (ap (λ (p : X × List (List ℕ)). p.1) is ∙ end, ap (λ (p : X × List (List ℕ)). p.0) is)
+form_takes (One read make) words y e end = one_ok read make words y e end
+form_takes (Two read also make) words y e end = two_ok read also make words y e end
+form_takes (OfBytes make) words y e end = one_ok bytes_of make words y e end
+form_takes (OfTime make) words y e end = one_ok time_of make words y e end
 
-pub instr_takes : (queues : List (List ℕ)) (len : ℕ) (words : List (List ℕ)) (i : Instr) → instr_of queues len words ≡ Ok i → Spells queues len words i
+-- the call is one for the queue
+call_takes : (shape : QueueShape) (made : QueueCall) → is_call_for shape made ≡ true → IsCallFor shape made
+call_takes shape (call.Send end wait) e = tt
+call_takes shape (call.Receive wait) e = tt
+call_takes shape (call.Peek wait) e = tt
+call_takes shape call.Overwrite e = grind (arith, nat_tests)
+call_takes shape call.Reset e = tt
+call_takes shape call.Count e = tt
+call_takes shape call.Spaces e = tt
+
+operation_takes : (objects : Objects) (len : ℕ) (k : Keyword) (words : List (List ℕ)) (i : Instr) → operation_of objects len k words ≡ Ok i
+    → IsOperation objects len k words i
+operation_takes objects len (kind.Local k) words i e =
+    let made = bind_ok (read_by (local_form len k) words) _ i e in
+    let end = bind_ok (no_more_words made.0.1) _ i made.2 in
+    let is : Local made.0.0 ≡ i = cc in
+    (made.0.0, form_takes (local_form len k) words made.0 made.1 (no_more_ok made.0.1 end.0 end.1), is)
+operation_takes objects len (kind.Queue k) words i e =
+    let name = bind_ok (next_as name_of words) _ i e in
+    let made = bind_ok (read_by (queue_form k) name.0.1) _ i name.2 in
+    let end = bind_ok (no_more_words made.0.1) _ i made.2 in
+    let queue = bind_ok (queue_of objects name.0.0) _ i end.2 in
+    let word = next_as_ok name_of words name.0 name.1 in
+    let found = ok_or_ok (position (bytes_eq name.0.0) objects.queue_names) queue.0 _ queue.1 in
+    let test = guard_ok (is_call_for (queue_shape objects queue.0) made.0.0) (Queue queue.0 made.0.0) i _ queue.2 in (
+      queue.0,
+      made.0.0,
+      record {
+        name = word.0;
+        operands = name.0.1;
+        words_are = word.1;
+        named = ap (λ (o : Option (List ℕ)). option_and_then (λ name. position (bytes_eq name) objects.queue_names) o) word.2 ∙ found;
+        formed = form_takes (queue_form k) name.0.1 made.0 made.1 (no_more_ok made.0.1 end.0 end.1);
+        fits = call_takes (queue_shape objects queue.0) made.0.0 test.0;
+      },
+      test.1,
+    )
+
+pub instr_takes : (objects : Objects) (len : ℕ) (words : List (List ℕ)) (i : Instr) → instr_of objects len words ≡ Ok i → Spells objects len words i
 unfolding instr_of
-instr_takes queues len words i e =
+instr_takes objects len words i e =
     let k = bind_ok (next_as keyword_of words) _ i e in
     let word = next_as_ok keyword_of words k.0 k.1 in
     let is = word.1 ∙ ap (λ (w : List ℕ). w ∷ k.0.1) (keyword_in word.0 keywords k.0.0 word.2) in
-    (k.0.0, k.0.1, is, form_takes queues (form_of len k.0.0) k.0.1 i k.2)
+    (k.0.0, k.0.1, is, operation_takes objects len k.0.0 k.0.1 i k.2)
 
 -- ---- what spells an instruction is read
 
-one_again : {X : Type 0} (read : List ℕ → Option X) (word : List ℕ) (make : X → Instr) (x : X) → read word ≡ Some x
-    → (next_as read (word ∷ []) >>= λ x. no_more_words x.1 >>= λ _. Ok (make x.0)) ≡ Ok (make x)
+one_again : {X A : Type 0} (read : List ℕ → Option X) (word : List ℕ) (make : X → A) (x : X) → read word ≡ Some x
+    → (next_as read (word ∷ []) >>= λ x. let made : A × List (List ℕ) = (make x.0, x.1) in Ok made) ≡ Ok (make x, [])
 one_again read word make x e = rw e refl
 
-two_again : {X Y : Type 0} (read : List ℕ → Option X) (also : List ℕ → Option Y) (first second : List ℕ) (make : X → Y → Instr) (x : X) (y : Y)
+two_again : {X Y A : Type 0} (read : List ℕ → Option X) (also : List ℕ → Option Y) (first second : List ℕ) (make : X → Y → A) (x : X) (y : Y)
     → read first ≡ Some x → also second ≡ Some y
-    → (next_as read (first ∷ second ∷ []) >>= λ x. next_as also x.1 >>= λ y. no_more_words y.1 >>= λ _. Ok (make x.0 y.0)) ≡ Ok (make x y)
+    → (next_as read (first ∷ second ∷ []) >>= λ x. next_as also x.1 >>= λ y. let made : A × List (List ℕ) = (make x.0 y.0, y.1) in Ok made)
+    ≡ Ok (make x y, [])
 two_again read also first second make x y e f = rw (e, f) refl
 
-found_again : {X Y : Type 0} (read : List ℕ → Option X) (wait : List ℕ → Option Y) (find : X → Option ℕ) (first second : List ℕ) (x : X) (y : Y) (queue : ℕ)
-    → read first ≡ Some x → wait second ≡ Some y → find x ≡ Some queue
-    → (next_as read (first ∷ second ∷ []) >>= λ x. next_as wait x.1 >>= λ y. no_more_words y.1 >>= λ _. ok_or (find x.0) fault.Name
-    >>= λ queue. let object : ℕ × Y = (queue, y.0) in Ok object) ≡ Ok (queue, y)
-found_again read wait find first second x y queue e f g = rw (e, f, g) refl
+-- what a form makes, and no words are left
+made_by : {X : Type 0} → X → Result (X × List (List ℕ)) AppError
+made_by x = Ok (x, [])
+
+form_again : {X : Type 0} (form : Form X) (words : List (List ℕ)) (x : X) → IsFormed form words x → read_by form words ≡ made_by x
+unfolding read_by made_by
+form_again (Alone made) words x h = ap (read_by (Alone made)) h.0 ∙ ap made_by h.1
+form_again (One read make) words x h = ap (read_by (One read make)) h.1.1 ∙ one_again read h.1.0 make h.0 h.1.2 ∙ ap made_by h.2
+form_again (Two read also make) words x h =
+    ap (read_by (Two read also make)) h.2.2 ∙ two_again read also h.2.0 h.2.1 make h.0 h.1 h.2.3 h.2.4 ∙ ap made_by h.3
+form_again (OfBytes make) words x h = ap (read_by (OfBytes make)) h.1.1 ∙ one_again bytes_of h.1.0 make h.0 h.1.2 ∙ ap made_by h.2
+form_again (OfTime make) words x h = ap (read_by (OfTime make)) h.1.1 ∙ one_again time_of h.1.0 make h.0 h.1.2 ∙ ap made_by h.2
 
 pub then_some : {X Y : Type 0} (f : X → Option Y) (o : Option X) (y : Y) → option_and_then f o ≡ Some y → (x : X) × (o ≡ Some x) × (f x ≡ Some y)
 then_some f (Some x) y e = (x, refl, e)
 then_some f None y e = absurd cc
 
-queue_and_wait_again : (queues : List (List ℕ)) (first second : List ℕ) (queue : ℕ) (wait : Operand) → queue_named queues first ≡ Some queue
-    → time_of second ≡ Some wait → queue_and_wait queues (first ∷ second ∷ []) ≡ Ok (queue, wait)
-unfolding queue_and_wait
-queue_and_wait_again queues first second queue wait e f =
-    let name = then_some (λ name. position (bytes_eq name) queues) (name_of first) queue e in
-    found_again name_of time_of (λ name. position (bytes_eq name) queues) first second name.0 wait queue name.1 f name.2
+call_again : (shape : QueueShape) (made : QueueCall) → IsCallFor shape made → is_call_for shape made ≡ true
+call_again shape (call.Send end wait) h = refl
+call_again shape (call.Receive wait) h = refl
+call_again shape (call.Peek wait) h = refl
+call_again shape call.Overwrite h = grind (arith, nat_tests)
+call_again shape call.Reset h = refl
+call_again shape call.Count h = refl
+call_again shape call.Spaces h = refl
 
-form_again : (queues : List (List ℕ)) (form : Form) (words : List (List ℕ)) (i : Instr) → IsFormed queues form words i → read_by queues form words ≡ Ok i
-unfolding read_by
-form_again queues (Alone made) words i h = ap (read_by queues (Alone made)) h.0 ∙ ap Ok h.1
-form_again queues (One read make) words i h = ap (read_by queues (One read make)) h.1.1 ∙ one_again read h.1.0 make h.0 h.1.2 ∙ ap Ok h.2
-form_again queues (Two read also make) words i h =
-    ap (read_by queues (Two read also make)) h.2.2 ∙ two_again read also h.2.0 h.2.1 make h.0 h.1 h.2.3 h.2.4 ∙ ap Ok h.3
-form_again queues (OfBytes make) words i h = ap (read_by queues (OfBytes make)) h.1.1 ∙ one_again bytes_of h.1.0 make h.0 h.1.2 ∙ ap Ok h.2
-form_again queues (OfQueue call_with) words i h =
-    ap (read_by queues (OfQueue call_with)) h.2.2
-    ∙ ap (λ r. r >>= λ object. Ok (Queue object.0 (call_with object.1))) (queue_and_wait_again queues h.2.0 h.2.1 h.0 h.1 h.2.3 h.2.4) ∙ ap Ok h.3
+operation_again : (objects : Objects) (len : ℕ) (k : Keyword) (words : List (List ℕ)) (i : Instr) → IsOperation objects len k words i
+    → operation_of objects len k words ≡ Ok i
+unfolding made_by
+operation_again objects len (kind.Local k) words i h =
+    then_is (read_by (local_form len k) words) _ (h.0, []) (Ok i) (form_again (local_form len k) words h.0 h.1) (ap Ok h.2)
+operation_again objects len (kind.Queue k) words i h =
+    let name = then_some (λ name. position (bytes_eq name) objects.queue_names) (name_of h.2.name) h.0 h.2.named in
+    ap (operation_of objects len (kind.Queue k)) h.2.words_are
+    ∙ then_is (next_as name_of (h.2.name ∷ h.2.operands)) _ (name.0, h.2.operands) (Ok i)
+    (ap (λ (o : Option (List ℕ)). ok_or (option_map (λ x. (x, h.2.operands)) o) fault.Instr) name.1)
+    (then_is (read_by (queue_form k) h.2.operands) _ (h.1, []) (Ok i) (form_again (queue_form k) h.2.operands h.1 h.2.formed)
+    (then_is (queue_of objects name.0) _ h.0 (Ok i) (ap (λ o. ok_or o fault.Name) name.2)
+    (ap (λ b. cond b (Ok (Queue h.0 h.1)) (Err fault.OverwriteLength)) (call_again (queue_shape objects h.0) h.1 h.2.fits) ∙ ap Ok h.3)))
 
-pub instr_again : (queues : List (List ℕ)) (len : ℕ) (words : List (List ℕ)) (i : Instr) → Spells queues len words i → instr_of queues len words ≡ Ok i
+pub instr_again : (objects : Objects) (len : ℕ) (words : List (List ℕ)) (i : Instr) → Spells objects len words i → instr_of objects len words ≡ Ok i
 unfolding instr_of
-instr_again queues len words i h =
+instr_again objects len words i h =
     let read : next_as keyword_of (text_of h.0 ∷ h.1) ≡ Ok (h.0, h.1) =
     ap (λ o. ok_or (option_map (λ k. (k, h.1)) o) fault.Instr) (keyword_again h.0) in
-    ap (instr_of queues len) h.2
-    ∙ then_is (next_as keyword_of (text_of h.0 ∷ h.1)) (λ k. operation_of queues len k.0 k.1) (h.0, h.1) (Ok i) read
-    (form_again queues (form_of len h.0) h.1 i h.3)
+    ap (instr_of objects len) h.2
+    ∙ then_is (next_as keyword_of (text_of h.0 ∷ h.1)) (λ k. operation_of objects len k.0 k.1) (h.0, h.1) (Ok i) read
+    (operation_again objects len h.0 h.1 i h.3)
 
 -- ---- what is spelled is within its application
 
@@ -204,10 +260,10 @@ target_small len word target e =
     let below : n.0 < len = grind (arith, nat_tests) in
     omega (arith, h.1)
 
-queue_there : (queues : List (List ℕ)) (word : List ℕ) (queue : ℕ) → queue_named queues word ≡ Some queue → queue < length queues
-queue_there queues word queue e =
-    let name = then_some (λ name. position (bytes_eq name) queues) (name_of word) queue e in
-    (position-Some (bytes_eq name.0) queues queue [] name.2).0
+queue_there : (objects : Objects) (word : List ℕ) (queue : ℕ) → queue_named objects word ≡ Some queue → queue < length objects.queue_names
+queue_there objects word queue e =
+    let name = then_some (λ name. position (bytes_eq name) objects.queue_names) (name_of word) queue e in
+    (position-Some (bytes_eq name.0) objects.queue_names queue [] name.2).0
 
 option_if : {X : Type 0} (b : Bool) (o : Option X) (y : X) → cond b o None ≡ Some y → (b ≡ true) × (o ≡ Some y)
 option_if true o y e = (refl, e)
@@ -253,22 +309,34 @@ time_there word wait =
       | false ↦ either_there (register_of word) (number_of word) wait (register_small word)
     ]
 
-form_within : (app : Application) (queues : List (List ℕ)) (len : ℕ) (k : Keyword) (words : List (List ℕ)) (i : Instr) → length app.queues ≡ length queues
-    → IsFormed queues (form_of len k) words i → IsWithin app len i
-form_within app queues len Set words i sizes h = subst (IsWithin app len) h.3 (register_small h.2.0 h.0 h.2.3)
-form_within app queues len Add words i sizes h = subst (IsWithin app len) h.3 (register_small h.2.0 h.0 h.2.3)
-form_within app queues len Move words i sizes h = subst (IsWithin app len) h.3 (register_small h.2.0 h.0 h.2.3, register_small h.2.1 h.1 h.2.4)
-form_within app queues len Data words i sizes h = subst (IsWithin app len) h.2 (bytes_few h.1.0 h.0 h.1.2)
-form_within app queues len Pack words i sizes h = subst (IsWithin app len) h.2 (register_small h.1.0 h.0 h.1.2)
-form_within app queues len Unpack words i sizes h = subst (IsWithin app len) h.2 (register_small h.1.0 h.0 h.1.2)
-form_within app queues len Jump words i sizes h = subst (IsWithin app len) h.2 (target_small len h.1.0 h.0 h.1.2)
-form_within app queues len JumpZero words i sizes h = subst (IsWithin app len) h.3 (register_small h.2.0 h.0 h.2.3, target_small len h.2.1 h.1 h.2.4)
-form_within app queues len End words i sizes h = subst (IsWithin app len) h.1 tt
-form_within app queues len Send words i sizes h =
-    subst (IsWithin app len) h.3 (rw sizes (queue_there queues h.2.0 h.0 h.2.3), time_there h.2.1 h.1 h.2.4)
-form_within app queues len Receive words i sizes h =
-    subst (IsWithin app len) h.3 (rw sizes (queue_there queues h.2.0 h.0 h.2.3), time_there h.2.1 h.1 h.2.4)
+local_within : (len : ℕ) (k : LocalKeyword) (words : List (List ℕ)) (made : LocalInstr) → IsFormed (local_form len k) words made → IsLocalWithin len made
+local_within len Set words made h = subst (IsLocalWithin len) h.3 (register_small h.2.0 h.0 h.2.3)
+local_within len Add words made h = subst (IsLocalWithin len) h.3 (register_small h.2.0 h.0 h.2.3)
+local_within len Move words made h = subst (IsLocalWithin len) h.3 (register_small h.2.0 h.0 h.2.3, register_small h.2.1 h.1 h.2.4)
+local_within len Data words made h = subst (IsLocalWithin len) h.2 (bytes_few h.1.0 h.0 h.1.2)
+local_within len Pack words made h = subst (IsLocalWithin len) h.2 (register_small h.1.0 h.0 h.1.2)
+local_within len Unpack words made h = subst (IsLocalWithin len) h.2 (register_small h.1.0 h.0 h.1.2)
+local_within len Jump words made h = subst (IsLocalWithin len) h.2 (target_small len h.1.0 h.0 h.1.2)
+local_within len JumpZero words made h = subst (IsLocalWithin len) h.3 (register_small h.2.0 h.0 h.2.3, target_small len h.2.1 h.1 h.2.4)
+local_within len End words made h = subst (IsLocalWithin len) h.1 tt
 
-pub spells_within : (app : Application) (queues : List (List ℕ)) (len : ℕ) (words : List (List ℕ)) (i : Instr) → length app.queues ≡ length queues
-    → Spells queues len words i → IsWithin app len i
-spells_within app queues len words i sizes h = form_within app queues len h.0 h.1 i sizes h.3
+call_within : (k : QueueKeyword) (words : List (List ℕ)) (made : QueueCall) → IsFormed (queue_form k) words made → IsQueueCall made
+call_within Send words made h = subst IsQueueCall h.2 (time_there h.1.0 h.0 h.1.2)
+call_within Front words made h = subst IsQueueCall h.2 (time_there h.1.0 h.0 h.1.2)
+call_within Receive words made h = subst IsQueueCall h.2 (time_there h.1.0 h.0 h.1.2)
+call_within Peek words made h = subst IsQueueCall h.2 (time_there h.1.0 h.0 h.1.2)
+call_within Overwrite words made h = subst IsQueueCall h.1 tt
+call_within Reset words made h = subst IsQueueCall h.1 tt
+call_within Count words made h = subst IsQueueCall h.1 tt
+call_within Spaces words made h = subst IsQueueCall h.1 tt
+
+operation_within : (app : Application) (len : ℕ) (k : Keyword) (words : List (List ℕ)) (i : Instr) → length app.queues ≡ length app.queue_names
+    → IsOperation (objects_of app) len k words i → IsWithin app len i
+operation_within app len (kind.Local k) words i sizes h = subst (IsWithin app len) h.2 (local_within len k words h.0 h.1)
+operation_within app len (kind.Queue k) words i sizes h =
+    let there = queue_there (objects_of app) h.2.name h.0 h.2.named in
+    subst (IsWithin app len) h.3 (rw sizes there, call_within k h.2.operands h.1 h.2.formed, h.2.fits)
+
+pub spells_within : (app : Application) (len : ℕ) (words : List (List ℕ)) (i : Instr) → length app.queues ≡ length app.queue_names
+    → Spells (objects_of app) len words i → IsWithin app len i
+spells_within app len words i sizes h = operation_within app len h.0 h.1 i sizes h.3

@@ -6,6 +6,7 @@ use Rattle.serde_json.specs.Find.{get}
 use Rattle.std.specs.List.{AllByRecursion}
 use Rattle.rd_app.specs.declared.instr.Instr.{Instr}
 use Rattle.rd_app.specs.Application.{Application, IsScript}
+use Rattle.rd_script.specs.Objects.{Objects, objects_of}
 use Rattle.rd_script.specs.Says.{AreNamed, AreTasks, AreLines}
 use Rattle.rd_app.specs.TaskScript.{TaskScript}
 use Rattle.rd_script.specs.File.{is_object_with, object_with, field, number_in, array_in, new_name, are_texts, TaskDraft, task_keys, task_of}
@@ -59,17 +60,17 @@ abbrev pub AreDrafts : Items → List (List ℕ) → List TaskDraft → Type 0
 AreDrafts ds names drafts = AreNamed IsDraft ds names drafts
 
 -- drafts and their scripts are tasks
-pub tasks_said : (queues : List (List ℕ)) (ds : Items) (names : List (List ℕ)) (drafts : List TaskDraft) (scripts : List TaskScript) → AreDrafts ds names drafts
-    → AreScripts queues drafts scripts → AreTasks queues ds names scripts × (length names ≡ length scripts)
-tasks_said queues no_items [] [] [] a b = (tt, refl)
-tasks_said queues no_items [] [] (s ∷ scripts) a b = absurd b
-tasks_said queues no_items [] (draft ∷ drafts) scripts a b = absurd a
-tasks_said queues no_items (n ∷ names) drafts scripts a b = absurd a
-tasks_said queues (item d ds) [] drafts scripts a b = absurd a
-tasks_said queues (item d ds) (n ∷ names) [] scripts a b = absurd a
-tasks_said queues (item d ds) (n ∷ names) (draft ∷ drafts) [] a b = absurd b
-tasks_said queues (item d ds) (n ∷ names) (draft ∷ drafts) (s ∷ scripts) a b =
-    let rest = tasks_said queues ds names drafts scripts a.1 b.2 in (
+pub tasks_said : (objects : Objects) (ds : Items) (names : List (List ℕ)) (drafts : List TaskDraft) (scripts : List TaskScript) → AreDrafts ds names drafts
+    → AreScripts objects drafts scripts → AreTasks objects ds names scripts × (length names ≡ length scripts)
+tasks_said objects no_items [] [] [] a b = (tt, refl)
+tasks_said objects no_items [] [] (s ∷ scripts) a b = absurd b
+tasks_said objects no_items [] (draft ∷ drafts) scripts a b = absurd a
+tasks_said objects no_items (n ∷ names) drafts scripts a b = absurd a
+tasks_said objects (item d ds) [] drafts scripts a b = absurd a
+tasks_said objects (item d ds) (n ∷ names) [] scripts a b = absurd a
+tasks_said objects (item d ds) (n ∷ names) (draft ∷ drafts) [] a b = absurd b
+tasks_said objects (item d ds) (n ∷ names) (draft ∷ drafts) (s ∷ scripts) a b =
+    let rest = tasks_said objects ds names drafts scripts a.1 b.2 in (
       (
         (
           draft.lines,
@@ -86,15 +87,15 @@ tasks_said queues (item d ds) (n ∷ names) (draft ∷ drafts) (s ∷ scripts) a
       ap suc rest.1,
     )
 
-pub scripts_in_limits : (app : Application) (queues : List (List ℕ)) (drafts : List TaskDraft) (scripts : List TaskScript) → length app.queues ≡ length queues
-    → AllByRecursion IsDraftInLimits drafts → AreScripts queues drafts scripts → AllByRecursion (IsScript app) scripts
-scripts_in_limits app queues [] [] sizes a b = tt
-scripts_in_limits app queues [] (s ∷ scripts) sizes a b = absurd b
-scripts_in_limits app queues (draft ∷ drafts) [] sizes a b = absurd b
-scripts_in_limits app queues (draft ∷ drafts) (s ∷ scripts) sizes a b = (
-  is_script app queues draft.lines s sizes
+pub scripts_in_limits : (app : Application) (drafts : List TaskDraft) (scripts : List TaskScript) → length app.queues ≡ length app.queue_names
+    → AllByRecursion IsDraftInLimits drafts → AreScripts (objects_of app) drafts scripts → AllByRecursion (IsScript app) scripts
+scripts_in_limits app [] [] sizes a b = tt
+scripts_in_limits app [] (s ∷ scripts) sizes a b = absurd b
+scripts_in_limits app (draft ∷ drafts) [] sizes a b = absurd b
+scripts_in_limits app (draft ∷ drafts) (s ∷ scripts) sizes a b = (
+  is_script app draft.lines s sizes
       (omega (arith, b.0, a.0.priority)) a.0.some a.0.few b.1,
-  scripts_in_limits app queues drafts scripts sizes a.1 b.2,
+  scripts_in_limits app drafts scripts sizes a.1 b.2,
 )
 
 -- ---- what spells a task is read
@@ -121,33 +122,33 @@ pub draft_again : (names : List (List ℕ)) (d : Data) (name : List ℕ) (draft 
     → task_of names d ≡ Ok (name, draft)
 draft_again names d name draft h new ok = task_again names d name draft h new ok.in_limits ok.texts
 
-texts_said : (queues : List (List ℕ)) (len : ℕ) (lines : Items) (code : List Instr) → AreLines queues len lines code → are_texts lines ≡ true
-texts_said queues len no_items [] h = refl
-texts_said queues len no_items (i ∷ code) h = absurd h
-texts_said queues len (item d ds) [] h = absurd h
-texts_said queues len (item d ds) (i ∷ code) h = rw h.0.1 (texts_said queues len ds code h.1)
+texts_said : (objects : Objects) (len : ℕ) (lines : Items) (code : List Instr) → AreLines objects len lines code → are_texts lines ≡ true
+texts_said objects len no_items [] h = refl
+texts_said objects len no_items (i ∷ code) h = absurd h
+texts_said objects len (item d ds) [] h = absurd h
+texts_said objects len (item d ds) (i ∷ code) h = rw h.0.1 (texts_said objects len ds code h.1)
 
 -- tasks are drafts and their scripts
-pub tasks_split : (app : Application) (queues : List (List ℕ)) (ds : Items) (names : List (List ℕ)) (scripts : List TaskScript)
-    → AreTasks queues ds names scripts → AllByRecursion (IsScript app) scripts
-    → (drafts : List TaskDraft) × AreDrafts ds names drafts × AllByRecursion IsReadable drafts × AreScripts queues drafts scripts
-tasks_split app queues no_items [] [] h limits = ([], tt, tt, tt)
-tasks_split app queues no_items [] (s ∷ scripts) h limits = absurd h
-tasks_split app queues no_items (n ∷ names) scripts h limits = absurd h
-tasks_split app queues (item d ds) [] scripts h limits = absurd h
-tasks_split app queues (item d ds) (n ∷ names) [] h limits = absurd h
-tasks_split app queues (item d ds) (n ∷ names) (s ∷ scripts) h limits =
+pub tasks_split : (app : Application) (objects : Objects) (ds : Items) (names : List (List ℕ)) (scripts : List TaskScript)
+    → AreTasks objects ds names scripts → AllByRecursion (IsScript app) scripts
+    → (drafts : List TaskDraft) × AreDrafts ds names drafts × AllByRecursion IsReadable drafts × AreScripts objects drafts scripts
+tasks_split app objects no_items [] [] h limits = ([], tt, tt, tt)
+tasks_split app objects no_items [] (s ∷ scripts) h limits = absurd h
+tasks_split app objects no_items (n ∷ names) scripts h limits = absurd h
+tasks_split app objects (item d ds) [] scripts h limits = absurd h
+tasks_split app objects (item d ds) (n ∷ names) [] h limits = absurd h
+tasks_split app objects (item d ds) (n ∷ names) (s ∷ scripts) h limits =
     let lines = h.0.0 in
     let said = h.0.1 in
-    let rest = tasks_split app queues ds names scripts h.1 limits.1 in
-    let len = length_lines queues (items_len lines) lines s.code said.code.0 in
+    let rest = tasks_split app objects ds names scripts h.1 limits.1 in
+    let len = length_lines objects (items_len lines) lines s.code said.code.0 in
     let draft : TaskDraft = record { priority = s.priority; lines = lines } in (
       draft ∷ rest.0,
       (record { keys = said.keys; name_at = said.name_at; priority_at = said.priority_at; code_at = said.code_at }, rest.1),
       (
         record {
           in_limits = record { priority = limits.0.priority; some = omega (arith, limits.0.some); few = omega (arith, limits.0.few) };
-          texts = texts_said queues (items_len lines) lines s.code said.code.0;
+          texts = texts_said objects (items_len lines) lines s.code said.code.0;
         },
         rest.2,
       ),

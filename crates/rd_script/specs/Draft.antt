@@ -4,6 +4,7 @@ use Rattle.serde_json.specs.View.{items_view}
 use Rattle.rd_script.specs.declared.file.AppDraft.{AppDraft}
 use Rattle.rd_script.specs.declared.file.TaskDraft.{TaskDraft}
 use Rattle.rd_script.specs.File as file
+use Rattle.rd_script.specs.Objects.{objects_view}
 use Rattle.rd_text.specs.Words.{texts}
 
 abbrev pub task_draft_view : TaskDraft → file.TaskDraft
@@ -14,8 +15,7 @@ app_draft_view draft = record {
   cores = draft.cores;
   notes = draft.notes;
   tick = draft.tick;
-  queues = draft.queues.shapes.items;
-  queue_names = texts draft.queues.names.items;
+  objects = objects_view draft.objects;
   tasks = map task_draft_view draft.tasks.drafts.items;
   task_names = texts draft.tasks.names.items;
 }

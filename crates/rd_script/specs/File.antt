@@ -15,6 +15,7 @@ use Rattle.rd_script.specs.declared.error.AppError.{AppError}
 use Rattle.rd_script.specs.declared.error.AppError.TheVariants as fault
 use Rattle.rd_app.specs.declared.instr.Instr.{Instr}
 use Rattle.rd_app.specs.Application.{Application, is_final}
+use Rattle.rd_script.specs.Objects.{Objects}
 use Rattle.rd_script.specs.Spelling.{◌>>=◌, instr_of}
 use Rattle.rd_app.specs.TaskScript.{TaskScript}
 use Rattle.rd_text.specs.Words.{words_of, is_name}
@@ -136,41 +137,41 @@ tasks_after names drafts ds = named_after task_of names drafts ds
 -- ---- scripts
 
 -- the instruction of a value, in a script of that length
-abbrev pub line_of : List (List ℕ) → ℕ → Data → Result Instr AppError
-line_of queues len d = do
+abbrev pub line_of : Objects → ℕ → Data → Result Instr AppError
+line_of objects len d = do
   text ← ok_or (as_str d) fault.Shape
-  instr_of queues len (words_of text)
+  instr_of objects len (words_of text)
 
 -- does the script never go on after the instruction of a value?
-abbrev pub line_ends : List (List ℕ) → ℕ → Data → Result Bool AppError
-line_ends queues len d = do
-  instr ← line_of queues len d
+abbrev pub line_ends : Objects → ℕ → Data → Result Bool AppError
+line_ends objects len d = do
+  instr ← line_of objects len d
   Ok (is_final instr)
 
 -- the instructions before, and those of the values
-abbrev pub lines_after : List (List ℕ) → ℕ → List Instr → Items → Result (List Instr) AppError
-lines_after queues len before no_items = Ok before
-lines_after queues len before (item d ds) = do
-  instr ← line_of queues len d
-  lines_after queues len (before ++ instr ∷ []) ds
+abbrev pub lines_after : Objects → ℕ → List Instr → Items → Result (List Instr) AppError
+lines_after objects len before no_items = Ok before
+lines_after objects len before (item d ds) = do
+  instr ← line_of objects len d
+  lines_after objects len (before ++ instr ∷ []) ds
 
 -- does the last instruction never go on at the next?
 abbrev pub ends : List Instr → Bool
 ends code = unwrap_or (option_map is_final (slice_get code (length code - 1))) false
 
 -- the instructions of a task, the last of which never goes on at the next
-unfoldable pub code_of : List (List ℕ) → Items → Result (List Instr) AppError
-code_of queues lines = do
-  code ← lines_after queues (items_len lines) [] lines
+unfoldable pub code_of : Objects → Items → Result (List Instr) AppError
+code_of objects lines = do
+  code ← lines_after objects (items_len lines) [] lines
   if ends code then Ok code else Err fault.Instr
 
 -- the scripts before, and those of the drafts
-abbrev pub scripts_after : List (List ℕ) → List TaskScript → List TaskDraft
+abbrev pub scripts_after : Objects → List TaskScript → List TaskDraft
     → Result (List TaskScript) AppError
-scripts_after queues scripts [] = Ok scripts
-scripts_after queues scripts (draft ∷ drafts) = do
-  code ← code_of queues draft.lines
-  scripts_after queues (scripts ++ record { priority = draft.priority; code = code } ∷ []) drafts
+scripts_after objects scripts [] = Ok scripts
+scripts_after objects scripts (draft ∷ drafts) = do
+  code ← code_of objects draft.lines
+  scripts_after objects (scripts ++ record { priority = draft.priority; code = code } ∷ []) drafts
 
 -- ---- the file
 
@@ -184,8 +185,7 @@ pub record AppDraft : Type 0 where
   pub cores : ℕ
   pub notes : ℕ
   pub tick : ℕ
-  pub queues : List QueueShape
-  pub queue_names : List (List ℕ)
+  pub objects : Objects
   pub tasks : List TaskDraft
   pub task_names : List (List ℕ)
 
@@ -207,8 +207,7 @@ draft_of d = do
     cores = cores;
     notes = notes;
     tick = tick;
-    queues = queues.1;
-    queue_names = queues.0;
+    objects = record { queue_names = queues.0; queues = queues.1 };
     tasks = tasks.1;
     task_names = tasks.0;
   })
@@ -216,13 +215,13 @@ draft_of d = do
 -- the application of a draft
 abbrev pub with_scripts : AppDraft → Result Application AppError
 with_scripts draft = do
-  scripts ← scripts_after draft.queue_names [] draft.tasks
+  scripts ← scripts_after draft.objects [] draft.tasks
   Ok (record {
     cores = draft.cores;
     notes = draft.notes;
     tick = draft.tick;
-    queues = draft.queues;
-    queue_names = draft.queue_names;
+    queues = draft.objects.queues;
+    queue_names = draft.objects.queue_names;
     scripts = scripts;
     task_names = draft.task_names;
   })

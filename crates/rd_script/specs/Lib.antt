@@ -1,4 +1,5 @@
 -- What the contracts of this crate cite.
+pub mod Objects
 pub mod Spelling
 pub mod File
 pub mod Draft

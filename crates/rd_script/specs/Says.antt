@@ -8,6 +8,7 @@ use Rattle.rd_app.specs.declared.app.QueueShape.{QueueShape}
 use Rattle.rd_app.specs.declared.instr.Instr.{Instr}
 use Rattle.rd_app.specs.Application.{Application}
 use Rattle.rd_script.specs.File.{is_object_with, queue_keys, task_keys, file_keys, ends}
+use Rattle.rd_script.specs.Objects.{Objects, objects_of}
 use Rattle.rd_script.specs.Spelling.{Spells}
 use Rattle.rd_app.specs.TaskScript.{TaskScript}
 use Rattle.rd_text.specs.Words.{words_of}
@@ -30,22 +31,22 @@ abbrev pub AreQueues : Items → List (List ℕ) → List QueueShape → Type 0
 AreQueues ds names shapes = AreNamed IsQueue ds names shapes
 
 -- a text whose words spell the instruction
-abbrev pub IsLine : List (List ℕ) → ℕ → Data → Instr → Type 0
-IsLine queues len d instr =
-    (text : List ℕ) × (d ≡ string text) × Spells queues len (words_of text) instr
+abbrev pub IsLine : Objects → ℕ → Data → Instr → Type 0
+IsLine objects len d instr =
+    (text : List ℕ) × (d ≡ string text) × Spells objects len (words_of text) instr
 
-abbrev pub AreLines : List (List ℕ) → ℕ → Items → List Instr → Type 0
-AreLines queues len no_items [] = Unit {0}
-AreLines queues len (item d ds) (instr ∷ code) =
-    IsLine queues len d instr × AreLines queues len ds code
-AreLines queues len _ _ = ⊥
+abbrev pub AreLines : Objects → ℕ → Items → List Instr → Type 0
+AreLines objects len no_items [] = Unit {0}
+AreLines objects len (item d ds) (instr ∷ code) =
+    IsLine objects len d instr × AreLines objects len ds code
+AreLines objects len _ _ = ⊥
 
 -- the texts spell the script, which never goes on after its last instruction
-abbrev pub IsCode : List (List ℕ) → Items → List Instr → Type 0
-IsCode queues lines code = AreLines queues (items_len lines) lines code × (ends code ≡ true)
+abbrev pub IsCode : Objects → Items → List Instr → Type 0
+IsCode objects lines code = AreLines objects (items_len lines) lines code × (ends code ≡ true)
 
 pub record IsTask
-    (queues : List (List ℕ))
+    (objects : Objects)
     (d : Data)
     (name : List ℕ)
     (script : TaskScript)
@@ -55,11 +56,11 @@ pub record IsTask
   pub name_at : get (codes "name") d ≡ Some (string name)
   pub priority_at : get (codes "priority") d ≡ Some (number (unsigned script.priority))
   pub code_at : get (codes "code") d ≡ Some (array lines)
-  pub code : IsCode queues lines script.code
+  pub code : IsCode objects lines script.code
 
-abbrev pub AreTasks : List (List ℕ) → Items → List (List ℕ) → List TaskScript → Type 0
-AreTasks queues ds names scripts =
-    AreNamed (λ d name script. (lines : Items) × IsTask queues d name script lines) ds names scripts
+abbrev pub AreTasks : Objects → Items → List (List ℕ) → List TaskScript → Type 0
+AreTasks objects ds names scripts =
+    AreNamed (λ d name task. (lines : Items) × IsTask objects d name task lines) ds names scripts
 
 -- what stands at a key, or what it means to leave the key out
 abbrev pub IsNumberOr : ℕ → Option Data → ℕ → Type 0
@@ -79,7 +80,7 @@ pub record Says (d : Data) (app : Application) (queue_items task_items : Items) 
   pub queues_at : IsArrayOrEmpty (get (codes "queues") d) queue_items
   pub queues : AreQueues queue_items app.queue_names app.queues
   pub tasks_at : get (codes "tasks") d ≡ Some (array task_items)
-  pub tasks : AreTasks app.queue_names task_items app.task_names app.scripts
+  pub tasks : AreTasks (objects_of app) task_items app.task_names app.scripts
 
 -- the bytes are JSON whose value says the application
 abbrev pub FileSays : List ℕ → Application → Type 0

@@ -1,43 +1,69 @@
 -- How an instruction is spelled.
-use Rattle.std.specs.Prelude.{ℕ, ◌≡◌, ◌-◌, ◌&&◌, ◌==◌, nat_lt, nat_le, if◌then◌else◌}
-use Rattle.std.specs.Prelude.{List, [], ◌∷◌, codes, length, slice_index, position}
+use Rattle.std.specs.Prelude.{ℕ, ◌≡◌, ◌-◌, ◌&&◌, ◌==◌, Bool, true, nat_lt, nat_le, if◌then◌else◌}
+use Rattle.std.specs.Prelude.{List, [], ◌∷◌, ◌++◌, codes, length, map, slice_index, position}
 use Rattle.std.specs.Prelude.{Option, Some, None, option_map, option_and_then}
 use Rattle.std.specs.Prelude.{Result, Ok, Err, ok_or, ⊤}
 use Rattle.std.specs.Option.{option_or}
 use Rattle.std.specs.Str.{bytes_eq}
 use Rattle.rd_script.specs.declared.error.AppError.{AppError}
 use Rattle.rd_script.specs.declared.error.AppError.TheVariants as fault
+use Rattle.rd_app.specs.declared.app.QueueShape.{QueueShape}
 use Rattle.rd_app.specs.declared.instr.Operand.{Operand}
 use Rattle.rd_app.specs.declared.instr.Operand.TheVariants.{Number, Register}
 use Rattle.rd_app.specs.declared.instr.Instr.{Instr}
 use Rattle.rd_app.specs.declared.instr.Instr.TheVariants.{Local, Queue}
+use Rattle.rd_app.specs.declared.instr.LocalInstr.{LocalInstr}
 use Rattle.rd_app.specs.declared.instr.LocalInstr.TheVariants as local
 use Rattle.rd_app.specs.declared.instr.QueueCall.{QueueCall}
 use Rattle.rd_app.specs.declared.instr.QueueCall.TheVariants as call
+use Rattle.rd_queue.specs.declared.end.End.TheVariants as end
 use Rattle.rd_script.specs.declared.spelling.Keyword.{Keyword}
-use Rattle.rd_script.specs.declared.spelling.Keyword.TheVariants.{Set, Add, Move, Data, Pack}
-use Rattle.rd_script.specs.declared.spelling.Keyword.TheVariants.{Unpack, Jump, JumpZero, End}
-use Rattle.rd_script.specs.declared.spelling.Keyword.TheVariants.{Send, Receive}
-use Rattle.rd_app.specs.Application.{max_delay}
+use Rattle.rd_script.specs.declared.spelling.Keyword.TheVariants as kind
+use Rattle.rd_script.specs.declared.spelling.LocalKeyword.{LocalKeyword}
+use Rattle.rd_script.specs.declared.spelling.LocalKeyword.TheVariants.{Set, Add, Move, Data, Pack}
+use Rattle.rd_script.specs.declared.spelling.LocalKeyword.TheVariants.{Unpack, Jump, JumpZero, End}
+use Rattle.rd_script.specs.declared.spelling.QueueKeyword.{QueueKeyword}
+use Rattle.rd_script.specs.declared.spelling.QueueKeyword.TheVariants.{Send, Front, Receive, Peek}
+use Rattle.rd_script.specs.declared.spelling.QueueKeyword.TheVariants.{Overwrite, Reset, Count}
+use Rattle.rd_script.specs.declared.spelling.QueueKeyword.TheVariants.{Spaces}
+use Rattle.rd_app.specs.Application.{max_delay, IsCallFor}
+use Rattle.rd_script.specs.Objects.{Objects, queue_shape}
 use Rattle.rd_text.specs.Words.{number_of, bytes_of, name_of}
 
 -- what each keyword is written as
+abbrev pub local_text : LocalKeyword → List ℕ
+local_text Set = codes "set"
+local_text Add = codes "add"
+local_text Move = codes "move"
+local_text Data = codes "data"
+local_text Pack = codes "pack"
+local_text Unpack = codes "unpack"
+local_text Jump = codes "jump"
+local_text JumpZero = codes "jumpz"
+local_text End = codes "end"
+
+abbrev pub queue_text : QueueKeyword → List ℕ
+queue_text Send = codes "send"
+queue_text Front = codes "front"
+queue_text Receive = codes "recv"
+queue_text Peek = codes "peek"
+queue_text Overwrite = codes "over"
+queue_text Reset = codes "qreset"
+queue_text Count = codes "count"
+queue_text Spaces = codes "spaces"
+
 abbrev pub text_of : Keyword → List ℕ
-text_of Set = codes "set"
-text_of Add = codes "add"
-text_of Move = codes "move"
-text_of Data = codes "data"
-text_of Pack = codes "pack"
-text_of Unpack = codes "unpack"
-text_of Jump = codes "jump"
-text_of JumpZero = codes "jumpz"
-text_of End = codes "end"
-text_of Send = codes "send"
-text_of Receive = codes "recv"
+text_of (kind.Local keyword) = local_text keyword
+text_of (kind.Queue keyword) = queue_text keyword
+
+abbrev pub local_keywords : List LocalKeyword
+local_keywords = Set ∷ Add ∷ Move ∷ Data ∷ Pack ∷ Unpack ∷ Jump ∷ JumpZero ∷ End ∷ []
+
+abbrev pub queue_keywords : List QueueKeyword
+queue_keywords = Send ∷ Front ∷ Receive ∷ Peek ∷ Overwrite ∷ Reset ∷ Count ∷ Spaces ∷ []
 
 abbrev pub keywords : List Keyword
-keywords =
-    Set ∷ Add ∷ Move ∷ Data ∷ Pack ∷ Unpack ∷ Jump ∷ JumpZero ∷ End ∷ Send ∷ Receive ∷ []
+keywords = map kind.Local local_keywords ++ map kind.Queue queue_keywords
 
 -- the first of these that is written so
 abbrev pub first_written : List ℕ → List Keyword → Option Keyword
@@ -72,9 +98,6 @@ operand_of word =
 abbrev pub time_of : List ℕ → Option Operand
 time_of word = if bytes_eq word (codes "max") then Some (Number max_delay) else operand_of word
 
-abbrev pub queue_of : List (List ℕ) → List ℕ → Result ℕ AppError
-queue_of queues name = ok_or (position (bytes_eq name) queues) fault.Name
-
 -- ---- from the first word to the last
 
 infixl 10 ◌>>=◌
@@ -104,73 +127,98 @@ abbrev pub Takes : {X : Type 0} → Result X AppError → List (List ℕ)
     → Type 0
 Takes result left read = TakesBy (λ x. x) result left read
 
--- a queue's name and a block time, and no more
-unfoldable pub queue_and_wait : List (List ℕ) → List (List ℕ) → Result (ℕ × Operand) AppError
-queue_and_wait queues words = do
-  name ← next_as name_of words
-  wait ← next_as time_of name.1
-  _ ← no_more_words wait.1
-  queue ← queue_of queues name.0
-  Ok (queue, wait.0)
-
 -- ---- the keywords' rows
 
--- The operands of a keyword, each as it is read, and the instruction that they make.
-pub data Form : Type 0 where
-  Alone : Instr → Form
-  One : (List ℕ → Option ℕ) → (ℕ → Instr) → Form
-  Two : (List ℕ → Option ℕ) → (List ℕ → Option ℕ) → (ℕ → ℕ → Instr) → Form
-  OfBytes : (List ℕ → Instr) → Form
-  OfQueue : (Operand → QueueCall) → Form
+-- The operands of a keyword, each as it is read, and what they make.
+pub data Form (X : Type 0) : Type 0 where
+  Alone : X → Form X
+  One : (List ℕ → Option ℕ) → (ℕ → X) → Form X
+  Two : (List ℕ → Option ℕ) → (List ℕ → Option ℕ) → (ℕ → ℕ → X) → Form X
+  OfBytes : (List ℕ → X) → Form X
+  OfTime : (Operand → X) → Form X
 
 -- in a script of that length
-abbrev pub form_of : ℕ → Keyword → Form
-form_of len Set = Two register_of number_of (λ register value. Local (local.Set register value))
-form_of len Add = Two register_of number_of (λ register value. Local (local.Add register value))
-form_of len Move = Two register_of register_of (λ into from. Local (local.Move into from))
-form_of len Data = OfBytes (λ bytes. Local (local.Data bytes))
-form_of len Pack = One register_of (λ register. Local (local.Pack register))
-form_of len Unpack = One register_of (λ register. Local (local.Unpack register))
-form_of len Jump = One (target_of len) (λ target. Local (local.Jump target))
-form_of len JumpZero =
-    Two register_of (target_of len) (λ register target. Local (local.JumpZero register target))
-form_of len End = Alone (Local local.End)
-form_of len Send = OfQueue (λ wait. call.Send wait)
-form_of len Receive = OfQueue (λ wait. call.Receive wait)
+abbrev pub local_form : ℕ → LocalKeyword → Form LocalInstr
+local_form len Set = Two register_of number_of local.Set
+local_form len Add = Two register_of number_of local.Add
+local_form len Move = Two register_of register_of local.Move
+local_form len Data = OfBytes local.Data
+local_form len Pack = One register_of local.Pack
+local_form len Unpack = One register_of local.Unpack
+local_form len Jump = One (target_of len) local.Jump
+local_form len JumpZero = Two register_of (target_of len) local.JumpZero
+local_form len End = Alone local.End
+
+-- of the operands after the queue's name
+abbrev pub queue_form : QueueKeyword → Form QueueCall
+queue_form Send = OfTime (call.Send end.Back)
+queue_form Front = OfTime (call.Send end.Front)
+queue_form Receive = OfTime call.Receive
+queue_form Peek = OfTime call.Peek
+queue_form Overwrite = Alone call.Overwrite
+queue_form Reset = Alone call.Reset
+queue_form Count = Alone call.Count
+queue_form Spaces = Alone call.Spaces
 
 -- ---- how a row is read
 
--- the words after a keyword, over queues of these names
-unfoldable pub read_by : List (List ℕ) → Form → List (List ℕ) → Result Instr AppError
-read_by queues (Alone instr) words = do
-  _ ← no_more_words words
-  Ok instr
-read_by queues (One read make) words = do
+-- what the next words make, and the words after them
+unfoldable pub read_by : {X : Type 0} → Form X → List (List ℕ)
+    → Result (X × List (List ℕ)) AppError
+read_by (Alone x) words = Ok (x, words)
+read_by (One read make) words = do
   x ← next_as read words
-  _ ← no_more_words x.1
-  Ok (make x.0)
-read_by queues (Two read also make) words = do
+  Ok (make x.0, x.1)
+read_by (Two read also make) words = do
   x ← next_as read words
   y ← next_as also x.1
-  _ ← no_more_words y.1
-  Ok (make x.0 y.0)
-read_by queues (OfBytes make) words = do
+  Ok (make x.0 y.0, y.1)
+read_by (OfBytes make) words = do
   bytes ← next_as bytes_of words
-  _ ← no_more_words bytes.1
-  Ok (make bytes.0)
-read_by queues (OfQueue call_with) words = do
-  object ← queue_and_wait queues words
-  Ok (Queue object.0 (call_with object.1))
+  Ok (make bytes.0, bytes.1)
+read_by (OfTime make) words = do
+  wait ← next_as time_of words
+  Ok (make wait.0, wait.1)
 
-abbrev pub operation_of : List (List ℕ) → ℕ → Keyword → List (List ℕ) → Result Instr AppError
-operation_of queues len keyword words = read_by queues (form_of len keyword) words
+-- is the call one for a queue of that shape? Only a queue with room for one item is overwritten.
+abbrev pub is_call_for : QueueShape → QueueCall → Bool
+is_call_for shape (call.Send end wait) = true
+is_call_for shape (call.Receive wait) = true
+is_call_for shape (call.Peek wait) = true
+is_call_for shape call.Overwrite = shape.capacity == 1
+is_call_for shape call.Reset = true
+is_call_for shape call.Count = true
+is_call_for shape call.Spaces = true
 
--- the instruction of a text's words, or its fault: one in the form of a word comes before an
--- unknown name
-unfoldable pub instr_of : List (List ℕ) → ℕ → List (List ℕ) → Result Instr AppError
-instr_of queues len words = do
+abbrev pub queue_of : Objects → List ℕ → Result ℕ AppError
+queue_of objects name = ok_or (position (bytes_eq name) objects.queue_names) fault.Name
+
+-- the call of the queue of that name
+abbrev pub call_of : Objects → List ℕ → QueueCall → Result Instr AppError
+call_of objects name made = do
+  queue ← queue_of objects name
+  if is_call_for (queue_shape objects queue) made
+      then Ok (Queue queue made)
+      else Err fault.OverwriteLength
+
+-- the instruction of a keyword and of all words after it
+abbrev pub operation_of : Objects → ℕ → Keyword → List (List ℕ) → Result Instr AppError
+operation_of objects len (kind.Local keyword) words = do
+  made ← read_by (local_form len keyword) words
+  _ ← no_more_words made.1
+  Ok (Local made.0)
+operation_of objects len (kind.Queue keyword) words = do
+  name ← next_as name_of words
+  made ← read_by (queue_form keyword) name.1
+  _ ← no_more_words made.1
+  call_of objects name.0 made.0
+
+-- The instruction of a text's words, or its fault. One in the form of a word comes before an
+-- unknown name, and that before a queue that the call is not for.
+unfoldable pub instr_of : Objects → ℕ → List (List ℕ) → Result Instr AppError
+instr_of objects len words = do
   keyword ← next_as keyword_of words
-  operation_of queues len keyword.0 keyword.1
+  operation_of objects len keyword.0 keyword.1
 
 -- ---- what a row spells
 
@@ -189,29 +237,52 @@ HasTwo read also words x y =
     × (read first ≡ Some x)
     × (also second ≡ Some y)
 
+-- The words are the operands of a form and no more, and this is what they make.
+abbrev pub IsFormed : {X : Type 0} → Form X → List (List ℕ) → X → Type 0
+IsFormed (Alone x) words made = (words ≡ []) × (x ≡ made)
+IsFormed (One read make) words made = (x : ℕ) × HasOne read words x × (make x ≡ made)
+IsFormed (Two read also make) words made =
+    (x : ℕ) × (y : ℕ) × HasTwo read also words x y × (make x y ≡ made)
+IsFormed (OfBytes make) words made =
+    (bytes : List ℕ) × HasOne bytes_of words bytes × (make bytes ≡ made)
+IsFormed (OfTime make) words made =
+    (wait : Operand) × HasOne time_of words wait × (make wait ≡ made)
+
 -- the number of the queue of that name
-abbrev pub queue_named : List (List ℕ) → List ℕ → Option ℕ
-queue_named queues word = option_and_then (λ name. position (bytes_eq name) queues) (name_of word)
+abbrev pub queue_named : Objects → List ℕ → Option ℕ
+queue_named objects word =
+    option_and_then (λ name. position (bytes_eq name) objects.queue_names) (name_of word)
 
--- The words after a keyword are its operands and no more, and they make the instruction.
-abbrev pub IsFormed : List (List ℕ) → Form → List (List ℕ) → Instr → Type 0
-IsFormed queues (Alone made) words instr = (words ≡ []) × (made ≡ instr)
-IsFormed queues (One read make) words instr =
-    (x : ℕ) × HasOne read words x × (make x ≡ instr)
-IsFormed queues (Two read also make) words instr =
-    (x : ℕ) × (y : ℕ) × HasTwo read also words x y × (make x y ≡ instr)
-IsFormed queues (OfBytes make) words instr =
-    (bytes : List ℕ) × HasOne bytes_of words bytes × (make bytes ≡ instr)
-IsFormed queues (OfQueue call_with) words instr =
+-- The words after a keyword are the name of a queue and the operands of the call, which is one for
+-- that queue: only a queue with room for one item is overwritten.
+pub record SpellsCall
+    (objects : Objects)
+    (keyword : QueueKeyword)
+    (words : List (List ℕ))
     (queue : ℕ)
-    × (wait : Operand)
-    × HasTwo (queue_named queues) time_of words queue wait
-    × (Queue queue (call_with wait) ≡ instr)
+    (made : QueueCall)
+    : Type 0 where
+  pub name : List ℕ
+  pub operands : List (List ℕ)
+  pub words_are : words ≡ name ∷ operands
+  pub named : queue_named objects name ≡ Some queue
+  pub formed : IsFormed (queue_form keyword) operands made
+  pub fits : IsCallFor (queue_shape objects queue) made
 
--- The words are a keyword and its operands: over queues of these names, in a script of that length.
-abbrev pub Spells : List (List ℕ) → ℕ → List (List ℕ) → Instr → Type 0
-Spells queues len words instr =
+-- The words after a keyword make the instruction.
+abbrev pub IsOperation : Objects → ℕ → Keyword → List (List ℕ) → Instr → Type 0
+IsOperation objects len (kind.Local keyword) words instr =
+    (made : LocalInstr) × IsFormed (local_form len keyword) words made × (Local made ≡ instr)
+IsOperation objects len (kind.Queue keyword) words instr =
+    (queue : ℕ)
+    × (made : QueueCall)
+    × SpellsCall objects keyword words queue made
+    × (Queue queue made ≡ instr)
+
+-- The words are a keyword and its operands: over these objects, in a script of that length.
+abbrev pub Spells : Objects → ℕ → List (List ℕ) → Instr → Type 0
+Spells objects len words instr =
     (keyword : Keyword)
     × (operands : List (List ℕ))
     × (words ≡ text_of keyword ∷ operands)
-    × IsFormed queues (form_of len keyword) operands instr
+    × IsOperation objects len keyword operands instr

@@ -15,10 +15,12 @@ ghost use Rattle.rd_script.specs.File.{in_limits, number_in, number_or, new_name
 ghost use Rattle.rd_script.specs.File.{queue_of, queues_after, task_of, tasks_after};
 ghost use Rattle.rd_script.specs.File.{line_ends, line_of, code_of, scripts_after};
 ghost use Rattle.rd_script.specs.File.{draft_of, with_scripts, app_of, text_of, file_of};
+ghost use Rattle.rd_script.specs.Objects.{objects_view};
 ghost use Rattle.rd_script.specs.Says.{FileSays};
 ghost use Rattle.rd_text.specs.Words.{texts};
 
 use crate::error::AppError;
+use crate::objects::{Objects, Queues};
 use crate::spelling::read_instr;
 use arrayvec::ArrayVec;
 use rd_app::app::{App, Parts, QueueShape, Script};
@@ -157,13 +159,6 @@ fn read_queue<'a>(value: &'a Value, names: &[&str]) -> Result<(&'a str, QueueSha
     ))
 }
 
-// The queues of an array, and their names, which lie in the file's value.
-#[derive(Drop)]
-struct Queues<'a> {
-    names: ArrayVec<&'a str, MAX_QUEUES>,
-    shapes: ArrayVec<QueueShape, MAX_QUEUES>,
-}
-
 fn read_queues(values: &[Value]) -> Result<Queues<'_>, AppError>
     requires { length values.now ≤ 32 }
     ensures { Gives (λ queues. (texts queues.names.items, queues.shapes.items))
@@ -243,7 +238,7 @@ struct AppDraft<'a> {
     cores: usize,
     notes: usize,
     tick: u32,
-    queues: Queues<'a>,
+    objects: Objects<'a>,
     tasks: Tasks<'a>,
 }
 
@@ -268,7 +263,7 @@ fn read_draft(file: &Value) -> Result<AppDraft<'_>, AppError>
         cores,
         notes,
         tick,
-        queues,
+        objects: Objects { queues },
         tasks,
     })
 }
@@ -299,52 +294,56 @@ fn is_final(instr: &Instr) -> bool
 }
 
 // The instruction of a value, in a script of that length.
-fn read_line(line: &Value, queues: &[&str], len: usize) -> Result<Instr, AppError>
-    ensures { result ≡ line_of (texts queues.now) len (view line.now) }
+fn read_line(line: &Value, objects: &Objects<'_>, len: usize) -> Result<Instr, AppError>
+    ensures { result ≡ line_of (objects_view objects.now) len (view line.now) }
 {
     let text = line.as_str().ok_or(AppError::Shape)?;
-    read_instr(text.as_bytes(), queues, len)
+    read_instr(text.as_bytes(), objects, len)
 }
 
 // Whether the instruction of a value is one after which the script never goes on.
-fn line_ends(line: &Value, queues: &[&str], len: usize) -> Result<bool, AppError>
-    ensures { result ≡ line_ends (texts queues.now) len (view line.now) }
+fn line_ends(line: &Value, objects: &Objects<'_>, len: usize) -> Result<bool, AppError>
+    ensures { result ≡ line_ends (objects_view objects.now) len (view line.now) }
 {
-    let instr = read_line(line, queues, len)?;
+    let instr = read_line(line, objects, len)?;
     Ok(is_final(&instr))
 }
 
 // Finds the first fault of a script, and keeps nothing of it.
-fn check_code(lines: &[Value], queues: &[&str]) -> Result<(), AppError>
-    ensures { result ≡ checked (code_of (texts queues.now) (items_view lines.now)) }
+fn check_code(lines: &[Value], objects: &Objects<'_>) -> Result<(), AppError>
+    ensures { result ≡ checked (code_of (objects_view objects.now) (items_view lines.now)) }
 {
     let mut ended = false;
     for line in lines {
-        ended = line_ends(line, queues, lines.len())?;
+        ended = line_ends(line, objects, lines.len())?;
     }
     if ended { Ok(()) } else { Err(AppError::Instr) }
 }
 
 // Finds the first fault of the scripts, and keeps nothing of them.
-fn check_scripts(drafts: &[TaskDraft<'_>], queues: &[&str]) -> Result<(), AppError>
+fn check_scripts(drafts: &[TaskDraft<'_>], objects: &Objects<'_>) -> Result<(), AppError>
     ensures { result
-        ≡ checked (scripts_after (texts queues.now) [] (map task_draft_view drafts.now)) }
+        ≡ checked (scripts_after (objects_view objects.now) [] (map task_draft_view drafts.now)) }
 {
     for draft in drafts {
-        check_code(draft.lines, queues)?;
+        check_code(draft.lines, objects)?;
     }
     Ok(())
 }
 
 // The instructions of a script without a fault.
-fn keep_code(alloc: Global, lines: &[Value], queues: &[&str]) -> Result<Vec<Instr>, AllocError>
-    requires { IsOk (code_of (texts queues.now) (items_view lines.now)) }
+fn keep_code(
+    alloc: Global,
+    lines: &[Value],
+    objects: &Objects<'_>,
+) -> Result<Vec<Instr>, AllocError>
+    requires { IsOk (code_of (objects_view objects.now) (items_view lines.now)) }
     ensures { IfOk result
-        (λ code. code_of (texts queues.now) (items_view lines.now) ≡ Ok code.items) }
+        (λ code. code_of (objects_view objects.now) (items_view lines.now) ≡ Ok code.items) }
 {
     let mut code = Vec::new(alloc);
     for line in lines {
-        code.push(read_line(line, queues, lines.len()).unwrap())?;
+        code.push(read_line(line, objects, lines.len()).unwrap())?;
     }
     Ok(code)
 }
@@ -353,15 +352,16 @@ fn keep_code(alloc: Global, lines: &[Value], queues: &[&str]) -> Result<Vec<Inst
 fn keep_scripts(
     alloc: Global,
     drafts: &[TaskDraft<'_>],
-    queues: &[&str],
+    objects: &Objects<'_>,
 ) -> Result<Vec<Script>, AllocError>
-    requires { IsOk (scripts_after (texts queues.now) [] (map task_draft_view drafts.now)) }
+    requires { IsOk (scripts_after (objects_view objects.now) [] (map task_draft_view drafts.now)) }
     ensures { IfOk result (λ scripts.
-        scripts_after (texts queues.now) [] (map task_draft_view drafts.now) ≡ Ok scripts.items) }
+        scripts_after (objects_view objects.now) [] (map task_draft_view drafts.now)
+        ≡ Ok scripts.items) }
 {
     let mut scripts = Vec::new(alloc);
     for draft in drafts {
-        let code = keep_code(alloc, draft.lines, queues)?;
+        let code = keep_code(alloc, draft.lines, objects)?;
         scripts.push(Script::new(draft.priority, code))?;
     }
     Ok(scripts)
@@ -372,14 +372,14 @@ fn keep(alloc: Global, draft: &AppDraft<'_>) -> Result<App, AllocError>
     requires { IsOkAnd (with_scripts (app_draft_view draft.now)) IsApplication }
     ensures { IfOk result (λ app. with_scripts (app_draft_view draft.now) ≡ Ok app) }
 {
-    let queue_names = draft.queues.names.as_slice();
+    let queues = &draft.objects.queues;
     let parts = Parts {
         cores: draft.cores,
         notes: draft.notes,
         tick: draft.tick,
-        queues: draft.queues.shapes.as_slice().to_vec(alloc)?,
-        queue_names: Names::new(alloc, queue_names)?,
-        scripts: keep_scripts(alloc, draft.tasks.drafts.as_slice(), queue_names)?,
+        queues: queues.shapes.as_slice().to_vec(alloc)?,
+        queue_names: Names::new(alloc, queues.names.as_slice())?,
+        scripts: keep_scripts(alloc, draft.tasks.drafts.as_slice(), &draft.objects)?,
         task_names: Names::new(alloc, draft.tasks.names.as_slice())?,
     };
     App::new(alloc, parts)
@@ -390,7 +390,7 @@ fn read_file(alloc: Global, file: &Value) -> Result<App, AppError>
     ensures { GivesFaultFirst (λ app. app) result (app_of (view file.now)) }
 {
     let draft = read_draft(file)?;
-    check_scripts(draft.tasks.drafts.as_slice(), draft.queues.names.as_slice())?;
+    check_scripts(draft.tasks.drafts.as_slice(), &draft.objects)?;
     Ok(keep(alloc, &draft)?)
 }
 

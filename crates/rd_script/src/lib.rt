@@ -3,4 +3,5 @@
 
 pub mod error;
 pub mod file;
+mod objects;
 mod spelling;

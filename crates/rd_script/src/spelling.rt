@@ -1,20 +1,25 @@
 //! Reads an instruction from its words.
 
 ghost use Rattle.std.specs.Prelude.{◌≡◌};
+ghost use Rattle.rd_script.specs.Objects.{objects_view};
 ghost use Rattle.rd_script.specs.Spelling.{Takes, TakesBy, next_as, no_more_words};
 ghost use Rattle.rd_script.specs.Spelling.{keyword_of, register_of, target_of, operand_of, time_of};
-ghost use Rattle.rd_script.specs.Spelling.{queue_of, queue_and_wait};
+ghost use Rattle.rd_script.specs.Spelling.{queue_of, is_call_for, call_of};
+ghost use Rattle.rd_script.specs.Spelling.{local_form, queue_form, read_by};
 ghost use Rattle.rd_script.specs.Spelling.{operation_of, instr_of};
-ghost use Rattle.rd_text.specs.Words.{texts, words_of, number_of, name_of, bytes_of};
+ghost use Rattle.rd_text.specs.Words.{words_of, number_of, name_of, bytes_of};
 
 use crate::error::AppError;
+use crate::objects::Objects;
+use rd_app::app::QueueShape;
 use rd_app::instr::{Instr, LocalInstr, MAX_DELAY, Operand, QueueCall};
 use rd_bytes::bytes::Bytes;
+use rd_queue::end::End;
 use rd_text::words::{Words, bytes, name, number};
 
-/// The first word of an instruction.
+/// The first word of an instruction that touches nothing but its own task.
 #[derive(Clone, Copy, Debug, PartialEq, Eq)]
-enum Keyword {
+enum LocalKeyword {
     Set,
     Add,
     Move,
@@ -24,25 +29,49 @@ enum Keyword {
     Jump,
     JumpZero,
     End,
+}
+
+/// The first word of a call of a queue.
+#[derive(Clone, Copy, Debug, PartialEq, Eq)]
+enum QueueKeyword {
     Send,
+    Front,
     Receive,
+    Peek,
+    Overwrite,
+    Reset,
+    Count,
+    Spaces,
+}
+
+/// The first word of an instruction.
+#[derive(Clone, Copy, Debug, PartialEq, Eq)]
+enum Keyword {
+    Local(LocalKeyword),
+    Queue(QueueKeyword),
 }
 
 fn keyword_of(word: &[u8]) -> Option<Keyword>
     ensures { result ≡ keyword_of word.now }
 {
     match word {
-        b"set" => Some(Keyword::Set),
-        b"add" => Some(Keyword::Add),
-        b"move" => Some(Keyword::Move),
-        b"data" => Some(Keyword::Data),
-        b"pack" => Some(Keyword::Pack),
-        b"unpack" => Some(Keyword::Unpack),
-        b"jump" => Some(Keyword::Jump),
-        b"jumpz" => Some(Keyword::JumpZero),
-        b"end" => Some(Keyword::End),
-        b"send" => Some(Keyword::Send),
-        b"recv" => Some(Keyword::Receive),
+        b"set" => Some(Keyword::Local(LocalKeyword::Set)),
+        b"add" => Some(Keyword::Local(LocalKeyword::Add)),
+        b"move" => Some(Keyword::Local(LocalKeyword::Move)),
+        b"data" => Some(Keyword::Local(LocalKeyword::Data)),
+        b"pack" => Some(Keyword::Local(LocalKeyword::Pack)),
+        b"unpack" => Some(Keyword::Local(LocalKeyword::Unpack)),
+        b"jump" => Some(Keyword::Local(LocalKeyword::Jump)),
+        b"jumpz" => Some(Keyword::Local(LocalKeyword::JumpZero)),
+        b"end" => Some(Keyword::Local(LocalKeyword::End)),
+        b"send" => Some(Keyword::Queue(QueueKeyword::Send)),
+        b"front" => Some(Keyword::Queue(QueueKeyword::Front)),
+        b"recv" => Some(Keyword::Queue(QueueKeyword::Receive)),
+        b"peek" => Some(Keyword::Queue(QueueKeyword::Peek)),
+        b"over" => Some(Keyword::Queue(QueueKeyword::Overwrite)),
+        b"qreset" => Some(Keyword::Queue(QueueKeyword::Reset)),
+        b"count" => Some(Keyword::Queue(QueueKeyword::Count)),
+        b"spaces" => Some(Keyword::Queue(QueueKeyword::Spaces)),
         _ => None,
     }
 }
@@ -138,10 +167,10 @@ fn no_more_words(words: &mut Words<'_>) -> Result<(), AppError>
     }
 }
 
-fn queue_of(name: &str, queues: &[&str]) -> Result<usize, AppError>
-    ensures { result ≡ queue_of (texts queues.now) name.now }
+fn queue_of(name: &str, objects: &Objects<'_>) -> Result<usize, AppError>
+    ensures { result ≡ queue_of (objects_view objects.now) name.now }
 {
-    for (index, queue) in queues.iter().enumerate() {
+    for (index, queue) in objects.queues.names.as_slice().iter().enumerate() {
         if name == *queue {
             return Ok(index);
         }
@@ -149,79 +178,134 @@ fn queue_of(name: &str, queues: &[&str]) -> Result<usize, AppError>
     Err(AppError::Name)
 }
 
-// The queue and the block time of a call, and no more words. A fault in the form of a word comes
-// before a name that nothing has.
-#[tactic(auto, unfolding(crate::specs::Spelling::queue_and_wait))]
-fn queue_and_wait(words: &mut Words<'_>, queues: &[&str]) -> Result<(usize, Operand), AppError>
-    ensures { result ≡ queue_and_wait (texts queues.now) words.old }
+// Is the call one for a queue of that shape? Only a queue with room for one item is overwritten.
+fn is_call_for(shape: &QueueShape, call: &QueueCall) -> bool
+    ensures { result ≡ is_call_for shape.now call.now }
 {
-    let name = next_name(words)?;
-    let wait = next_time(words)?;
-    no_more_words(words)?;
-    Ok((queue_of(name, queues)?, wait))
+    match call {
+        QueueCall::Overwrite => shape.capacity == 1,
+        QueueCall::Send { .. }
+        | QueueCall::Receive { .. }
+        | QueueCall::Peek { .. }
+        | QueueCall::Reset
+        | QueueCall::Count
+        | QueueCall::Spaces => true,
+    }
 }
 
-#[tactic(auto, unfolding(crate::specs::Spelling::read_by))]
-fn operation(
-    keyword: Keyword,
-    words: &mut Words<'_>,
-    queues: &[&str],
-    len: usize,
-) -> Result<Instr, AppError>
-    ensures { result ≡ operation_of (texts queues.now) len keyword words.old }
+// The call of the queue of that name.
+fn call_of(name: &str, call: QueueCall, objects: &Objects<'_>) -> Result<Instr, AppError>
+    ensures { result ≡ call_of (objects_view objects.now) name.now call }
 {
-    let instr = match keyword {
-        Keyword::Set => LocalInstr::Set {
+    let queue = queue_of(name, objects)?;
+    if is_call_for(&objects.queues.shapes[queue], &call) {
+        Ok(Instr::Queue { queue, call })
+    } else {
+        Err(AppError::OverwriteLength)
+    }
+}
+
+// The instruction of a keyword and of the operands that come next, in a script of that length.
+#[tactic(auto, unfolding(crate::specs::Spelling::read_by))]
+fn local_instr(
+    keyword: LocalKeyword,
+    words: &mut Words<'_>,
+    len: usize,
+) -> Result<LocalInstr, AppError>
+    ensures { Takes result words.new (read_by (local_form len keyword) words.old) }
+{
+    Ok(match keyword {
+        LocalKeyword::Set => LocalInstr::Set {
             register: next_register(words)?,
             value: next_number(words)?,
         },
-        Keyword::Add => LocalInstr::Add {
+        LocalKeyword::Add => LocalInstr::Add {
             register: next_register(words)?,
             value: next_number(words)?,
         },
-        Keyword::Move => LocalInstr::Move {
+        LocalKeyword::Move => LocalInstr::Move {
             into: next_register(words)?,
             from: next_register(words)?,
         },
-        Keyword::Data => LocalInstr::Data {
+        LocalKeyword::Data => LocalInstr::Data {
             bytes: next_bytes(words)?,
         },
-        Keyword::Pack => LocalInstr::Pack {
+        LocalKeyword::Pack => LocalInstr::Pack {
             register: next_register(words)?,
         },
-        Keyword::Unpack => LocalInstr::Unpack {
+        LocalKeyword::Unpack => LocalInstr::Unpack {
             register: next_register(words)?,
         },
-        Keyword::Jump => LocalInstr::Jump {
+        LocalKeyword::Jump => LocalInstr::Jump {
             target: next_target(words, len)?,
         },
-        Keyword::JumpZero => LocalInstr::JumpZero {
+        LocalKeyword::JumpZero => LocalInstr::JumpZero {
             register: next_register(words)?,
             target: next_target(words, len)?,
         },
-        Keyword::End => LocalInstr::End,
-        Keyword::Send => {
-            let (queue, wait) = queue_and_wait(words, queues)?;
-            let call = QueueCall::Send { wait };
-            return Ok(Instr::Queue { queue, call });
-        }
-        Keyword::Receive => {
-            let (queue, wait) = queue_and_wait(words, queues)?;
-            let call = QueueCall::Receive { wait };
-            return Ok(Instr::Queue { queue, call });
-        }
-    };
-    no_more_words(words)?;
-    Ok(Instr::Local { instr })
+        LocalKeyword::End => LocalInstr::End,
+    })
 }
 
-/// The instruction of a text, in a script of that length over those queues.
+// The call of a keyword and of the operands that come next, which stand after the queue's name.
+#[tactic(auto, unfolding(crate::specs::Spelling::read_by))]
+fn queue_call(keyword: QueueKeyword, words: &mut Words<'_>) -> Result<QueueCall, AppError>
+    ensures { Takes result words.new (read_by (queue_form keyword) words.old) }
+{
+    Ok(match keyword {
+        QueueKeyword::Send => QueueCall::Send {
+            end: End::Back,
+            wait: next_time(words)?,
+        },
+        QueueKeyword::Front => QueueCall::Send {
+            end: End::Front,
+            wait: next_time(words)?,
+        },
+        QueueKeyword::Receive => QueueCall::Receive {
+            wait: next_time(words)?,
+        },
+        QueueKeyword::Peek => QueueCall::Peek {
+            wait: next_time(words)?,
+        },
+        QueueKeyword::Overwrite => QueueCall::Overwrite,
+        QueueKeyword::Reset => QueueCall::Reset,
+        QueueKeyword::Count => QueueCall::Count,
+        QueueKeyword::Spaces => QueueCall::Spaces,
+    })
+}
+
+// The instruction of a keyword and of all words after it. A fault in the form of a word comes
+// before a name that nothing has, and that before a queue that the call is not for.
+fn operation(
+    keyword: Keyword,
+    words: &mut Words<'_>,
+    objects: &Objects<'_>,
+    len: usize,
+) -> Result<Instr, AppError>
+    ensures { result ≡ operation_of (objects_view objects.now) len keyword words.old }
+{
+    match keyword {
+        Keyword::Local(keyword) => {
+            let instr = local_instr(keyword, words, len)?;
+            no_more_words(words)?;
+            Ok(Instr::Local { instr })
+        }
+        Keyword::Queue(keyword) => {
+            let name = next_name(words)?;
+            let call = queue_call(keyword, words)?;
+            no_more_words(words)?;
+            call_of(name, call, objects)
+        }
+    }
+}
+
+/// The instruction of a text, in a script of that length over those objects.
 #[tactic(auto, unfolding(crate::specs::Spelling::instr_of))]
-pub(crate) fn read_instr(text: &[u8], queues: &[&str], len: usize) -> Result<Instr, AppError>
-    ensures { result ≡ instr_of (texts queues.now) len (words_of text.now) }
+pub(crate) fn read_instr(text: &[u8], objects: &Objects<'_>, len: usize) -> Result<Instr, AppError>
+    ensures { result ≡ instr_of (objects_view objects.now) len (words_of text.now) }
 {
     let mut words = Words::new(text);
     let word = words.next().ok_or(AppError::Instr)?;
     let keyword = keyword_of(word).ok_or(AppError::Instr)?;
-    operation(keyword, &mut words, queues, len)
+    operation(keyword, &mut words, objects, len)
 }

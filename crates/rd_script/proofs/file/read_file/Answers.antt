@@ -8,4 +8,4 @@ use Rattle.rd_script.proofs.file.read_file.Goals as goal
 pub keep-requires : goal.keep-requires
 keep-requires c =
     checked_app (view c.args.file.now) (app_draft_view c.in_ok-draft.draft) c.in_ok-draft.ensures
-    (rw (← c.as_slice.ensures.value, ← c.as_slice-2.ensures.value) (sym c.check_scripts.ensures ∙ c.in_ok-check_scripts.was))
+    (rw (← c.as_slice.ensures.value) (sym c.check_scripts.ensures ∙ c.in_ok-check_scripts.was))

@@ -7,4 +7,5 @@ use Rattle.rd_text.specs.Words.{texts}
 use Rattle.rd_script.proofs.spelling.queue_of.Goals as goal
 
 pub loop-index-init : goal.loop-index-init
-loop-index-init c = ap (λ (o : Option ℕ). ok_or o fault.Name) (sym (position_from-zero (bytes_eq c.args.name.now) (texts c.args.queues.now)))
+loop-index-init c =
+    ap (λ (o : Option ℕ). ok_or o fault.Name) (sym (position_from-zero (bytes_eq c.args.name.now) (texts c.args.objects.now.queues.names.items)))
