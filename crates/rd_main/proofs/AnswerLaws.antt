@@ -1,15 +1,16 @@
 -- Answers to lines, by the command that the line spells.
-use Rattle.std.proofs.Common.{◌≡◌, ◌∙◌, ℕ, ◌<◌, List, [], ◌++◌, length, take, vec_len, Option, Some, Result, Ok, Err, OnOk, OnErr}
+use Rattle.std.proofs.Common.{◌≡◌, ◌∙◌, ℕ, ◌<◌, List, [], ◌++◌, length, take, vec_len, Option, Some, None, Result, Ok, Err, OnOk, OnErr}
 use Rattle.std.proofs.Common.{refl, ap, subst, sym, arith, inl, inr}
 use Rattle.std.specs.Str.{bytes_eq}
-use Rattle.std.specs.Prelude.{All}
+use Rattle.std.specs.Prelude.{All, IfSome}
 use Rattle.std.specs.Global.{Vec}
 use Rattle.std.proofs.lemmas.List.{length-map, take_all}
 use Rattle.std.proofs.lemmas.List.Quantifiers.{position-Some}
 use Rattle.rd_app.specs.Application.{IsApplication}
 use Rattle.rd_state.specs.declared.phase.Phase.{Phase}
-use Rattle.rd_state.specs.declared.phase.Phase.TheVariants.{Run, Again, Wait, Ended}
-use Rattle.rd_state.specs.Sizes.{IsSizedPhase, IsTaskOrIdle}
+use Rattle.rd_state.specs.declared.phase.Place.{Place}
+use Rattle.rd_state.specs.Phases.{kept_deadline, waits_at}
+use Rattle.rd_state.specs.Sizes.{IsSizedPhase, IsSizedWait, IsTaskOrIdle}
 use Rattle.rd_state.specs.Snapshot.{Numbers, numbers_of, queue_at, task_at}
 use Rattle.rd_state.proofs.UndoLaws.{phase_sized, queue_sized}
 use Rattle.rd_state.specs.Waiting.{IsPlace}
@@ -54,10 +55,11 @@ place_named course task limits valid there =
   where
     of_phase : (numbers : Numbers) (names : List (List ℕ)) (phase : Phase) → numbers ≡ record { queues = length names } → IsSizedPhase numbers phase
         → PlaceIsNamed names phase
-    of_phase numbers names Run same sized = tt
-    of_phase numbers names (Again deadline) same sized = tt
-    of_phase numbers names (Wait place deadline) same sized = subst (λ n. IsPlace n place) same sized.0
-    of_phase numbers names Ended same sized = tt
+    of_phase numbers names phase same = by_place (waits_at phase)
+      where
+        by_place : (o : Option Place) → IsSizedWait numbers o (kept_deadline phase) → IfSome o (IsPlace (record { queues = length names }))
+        by_place None sized = tt
+        by_place (Some place) sized = subst (λ n. IsPlace n place) same sized.0
 
 -- Who runs and who is ready has a name.
 pub seated_named : (course : Course) → IsApplication course.app → IsValid course.app course.target → SeatedAreNamed course.app.task_names course.target

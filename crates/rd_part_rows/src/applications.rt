@@ -42,7 +42,27 @@ fn refused_files(rt: HostRuntime) -> Result<(), Fail> {
             AppError::Limit,
         ),
         (r#"{"profile":1,"cores""#, AppError::NotJson),
-        (file_with_code!(r#""over q0","end""#), AppError::Instr),
+        (
+            file_with_code!(r#""over q0","end""#),
+            AppError::OverwriteLength,
+        ),
+        (file_with_code!(r#""over q9","end""#), AppError::Name),
+        (file_with_code!(r#""over q0 0","end""#), AppError::Instr),
+        (
+            file_with_code!(r#""over q0","over q9","end""#),
+            AppError::OverwriteLength,
+        ),
+        (
+            file_with_code!(r#""over q9","over q0","end""#),
+            AppError::Name,
+        ),
+        (
+            file_with_code!(r#""over q0","end 0""#),
+            AppError::OverwriteLength,
+        ),
+        (file_with_code!(r#""qreset q0 0","end""#), AppError::Instr),
+        (file_with_code!(r#""count","end""#), AppError::Instr),
+        (file_with_code!(r#""peek q0","end""#), AppError::Instr),
         (file_with_code!(r#""send q9 0","end""#), AppError::Name),
         (file_with_code!(r#""send q0","end""#), AppError::Instr),
         (file_with_code!(r#""send q9 r8","end""#), AppError::Instr),
@@ -109,7 +129,9 @@ fn pack_and_unpack(rt: HostRuntime) -> Result<(), Fail> {
 fn wait_of(instr: &Instr) -> Option<Operand> {
     match instr {
         Instr::Queue { call, .. } => match call {
-            QueueCall::Send { wait } | QueueCall::Receive { wait } => Some(*wait),
+            QueueCall::Send { wait, .. } | QueueCall::Receive { wait } | QueueCall::Peek { wait } =>
+                Some(*wait),
+            QueueCall::Overwrite | QueueCall::Reset | QueueCall::Count | QueueCall::Spaces => None,
         },
         Instr::Local { .. } => None,
     }
@@ -117,10 +139,12 @@ fn wait_of(instr: &Instr) -> Option<Operand> {
 
 #[test]
 fn block_times(rt: HostRuntime) -> Result<(), Fail> {
-    let text = file_with_code!(r#""send q0 1","recv q0 max","send q0 r3","end""#);
+    let text = file_with_code!(
+        r#""send q0 1","recv q0 max","send q0 r3","end","front q0 2","peek q0 4","qreset q0","end""#
+    );
     let app = read_app(rt.alloc(), text.as_bytes())?;
     let code = app.code(0);
-    assert_eq!(rt; code.len(), 4);
+    assert_eq!(rt; code.len(), 8);
     assert_eq!(rt; wait_of(&code[0]), Some(Operand::Number { value: 1 }));
     assert_eq!(rt;
         wait_of(&code[1]),
@@ -128,6 +152,9 @@ fn block_times(rt: HostRuntime) -> Result<(), Fail> {
     );
     assert_eq!(rt; wait_of(&code[2]), Some(Operand::Register { register: 3 }));
     assert_eq!(rt; wait_of(&code[3]), None);
+    assert_eq!(rt; wait_of(&code[4]), Some(Operand::Number { value: 2 }));
+    assert_eq!(rt; wait_of(&code[5]), Some(Operand::Number { value: 4 }));
+    assert_eq!(rt; wait_of(&code[6]), None);
     Ok(())
 }
 

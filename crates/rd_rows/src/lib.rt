@@ -6,6 +6,8 @@ mod memory;
 #[cfg(test)]
 mod programs;
 #[cfg(test)]
+mod queues;
+#[cfg(test)]
 mod rows;
 #[cfg(test)]
 mod streams;

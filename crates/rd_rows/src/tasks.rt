@@ -6,16 +6,28 @@ use rd_calls::moves::Move;
 use rd_calls::policy::policy;
 use rd_script::file::read_app;
 use rd_timeline::timeline::Timeline;
+use std::alloc::AllocGlobal;
 use std::process::Abort;
+use std::rt::Files;
 use std::test::Fail;
 
 /// A run of an application file.
 #[derive(Drop)]
-struct Row {
-    name: &'static str,
-    app: &'static str,
-    commands: &'static str,
-    replies: &'static str,
+pub struct Row {
+    pub name: &'static str,
+    pub app: &'static str,
+    pub commands: &'static str,
+    pub replies: &'static str,
+}
+
+/// Fails unless each run answers so, ends with status 0, and writes nothing to its errors.
+pub fn assert_rows<H: Files + AllocGlobal + Abort>(rt: &H, rows: &[Row]) -> Result<(), Fail> {
+    for row in rows {
+        let row: &Row = row;
+        let ending = run_file(rt, "row.json", row.app.as_bytes(), &[], row.commands)?;
+        assert_ending(rt, &ending, 0, row.replies, "");
+    }
+    Ok(())
 }
 
 const ROUND_ROBIN: &str = concat!(
@@ -162,12 +174,7 @@ const ROWS: [Row; 9] = [
 
 #[test]
 fn rows(rt: HostRuntime) -> Result<(), Fail> {
-    for row in &ROWS {
-        let row: &Row = row;
-        let ending = run_file(&rt, "row.json", row.app.as_bytes(), &[], row.commands)?;
-        assert_ending(&rt, &ending, 0, row.replies, "");
-    }
-    Ok(())
+    assert_rows(&rt, &ROWS)
 }
 
 // The core, a tick since the turn is after the last core, and the core again.

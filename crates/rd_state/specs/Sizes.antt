@@ -21,7 +21,7 @@ abbrev pub IsDeadline : Option ℕ → Type 0
 IsDeadline deadline = IfSome deadline (λ tick. tick < 2 ^ 33)
 
 -- A task waits at a place that is there, where there are so many objects.
-abbrev IsSizedWait : Numbers → Option Place → Option ℕ → Type 0
+abbrev pub IsSizedWait : Numbers → Option Place → Option ℕ → Type 0
 IsSizedWait numbers None deadline = IsDeadline deadline
 IsSizedWait numbers (Some place) deadline = IsPlace numbers place × IsDeadline deadline
 
