@@ -306,6 +306,15 @@ pub checked_app : (d : Data) (draft : AppDraft) → draft_of d ≡ Ok draft → 
     → IsOkAnd (with_scripts draft) IsApplication
 checked_app d draft drafted h = kept_app d draft (scripts_after draft.objects [] draft.tasks) drafted refl h
 
+fault_kept : (r : Result (List TaskScript) AppError) (f : List TaskScript → Result Application AppError) (e : AppError) → checked r ≡ Err e → (r >>= f) ≡ Err e
+fault_kept (Ok scripts) f e h = absurd cc
+fault_kept (Err d) f e h = cc
+
+-- a draft with a fault in its scripts is no application
+pub fault_found : (d : Data) (draft : AppDraft) (e : AppError) → draft_of d ≡ Ok draft → checked (scripts_after draft.objects [] draft.tasks) ≡ Err e
+    → app_of d ≡ Err e
+fault_found d draft e drafted h = then_is (draft_of d) with_scripts draft (Err e) drafted (fault_kept (scripts_after draft.objects [] draft.tasks) _ e h)
+
 pub file_again : (bytes : List ℕ) (app : Application) → FileSays bytes app → IsApplication app → file_of bytes ≡ Ok app
 file_again bytes app says limits =
     rw (is_utf8-from_IsUtf8 bytes says.1) (text_is_file bytes says.0 says.2) ∙ app_again says.0 app says.3 says.4 says.5 limits

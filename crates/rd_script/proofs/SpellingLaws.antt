@@ -69,7 +69,7 @@ queue_keyword_again Reset = refl
 queue_keyword_again Count = refl
 queue_keyword_again Spaces = refl
 
-keyword_again : (k : Keyword) → keyword_of (text_of k) ≡ Some k
+pub keyword_again : (k : Keyword) → keyword_of (text_of k) ≡ Some k
 keyword_again (kind.Local k) = local_keyword_again k
 keyword_again (kind.Queue k) = queue_keyword_again k
 

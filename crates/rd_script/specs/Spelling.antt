@@ -193,7 +193,7 @@ is_call_for shape call.Spaces = true
 abbrev pub queue_of : Objects → List ℕ → Result ℕ AppError
 queue_of objects name = ok_or (position (bytes_eq name) objects.queue_names) fault.Name
 
--- the call of the queue of that name
+-- the call of the queue of that name, if it is one for that queue
 abbrev pub call_of : Objects → List ℕ → QueueCall → Result Instr AppError
 call_of objects name made = do
   queue ← queue_of objects name

@@ -193,7 +193,7 @@ fn is_call_for(shape: &QueueShape, call: &QueueCall) -> bool
     }
 }
 
-// The call of the queue of that name.
+// The call of the queue of that name, if it is one for that queue.
 fn call_of(name: &str, call: QueueCall, objects: &Objects<'_>) -> Result<Instr, AppError>
     ensures { result ≡ call_of (objects_view objects.now) name.now call }
 {
