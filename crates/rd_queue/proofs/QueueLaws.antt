@@ -1,34 +1,23 @@
 -- Changes of a queue, undone each by its inverse.
 use Rattle.std.proofs.Common.{◌≡◌, ◌∙◌, ℕ, zero, suc, ◌+◌, ◌-◌, ◌*◌, ◌/◌, ◌<◌, ◌≤◌, List, [], ◌∷◌, ◌++◌, length, get_or, set, take, drop, refl, ap, sym, arith}
 use Rattle.std.proofs.Math.Nat.{mul-div_cancel}
-use Rattle.std.proofs.lemmas.List.{append-nil, append_assoc, length-append, length_push, length-set, take_at, drop_at, take_all, take_more, take-append-drop, drop_more}
+use Rattle.std.proofs.lemmas.List.{append-nil, append_assoc, length-append, length_push, length-set, take_at, drop_at, take_more, take-append-drop, drop_more}
 use Rattle.std.proofs.lemmas.List.{length-take-le, length-drop}
-use Rattle.std.proofs.lemmas.List.Edits.{length-remove, length-insert}
+use Rattle.std.proofs.lemmas.List.Edits.{length-insert}
 use Rattle.std.proofs.lemmas.List.Elements.{All-get_or, All-nil, All-cons, All-head, All-tail, All-push, All-set, All-take, All-drop}
 use Rattle.std.proofs.lemmas.List.Folds.{concat-append}
 use Rattle.std.specs.List.{concat}
-use Rattle.std.specs.Prelude.{All, insert, remove}
+use Rattle.std.specs.Prelude.{All, insert, remove, Option, IfSome}
 use Rattle.rd_queue.specs.declared.change.QueueChange.{QueueChange}
-use Rattle.rd_queue.specs.declared.change.QueueChange.TheVariants.{InsWait, DelWait, PutBack, TakeBack, PutFront, TakeFront, SetItem, Clear, Fill}
+use Rattle.rd_queue.specs.declared.change.QueueChange.TheVariants.{InsWait, DelWait, PutBack, TakeBack, PutFront, TakeFront, SetItem, Clear, Fill, SetMember}
 use Rattle.rd_queue.specs.declared.waiting_list.WaitingList.{WaitingList}
 use Rattle.rd_queue.specs.declared.waiting_list.WaitingList.TheVariants.{Receiving, Sending}
 use Rattle.rd_queue.specs.QueueSnapshot.{QueueSnapshot}
-use Rattle.rd_queue.specs.Queues.{count_in, first_items, items_in, tasks_in_list, with_items, with_waiting}
+use Rattle.rd_queue.specs.Queues.{count_in, first_items, items_in, tasks_in_list, with_items, with_set, with_waiting}
 use Rattle.rd_queue.specs.Sizes.{IsSizedList, IsSizedQueue}
 use Rattle.rd_queue.specs.Changes.{queue_applied, queue_inverse_of, QueueFits, EachQueueChangeIsUndone}
-use Rattle.rd_wait.proofs.ListLaws.{All-insert, All-remove, remove-insert, insert-remove, set_back}
-
--- ---- items
-
--- the last item taken, once one was put at the back
-last_taken_after_push : (items : List (List ℕ)) (item : List ℕ) → take (length (items ++ item ∷ []) - 1) (items ++ item ∷ []) ≡ items
-last_taken_after_push items item = take_at items (item ∷ []) (length (items ++ item ∷ []) - 1) (omega (arith, length_push items item))
-
--- the last item put back, once it was taken
-last_pushed_after_take : (items : List (List ℕ)) → 0 < length items → take (length items - 1) items ++ get_or items (length items - 1) [] ∷ [] ≡ items
-last_pushed_after_take items some =
-    let last = length items - 1 in
-    sym (take_more items last [] (omega arith)) ∙ take_all (last + 1) items (omega arith)
+use Rattle.rd_queue.proofs.SharedLaws.{last_taken_after_push, last_pushed_after_take, inserted_sized, removed_sized, room_after}
+use Rattle.rd_wait.proofs.ListLaws.{remove-insert, insert-remove, set_back}
 
 -- ---- items one after the other
 
@@ -111,44 +100,54 @@ undoes queue (InsWait Sending index task) sized fits = ap (λ (ts : List ℕ). w
 undoes queue (DelWait Receiving index) sized fits = ap (λ (ts : List ℕ). with_waiting Receiving ts queue) (insert-remove queue.receiving index 0 fits)
 undoes queue (DelWait Sending index) sized fits = ap (λ (ts : List ℕ). with_waiting Sending ts queue) (insert-remove queue.sending index 0 fits)
 undoes queue (PutBack item) sized fits = ap (λ items. with_items queue items) (last_taken_after_push queue.items item)
-undoes queue TakeBack sized fits = ap (λ items. with_items queue items) (last_pushed_after_take queue.items fits)
+undoes queue TakeBack sized fits = ap (λ items. with_items queue items) (last_pushed_after_take queue.items [] fits)
 undoes queue (PutFront item) sized fits = refl
 undoes queue TakeFront sized fits = ap (λ items. with_items queue items) (sym (drop_more queue.items 0 [] fits))
 undoes queue (SetItem index item) sized fits =
     ap (λ items. with_items queue items) (set_back queue.items index [] item)
 undoes queue Clear sized fits = ap (λ items. with_items queue items) (items_in-concat queue.item_size queue.items sized.some_bytes sized.items)
 undoes queue (Fill bytes) sized fits = ap (λ items. with_items queue items) (sym fits.empty)
+undoes queue (SetMember set) sized fits = refl
 
 -- ---- sizes
-
--- one task more waits, or one less
-inserted_sized : (tasks : ℕ) (waiting : List ℕ) (index task : ℕ) → IsSizedList tasks waiting → index ≤ length waiting → length waiting < tasks → task < tasks
-    → IsSizedList tasks (insert waiting index task)
-inserted_sized tasks waiting index task sized within room is_task =
-    (All-insert (λ t. t < tasks) waiting index task sized.0 is_task, omega (arith, length-insert waiting index task within, room))
-
-removed_sized : (tasks : ℕ) (waiting : List ℕ) (index : ℕ) → IsSizedList tasks waiting → index < length waiting → IsSizedList tasks (remove waiting index)
-removed_sized tasks waiting index sized there =
-    (All-remove (λ t. t < tasks) waiting index sized.0, omega (arith, length-remove waiting index there, sized.1))
 
 -- a list of a queue
 list_sized : (queue : QueueSnapshot) (list : WaitingList) → IsSizedQueue queue → IsSizedList queue.tasks (tasks_in_list list queue)
 list_sized queue Receiving sized = sized.receiving
 list_sized queue Sending sized = sized.sending
 
--- the queue with other tasks in a list, and with other items
+-- the queue with these items and waiting tasks, and in that set or in none
+parts_sized : (queue : QueueSnapshot) (items : List (List ℕ)) (receiving sending : List ℕ) (set : Option ℕ) → IsSizedQueue queue
+    → length items ≤ queue.capacity → All (λ item. length item ≡ queue.item_size) items → IsSizedList queue.tasks receiving → IsSizedList queue.tasks sending
+    → IfSome set (λ s. s < queue.sets) → IsSizedQueue (record queue { items = items; receiving = receiving; sending = sending; set = set })
+parts_sized queue items receiving sending set sized few all receivers senders there = record {
+  room = few;
+  items = all;
+  some_room = sized.some_room;
+  few = sized.few;
+  some_bytes = sized.some_bytes;
+  small = sized.small;
+  receiving = receivers;
+  sending = senders;
+  set = there;
+}
+
+-- the queue with other tasks in a list, with other items, and in another set or in none
 waiting_sized : (queue : QueueSnapshot) (list : WaitingList) (waiting : List ℕ) → IsSizedQueue queue → IsSizedList queue.tasks waiting
     → IsSizedQueue (with_waiting list waiting queue)
 waiting_sized queue Receiving waiting sized few =
-    record { room = sized.room; items = sized.items; some_room = sized.some_room; few = sized.few; some_bytes = sized.some_bytes; small = sized.small; receiving = few; sending = sized.sending }
+    parts_sized queue queue.items waiting queue.sending queue.set sized sized.room sized.items few sized.sending sized.set
 waiting_sized queue Sending waiting sized few =
-    record { room = sized.room; items = sized.items; some_room = sized.some_room; few = sized.few; some_bytes = sized.some_bytes; small = sized.small; receiving = sized.receiving; sending = few }
+    parts_sized queue queue.items queue.receiving waiting queue.set sized sized.room sized.items sized.receiving few sized.set
 
 items_sized : (queue : QueueSnapshot) (items : List (List ℕ)) → IsSizedQueue queue → length items ≤ queue.capacity
-    → All (λ item. length item ≡ queue.item_size) items
-    → IsSizedQueue (with_items queue items)
+    → All (λ item. length item ≡ queue.item_size) items → IsSizedQueue (with_items queue items)
 items_sized queue items sized few all =
-    record { room = few; items = all; some_room = sized.some_room; few = sized.few; some_bytes = sized.some_bytes; small = sized.small; receiving = sized.receiving; sending = sized.sending }
+    parts_sized queue items queue.receiving queue.sending queue.set sized few all sized.receiving sized.sending sized.set
+
+set_sized : (queue : QueueSnapshot) (set : Option ℕ) → IsSizedQueue queue → IfSome set (λ s. s < queue.sets) → IsSizedQueue (with_set queue set)
+set_sized queue set sized there =
+    parts_sized queue queue.items queue.receiving queue.sending set sized sized.room sized.items sized.receiving sized.sending there
 
 sized_then : (queue : QueueSnapshot) (change : QueueChange) → IsSizedQueue queue → QueueFits queue change → IsSizedQueue (queue_applied queue change)
 sized_then queue (InsWait list index task) sized fits =
@@ -179,15 +178,9 @@ sized_then queue (Fill bytes) sized fits =
     let count = count_in queue.item_size bytes in
     items_sized queue (items_in queue.item_size bytes) sized (omega (arith, length-first_items queue.item_size count bytes, fits.room))
     (All-first_items queue.item_size count bytes fits.whole)
+sized_then queue (SetMember set) sized fits = set_sized queue set sized fits
 
 -- ---- the inverse fits
-
--- a task that has left a list finds room there
-room_after : (tasks : ℕ) (waiting : List ℕ) (index : ℕ) → IsSizedList tasks waiting → index < length waiting
-    → (index ≤ length (remove waiting index)) × (length (remove waiting index) < tasks) × (get_or waiting index 0 < tasks)
-room_after tasks waiting index sized there =
-    let shorter = length-remove waiting index there in
-    (omega (arith, shorter, there), omega (arith, shorter, there, sized.1), All-get_or (λ task. task < tasks) waiting index 0 there sized.0)
 
 -- an item of a queue has its size
 item_sized : (queue : QueueSnapshot) (index : ℕ) → IsSizedQueue queue → index < length queue.items → length (get_or queue.items index []) ≡ queue.item_size
@@ -215,22 +208,27 @@ inverse_fits queue Clear sized fits =
       room = omega (arith, count, sized.room);
     }
 inverse_fits queue (Fill bytes) sized fits = tt
+inverse_fits queue (SetMember set) sized fits = sized.set
 
-same_tasks : (queue : QueueSnapshot) (change : QueueChange) → (queue_applied queue change).tasks ≡ queue.tasks
-same_tasks queue (InsWait list index task) = refl
-same_tasks queue (DelWait list index) = refl
-same_tasks queue (PutBack item) = refl
-same_tasks queue TakeBack = refl
-same_tasks queue (PutFront item) = refl
-same_tasks queue TakeFront = refl
-same_tasks queue (SetItem index item) = refl
-same_tasks queue Clear = refl
-same_tasks queue (Fill bytes) = refl
+-- Room to wait for as many tasks, among as many sets.
+same_numbers : (queue : QueueSnapshot) (change : QueueChange)
+    → ((queue_applied queue change).tasks ≡ queue.tasks) × ((queue_applied queue change).sets ≡ queue.sets)
+same_numbers queue (InsWait list index task) = (refl, refl)
+same_numbers queue (DelWait list index) = (refl, refl)
+same_numbers queue (PutBack item) = (refl, refl)
+same_numbers queue TakeBack = (refl, refl)
+same_numbers queue (PutFront item) = (refl, refl)
+same_numbers queue TakeFront = (refl, refl)
+same_numbers queue (SetItem index item) = (refl, refl)
+same_numbers queue Clear = (refl, refl)
+same_numbers queue (Fill bytes) = (refl, refl)
+same_numbers queue (SetMember set) = (refl, refl)
 
 pub each_is_undone : EachQueueChangeIsUndone
 each_is_undone queue change sized fits = record {
   back = undoes queue change sized fits;
   fits = inverse_fits queue change sized fits;
   sized = sized_then queue change sized fits;
-  tasks = same_tasks queue change;
+  tasks = (same_numbers queue change).0;
+  sets = (same_numbers queue change).1;
 }

@@ -1,16 +1,17 @@
 -- The primitive changes of a queue: what each does, at which queues it fits, and what undoes it.
 use Rattle.std.specs.Prelude.{ℕ, ◌≡◌, ◌-◌, ◌*◌, ◌<◌, ◌≤◌, List, [], ◌∷◌, ◌++◌, length, take, drop}
-use Rattle.std.specs.Prelude.{insert, remove, slice_index, slice_index_or, slice_set}
+use Rattle.std.specs.Prelude.{insert, remove, slice_index, slice_index_or, slice_set, IfSome}
 use Rattle.std.specs.List.{concat}
 use Rattle.rd_queue.specs.declared.change.QueueChange.{QueueChange}
 use Rattle.rd_queue.specs.declared.change.QueueChange.TheVariants.{InsWait, DelWait}
 use Rattle.rd_queue.specs.declared.change.QueueChange.TheVariants.{PutBack, TakeBack}
 use Rattle.rd_queue.specs.declared.change.QueueChange.TheVariants.{PutFront, TakeFront}
-use Rattle.rd_queue.specs.declared.change.QueueChange.TheVariants.{SetItem, Clear, Fill}
+use Rattle.rd_queue.specs.declared.change.QueueChange.TheVariants.{SetItem, Clear, Fill, SetMember}
 use Rattle.rd_queue.specs.declared.end.End.{End}
 use Rattle.rd_queue.specs.declared.end.End.TheVariants.{Back, Front}
 use Rattle.rd_queue.specs.QueueSnapshot.{QueueSnapshot}
-use Rattle.rd_queue.specs.Queues.{count_in, items_in, tasks_in_list, with_items, with_waiting}
+use Rattle.rd_queue.specs.Queues.{count_in, items_in, tasks_in_list}
+use Rattle.rd_queue.specs.Queues.{with_items, with_set, with_waiting}
 use Rattle.rd_queue.specs.Sizes.{IsSizedQueue}
 
 -- the queue after a change
@@ -26,6 +27,7 @@ queue_applied queue TakeFront = with_items queue (drop 1 queue.items)
 queue_applied queue (SetItem index item) = with_items queue (slice_set queue.items index item)
 queue_applied queue Clear = with_items queue []
 queue_applied queue (Fill bytes) = with_items queue (items_in queue.item_size bytes)
+queue_applied queue (SetMember set) = with_set queue set
 
 -- the change that undoes a change made at this queue
 abbrev pub queue_inverse_of : QueueSnapshot → QueueChange → QueueChange
@@ -40,6 +42,7 @@ queue_inverse_of queue TakeFront = PutFront (slice_index_or queue.items 0 [])
 queue_inverse_of queue (SetItem index item) = SetItem index (slice_index_or queue.items index [])
 queue_inverse_of queue Clear = Fill (concat queue.items)
 queue_inverse_of queue (Fill bytes) = Clear
+queue_inverse_of queue (SetMember set) = SetMember queue.set
 
 -- the change that puts an item at an end
 abbrev pub put_at : End → List ℕ → QueueChange
@@ -71,6 +74,7 @@ QueueFits queue (SetItem index item) =
     (index < length queue.items) × (length item ≡ queue.item_size)
 QueueFits queue Clear = Unit {0}
 QueueFits queue (Fill bytes) = HasRoomForAll queue bytes
+QueueFits queue (SetMember set) = IfSome set (λ s. s < queue.sets)
 
 -- the bytes that a change carries
 abbrev pub queue_saved_bytes : QueueChange → ℕ
@@ -83,14 +87,16 @@ queue_saved_bytes TakeFront = 0
 queue_saved_bytes (SetItem index item) = length item
 queue_saved_bytes Clear = 0
 queue_saved_bytes (Fill bytes) = length bytes
+queue_saved_bytes (SetMember set) = 0
 
 -- A change that is undone leaves the queue as it was, and what undoes it fits. The queue with the
--- change made is one, with room for as many tasks.
+-- change made is one, with room for as many tasks, among as many sets.
 pub record QueueIsUndone (queue : QueueSnapshot) (change : QueueChange) : Type 0 where
   pub back : queue_applied (queue_applied queue change) (queue_inverse_of queue change) ≡ queue
   pub fits : QueueFits (queue_applied queue change) (queue_inverse_of queue change)
   pub sized : IsSizedQueue (queue_applied queue change)
   pub tasks : (queue_applied queue change).tasks ≡ queue.tasks
+  pub sets : (queue_applied queue change).sets ≡ queue.sets
 
 -- whichever change it is, at whichever queue it fits
 abbrev pub EachQueueChangeIsUndone : Type 0

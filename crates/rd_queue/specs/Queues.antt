@@ -1,19 +1,21 @@
 -- Queues as lists of items and of waiting tasks.
 use Rattle.std.specs.Prelude.{ℕ, zero, suc, ◌++◌, ◌/◌, Bool, true, false, List, [], ◌∷◌, length}
-use Rattle.std.specs.Prelude.{take, drop, replicate}
+use Rattle.std.specs.Prelude.{take, drop, replicate, Option, None}
 use Rattle.rd_queue.specs.declared.waiting_list.WaitingList.{WaitingList}
 use Rattle.rd_queue.specs.declared.waiting_list.WaitingList.TheVariants.{Receiving, Sending}
 use Rattle.rd_queue.specs.QueueSnapshot.{QueueSnapshot}
 
--- a new queue, at which that many tasks can wait in each list
-abbrev pub empty_queue : ℕ → ℕ → ℕ → QueueSnapshot
-empty_queue capacity item_size tasks = record {
+-- a new queue in no set, at which that many tasks can wait in each list, among that many sets
+abbrev pub empty_queue : ℕ → ℕ → ℕ → ℕ → QueueSnapshot
+empty_queue capacity item_size tasks sets = record {
   items = [];
   capacity = capacity;
   item_size = item_size;
   receiving = [];
   sending = [];
   tasks = tasks;
+  set = None;
+  sets = sets;
 }
 
 -- how many items of that size lie in these bytes, one after the other, and which these are
@@ -30,6 +32,10 @@ items_in size bytes = first_items size (count_in size bytes) bytes
 -- the queue with these items in place of its own
 abbrev pub with_items : QueueSnapshot → List (List ℕ) → QueueSnapshot
 with_items queue items = record queue { items = items }
+
+-- the queue as a member of that set, or of none, in place of its own
+abbrev pub with_set : QueueSnapshot → Option ℕ → QueueSnapshot
+with_set queue set = record queue { set = set }
 
 -- Are they one list?
 abbrev pub same_list : WaitingList → WaitingList → Bool

@@ -1,6 +1,7 @@
--- What holds of every queue.
-use Rattle.std.specs.Prelude.{ℕ, ◌≡◌, ◌<◌, ◌≤◌, List, length, All}
+-- What holds of every queue, and of every queue set.
+use Rattle.std.specs.Prelude.{ℕ, ◌≡◌, ◌<◌, ◌≤◌, List, length, All, IfSome}
 use Rattle.rd_queue.specs.QueueSnapshot.{QueueSnapshot}
+use Rattle.rd_queue.specs.SetSnapshot.{SetSnapshot}
 
 -- Those that wait are tasks, of which there are so many, and no more than there are.
 abbrev pub IsSizedList : ℕ → List ℕ → Type 0
@@ -15,3 +16,11 @@ pub record IsSizedQueue (queue : QueueSnapshot) : Type 0 where
   pub small : queue.item_size ≤ 64
   pub receiving : IsSizedList queue.tasks queue.receiving
   pub sending : IsSizedList queue.tasks queue.sending
+  pub set : IfSome queue.set (λ set. set < queue.sets)
+
+pub record IsSizedSet (set : SetSnapshot) : Type 0 where
+  pub room : length set.handles ≤ set.capacity
+  pub handles : All (λ queue. queue < set.queues) set.handles
+  pub some_room : 0 < set.capacity
+  pub few : set.capacity ≤ 2048
+  pub waiting : IsSizedList set.tasks set.waiting

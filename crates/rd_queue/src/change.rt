@@ -47,6 +47,10 @@ pub enum QueueChange {
     Fill {
         items: SavedBytes,
     },
+    /// The queue becomes a member of that set, or of none.
+    SetMember {
+        set: Option<usize>,
+    },
 }
 
 impl QueueChange {
@@ -63,7 +67,8 @@ impl QueueChange {
             | QueueChange::DelWait { .. }
             | QueueChange::TakeBack
             | QueueChange::TakeFront
-            | QueueChange::Clear => 1,
+            | QueueChange::Clear
+            | QueueChange::SetMember { .. } => 1,
         }
     }
 }
@@ -90,6 +95,8 @@ impl Queue {
             QueueChange::SetItem { index, item } => self.set_item(*index, item.as_slice()),
             QueueChange::Clear => self.clear(),
             QueueChange::Fill { items } => self.fill(items.as_slice()),
+            QueueChange::SetMember { set: Some(set) } => self.join_set(*set),
+            QueueChange::SetMember { set: None } => self.leave_set(),
         }
     }
 
@@ -128,6 +135,7 @@ impl Queue {
                 items: self.saved_items(alloc)?,
             }),
             QueueChange::Fill { .. } => Ok(QueueChange::Clear),
+            QueueChange::SetMember { .. } => Ok(QueueChange::SetMember { set: self.set_of() }),
         }
     }
 }

@@ -1,8 +1,10 @@
-//! Queues of items of one size, with the tasks that wait at them.
+//! Queues of items of one size, and sets of queues, with the tasks that wait at them.
 #![tactic(auto)]
 
 pub mod change;
 pub mod end;
 pub mod item;
 pub mod queue;
+pub mod queue_set;
+pub mod set_change;
 pub mod waiting_list;

@@ -2,12 +2,12 @@
 
 ghost use Rattle.std.specs.Prelude.{◌≡◌, ◌+◌, ◌-◌, ◌*◌, ◌<◌, ◌≤◌, ◌↔◌, [], ◌∷◌, ◌++◌, length};
 ghost use Rattle.std.specs.Prelude.{take, drop, insert, remove, slice_get, slice_index_or};
-ghost use Rattle.std.specs.Prelude.{slice_set, Some, IsTrue, IsOk, IsErr, IfOk, OnOk, OnErr};
+ghost use Rattle.std.specs.Prelude.{slice_set, IsTrue, IsOk, IsErr, IfOk, IfSome, OnOk, OnErr};
 ghost use Rattle.rd_queue.specs.Sizes.{IsSizedQueue};
 ghost use Rattle.std.specs.List.{concat};
 ghost use Rattle.std.specs.VecDeque.{deque_capacity};
 ghost use Rattle.rd_queue.specs.Queues.{count_in, empty_queue, fitted, items_in, with_items};
-ghost use Rattle.rd_queue.specs.Queues.{tasks_in_list, with_waiting};
+ghost use Rattle.rd_queue.specs.Queues.{tasks_in_list, with_set, with_waiting};
 ghost use Rattle.rd_queue.specs.Changes.{HasRoomForAll, put_at, queue_applied};
 ghost use Rattle.rd_queue.specs.declared.change.QueueChange.TheVariants.{SetItem};
 
@@ -32,8 +32,8 @@ pub struct Full;
 #[error("the queue is empty")]
 pub struct Empty;
 
-/// A queue with room for `capacity` items of `item_size` bytes each, and the tasks that wait at it.
-/// All its memory is taken by `new`.
+/// A queue with room for `capacity` items of `item_size` bytes each, the tasks that wait at it, and
+/// the queue set that it is a member of. All its memory is taken by `new`.
 #[derive(Drop)]
 pub struct Queue {
     items: VecDeque<Item>,
@@ -41,10 +41,12 @@ pub struct Queue {
     item_size: usize,
     receiving: PrioList,
     sending: PrioList,
+    set: Option<usize>,
+    sets: usize,
 }
 
 impl Model for Queue {
-    ghost use Rattle.std.specs.Prelude.{◌≡◌, ◌<◌, ◌≤◌, length, All};
+    ghost use Rattle.std.specs.Prelude.{◌≡◌, ◌<◌, ◌≤◌, length, All, IfSome};
     ghost use Rattle.std.specs.VecDeque.{deque_capacity};
     ghost use Rattle.rd_queue.specs.QueueSnapshot.{QueueSnapshot};
 
@@ -57,17 +59,21 @@ impl Model for Queue {
       receiving = q.receiving.tasks;
       sending = q.sending.tasks;
       tasks = q.receiving.room;
+      set = q.set;
+      sets = q.sets;
     } };
 
     // The items fit in the room, each has the size, and the room is reserved: for 1 to 64 items of
-    // 1 to 64 bytes. Both lists have the same room, and those that wait are tasks.
+    // 1 to 64 bytes. Both lists have the same room, and those that wait are tasks. The queue is a
+    // member of a set that is there, or of none.
     ghost invariant = { λ q. (length q.items.items ≤ q.capacity)
         × All (λ item. length item ≡ q.item_size) q.items.items
         × (q.capacity ≤ deque_capacity q.items) × (0 < q.capacity) × (q.capacity ≤ 64)
         × (0 < q.item_size) × (q.item_size ≤ 64)
         × (q.sending.room ≡ q.receiving.room)
         × All (λ task. task < q.receiving.room) q.receiving.tasks
-        × All (λ task. task < q.receiving.room) q.sending.tasks };
+        × All (λ task. task < q.receiving.room) q.sending.tasks
+        × IfSome q.set (λ set. set < q.sets) };
 }
 
 // Whether the items are equal, one by one.
@@ -116,18 +122,20 @@ fn push_all(items: &mut VecDeque<Item>, size: usize, bytes: &[u8])
 
 impl Queue {
     /// An empty queue with room for `capacity` items, 1 to 64, of `item_size` bytes, 1 to 64
-    /// (`xQueueCreate`), at which `tasks` tasks can wait in each list.
+    /// (`xQueueCreate`), at which `tasks` tasks can wait in each list. It is in none of the `sets`
+    /// queue sets.
     pub fn new(
         alloc: Global,
         capacity: usize,
         item_size: usize,
         tasks: usize,
+        sets: usize,
     ) -> Result<Queue, AllocError>
         requires some_room { 0 < capacity }
         requires few { capacity ≤ 64 }
         requires some_bytes { 0 < item_size }
         requires small { item_size ≤ 64 }
-        ensures { IfOk result (λ queue. queue ≡ empty_queue capacity item_size tasks) }
+        ensures { IfOk result (λ queue. queue ≡ empty_queue capacity item_size tasks sets) }
     {
         let items = VecDeque::with_capacity(alloc, capacity)?;
         Ok(Queue {
@@ -136,6 +144,8 @@ impl Queue {
             item_size,
             receiving: PrioList::new(alloc, tasks)?,
             sending: PrioList::new(alloc, tasks)?,
+            set: None,
+            sets,
         })
     }
 
@@ -153,11 +163,13 @@ impl Queue {
             item_size: self.item_size,
             receiving: self.receiving.copy(alloc)?,
             sending: self.sending.copy(alloc)?,
+            set: self.set,
+            sets: self.sets,
         })
     }
 
-    /// Whether the other queue has the same items, the same room and the same item size, and the
-    /// same tasks wait at it.
+    /// Whether the other queue has the same items, the same room and the same item size, the same
+    /// tasks wait at it, and it is a member of the same set, of as many.
     pub fn same(&self, other: &Queue) -> bool
         ensures { IsTrue result ↔ (self.now ≡ other.now) }
     {
@@ -166,6 +178,8 @@ impl Queue {
             && same_items(&self.items, &other.items)
             && self.receiving.same(&other.receiving)
             && self.sending.same(&other.sending)
+            && self.set == other.set
+            && self.sets == other.sets
     }
 
     /// The sizes that every queue keeps.
@@ -412,5 +426,30 @@ impl Queue {
             WaitingList::Receiving => self.receiving.remove_at(index),
             WaitingList::Sending => self.sending.remove_at(index),
         }
+    }
+
+    /// The queue set that the queue is a member of, by number.
+    pub fn set_of(&self) -> Option<usize>
+        ensures set { result ≡ self.now.set }
+        ensures there { IfSome result (λ set. set < self.now.sets) }
+    {
+        self.set
+    }
+
+    /// Makes the queue a member of a set (`xQueueAddToSet`, but for when that is refused). It takes
+    /// no memory.
+    pub fn join_set(&mut self, set: usize)
+        requires { set < self.old.sets }
+        ensures { self.new ≡ with_set self.old (Some set) }
+    {
+        self.set = Some(set);
+    }
+
+    /// Makes the queue a member of no set (`xQueueRemoveFromSet`, but for when that is refused). It
+    /// takes no memory.
+    pub fn leave_set(&mut self)
+        ensures { self.new ≡ with_set self.old None }
+    {
+        self.set = None;
     }
 }

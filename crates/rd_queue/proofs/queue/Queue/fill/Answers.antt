@@ -1,8 +1,8 @@
 -- The goals of `Queue::fill` that the check left open.
-use Rattle.std.proofs.Common.{◌≡◌, [], subst, sym, arith}
+use Rattle.std.proofs.Common.{◌≡◌, ◌≤◌, [], length, subst, sym, arith}
 use Rattle.rd_queue.specs.Changes.{HasRoomForAll}
 use Rattle.rd_queue.specs.QueueSnapshot.{QueueSnapshot}
-use Rattle.rd_queue.specs.Queues.{count_in}
+use Rattle.rd_queue.specs.Queues.{count_in, items_in}
 use Rattle.rd_queue.proofs.QueueLaws.{All-first_items, length-first_items}
 use Rattle.rd_queue.proofs.queue.Queue.fill.Goals as goal
 
@@ -14,6 +14,5 @@ invariant_of-self c =
     let count = count_in size bytes in
     let room = subst (λ (q : QueueSnapshot). HasRoomForAll q bytes) (sym c.self.view_is) c.requires in
     let empty : c.self.inside.items.items ≡ [] = room.empty in
-    rw (c.push_all.ensures.items, c.push_all.ensures.capacity, empty)
-    (omega (arith, length-first_items size count bytes, room.room), All-first_items size count bytes room.whole,
-      kept.2, kept.3, kept.4, kept.5, kept.6, kept.7, kept.8, kept.9)
+    let fits : length (items_in size bytes) ≤ c.self.inside.capacity = omega (arith, length-first_items size count bytes, room.room) in
+    rw (c.push_all.ensures.items, c.push_all.ensures.capacity, empty) (assumption (fits, All-first_items size count bytes room.whole, kept))

@@ -7,12 +7,11 @@ pub invariant_of-self : goal.invariant_of-self
 invariant_of-self c =
     let kept = c.self.invariant in
     let list = c.self.inside.receiving in
-    rw c.remove_at.ensures.rest
-    (kept.0, kept.1, kept.2, kept.3, kept.4, kept.5, kept.6, kept.7, All-remove (λ task. task < list.room) list.tasks c.args.index kept.8, kept.9)
+    rw c.remove_at.ensures.rest (assumption (All-remove (λ task. task < list.room) list.tasks c.args.index kept.8, kept))
 
 pub invariant_of-self-in-Sending : goal.invariant_of-self-in-Sending
 invariant_of-self-in-Sending c =
     let kept = c.self.invariant in
     let list = c.self.inside.sending in
     rw c.remove_at-in-Sending.ensures.rest
-    (kept.0, kept.1, kept.2, kept.3, kept.4, kept.5, kept.6, kept.7, kept.8, All-remove (λ task. task < c.self.inside.receiving.room) list.tasks c.args.index kept.9)
+    (assumption (All-remove (λ task. task < c.self.inside.receiving.room) list.tasks c.args.index kept.9, kept))

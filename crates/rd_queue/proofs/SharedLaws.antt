@@ -1,0 +1,39 @@
+-- Laws that queues and queue sets share: of the end of a list, and of a list of waiting tasks.
+use Rattle.std.proofs.Common.{◌≡◌, ◌∙◌, ℕ, ◌+◌, ◌-◌, ◌<◌, ◌≤◌, List, [], ◌∷◌, ◌++◌, length, get_or, take, sym, arith}
+use Rattle.std.proofs.lemmas.List.{length_push, take_at, take_all, take_more}
+use Rattle.std.proofs.lemmas.List.Edits.{length-remove, length-insert}
+use Rattle.std.proofs.lemmas.List.Elements.{All-get_or}
+use Rattle.std.specs.Prelude.{insert, remove}
+use Rattle.rd_queue.specs.Sizes.{IsSizedList}
+use Rattle.rd_wait.proofs.ListLaws.{All-insert, All-remove}
+
+-- ---- the end of a list
+
+-- the last member taken, once one was put at the back
+pub last_taken_after_push : {X : Type 0} (xs : List X) (x : X) → take (length (xs ++ x ∷ []) - 1) (xs ++ x ∷ []) ≡ xs
+last_taken_after_push xs x = take_at xs (x ∷ []) (length (xs ++ x ∷ []) - 1) (omega (arith, length_push xs x))
+
+-- the last member put back, once it was taken
+pub last_pushed_after_take : {X : Type 0} (xs : List X) (d : X) → 0 < length xs → take (length xs - 1) xs ++ get_or xs (length xs - 1) d ∷ [] ≡ xs
+last_pushed_after_take xs d some =
+    let last = length xs - 1 in
+    sym (take_more xs last d (omega arith)) ∙ take_all (last + 1) xs (omega arith)
+
+-- ---- a list of waiting tasks
+
+-- one task more waits, or one less
+pub inserted_sized : (tasks : ℕ) (waiting : List ℕ) (index task : ℕ) → IsSizedList tasks waiting → index ≤ length waiting → length waiting < tasks
+    → task < tasks → IsSizedList tasks (insert waiting index task)
+inserted_sized tasks waiting index task sized within room is_task =
+    (All-insert (λ t. t < tasks) waiting index task sized.0 is_task, omega (arith, length-insert waiting index task within, room))
+
+pub removed_sized : (tasks : ℕ) (waiting : List ℕ) (index : ℕ) → IsSizedList tasks waiting → index < length waiting → IsSizedList tasks (remove waiting index)
+removed_sized tasks waiting index sized there =
+    (All-remove (λ t. t < tasks) waiting index sized.0, omega (arith, length-remove waiting index there, sized.1))
+
+-- a task that has left a list finds room there
+pub room_after : (tasks : ℕ) (waiting : List ℕ) (index : ℕ) → IsSizedList tasks waiting → index < length waiting
+    → (index ≤ length (remove waiting index)) × (length (remove waiting index) < tasks) × (get_or waiting index 0 < tasks)
+room_after tasks waiting index sized there =
+    let shorter = length-remove waiting index there in
+    (omega (arith, shorter, there), omega (arith, shorter, there, sized.1), All-get_or (λ task. task < tasks) waiting index 0 there sized.0)

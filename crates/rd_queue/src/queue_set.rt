@@ -1,0 +1,218 @@
+//! A queue set: which of its queues have items, and the tasks that wait for one.
+
+ghost use Rattle.std.specs.Prelude.{◌≡◌, ◌+◌, ◌-◌, ◌<◌, ◌≤◌, ◌↔◌, [], ◌∷◌, ◌++◌, length};
+ghost use Rattle.std.specs.Prelude.{take, drop, insert, remove, slice_get, slice_index};
+ghost use Rattle.std.specs.Prelude.{IsTrue, IfOk};
+ghost use Rattle.rd_queue.specs.Sets.{empty_set, with_handles, with_waiting_tasks};
+ghost use Rattle.rd_queue.specs.Sizes.{IsSizedSet};
+
+use rd_wait::prio_list::PrioList;
+use std::alloc::{AllocError, Global};
+use std::collections::VecDeque;
+use std::marker::Model;
+
+/// A queue set with room for `capacity` handles, each the number of a queue, and the tasks that
+/// wait to select from it. All its memory is taken by `new`.
+#[derive(Drop)]
+pub struct QueueSet {
+    handles: VecDeque<usize>,
+    capacity: usize,
+    queues: usize,
+    waiting: PrioList,
+}
+
+impl Model for QueueSet {
+    ghost use Rattle.std.specs.Prelude.{◌<◌, ◌≤◌, length, All};
+    ghost use Rattle.std.specs.VecDeque.{deque_capacity};
+    ghost use Rattle.rd_queue.specs.SetSnapshot.{SetSnapshot};
+
+    ghost Value = { SetSnapshot };
+
+    ghost view = { λ s. record {
+      handles = s.handles.items;
+      capacity = s.capacity;
+      queues = s.queues;
+      waiting = s.waiting.tasks;
+      tasks = s.waiting.room;
+    } };
+
+    // The handles fit in the room, each is a queue, and the room is reserved: for 1 to 2048 of
+    // them. Those that wait are tasks.
+    ghost invariant = { λ s. (length s.handles.items ≤ s.capacity)
+        × All (λ queue. queue < s.queues) s.handles.items
+        × (s.capacity ≤ deque_capacity s.handles) × (0 < s.capacity) × (s.capacity ≤ 2048)
+        × All (λ task. task < s.waiting.room) s.waiting.tasks };
+}
+
+impl QueueSet {
+    /// An empty set with room for `capacity` handles, 1 to 2048, of `queues` queues
+    /// (`xQueueCreateSet`), at which `tasks` tasks can wait.
+    pub fn new(
+        alloc: Global,
+        capacity: usize,
+        queues: usize,
+        tasks: usize,
+    ) -> Result<QueueSet, AllocError>
+        requires some_room { 0 < capacity }
+        requires few { capacity ≤ 2048 }
+        ensures { IfOk result (λ set. set ≡ empty_set capacity queues tasks) }
+    {
+        let handles = VecDeque::with_capacity(alloc, capacity)?;
+        Ok(QueueSet {
+            handles,
+            capacity,
+            queues,
+            waiting: PrioList::new(alloc, tasks)?,
+        })
+    }
+
+    /// An equal set.
+    pub fn copy(&self, alloc: Global) -> Result<QueueSet, AllocError>
+        ensures { IfOk result (λ set. set ≡ self.now) }
+    {
+        let mut handles = VecDeque::with_capacity(alloc, self.capacity)?;
+        for index in 0..self.handles.len() {
+            handles.push_back_reserved(self.handles[index]);
+        }
+        Ok(QueueSet {
+            handles,
+            capacity: self.capacity,
+            queues: self.queues,
+            waiting: self.waiting.copy(alloc)?,
+        })
+    }
+
+    /// Whether the other set has the same handles, the same room, for as many queues, and the same
+    /// tasks wait at it.
+    pub fn same(&self, other: &QueueSet) -> bool
+        ensures { IsTrue result ↔ (self.now ≡ other.now) }
+    {
+        self.capacity == other.capacity
+            && self.queues == other.queues
+            && self.handles == other.handles
+            && self.waiting.same(&other.waiting)
+    }
+
+    /// The sizes that every set keeps.
+    pub fn sizes(&self)
+        ensures { IsSizedSet self.now }
+    {
+        self.waiting.as_slice();
+    }
+
+    /// How many handles there are.
+    pub fn count(&self) -> usize
+        ensures count { result ≡ length self.now.handles }
+        ensures within { result ≤ self.now.capacity }
+        ensures few { result ≤ 2048 }
+    {
+        self.handles.len()
+    }
+
+    /// For how many more handles there is room.
+    pub fn spaces(&self) -> usize
+        ensures spaces { result + length self.now.handles ≡ self.now.capacity }
+        ensures few { result ≤ 2048 }
+    {
+        self.capacity - self.handles.len()
+    }
+
+    /// How many handles there is room for.
+    pub fn capacity(&self) -> usize
+        ensures capacity { result ≡ self.now.capacity }
+        ensures few { result ≤ 2048 }
+    {
+        self.capacity
+    }
+
+    /// The queue whose handle is at `index`, 0 the oldest.
+    pub fn handle(&self, index: usize) -> usize
+        requires { index < length self.now.handles }
+        ensures handle { result ≡ slice_index self.now.handles index }
+        ensures queue { result < self.now.queues }
+    {
+        self.handles[index]
+    }
+
+    /// The queue whose handle is the oldest.
+    pub fn first_handle(&self) -> usize
+        requires { 0 < length self.now.handles }
+        ensures handle { result ≡ slice_index self.now.handles 0 }
+        ensures queue { result < self.now.queues }
+    {
+        self.handle(0)
+    }
+
+    /// The queue whose handle is the newest.
+    pub fn last_handle(&self) -> usize
+        requires { 0 < length self.now.handles }
+        ensures handle { result ≡ slice_index self.now.handles (length self.now.handles - 1) }
+        ensures queue { result < self.now.queues }
+    {
+        self.handle(self.handles.len() - 1)
+    }
+
+    /// Puts the handle of a queue at the back, as a send to a member does. It takes no memory.
+    pub fn push_handle(&mut self, queue: usize)
+        requires room { length self.old.handles < self.old.capacity }
+        requires queue { queue < self.old.queues }
+        ensures { self.new ≡ with_handles self.old (self.old.handles ++ queue ∷ []) }
+    {
+        self.handles.push_back_reserved(queue);
+    }
+
+    /// Takes the handle at the back out again: what undoes `push_handle`.
+    pub fn drop_handle(&mut self) -> usize
+        requires { 0 < length self.old.handles }
+        ensures handle { slice_get self.old.handles (length self.old.handles - 1) ≡ Some result }
+        ensures rest { self.new
+            ≡ with_handles self.old (take (length self.old.handles - 1) self.old.handles) }
+    {
+        self.handles.pop_back().unwrap()
+    }
+
+    /// Takes the handle at the front (`xQueueSelectFromSet`).
+    pub fn take_handle(&mut self) -> usize
+        requires { 0 < length self.old.handles }
+        ensures handle { slice_get self.old.handles 0 ≡ Some result }
+        ensures rest { self.new ≡ with_handles self.old (drop 1 self.old.handles) }
+    {
+        self.handles.pop_front().unwrap()
+    }
+
+    /// Puts a handle back at the front: what undoes `take_handle`. It takes no memory.
+    pub fn untake_handle(&mut self, queue: usize)
+        requires room { length self.old.handles < self.old.capacity }
+        requires queue { queue < self.old.queues }
+        ensures { self.new ≡ with_handles self.old (queue ∷ self.old.handles) }
+    {
+        self.handles.push_front_reserved(queue);
+    }
+
+    /// The tasks that wait to select.
+    pub fn waiting(&self) -> &PrioList
+        ensures tasks { result.now.tasks ≡ self.now.waiting }
+        ensures room { result.now.room ≡ self.now.tasks }
+    {
+        &self.waiting
+    }
+
+    /// Puts a task among those that wait, at `index`. It takes no memory.
+    pub fn insert(&mut self, index: usize, task: usize)
+        requires within { index ≤ length self.old.waiting }
+        requires room { length self.old.waiting < self.old.tasks }
+        requires task { task < self.old.tasks }
+        ensures { self.new ≡ with_waiting_tasks self.old (insert self.old.waiting index task) }
+    {
+        self.waiting.insert_at(index, task);
+    }
+
+    /// Takes the task at `index` out of those that wait.
+    pub fn remove(&mut self, index: usize) -> usize
+        requires { index < length self.old.waiting }
+        ensures task { slice_get self.old.waiting index ≡ Some result }
+        ensures rest { self.new ≡ with_waiting_tasks self.old (remove self.old.waiting index) }
+    {
+        self.waiting.remove_at(index)
+    }
+}
