@@ -1,22 +1,27 @@
 -- An application: what a contract sees of an `App`, and the limits that each keeps.
 use Rattle.std.specs.Prelude.{ℕ, ◌≡◌, ◌-◌, ◌^◌, ◌<◌, ◌≤◌, Bool, true, false}
 use Rattle.std.specs.Prelude.{List, [], length, map, slice_index_or, All, Option, None, Some}
+use Rattle.std.specs.Prelude.{nat_eq, position}
+use Rattle.std.specs.List.{IsDistinct, concat, list_any}
 use Rattle.rd_app.specs.declared.app.QueueShape.{QueueShape}
 use Rattle.rd_app.specs.declared.app.Kind.{Kind}
 use Rattle.rd_app.specs.declared.app.Kind.TheVariants as kind
 use Rattle.rd_app.specs.declared.instr.Operand.{Operand}
 use Rattle.rd_app.specs.declared.instr.Operand.TheVariants.{Number, Register}
 use Rattle.rd_app.specs.declared.instr.Instr.{Instr}
-use Rattle.rd_app.specs.declared.instr.Instr.TheVariants.{Local, Queue}
+use Rattle.rd_app.specs.declared.instr.Instr.TheVariants.{Local, Queue, Set}
 use Rattle.rd_app.specs.declared.instr.LocalInstr.{LocalInstr}
-use Rattle.rd_app.specs.declared.instr.LocalInstr.TheVariants.{Set, Add, Move, Data, Pack, Unpack}
-use Rattle.rd_app.specs.declared.instr.LocalInstr.TheVariants.{Jump, JumpZero, End}
+use Rattle.rd_app.specs.declared.instr.LocalInstr.TheVariants as local
 use Rattle.rd_app.specs.declared.instr.QueueCall.{QueueCall}
 use Rattle.rd_app.specs.declared.instr.QueueCall.TheVariants.{Send, Receive, Peek}
 use Rattle.rd_app.specs.declared.instr.QueueCall.TheVariants.{Overwrite, Reset, Count, Spaces}
+use Rattle.rd_app.specs.declared.instr.QueueCall.TheVariants.{AddToSet, RemoveFromSet}
+use Rattle.rd_app.specs.declared.instr.SetCall.{SetCall}
+use Rattle.rd_app.specs.declared.instr.SetCall.TheVariants.{Select}
 use Rattle.rd_queue.specs.declared.waiting_list.WaitingList.{WaitingList}
 use Rattle.rd_queue.specs.declared.waiting_list.WaitingList.TheVariants.{Receiving, Sending}
 use Rattle.rd_app.specs.TaskScript.{TaskScript}
+use Rattle.rd_app.specs.QueueSetShape.{QueueSetShape}
 use Rattle.rd_text.specs.Names.{AreNames}
 
 -- Names and what they stand for go by number: the index in these lists.
@@ -26,12 +31,15 @@ pub record Application : Type 0 where
   pub tick : ℕ
   pub queues : List QueueShape
   pub queue_names : List (List ℕ)
+  pub sets : List QueueSetShape
+  pub set_names : List (List ℕ)
   pub scripts : List TaskScript
   pub task_names : List (List ℕ)
 
 -- the names of one kind
 abbrev pub names_of : Kind → Application → List (List ℕ)
 names_of kind.Queue app = app.queue_names
+names_of kind.Set app = app.set_names
 names_of kind.Task app = app.task_names
 
 -- the script of a task
@@ -44,11 +52,19 @@ code_of app task = (script_of app task).code
 
 -- the instruction of a task at a number
 abbrev pub instr_at : Application → ℕ → ℕ → Instr
-instr_at app task pc = slice_index_or (code_of app task) pc (Local End)
+instr_at app task pc = slice_index_or (code_of app task) pc (Local local.End)
 
 -- the shape of a queue
 abbrev pub shape_at : Application → ℕ → QueueShape
 shape_at app queue = slice_index_or app.queues queue (record { capacity = 0; item_size = 0 })
+
+-- the set that a queue is a member of at boot, if it is one of any
+abbrev pub set_at_boot : Application → ℕ → Option ℕ
+set_at_boot app queue = position (λ set. list_any (nat_eq queue) set.members) app.sets
+
+-- the members of all these sets, one set after another
+abbrev pub members_of : List QueueSetShape → List ℕ
+members_of sets = concat (map (λ set. set.members) sets)
 
 -- the tasks' priorities, by number
 abbrev pub priorities_of : Application → List ℕ
@@ -65,25 +81,31 @@ IsOperand (Register register) = register < 8
 
 -- Registers, and instructions of a script of that length, are there.
 abbrev pub IsLocalWithin : ℕ → LocalInstr → Type 0
-IsLocalWithin len (Set register value) = register < 8
-IsLocalWithin len (Add register value) = register < 8
-IsLocalWithin len (Move into from) = (into < 8) × (from < 8)
-IsLocalWithin len (Data bytes) = length bytes ≤ 256
-IsLocalWithin len (Pack register) = register < 8
-IsLocalWithin len (Unpack register) = register < 8
-IsLocalWithin len (Jump target) = target < len
-IsLocalWithin len (JumpZero register target) = (register < 8) × (target < len)
-IsLocalWithin len End = Unit {0}
+IsLocalWithin len (local.Set register value) = register < 8
+IsLocalWithin len (local.Add register value) = register < 8
+IsLocalWithin len (local.Move into from) = (into < 8) × (from < 8)
+IsLocalWithin len (local.Data bytes) = length bytes ≤ 256
+IsLocalWithin len (local.Pack register) = register < 8
+IsLocalWithin len (local.Unpack register) = register < 8
+IsLocalWithin len (local.Jump target) = target < len
+IsLocalWithin len (local.JumpZero register target) = (register < 8) × (target < len)
+IsLocalWithin len local.End = Unit {0}
 
--- The registers that a call of a queue names are there.
-abbrev pub IsQueueCall : QueueCall → Type 0
-IsQueueCall (Send end wait) = IsOperand wait
-IsQueueCall (Receive wait) = IsOperand wait
-IsQueueCall (Peek wait) = IsOperand wait
-IsQueueCall Overwrite = Unit {0}
-IsQueueCall Reset = Unit {0}
-IsQueueCall Count = Unit {0}
-IsQueueCall Spaces = Unit {0}
+-- The registers that a call of a queue names are there, and of so many sets the one that it names.
+abbrev pub IsQueueCall : ℕ → QueueCall → Type 0
+IsQueueCall sets (Send end wait) = IsOperand wait
+IsQueueCall sets (Receive wait) = IsOperand wait
+IsQueueCall sets (Peek wait) = IsOperand wait
+IsQueueCall sets Overwrite = Unit {0}
+IsQueueCall sets Reset = Unit {0}
+IsQueueCall sets Count = Unit {0}
+IsQueueCall sets Spaces = Unit {0}
+IsQueueCall sets (AddToSet set) = set < sets
+IsQueueCall sets (RemoveFromSet set) = set < sets
+
+-- The registers that a call of a queue set names are there.
+abbrev pub IsSetCall : SetCall → Type 0
+IsSetCall (Select wait) = IsOperand wait
 
 -- The call is one for a queue of that shape: only a queue for one item is overwritten.
 abbrev pub IsCallFor : QueueShape → QueueCall → Type 0
@@ -94,6 +116,8 @@ IsCallFor shape Overwrite = shape.capacity ≡ 1
 IsCallFor shape Reset = Unit {0}
 IsCallFor shape Count = Unit {0}
 IsCallFor shape Spaces = Unit {0}
+IsCallFor shape (AddToSet set) = Unit {0}
+IsCallFor shape (RemoveFromSet set) = Unit {0}
 
 -- the list of its queue where a task waits for a call, if that has a block time
 abbrev pub list_of_call : QueueCall → Option WaitingList
@@ -104,28 +128,34 @@ list_of_call Overwrite = None
 list_of_call Reset = None
 list_of_call Count = None
 list_of_call Spaces = None
+list_of_call (AddToSet set) = None
+list_of_call (RemoveFromSet set) = None
 
 -- Registers, instructions of the script and objects are there.
 abbrev pub IsWithin : Application → ℕ → Instr → Type 0
 IsWithin app len (Local instr) = IsLocalWithin len instr
 IsWithin app len (Queue queue call) =
-    (queue < length app.queues) × IsQueueCall call × IsCallFor (shape_at app queue) call
+    (queue < length app.queues)
+    × IsQueueCall (length app.sets) call
+    × IsCallFor (shape_at app queue) call
+IsWithin app len (Set set call) = (set < length app.sets) × IsSetCall call
 
 -- does the script never go on at the next instruction?
 abbrev pub is_local_final : LocalInstr → Bool
-is_local_final (Set register value) = false
-is_local_final (Add register value) = false
-is_local_final (Move into from) = false
-is_local_final (Data bytes) = false
-is_local_final (Pack register) = false
-is_local_final (Unpack register) = false
-is_local_final (Jump target) = true
-is_local_final (JumpZero register target) = false
-is_local_final End = true
+is_local_final (local.Set register value) = false
+is_local_final (local.Add register value) = false
+is_local_final (local.Move into from) = false
+is_local_final (local.Data bytes) = false
+is_local_final (local.Pack register) = false
+is_local_final (local.Unpack register) = false
+is_local_final (local.Jump target) = true
+is_local_final (local.JumpZero register target) = false
+is_local_final local.End = true
 
 abbrev pub is_final : Instr → Bool
 is_final (Local instr) = is_local_final instr
 is_final (Queue queue call) = false
+is_final (Set set call) = false
 
 abbrev pub IsQueueShape : QueueShape → Type 0
 IsQueueShape queue =
@@ -134,12 +164,18 @@ IsQueueShape queue =
     × (0 < queue.item_size)
     × (queue.item_size ≤ 64)
 
+-- There is room for handles, and the members are queues.
+pub record IsSetShape (app : Application) (set : QueueSetShape) : Type 0 where
+  pub some : 0 < set.capacity
+  pub few : set.capacity ≤ 2048
+  pub members : All (λ queue. queue < length app.queues) set.members
+
 pub record IsScript (app : Application) (script : TaskScript) : Type 0 where
   pub priority : script.priority ≤ 31
   pub some : 0 < length script.code
   pub few : length script.code ≤ 256
   pub within : All (IsWithin app (length script.code)) script.code
-  pub ends : is_final (slice_index_or script.code (length script.code - 1) (Local End)) ≡ true
+  pub ends : is_final (slice_index_or script.code (length script.code - 1) (Local local.End)) ≡ true
 
 pub record IsApplication (app : Application) : Type 0 where
   pub some_cores : 0 < app.cores
@@ -151,6 +187,11 @@ pub record IsApplication (app : Application) : Type 0 where
   pub queues : All IsQueueShape app.queues
   pub queue_names : length app.queue_names ≡ length app.queues
   pub named_queues : AreNames app.queue_names
+  pub few_sets : length app.sets ≤ 32
+  pub sets : All (IsSetShape app) app.sets
+  pub one_set_each : IsDistinct nat_eq (members_of app.sets)
+  pub set_names : length app.set_names ≡ length app.sets
+  pub named_sets : AreNames app.set_names
   pub some_tasks : 0 < length app.scripts
   pub few_tasks : length app.scripts ≤ 32
   pub scripts : All (IsScript app) app.scripts

@@ -14,6 +14,8 @@ builtin = record {
   tick = 0;
   queues = record { capacity = 2; item_size = 1 } ∷ [];
   queue_names = codes "q0" ∷ [];
+  sets = [];
+  set_names = [];
   scripts = record {
     priority = 1;
     code =

@@ -9,6 +9,8 @@ application_of parts = record {
   tick = parts.tick;
   queues = parts.queues.items;
   queue_names = parts.queue_names;
+  sets = parts.sets.items;
+  set_names = parts.set_names;
   scripts = parts.scripts.items;
   task_names = parts.task_names;
 }

@@ -1,5 +1,6 @@
 -- What the contracts of this crate cite.
 pub mod TaskScript
+pub mod QueueSetShape
 pub mod Application
 pub mod Inside
 pub mod Builtin

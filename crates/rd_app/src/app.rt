@@ -1,10 +1,11 @@
-//! An application: its cores, its queues, its tasks with their scripts, and their names.
+//! An application: its cores, its queues and their sets, its tasks with their scripts, and names.
 
 ghost use Rattle.std.specs.Prelude.{◌≡◌, ◌<◌, ◌≤◌, length, map, position, slice_get};
 ghost use Rattle.std.specs.Prelude.{All, Some, IfOk};
 ghost use Rattle.std.specs.Str.{bytes_eq};
+ghost use Rattle.std.specs.Prelude.{IfSome};
 ghost use Rattle.rd_app.specs.Application.{IsApplication, IsWithin, names_of, code_of};
-ghost use Rattle.rd_app.specs.Application.{priorities_of};
+ghost use Rattle.rd_app.specs.Application.{priorities_of, set_at_boot};
 ghost use Rattle.rd_app.specs.Builtin.{builtin};
 ghost use Rattle.rd_app.specs.Inside.{application_of};
 
@@ -19,6 +20,7 @@ use std::marker::Model;
 #[derive(Clone, Copy, Debug, PartialEq, Eq)]
 pub enum Kind {
     Queue,
+    Set,
     Task,
 }
 
@@ -27,6 +29,22 @@ pub enum Kind {
 pub struct QueueShape {
     pub capacity: usize,
     pub item_size: usize,
+}
+
+/// A queue set to be made: room for 1 to 2,048 handles, and the queues that are its members at boot,
+/// by number (`xQueueCreateSet`).
+#[derive(Drop)]
+pub struct SetShape {
+    capacity: usize,
+    members: Vec<usize>,
+}
+
+impl Model for SetShape {
+    ghost use Rattle.rd_app.specs.QueueSetShape.{QueueSetShape};
+
+    ghost Value = { QueueSetShape };
+
+    ghost view = { λ s. record { capacity = s.capacity; members = s.members.items } };
 }
 
 /// A task to be made: its priority, 0 to 31, higher before lower, and its instructions.
@@ -44,7 +62,7 @@ impl Model for Script {
     ghost view = { λ s. record { priority = s.priority; code = s.code.items } };
 }
 
-/// What an application is made of. Queues and tasks go by number: the index in these lists.
+/// What an application is made of. Queues, sets and tasks go by number: the index in these lists.
 #[derive(Drop)]
 pub struct Parts {
     /// How many cores there are, 1 to 8.
@@ -57,6 +75,10 @@ pub struct Parts {
     pub queues: Vec<QueueShape>,
     /// The queues' names.
     pub queue_names: Names,
+    /// The queue sets, at most 32.
+    pub sets: Vec<SetShape>,
+    /// The sets' names.
+    pub set_names: Names,
     /// The tasks, 1 to 32.
     pub scripts: Vec<Script>,
     /// The tasks' names.
@@ -83,6 +105,29 @@ impl Model for App {
     ghost invariant = { λ a.
         IsApplication (application_of a.parts)
         × (a.priorities.items ≡ priorities_of (application_of a.parts)) };
+}
+
+impl SetShape {
+    /// A set with room for `capacity` handles, 1 to 2,048, whose members at boot are these queues.
+    pub fn new(capacity: usize, members: Vec<usize>) -> SetShape
+        ensures { result ≡ record { capacity = capacity; members = members.items } }
+    {
+        SetShape { capacity, members }
+    }
+
+    /// How many handles there is room for.
+    pub fn capacity(&self) -> usize
+        ensures { result ≡ self.now.capacity }
+    {
+        self.capacity
+    }
+
+    /// The queues that are members at boot, by number.
+    pub fn members(&self) -> &[usize]
+        ensures { result.now ≡ self.now.members }
+    {
+        self.members.as_slice()
+    }
 }
 
 impl Script {
@@ -148,6 +193,8 @@ impl App {
             tick: 0,
             queues: vec![in alloc; queue]?,
             queue_names: Names::new(alloc, &["q0"])?,
+            sets: Vec::new(alloc),
+            set_names: Names::new(alloc, &[])?,
             scripts: vec![in alloc; Script::new(1, code)]?,
             task_names: Names::new(alloc, &["t0"])?,
         };
@@ -189,12 +236,31 @@ impl App {
         self.parts.queues.as_slice()
     }
 
+    /// The queue sets, by number.
+    pub fn sets(&self) -> &[SetShape]
+        ensures { result.now ≡ self.now.sets }
+    {
+        self.parts.sets.as_slice()
+    }
+
+    /// The set that the queue is a member of at boot, if it is one of any.
+    pub fn set_of(&self, queue: usize) -> Option<usize>
+        ensures set { result ≡ set_at_boot self.now queue }
+        ensures within { IfSome result (λ set. set < length self.now.sets) }
+    {
+        self.parts
+            .sets
+            .iter()
+            .position(|set| set.members.contains(&queue))
+    }
+
     /// The number of the thing of that kind with that name, if there is one.
     pub fn find(&self, kind: Kind, name: &str) -> Option<usize>
         ensures { result ≡ position (λ other. bytes_eq name.now other) (names_of kind self.now) }
     {
         match kind {
             Kind::Queue => self.parts.queue_names.find(name),
+            Kind::Set => self.parts.set_names.find(name),
             Kind::Task => self.parts.task_names.find(name),
         }
     }
@@ -206,6 +272,7 @@ impl App {
     {
         match kind {
             Kind::Queue => self.parts.queue_names.name(number),
+            Kind::Set => self.parts.set_names.name(number),
             Kind::Task => self.parts.task_names.name(number),
         }
     }

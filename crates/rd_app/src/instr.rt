@@ -63,6 +63,18 @@ pub enum QueueCall {
     Count,
     /// `spaces Q`: the number of free slots (`uxQueueSpacesAvailable`).
     Spaces,
+    /// `setadd Q S`: makes the queue a member of the set (`xQueueAddToSet`).
+    AddToSet { set: usize },
+    /// `setdel Q S`: the queue is no longer a member of the set (`xQueueRemoveFromSet`).
+    RemoveFromSet { set: usize },
+}
+
+/// A call of a queue set.
+#[derive(Clone, Copy, Debug, PartialEq, Eq)]
+pub enum SetCall {
+    /// `select S T`: takes the set's first handle, that of a member with an item, and waits for one
+    /// up to the block time (`xQueueSelectFromSet`).
+    Select { wait: Operand },
 }
 
 /// One instruction of a task's script. Objects are counted from 0.
@@ -72,4 +84,6 @@ pub enum Instr {
     Local { instr: LocalInstr },
     /// A call of a queue.
     Queue { queue: usize, call: QueueCall },
+    /// A call of a queue set.
+    Set { set: usize, call: SetCall },
 }

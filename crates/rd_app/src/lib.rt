@@ -1,4 +1,5 @@
-//! The application that is debugged: its tasks' scripts, its cores, its queues and their names.
+//! The application that is debugged: its tasks' scripts, its cores, its queues and
+//! their sets, and their names.
 #![tactic(auto)]
 
 pub mod app;
