@@ -14,6 +14,15 @@ invariant_of-self c =
     let count = count_in size bytes in
     let room = subst (λ (q : QueueSnapshot). HasRoomForAll q bytes) (sym c.self.view_is) c.requires in
     let empty : c.self.inside.items.items ≡ [] = room.empty in
-    rw (c.push_all.ensures.items, c.push_all.ensures.capacity, empty)
-    (omega (arith, length-first_items size count bytes, room.room), All-first_items size count bytes room.whole,
-      kept.2, kept.3, kept.4, kept.5, kept.6, kept.7, kept.8, kept.9)
+    rw (c.push_all.ensures.items, c.push_all.ensures.capacity, empty) (
+      omega (arith, length-first_items size count bytes, room.room),
+      All-first_items size count bytes room.whole,
+      kept.2,
+      kept.3,
+      kept.4,
+      kept.5,
+      kept.6,
+      kept.7,
+      kept.8,
+      kept.9,
+    )
