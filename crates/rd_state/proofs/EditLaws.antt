@@ -4,7 +4,7 @@ use Rattle.std.proofs.lemmas.List.{length-set}
 use Rattle.std.proofs.lemmas.List.Sums.{sum_by_push}
 use Rattle.std.specs.Prelude.{Result, Ok, Err, OnOk, OnErr}
 use Rattle.rd_state.specs.declared.change.Change.{Change}
-use Rattle.rd_state.specs.declared.change.Change.TheVariants.{SetTick, SetTurn, SetCore, InsReady, DelReady, Task, Queue}
+use Rattle.rd_state.specs.declared.change.Change.TheVariants.{SetTick, SetTurn, SetCore, InsReady, DelReady, Task, Queue, Set}
 use Rattle.rd_state.specs.Snapshot.{Snapshot, numbers_of}
 use Rattle.rd_state.specs.Change.{applied, inverse_of, cost_of, weight_of, Fits}
 use Rattle.rd_state.specs.Edit.{Edit, SameShape, Reaches}
@@ -24,6 +24,11 @@ shape-applied s (Queue queue change) = record {
   cores = refl;
   tasks = refl;
   objects = ap (λ (queues : ℕ). record (numbers_of s) { queues = queues }) (length-set s.queues queue _);
+}
+shape-applied s (Set set change) = record {
+  cores = refl;
+  tasks = refl;
+  objects = ap (λ (sets : ℕ). record (numbers_of s) { sets = sets }) (length-set s.sets set _);
 }
 
 abbrev pub edit_of : Snapshot → List Change → Edit

@@ -1,33 +1,39 @@
 -- The sizes of a state, kept by a change.
-use Rattle.std.proofs.Common.{◌≡◌, ◌∙◌, ℕ, zero, suc, ◌+◌, ◌<◌, ◌≤◌, List, length, get_or, map, replicate, set, None, refl, ap, sym, subst, arith}
-use Rattle.std.specs.Prelude.{All, remove, slice_index}
+use Rattle.std.proofs.Common.{◌≡◌, ◌∙◌, ℕ, zero, suc, ◌+◌, ◌<◌, ◌≤◌, List, [], length, get_or, map, replicate, set, Option, Some, None}
+use Rattle.std.proofs.Common.{refl, ap, sym, subst, arith}
+use Rattle.std.specs.Prelude.{All, IfSome, nat_eq, remove, slice_index}
 use Rattle.std.specs.Vec.{with_item}
-use Rattle.std.specs.List.{prefix_len}
-use Rattle.std.proofs.lemmas.List.{get_or_default, length-replicate, length-set}
+use Rattle.std.specs.List.{list_any, prefix_len}
+use Rattle.std.proofs.lemmas.List.Quantifiers.{position-Some}
+use Rattle.std.proofs.lemmas.List.{get_or_default, length-map, length_push, length-replicate, length-set}
 use Rattle.std.proofs.lemmas.List.Edits.{length-insert, length-remove}
-use Rattle.std.proofs.lemmas.List.Elements.{All-nil, All-same, All-set, All-replicate, All-map, All-weaker}
+use Rattle.std.proofs.lemmas.List.Elements.{All-get_or, All-nil, All-push, All-same, All-set, All-replicate, All-map, All-weaker}
 use Rattle.std.proofs.lemmas.List.Sums.{prefix_len-le-length}
 use Rattle.rd_queue.specs.declared.change.QueueChange.{QueueChange}
 use Rattle.rd_queue.specs.Changes.{queue_applied}
 use Rattle.rd_queue.specs.QueueSnapshot.{QueueSnapshot}
+use Rattle.rd_queue.specs.declared.set_change.SetChange.{SetChange}
+use Rattle.rd_queue.specs.SetChanges.{set_applied}
+use Rattle.rd_queue.specs.SetSnapshot.{SetSnapshot}
 use Rattle.rd_queue.proofs.QueueLaws as queue_law
-use Rattle.rd_app.specs.declared.app.QueueShape.{QueueShape}
-use Rattle.rd_app.specs.Application.{Application, IsApplication, IsQueueShape, priorities_of}
+use Rattle.rd_queue.proofs.SetLaws as set_law
+use Rattle.rd_app.specs.QueueSetShape.{QueueSetShape}
+use Rattle.rd_app.specs.Application.{Application, IsApplication, IsQueueShape, IsSetShape, priorities_of, set_at_boot, shape_at}
 use Rattle.rd_wait.specs.Joined.{joined, is_at_least}
 use Rattle.rd_wait.specs.TaskList.{TaskList}
 use Rattle.rd_wait.proofs.ListLaws.{All-insert, All-remove}
-use Rattle.rd_state.specs.declared.change.Change.TheVariants.{Task, Queue}
+use Rattle.rd_state.specs.declared.change.Change.TheVariants.{Task, Queue, Set}
 use Rattle.rd_state.specs.declared.state.State.TheInside.{Inside}
 use Rattle.rd_state.specs.declared.task_change.TaskChange.{TaskChange}
 use Rattle.rd_state.specs.declared.task_change.TaskChange.TheVariants.{SetPc, SetReg, SetPhase, SetData}
-use Rattle.rd_state.specs.Boot.{all_joined, fresh_task, queue_of_shape}
-use Rattle.rd_state.specs.Change.{with_task, with_queue, Fits, NamesObjects}
+use Rattle.rd_state.specs.Boot.{all_joined, first_queues, fresh_task, new_queue, new_set}
+use Rattle.rd_state.specs.Change.{with_task, with_queue, with_set, Fits, NamesObjects}
 use Rattle.rd_state.specs.Inside.{IsKept, snapshot_of}
-use Rattle.rd_state.specs.Sizes.{IsQueueFor, IsSized, IsSizedPhase, IsSizedTask, IsTaskOrIdle}
-use Rattle.rd_state.specs.Snapshot.{Numbers, Snapshot, TaskSnapshot, no_queue, no_task, numbers_of, queue_at, task_at}
+use Rattle.rd_state.specs.Sizes.{IsQueueFor, IsSetFor, IsSized, IsSizedPhase, IsSizedTask, IsTaskOrIdle}
+use Rattle.rd_state.specs.Snapshot.{Numbers, Snapshot, TaskSnapshot, no_queue, no_set, no_task, numbers_of, queue_at, set_at, task_at}
 use Rattle.rd_state.specs.TaskChanges.{task_applied}
 use Rattle.rd_state.proofs.TaskLaws as task_law
-use Rattle.rd_state.proofs.UndoLaws.{phase_sized, queue_sized, task_sized}
+use Rattle.rd_state.proofs.UndoLaws.{phase_sized, queue_sized, set_sized, task_sized}
 
 -- a task has left the ready list
 pub IsKept-remove : (s : Inside) (index : ℕ) → index < length s.ready.tasks → IsKept s
@@ -43,7 +49,7 @@ IsKept-remove s index h kept =
           room = omega (arith, length-remove s.ready.tasks index h, scheduling.room);
         };
         tasks = record { tasks = kept.sized.tasks.tasks; phases = kept.sized.tasks.phases };
-        objects = record { queues = kept.sized.objects.queues };
+        objects = record { queues = kept.sized.objects.queues; sets = kept.sized.objects.sets };
       };
       room = kept.room;
     }
@@ -64,14 +70,17 @@ IsSized-task s task new sized phase kept =
         tasks = All-set IsSizedTask s.tasks task new sized kept.tasks.tasks;
         phases = All-set (λ (t : TaskSnapshot). IsSizedPhase (numbers_of s) t.phase) s.tasks task new phase kept.tasks.phases;
       };
-      objects = record { queues = subst (λ n. All (IsQueueFor n) s.queues) same kept.objects.queues };
+      objects = record {
+        queues = subst (λ n. All (IsQueueFor n (length s.sets)) s.queues) same kept.objects.queues;
+        sets = subst (λ n. All (IsSetFor n (length s.queues)) s.sets) same kept.objects.sets;
+      };
     }
 
 -- and with another queue
-IsSized-queue : (s : Snapshot) (queue : ℕ) (new : QueueSnapshot) → IsQueueFor (length s.tasks) new → IsSized s → IsSized (with_queue s queue new)
+IsSized-queue : (s : Snapshot) (queue : ℕ) (new : QueueSnapshot) → IsQueueFor (length s.tasks) (length s.sets) new → IsSized s → IsSized (with_queue s queue new)
 IsSized-queue s queue new sized kept =
-    let same : numbers_of s ≡ numbers_of (with_queue s queue new) =
-    ap (λ (queues : ℕ). record (numbers_of s) { queues = queues }) (sym (length-set s.queues queue new)) in
+    let longer : length s.queues ≡ length (set s.queues queue new) = sym (length-set s.queues queue new) in
+    let same : numbers_of s ≡ numbers_of (with_queue s queue new) = ap (λ (queues : ℕ). record (numbers_of s) { queues = queues }) longer in
     record {
       scheduling = record {
         turn = kept.scheduling.turn;
@@ -83,7 +92,33 @@ IsSized-queue s queue new sized kept =
         tasks = kept.tasks.tasks;
         phases = subst (λ (n : Numbers). All (λ (t : TaskSnapshot). IsSizedPhase n t.phase) s.tasks) same kept.tasks.phases;
       };
-      objects = record { queues = All-set (IsQueueFor (length s.tasks)) s.queues queue new sized kept.objects.queues };
+      objects = record {
+        queues = All-set (IsQueueFor (length s.tasks) (length s.sets)) s.queues queue new sized kept.objects.queues;
+        sets = subst (λ n. All (IsSetFor (length s.tasks) n) s.sets) longer kept.objects.sets;
+      };
+    }
+
+-- and with another set
+IsSized-set : (s : Snapshot) (number : ℕ) (new : SetSnapshot) → IsSetFor (length s.tasks) (length s.queues) new → IsSized s
+    → IsSized (with_set s number new)
+IsSized-set s number new sized kept =
+    let longer : length s.sets ≡ length (set s.sets number new) = sym (length-set s.sets number new) in
+    let same : numbers_of s ≡ numbers_of (with_set s number new) = ap (λ (sets : ℕ). record (numbers_of s) { sets = sets }) longer in
+    record {
+      scheduling = record {
+        turn = kept.scheduling.turn;
+        cores = kept.scheduling.cores;
+        ready = kept.scheduling.ready;
+        room = kept.scheduling.room;
+      };
+      tasks = record {
+        tasks = kept.tasks.tasks;
+        phases = subst (λ (n : Numbers). All (λ (t : TaskSnapshot). IsSizedPhase n t.phase) s.tasks) same kept.tasks.phases;
+      };
+      objects = record {
+        queues = subst (λ n. All (IsQueueFor (length s.tasks) n) s.queues) longer kept.objects.queues;
+        sets = All-set (IsSetFor (length s.tasks) (length s.queues)) s.sets number new sized kept.objects.sets;
+      };
     }
 
 -- A task that was changed has a phase with objects that are there.
@@ -119,11 +154,26 @@ IsKept-queue s now queue change new e =
     let was = queue_sized all queue kept.sized fits.0 in
     let law = queue_law.each_is_undone (queue_at all queue) change was.0 fits.1 in
     rw f (record {
-      sized = IsSized-queue all queue (queue_applied (queue_at all queue) change) (law.sized, law.tasks ∙ was.1) kept.sized;
+      sized = IsSized-queue all queue (queue_applied (queue_at all queue) change) (law.sized, law.tasks ∙ was.1, law.sets ∙ was.2) kept.sized;
       room = kept.room;
     }))
 
--- the task, and the queue, that stands at an index of the vector
+-- a change of a set
+pub IsKept-set : (s : Inside) (now : Snapshot) (set : ℕ) (change : SetChange) (new : SetSnapshot) → snapshot_of s ≡ now → Fits now (Set set change)
+    → new ≡ set_applied (set_at now set) change → IsKept s → IsKept (record s { sets = with_item s.sets set new })
+IsKept-set s now set change new e =
+    let P : Snapshot → Type 0 = λ t. Fits t (Set set change) → new ≡ set_applied (set_at t set) change → IsKept s
+    → IsKept (record s { sets = with_item s.sets set new }) in
+    subst P e (λ fits f kept.
+    let all = snapshot_of s in
+    let was = set_sized all set kept.sized fits.0 in
+    let law = set_law.each_is_undone (set_at all set) change was.0 fits.1 in
+    rw f (record {
+      sized = IsSized-set all set (set_applied (set_at all set) change) (law.sized, law.tasks ∙ was.1, law.queues ∙ was.2) kept.sized;
+      room = kept.room;
+    }))
+
+-- the task, the queue and the set that stands at an index of the vector
 pub task_read : (s : Inside) (now : Snapshot) (task : ℕ) (read : TaskSnapshot) → snapshot_of s ≡ now → task < length now.tasks
     → read ≡ get_or s.tasks.items task read → read ≡ task_at now task
 task_read s now task read e =
@@ -135,6 +185,12 @@ pub queue_read : (s : Inside) (now : Snapshot) (queue : ℕ) (read : QueueSnapsh
 queue_read s now queue read e =
     let P : Snapshot → Type 0 = λ t. queue < length t.queues → read ≡ get_or s.queues.items queue read → read ≡ queue_at t queue in
     subst P e (λ there f. f ∙ get_or_default s.queues.items queue read no_queue there)
+
+pub set_read : (s : Inside) (now : Snapshot) (set : ℕ) (read : SetSnapshot) → snapshot_of s ≡ now → set < length now.sets
+    → read ≡ get_or s.sets.items set read → read ≡ set_at now set
+set_read s now set read e =
+    let P : Snapshot → Type 0 = λ t. set < length t.sets → read ≡ get_or s.sets.items set read → read ≡ set_at t set in
+    subst P e (λ there f. f ∙ get_or_default s.sets.items set read no_set there)
 
 -- joining a task makes a list one longer
 pub length-joined : (priorities tasks : List ℕ) (task : ℕ) → length (joined priorities tasks task) ≡ length tasks + 1
@@ -151,31 +207,76 @@ All-all_joined priorities zero limit h = All-nil (λ task. task < limit)
 All-all_joined priorities (suc n) limit h =
     All-insert (λ task. task < limit) (all_joined priorities n) _ n (All-all_joined priorities n limit (omega (arith, h))) (omega (arith, h))
 
--- nobody waits at a new queue, and it has no items
-IsQueueFor-queue_of_shape : (n tasks : ℕ) (shape : QueueShape) → n ≡ tasks → IsQueueShape shape → IsQueueFor tasks (queue_of_shape n shape)
-IsQueueFor-queue_of_shape n tasks shape same limits = (
+-- The set of a queue is there.
+no_shape : QueueSetShape
+no_shape = record { capacity = 0; members = [] }
+
+set_at_boot-there : (app : Application) (queue : ℕ) → IfSome (set_at_boot app queue) (λ set. set < length app.sets)
+set_at_boot-there app queue = by_answer (set_at_boot app queue) refl
+  where
+    by_answer : (o : Option ℕ) → set_at_boot app queue ≡ o → IfSome o (λ set. set < length app.sets)
+    by_answer None e = tt
+    by_answer (Some set) e = (position-Some (λ (s : QueueSetShape). list_any (nat_eq queue) s.members) app.sets set no_shape e).0
+
+-- Nobody waits at a new queue, and it has no items.
+IsQueueFor-new_queue : (app : Application) (queue tasks sets : ℕ) → IsApplication app → queue < length app.queues → tasks ≡ length app.scripts
+    → sets ≡ length app.sets → IsQueueFor tasks sets (new_queue app queue)
+IsQueueFor-new_queue app queue tasks sets limits there same_tasks same_sets =
+    let shape : IsQueueShape (shape_at app queue) = All-get_or IsQueueShape app.queues queue _ there limits.queues in (
+      record {
+        room = omega arith;
+        items = All-nil (λ (item : List ℕ). length item ≡ (shape_at app queue).item_size);
+        some_room = shape.0;
+        few = shape.1;
+        some_bytes = shape.2;
+        small = shape.3;
+        receiving = (All-nil (λ task. task < length app.scripts), omega arith);
+        sending = (All-nil (λ task. task < length app.scripts), omega arith);
+        set = set_at_boot-there app queue;
+      },
+      sym same_tasks,
+      sym same_sets,
+    )
+
+IsQueueFor-first_queues : (app : Application) (n tasks sets : ℕ) → IsApplication app → n ≤ length app.queues → tasks ≡ length app.scripts
+    → sets ≡ length app.sets → All (IsQueueFor tasks sets) (first_queues app n)
+IsQueueFor-first_queues app zero tasks sets limits few same_tasks same_sets = All-nil (IsQueueFor tasks sets)
+IsQueueFor-first_queues app (suc n) tasks sets limits few same_tasks same_sets =
+    All-push (IsQueueFor tasks sets) (first_queues app n) (new_queue app n)
+    (IsQueueFor-first_queues app n tasks sets limits (omega (arith, few)) same_tasks same_sets)
+    (IsQueueFor-new_queue app n tasks sets limits (omega (arith, few)) same_tasks same_sets)
+
+pub length-first_queues : (app : Application) (n : ℕ) → length (first_queues app n) ≡ n
+length-first_queues app zero = refl
+length-first_queues app (suc n) = omega (arith, length_push (first_queues app n) (new_queue app n), length-first_queues app n)
+
+-- Nobody waits at a new set, and it has no handles.
+IsSetFor-new_set : (app : Application) (n queues tasks : ℕ) (shape : QueueSetShape) → n ≡ tasks → IsSetShape app shape
+    → IsSetFor tasks queues (new_set n queues shape)
+IsSetFor-new_set app n queues tasks shape same limits = (
   record {
     room = omega arith;
-    items = All-nil (λ (item : List ℕ). length item ≡ shape.item_size);
-    some_room = limits.0;
-    few = limits.1;
-    some_bytes = limits.2;
-    small = limits.3;
-    receiving = (All-nil (λ task. task < n), omega arith);
-    sending = (All-nil (λ task. task < n), omega arith);
+    handles = All-nil (λ queue. queue < queues);
+    some_room = limits.some;
+    few = limits.few;
+    waiting = (All-nil (λ task. task < n), omega arith);
   },
   same,
+  refl,
 )
 
 -- a new state
 pub IsKept-new : (app : Application) (s : Inside) (n : ℕ) → IsApplication app → s.turn ≡ 0 → s.cores.items ≡ replicate app.cores None
     → s.ready ≡ record { tasks = all_joined (priorities_of app) n; room = n } → s.tasks.items ≡ replicate n (fresh_task app.notes)
-    → s.queues.items ≡ map (queue_of_shape n) app.queues → IsKept s
-IsKept-new app s n limits turn cores ready tasks queues =
+    → n ≡ length app.scripts → s.queues.items ≡ first_queues app (length app.queues) → s.sets.items ≡ map (new_set n (length app.queues)) app.sets → IsKept s
+IsKept-new app s n limits turn cores ready tasks scripts queues sets =
     let count : length s.tasks.items ≡ n = omega (arith, ap length tasks, length-replicate n (fresh_task app.notes)) in
+    let set_count : length s.sets.items ≡ length app.sets = ap length sets ∙ length-map app.sets (new_set n (length app.queues)) in
+    let queue_count : length s.queues.items ≡ length app.queues = ap length queues ∙ length-first_queues app (length app.queues) in
     let listed : s.ready.tasks ≡ all_joined (priorities_of app) n = ap (λ (l : TaskList). l.tasks) ready in
     let HasPhase : TaskSnapshot → Type 0 = λ task. IsSizedPhase (numbers_of (snapshot_of s)) task.phase in
-    let Fits : QueueSnapshot → Type 0 = IsQueueFor (length s.tasks.items) in
+    let QueueFits : QueueSnapshot → Type 0 = IsQueueFor (length s.tasks.items) (length s.sets.items) in
+    let SetFits : SetSnapshot → Type 0 = IsSetFor (length s.tasks.items) (length app.queues) in
     record {
       sized = record {
         scheduling = record {
@@ -196,10 +297,13 @@ IsKept-new app s n limits turn cores ready tasks queues =
               All-same HasPhase s.tasks.items (replicate n (fresh_task app.notes)) tasks (All-replicate HasPhase n (fresh_task app.notes) tt);
         };
         objects = record {
-          queues = All-same Fits s.queues.items (map (queue_of_shape n) app.queues) queues
-              (All-map Fits (queue_of_shape n) app.queues
-              (All-weaker IsQueueShape (λ q. Fits (queue_of_shape n q))
-              (λ q h. IsQueueFor-queue_of_shape n (length s.tasks.items) q (sym count) h) app.queues limits.queues));
+          queues = All-same QueueFits s.queues.items (first_queues app (length app.queues)) queues
+              (IsQueueFor-first_queues app (length app.queues) (length s.tasks.items) (length s.sets.items) limits (omega arith) (count ∙ scripts) set_count);
+          sets = subst (λ q. All (IsSetFor (length s.tasks.items) q) s.sets.items) (sym queue_count)
+              (All-same SetFits s.sets.items (map (new_set n (length app.queues)) app.sets) sets
+              (All-map SetFits (new_set n (length app.queues)) app.sets
+              (All-weaker (IsSetShape app) (λ q. SetFits (new_set n (length app.queues) q))
+              (λ q h. IsSetFor-new_set app n (length app.queues) (length s.tasks.items) q (sym count) h) app.sets limits.sets)));
         };
       };
       room = ap (λ (l : TaskList). l.room) ready ∙ sym count;

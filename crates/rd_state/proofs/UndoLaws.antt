@@ -7,28 +7,34 @@ use Rattle.rd_queue.specs.declared.waiting_list.WaitingList.TheVariants.{Receivi
 use Rattle.rd_queue.specs.Changes.{queue_applied, queue_inverse_of, QueueFits}
 use Rattle.rd_queue.specs.QueueSnapshot.{QueueSnapshot}
 use Rattle.rd_queue.specs.Sizes.{IsSizedList}
+use Rattle.rd_queue.specs.SetChanges.{set_applied, set_inverse_of, SetFits}
+use Rattle.rd_queue.specs.SetSnapshot.{SetSnapshot}
 use Rattle.rd_queue.proofs.QueueLaws as queue_law
+use Rattle.rd_queue.proofs.SetLaws as set_law
 use Rattle.rd_state.specs.declared.change.Change.{Change}
-use Rattle.rd_state.specs.declared.change.Change.TheVariants.{SetTick, SetTurn, SetCore, InsReady, DelReady, Task, Queue}
+use Rattle.rd_state.specs.declared.change.Change.TheVariants.{SetTick, SetTurn, SetCore, InsReady, DelReady, Task, Queue, Set}
 use Rattle.rd_state.specs.declared.phase.Place.{Place}
 use Rattle.rd_state.specs.declared.phase.Place.TheVariants as place
 use Rattle.rd_state.specs.declared.task_change.TaskChange.{TaskChange}
 use Rattle.rd_state.specs.declared.task_change.TaskChange.TheVariants.{SetPc, SetReg, SetPhase, SetData}
 use Rattle.rd_state.specs.Change.{applied, inverse_of, Fits, NamesObjects}
-use Rattle.rd_state.specs.Sizes.{IsQueueFor, IsSized, IsSizedPhase, IsSizedTask, IsTaskOrIdle}
-use Rattle.rd_state.specs.Snapshot.{Snapshot, TaskSnapshot, no_task, no_queue, numbers_of, task_at, queue_at}
+use Rattle.rd_state.specs.Sizes.{IsQueueFor, IsSetFor, IsSized, IsSizedPhase, IsSizedTask, IsTaskOrIdle}
+use Rattle.rd_state.specs.Snapshot.{Snapshot, TaskSnapshot, no_task, no_queue, no_set, numbers_of, task_at, queue_at, set_at}
 use Rattle.rd_state.specs.TaskChanges.{task_applied, task_inverse_of}
 use Rattle.rd_state.specs.Undoing.{undone, CanUndo, EachIsUndone}
 use Rattle.rd_state.specs.Waiting.{HasPlace, waiting_at}
 use Rattle.rd_state.proofs.TaskLaws as task_law
 use Rattle.rd_wait.proofs.ListLaws.{remove-insert, insert-remove, replaced_back, set_back}
 
--- A task, and a queue, of the state has its sizes.
+-- A task, a queue and a set of the state has its sizes.
 pub task_sized : (s : Snapshot) (task : ℕ) → IsSized s → task < length s.tasks → IsSizedTask (task_at s task)
 task_sized s task sized there = All-get_or IsSizedTask s.tasks task no_task there sized.tasks.tasks
 
-pub queue_sized : (s : Snapshot) (queue : ℕ) → IsSized s → queue < length s.queues → IsQueueFor (length s.tasks) (queue_at s queue)
-queue_sized s queue sized there = All-get_or (IsQueueFor (length s.tasks)) s.queues queue no_queue there sized.objects.queues
+pub queue_sized : (s : Snapshot) (queue : ℕ) → IsSized s → queue < length s.queues → IsQueueFor (length s.tasks) (length s.sets) (queue_at s queue)
+queue_sized s queue sized there = All-get_or (IsQueueFor (length s.tasks) (length s.sets)) s.queues queue no_queue there sized.objects.queues
+
+pub set_sized : (s : Snapshot) (set : ℕ) → IsSized s → set < length s.sets → IsSetFor (length s.tasks) (length s.queues) (set_at s set)
+set_sized s set sized there = All-get_or (IsSetFor (length s.tasks) (length s.queues)) s.sets set no_set there sized.objects.sets
 
 pub phase_sized : (s : Snapshot) (task : ℕ) → IsSized s → task < length s.tasks → IsSizedPhase (numbers_of s) (task_at s task).phase
 phase_sized s task sized there = All-get_or (λ (t : TaskSnapshot). IsSizedPhase (numbers_of s) t.phase) s.tasks task no_task there sized.tasks.phases
@@ -49,6 +55,11 @@ inverse_undoes s (Queue queue change) sized fits =
     let back = (queue_law.each_is_undone was change (queue_sized s queue sized fits.0).0 fits.1).back in
     ap (λ (queues : List QueueSnapshot). record s { queues = queues })
     (replaced_back s.queues queue no_queue (queue_applied was change) (λ q. queue_applied q (queue_inverse_of was change)) fits.0 back)
+inverse_undoes s (Set set change) sized fits =
+    let was = set_at s set in
+    let back = (set_law.each_is_undone was change (set_sized s set sized fits.0).0 fits.1).back in
+    ap (λ (sets : List SetSnapshot). record s { sets = sets })
+    (replaced_back s.sets set no_set (set_applied was change) (λ q. set_applied q (set_inverse_of was change)) fits.0 back)
 
 -- The objects that a task named before a change are there.
 names_back : (s : Snapshot) (task : ℕ) (change : TaskChange) → IsSized s → task < length s.tasks
@@ -82,6 +93,13 @@ inverse_fits s (Queue queue change) sized fits =
       subst (λ q. QueueFits q (queue_inverse_of was change)) (sym (get_or-set_same s.queues queue now no_queue fits.0))
           (queue_law.each_is_undone was change (queue_sized s queue sized fits.0).0 fits.1).fits,
     )
+inverse_fits s (Set set change) sized fits =
+    let was = set_at s set in
+    let now = set_applied was change in (
+      omega (arith, length-set s.sets set now, fits.0),
+      subst (λ q. SetFits q (set_inverse_of was change)) (sym (get_or-set_same s.sets set now no_set fits.0))
+          (set_law.each_is_undone was change (set_sized s set sized fits.0).0 fits.1).fits,
+    )
 
 pub each_is_undone : EachIsUndone
 each_is_undone s change sized fits = record { back = inverse_undoes s change sized fits; fits = inverse_fits s change sized fits }
@@ -94,6 +112,9 @@ IsSizedList-waiting_at s (place.Queue queue Receiving) sized there =
 IsSizedList-waiting_at s (place.Queue queue Sending) sized there =
     let here = queue_sized s queue sized there in
     subst (λ n. IsSizedList n (queue_at s queue).sending) here.1 here.0.sending
+IsSizedList-waiting_at s (place.Set set) sized there =
+    let here = set_sized s set sized there in
+    subst (λ n. IsSizedList n (set_at s set).waiting) here.1 here.0.waiting
 
 -- A record that gets the inverse of the change just made leads back to where it led before.
 pub undone-push : (s : Snapshot) (record_ : List Change) (change : Change) → undone s (record_ ++ change ∷ []) ≡ undone (applied s change) record_

@@ -1,12 +1,15 @@
 -- The state at boot: every task is ready at its first instruction, every object is empty, and
 -- then the scheduler runs.
-use Rattle.std.specs.Prelude.{ℕ, zero, suc, List, [], length, map, replicate, None}
+use Rattle.std.specs.Prelude.{ℕ, zero, suc, ◌<◌, ◌≤◌, ◌∷◌, ◌++◌, List, [], length, map}
+use Rattle.std.specs.Prelude.{replicate, None}
 use Rattle.rd_notify.specs.Entries.{idle_entry}
 use Rattle.rd_queue.specs.QueueSnapshot.{QueueSnapshot}
-use Rattle.rd_queue.specs.Queues.{empty_queue}
-use Rattle.rd_app.specs.declared.app.QueueShape.{QueueShape}
+use Rattle.rd_queue.specs.Queues.{empty_queue, with_set}
+use Rattle.rd_queue.specs.SetSnapshot.{SetSnapshot}
+use Rattle.rd_queue.specs.Sets.{empty_set}
+use Rattle.rd_app.specs.QueueSetShape.{QueueSetShape}
 use Rattle.rd_state.specs.declared.phase.Phase.TheVariants.{Run}
-use Rattle.rd_app.specs.Application.{Application, priorities_of}
+use Rattle.rd_app.specs.Application.{Application, priorities_of, set_at_boot, shape_at}
 use Rattle.rd_wait.specs.Joined.{joined}
 use Rattle.rd_state.specs.Snapshot.{Snapshot, TaskSnapshot}
 use Rattle.rd_state.specs.Settled.{settled}
@@ -21,9 +24,26 @@ fresh_task notes = record {
   entries = replicate notes idle_entry;
 }
 
--- a queue with nothing in it, at which that many tasks can wait
-abbrev pub queue_of_shape : ℕ → QueueShape → QueueSnapshot
-queue_of_shape tasks shape = empty_queue shape.capacity shape.item_size tasks
+-- a queue with nothing in it, at which every task can wait, in the set that has it as a member
+abbrev pub new_queue : Application → ℕ → QueueSnapshot
+new_queue app queue =
+    with_set
+    (empty_queue (shape_at app queue).capacity (shape_at app queue).item_size
+    (length app.scripts) (length app.sets))
+    (set_at_boot app queue)
+
+-- the first n queues
+abbrev pub first_queues : Application → ℕ → List QueueSnapshot
+first_queues app zero = []
+first_queues app (suc n) = first_queues app n ++ new_queue app n ∷ []
+
+-- The set can be made: it has room for 1 to 2,048 handles.
+abbrev pub HasRoomForHandles : QueueSetShape → Type 0
+HasRoomForHandles shape = (0 < shape.capacity) × (shape.capacity ≤ 2048)
+
+-- a set without handles, at which that many tasks can wait, for handles of so many queues
+abbrev pub new_set : ℕ → ℕ → QueueSetShape → SetSnapshot
+new_set tasks queues shape = empty_set shape.capacity queues tasks
 
 -- the first n tasks, joined by rising number
 abbrev pub all_joined : List ℕ → ℕ → List ℕ
@@ -37,7 +57,8 @@ before_scheduling app = record {
   cores = replicate app.cores None;
   ready = all_joined (priorities_of app) (length app.scripts);
   tasks = replicate (length app.scripts) (fresh_task app.notes);
-  queues = map (queue_of_shape (length app.scripts)) app.queues;
+  queues = first_queues app (length app.queues);
+  sets = map (new_set (length app.scripts) (length app.queues)) app.sets;
 }
 
 abbrev pub boot_of : Application → Snapshot

@@ -2,24 +2,29 @@
 use Rattle.std.specs.Prelude.{ℕ, ◌+◌, ◌<◌, ◌≤◌, List, length, slice_index, slice_set}
 use Rattle.std.specs.Prelude.{insert, remove, sum_by, IfSome}
 use Rattle.rd_queue.specs.QueueSnapshot.{QueueSnapshot}
+use Rattle.rd_queue.specs.SetSnapshot.{SetSnapshot}
+use Rattle.rd_queue.specs.SetChanges.{set_applied, set_inverse_of, SetFits}
 use Rattle.rd_queue.specs.Changes.{queue_applied, queue_inverse_of, queue_saved_bytes, QueueFits}
 use Rattle.rd_state.specs.declared.change.Change.{Change}
 use Rattle.rd_state.specs.declared.change.Change.TheVariants.{SetTick, SetTurn, SetCore}
-use Rattle.rd_state.specs.declared.change.Change.TheVariants.{InsReady, DelReady, Task, Queue}
+use Rattle.rd_state.specs.declared.change.Change.TheVariants.{InsReady, DelReady, Task, Queue, Set}
 use Rattle.rd_state.specs.declared.task_change.TaskChange.{TaskChange}
 use Rattle.rd_state.specs.declared.task_change.TaskChange.TheVariants.{SetPc, SetReg, SetPhase}
 use Rattle.rd_state.specs.declared.task_change.TaskChange.TheVariants.{SetData}
 use Rattle.rd_state.specs.Sizes.{IsSizedPhase}
 use Rattle.rd_state.specs.Snapshot.{Numbers, Snapshot, TaskSnapshot}
-use Rattle.rd_state.specs.Snapshot.{numbers_of, task_at, queue_at, core_at}
+use Rattle.rd_state.specs.Snapshot.{numbers_of, task_at, queue_at, set_at, core_at}
 use Rattle.rd_state.specs.TaskChanges.{task_applied, task_inverse_of, task_saved_bytes, TaskFits}
 
--- the state with another task, and with another queue, of that number
+-- the state with another task, another queue and another set of that number
 abbrev pub with_task : Snapshot → ℕ → TaskSnapshot → Snapshot
 with_task s task now = record s { tasks = slice_set s.tasks task now }
 
 abbrev pub with_queue : Snapshot → ℕ → QueueSnapshot → Snapshot
 with_queue s queue now = record s { queues = slice_set s.queues queue now }
+
+abbrev pub with_set : Snapshot → ℕ → SetSnapshot → Snapshot
+with_set s set now = record s { sets = slice_set s.sets set now }
 
 -- the items of a queue
 abbrev pub items_at : Snapshot → ℕ → List (List ℕ)
@@ -34,6 +39,7 @@ applied s (InsReady index task) = record s { ready = insert s.ready index task }
 applied s (DelReady index) = record s { ready = remove s.ready index }
 applied s (Task task change) = with_task s task (task_applied (task_at s task) change)
 applied s (Queue queue change) = with_queue s queue (queue_applied (queue_at s queue) change)
+applied s (Set set change) = with_set s set (set_applied (set_at s set) change)
 
 -- the change that undoes a change made at this state
 abbrev pub inverse_of : Snapshot → Change → Change
@@ -44,6 +50,7 @@ inverse_of s (InsReady index task) = DelReady index
 inverse_of s (DelReady index) = InsReady index (slice_index s.ready index)
 inverse_of s (Task task change) = Task task (task_inverse_of (task_at s task) change)
 inverse_of s (Queue queue change) = Queue queue (queue_inverse_of (queue_at s queue) change)
+inverse_of s (Set set change) = Set set (set_inverse_of (set_at s set) change)
 
 -- The objects that a change of a task names are there.
 abbrev pub NamesObjects : Numbers → TaskChange → Type 0
@@ -63,6 +70,7 @@ Fits s (DelReady index) = index < length s.ready
 Fits s (Task task change) =
     (task < length s.tasks) × TaskFits change × NamesObjects (numbers_of s) change
 Fits s (Queue queue change) = (queue < length s.queues) × QueueFits (queue_at s queue) change
+Fits s (Set set change) = (set < length s.sets) × SetFits (set_at s set) change
 
 -- the bytes that a change carries
 abbrev pub saved_bytes : Change → ℕ
@@ -73,6 +81,7 @@ saved_bytes (InsReady index task) = 0
 saved_bytes (DelReady index) = 0
 saved_bytes (Task task change) = task_saved_bytes change
 saved_bytes (Queue queue change) = queue_saved_bytes change
+saved_bytes (Set set change) = 0
 
 abbrev pub cost_of : Change → ℕ
 cost_of change = 1 + saved_bytes change

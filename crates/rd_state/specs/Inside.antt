@@ -12,6 +12,7 @@ snapshot_of state = record {
   ready = state.ready.tasks;
   tasks = state.tasks.items;
   queues = state.queues.items;
+  sets = state.sets.items;
 }
 
 -- The sizes hold, and the ready list has room for every task.

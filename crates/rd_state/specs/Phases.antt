@@ -1,7 +1,7 @@
 -- What a phase says of its task. All else that hangs on phases is defined by these.
 use Rattle.std.specs.Prelude.{ℕ, Bool, true, false, Option, Some, None}
 use Rattle.rd_state.specs.declared.phase.Phase.{Phase}
-use Rattle.rd_state.specs.declared.phase.Phase.TheVariants.{Run, Again, Wait, Ended}
+use Rattle.rd_state.specs.declared.phase.Phase.TheVariants.{Run, Again, Wait, Ended, Failed}
 use Rattle.rd_state.specs.declared.phase.Place.{Place}
 
 -- Can it run? Then it is on a core, or ready.
@@ -10,6 +10,7 @@ can_run Run = true
 can_run (Again deadline) = true
 can_run (Wait place deadline) = false
 can_run Ended = false
+can_run (Failed cause) = false
 
 -- Was it woken from a call, which it tries again?
 abbrev pub tries_again : Phase → Bool
@@ -17,6 +18,7 @@ tries_again Run = false
 tries_again (Again deadline) = true
 tries_again (Wait place deadline) = false
 tries_again Ended = false
+tries_again (Failed cause) = false
 
 -- the place where it waits, if it does
 abbrev pub waits_at : Phase → Option Place
@@ -24,6 +26,7 @@ waits_at Run = None
 waits_at (Again deadline) = None
 waits_at (Wait place deadline) = Some place
 waits_at Ended = None
+waits_at (Failed cause) = None
 
 -- the deadline that its call was given at the first try; none where there is none
 abbrev pub kept_deadline : Phase → Option ℕ
@@ -31,3 +34,4 @@ kept_deadline Run = None
 kept_deadline (Again deadline) = deadline
 kept_deadline (Wait place deadline) = deadline
 kept_deadline Ended = None
+kept_deadline (Failed cause) = None

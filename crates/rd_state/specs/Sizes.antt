@@ -2,7 +2,8 @@
 -- lengths are within what there is room for.
 use Rattle.std.specs.Prelude.{ℕ, ◌≡◌, ◌<◌, ◌≤◌, ◌^◌, length, All, Option, Some, None, IfSome}
 use Rattle.rd_queue.specs.QueueSnapshot.{QueueSnapshot}
-use Rattle.rd_queue.specs.Sizes.{IsSizedQueue}
+use Rattle.rd_queue.specs.SetSnapshot.{SetSnapshot}
+use Rattle.rd_queue.specs.Sizes.{IsSizedQueue, IsSizedSet}
 use Rattle.rd_state.specs.declared.phase.Phase.{Phase}
 use Rattle.rd_state.specs.declared.phase.Place.{Place}
 use Rattle.rd_state.specs.Phases.{kept_deadline, waits_at}
@@ -28,9 +29,14 @@ IsSizedWait numbers (Some place) deadline = IsPlace numbers place × IsDeadline 
 abbrev pub IsSizedPhase : Numbers → Phase → Type 0
 IsSizedPhase numbers phase = IsSizedWait numbers (waits_at phase) (kept_deadline phase)
 
--- a queue with room for that many tasks in each of its lists
-abbrev pub IsQueueFor : ℕ → QueueSnapshot → Type 0
-IsQueueFor tasks queue = IsSizedQueue queue × (queue.tasks ≡ tasks)
+-- a queue with room for that many tasks in each of its lists, which is a member of one of so many
+-- sets, if of any
+abbrev pub IsQueueFor : ℕ → ℕ → QueueSnapshot → Type 0
+IsQueueFor tasks sets queue = IsSizedQueue queue × (queue.tasks ≡ tasks) × (queue.sets ≡ sets)
+
+-- a set with room for that many tasks, whose handles are of so many queues
+abbrev pub IsSetFor : ℕ → ℕ → SetSnapshot → Type 0
+IsSetFor tasks queues set = IsSizedSet set × (set.tasks ≡ tasks) × (set.queues ≡ queues)
 
 -- who has the turn, who runs, and who is ready
 pub record IsSizedScheduling (s : Snapshot) : Type 0 where
@@ -44,7 +50,8 @@ pub record AreSizedTasks (s : Snapshot) : Type 0 where
   pub phases : All (λ task. IsSizedPhase (numbers_of s) task.phase) s.tasks
 
 pub record AreSizedObjects (s : Snapshot) : Type 0 where
-  pub queues : All (IsQueueFor (length s.tasks)) s.queues
+  pub queues : All (IsQueueFor (length s.tasks) (length s.sets)) s.queues
+  pub sets : All (IsSetFor (length s.tasks) (length s.queues)) s.sets
 
 pub record IsSized (s : Snapshot) : Type 0 where
   pub scheduling : IsSizedScheduling s

@@ -2,6 +2,7 @@
 use Rattle.std.specs.Prelude.{ℕ, ◌≡◌, List, [], length, Option, None, slice_index_or}
 use Rattle.rd_notify.specs.declared.notes.Entry.{Entry}
 use Rattle.rd_queue.specs.QueueSnapshot.{QueueSnapshot}
+use Rattle.rd_queue.specs.SetSnapshot.{SetSnapshot}
 use Rattle.rd_state.specs.declared.phase.Phase.{Phase}
 use Rattle.rd_state.specs.declared.phase.Phase.TheVariants.{Run}
 
@@ -14,7 +15,7 @@ pub record TaskSnapshot : Type 0 where
   pub phase : Phase
   pub entries : List Entry
 
--- Cores, tasks and queues go by number. A core has its task, or none when it is idle. The ready
+-- Cores, tasks, queues and queue sets go by number. A core has its task, or none when it is idle. The ready
 -- list has its first task first. Two states are the same where their snapshots are equal.
 pub record Snapshot : Type 0 where
   pub tick : ℕ
@@ -23,19 +24,29 @@ pub record Snapshot : Type 0 where
   pub ready : List ℕ
   pub tasks : List TaskSnapshot
   pub queues : List QueueSnapshot
+  pub sets : List SetSnapshot
 
 -- how many objects of each kind there are
 pub record Numbers : Type 0 where
   pub queues : ℕ
+  pub sets : ℕ
 
 abbrev pub numbers_of : Snapshot → Numbers
-numbers_of s = record { queues = length s.queues }
+numbers_of s = record { queues = length s.queues; sets = length s.sets }
 
 -- a state with no cores, no tasks and no objects
 abbrev pub hollow_state : Snapshot
-hollow_state = record { tick = 0; turn = 0; cores = []; ready = []; tasks = []; queues = [] }
+hollow_state = record {
+  tick = 0;
+  turn = 0;
+  cores = [];
+  ready = [];
+  tasks = [];
+  queues = [];
+  sets = [];
+}
 
--- what stands for a task, and for a queue, that isn't there
+-- what stands for a task, a queue and a set that isn't there
 abbrev pub no_task : TaskSnapshot
 no_task = record { pc = 0; registers = []; bytes = []; phase = Run; entries = [] }
 
@@ -47,13 +58,21 @@ no_queue = record {
   receiving = [];
   sending = [];
   tasks = 0;
+  set = None;
+  sets = 0;
 }
+
+abbrev pub no_set : SetSnapshot
+no_set = record { handles = []; capacity = 0; queues = 0; waiting = []; tasks = 0 }
 
 abbrev pub task_at : Snapshot → ℕ → TaskSnapshot
 task_at s task = slice_index_or s.tasks task no_task
 
 abbrev pub queue_at : Snapshot → ℕ → QueueSnapshot
 queue_at s queue = slice_index_or s.queues queue no_queue
+
+abbrev pub set_at : Snapshot → ℕ → SetSnapshot
+set_at s set = slice_index_or s.sets set no_set
 
 -- the task on a core
 abbrev pub core_at : Snapshot → ℕ → Option ℕ
@@ -69,3 +88,4 @@ pub record SameScheduling (s t : Snapshot) : Type 0 where
 pub record SameObjects (s t : Snapshot) : Type 0 where
   pub tasks : s.tasks ≡ t.tasks
   pub queues : s.queues ≡ t.queues
+  pub sets : s.sets ≡ t.sets

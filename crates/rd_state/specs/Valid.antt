@@ -6,10 +6,13 @@ use Rattle.rd_notify.specs.declared.notes.Entry.{Entry}
 use Rattle.rd_notify.specs.declared.notes.EntryState.TheVariants.{Waiting}
 use Rattle.rd_queue.specs.QueueSnapshot.{QueueSnapshot}
 use Rattle.rd_app.specs.declared.app.QueueShape.{QueueShape}
+use Rattle.rd_queue.specs.SetSnapshot.{SetSnapshot}
 use Rattle.rd_state.specs.declared.phase.Phase.{Phase}
 use Rattle.rd_state.specs.Phases.{can_run, kept_deadline, tries_again, waits_at}
 use Rattle.rd_app.specs.declared.instr.Instr.{Instr}
 use Rattle.rd_app.specs.declared.instr.Instr.TheVariants as instr
+use Rattle.rd_app.specs.declared.instr.SetCall.{SetCall}
+use Rattle.rd_app.specs.declared.instr.SetCall.TheVariants.{Select}
 use Rattle.rd_state.specs.declared.phase.Place.{Place}
 use Rattle.rd_state.specs.declared.phase.Place.TheVariants as place
 use Rattle.rd_app.specs.Application.{Application, code_of, instr_at, list_of_call, priorities_of}
@@ -21,6 +24,10 @@ use Rattle.rd_state.specs.Waiting.{same_place, waiting_at}
 abbrev pub shape_of : QueueSnapshot → QueueShape
 shape_of queue = record { capacity = queue.capacity; item_size = queue.item_size }
 
+-- how many handles a set has room for
+abbrev pub room_of : SetSnapshot → ℕ
+room_of set = set.capacity
+
 -- Numbers and lengths are the application's, and each task stands at an instruction of its script.
 pub record InLimits (app : Application) (s : Snapshot) : Type 0 where
   pub sized : IsSized s
@@ -29,6 +36,7 @@ pub record InLimits (app : Application) (s : Snapshot) : Type 0 where
   pub pcs : (task : ℕ) → task < length s.tasks → (task_at s task).pc < length (code_of app task)
   pub entries : All (λ task. length task.entries ≡ app.notes) s.tasks
   pub queues : map shape_of s.queues ≡ app.queues
+  pub sets : map room_of s.sets ≡ map (λ set. set.capacity) app.sets
 
 -- how often a task stands in a list, and on cores
 abbrev pub times_in_list : ℕ → List ℕ → ℕ
@@ -65,10 +73,15 @@ WaitsAtPlaces s =
     (place : Place) (task : ℕ) → task < length s.tasks
     → times_in_list task (waiting_at s place) ≡ times_waiting_at place (task_at s task).phase
 
+-- the place where a task waits for a call of a set
+abbrev pub place_of_set_call : ℕ → SetCall → Option Place
+place_of_set_call set (Select wait) = Some (place.Set set)
+
 -- the place where a task waits for an instruction, if that is a call with a block time
 abbrev pub place_of_call : Instr → Option Place
 place_of_call (instr.Local instr) = None
 place_of_call (instr.Queue queue call) = option_map (place.Queue queue) (list_of_call call)
+place_of_call (instr.Set set call) = place_of_set_call set call
 
 -- A task that waits stands at the call of its place. One that tries again stands at a call with a
 -- block time.

@@ -5,6 +5,7 @@ ghost use Rattle.rd_state.specs.Change.{cost_of};
 
 use crate::task_change::TaskChange;
 use rd_queue::change::QueueChange;
+use rd_queue::set_change::SetChange;
 
 /// A primitive change of the state: all that a move does is made of these, and each has an inverse
 /// among them. Tasks, cores and objects go by number, an index counts from the front.
@@ -24,6 +25,8 @@ pub enum Change {
     Task { task: usize, change: TaskChange },
     /// The queue changes so.
     Queue { queue: usize, change: QueueChange },
+    /// The queue set changes so.
+    Set { set: usize, change: SetChange },
 }
 
 impl Change {
@@ -36,7 +39,8 @@ impl Change {
             | Change::SetTurn { .. }
             | Change::SetCore { .. }
             | Change::InsReady { .. }
-            | Change::DelReady { .. } => 1,
+            | Change::DelReady { .. }
+            | Change::Set { .. } => 1,
             Change::Task { change, .. } => change.cost(),
             Change::Queue { change, .. } => change.cost(),
         }

@@ -16,6 +16,7 @@ use crate::transfer::Transfer;
 use crate::undo::{Undo, act, act_transfer};
 use rd_bytes::no_memory::NoMemory;
 use rd_queue::change::QueueChange;
+use rd_queue::set_change::SetChange;
 use std::alloc::Global;
 use std::marker::Model;
 
@@ -110,6 +111,10 @@ impl Editing {
                 queue,
                 change: QueueChange::InsWait { list, index, task },
             }),
+            Place::Set { set } => self.change(Change::Set {
+                set,
+                change: SetChange::InsWait { index, task },
+            }),
         }
     }
 
@@ -126,6 +131,10 @@ impl Editing {
             Place::Queue { queue, list } => self.change(Change::Queue {
                 queue,
                 change: QueueChange::DelWait { list, index },
+            }),
+            Place::Set { set } => self.change(Change::Set {
+                set,
+                change: SetChange::DelWait { index },
             }),
         }
     }

@@ -17,6 +17,15 @@ pub enum Phase {
     Wait { place: Place, deadline: Option<u64> },
     /// It has done `end`.
     Ended,
+    /// Its call failed in a way that no answer tells: it stays at the call, and never runs again.
+    Failed { cause: Cause },
+}
+
+/// Why a call failed in a way that no answer tells.
+#[derive(Clone, Copy, Debug, PartialEq, Eq)]
+pub enum Cause {
+    /// An item was to be put into a member of a set that has no room for its handle.
+    SetFull,
 }
 
 impl Phase {
@@ -26,7 +35,7 @@ impl Phase {
     {
         match self {
             Phase::Wait { place, .. } => Some(place),
-            Phase::Run | Phase::Again { .. } | Phase::Ended => None,
+            Phase::Run | Phase::Again { .. } | Phase::Ended | Phase::Failed { .. } => None,
         }
     }
 
@@ -36,7 +45,7 @@ impl Phase {
     {
         match self {
             Phase::Again { deadline } | Phase::Wait { deadline, .. } => deadline,
-            Phase::Run | Phase::Ended => None,
+            Phase::Run | Phase::Ended | Phase::Failed { .. } => None,
         }
     }
 }
@@ -46,4 +55,6 @@ impl Phase {
 pub enum Place {
     /// For an item of the queue, or for room in it.
     Queue { queue: usize, list: WaitingList },
+    /// For a handle of the set.
+    Set { set: usize },
 }

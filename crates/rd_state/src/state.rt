@@ -4,13 +4,14 @@ ghost use Rattle.std.specs.Prelude.{◌≡◌, ◌<◌, ◌≤◌, ◌↔◌, le
 ghost use Rattle.rd_state.specs.Boot.{before_scheduling};
 ghost use Rattle.rd_state.specs.Change.{applied, inverse_of, saved_bytes, Fits};
 ghost use Rattle.rd_state.specs.Settled.{weakest_of, rank_of};
-ghost use Rattle.rd_state.specs.Sizes.{IsSized, IsSizedPhase, IsTaskOrIdle};
-ghost use Rattle.rd_state.specs.Snapshot.{hollow_state, numbers_of, task_at, queue_at, core_at};
+ghost use Rattle.rd_state.specs.Sizes.{IsQueueFor, IsSetFor, IsSized, IsSizedPhase, IsTaskOrIdle};
+ghost use Rattle.rd_state.specs.Snapshot.{hollow_state, numbers_of, task_at, queue_at, set_at};
+ghost use Rattle.rd_state.specs.Snapshot.{core_at};
 ghost use Rattle.rd_state.specs.Snapshot.{SameScheduling, SameObjects};
 ghost use Rattle.rd_state.specs.Transfers.{change_of, CanTransfer};
 ghost use Rattle.rd_state.specs.Waiting.{HasPlace, waiting_at};
 
-use crate::boot::{all_ready, new_queues, new_tasks};
+use crate::boot::{all_ready, new_queues, new_sets, new_tasks};
 use crate::change::Change;
 use crate::phase::{Phase, Place};
 use crate::task::Task;
@@ -22,6 +23,8 @@ use rd_bytes::saved::SavedBytes;
 use rd_queue::change::QueueChange;
 use rd_queue::end::End;
 use rd_queue::queue::Queue;
+use rd_queue::queue_set::QueueSet;
+use rd_queue::set_change::SetChange;
 use rd_wait::prio_list::PrioList;
 use std::alloc::Global;
 use std::marker::Model;
@@ -35,6 +38,7 @@ pub struct State {
     ready: PrioList,
     tasks: Vec<Task>,
     queues: Vec<Queue>,
+    sets: Vec<QueueSet>,
 }
 
 impl Model for State {
@@ -67,6 +71,17 @@ fn copy_queues(alloc: Global, queues: &[Queue]) -> Result<Vec<Queue>, NoMemory>
     let mut copies = Vec::with_capacity(alloc, queues.len())?;
     for queue in queues {
         copies.push(queue.copy(alloc)?)?;
+    }
+    Ok(copies)
+}
+
+// Equal sets.
+fn copy_sets(alloc: Global, sets: &[QueueSet]) -> Result<Vec<QueueSet>, NoMemory>
+    ensures { IfOk result (λ copies. copies.items ≡ sets.now) }
+{
+    let mut copies = Vec::with_capacity(alloc, sets.len())?;
+    for set in sets {
+        copies.push(set.copy(alloc)?)?;
     }
     Ok(copies)
 }
@@ -116,6 +131,21 @@ fn same_queues(queues: &[Queue], others: &[Queue]) -> bool
     true
 }
 
+// Whether the sets are equal, one by one.
+fn same_sets(sets: &[QueueSet], others: &[QueueSet]) -> bool
+    ensures { IsTrue result ↔ (sets.now ≡ others.now) }
+{
+    if sets.len() != others.len() {
+        return false;
+    }
+    for number in 0..sets.len() {
+        if !sets[number].same(&others[number]) {
+            return false;
+        }
+    }
+    true
+}
+
 impl State {
     /// A state of nothing, which takes no memory. It stands in for
     /// a state that is taken out for a while.
@@ -129,6 +159,7 @@ impl State {
             ready: PrioList::without_room(alloc),
             tasks: Vec::new(alloc),
             queues: Vec::new(alloc),
+            sets: Vec::new(alloc),
         }
     }
 
@@ -144,7 +175,8 @@ impl State {
             cores: vec![in alloc; None; app.cores()]?,
             ready: all_ready(alloc, priorities)?,
             tasks: new_tasks(alloc, priorities.len(), app.notes())?,
-            queues: new_queues(alloc, app.queues(), priorities.len())?,
+            queues: new_queues(alloc, app)?,
+            sets: new_sets(alloc, app.sets(), app.queues().len(), priorities.len())?,
         })
     }
 
@@ -159,6 +191,7 @@ impl State {
             ready: self.ready.copy(alloc)?,
             tasks: copy_tasks(alloc, self.tasks.as_slice())?,
             queues: copy_queues(alloc, self.queues.as_slice())?,
+            sets: copy_sets(alloc, self.sets.as_slice())?,
         })
     }
 
@@ -172,12 +205,13 @@ impl State {
             && self.ready.as_slice() == other.ready.as_slice()
     }
 
-    // Whether the tasks and the queues are equal.
+    // Whether the tasks, the queues and the sets are equal.
     fn same_objects(&self, other: &State) -> bool
         ensures { IsTrue result ↔ SameObjects self.now other.now }
     {
         same_tasks(self.tasks.as_slice(), other.tasks.as_slice())
             && same_queues(self.queues.as_slice(), other.queues.as_slice())
+            && same_sets(self.sets.as_slice(), other.sets.as_slice())
     }
 
     /// Whether the other state is the same, to the last field.
@@ -269,9 +303,26 @@ impl State {
     /// A queue.
     pub fn queue(&self, queue: usize) -> &Queue
         requires { queue < length self.now.queues }
-        ensures { result.now ≡ queue_at self.now queue }
+        ensures queue { result.now ≡ queue_at self.now queue }
+        ensures sized { IsQueueFor (length self.now.tasks) (length self.now.sets) result.now }
     {
         &self.queues[queue]
+    }
+
+    /// How many queue sets there are.
+    pub fn set_count(&self) -> usize
+        ensures { result ≡ length self.now.sets }
+    {
+        self.sets.len()
+    }
+
+    /// A queue set.
+    pub fn set(&self, set: usize) -> &QueueSet
+        requires { set < length self.now.sets }
+        ensures set { result.now ≡ set_at self.now set }
+        ensures sized { IsSetFor (length self.now.tasks) (length self.now.queues) result.now }
+    {
+        &self.sets[set]
     }
 
     /// The tasks that wait at a place, the first to be served first.
@@ -283,6 +334,7 @@ impl State {
     {
         match place {
             Place::Queue { queue, list } => self.queues[queue].waiting(list),
+            Place::Set { set } => self.sets[set].waiting(),
         }
     }
 
@@ -337,6 +389,14 @@ impl State {
         target.apply(change);
     }
 
+    fn change_set(&mut self, set: usize, change: &SetChange)
+        requires { Fits self.old (Change.Set set change.now) }
+        ensures { self.new ≡ applied self.old (Change.Set set change.now) }
+    {
+        let target = &mut self.sets[set];
+        target.apply(change);
+    }
+
     /// Makes a change. It takes no memory.
     pub fn apply(&mut self, change: &Change)
         requires { Fits self.old change.now }
@@ -350,6 +410,7 @@ impl State {
             Change::DelReady { index } => self.delete_ready(*index),
             Change::Task { task, change } => self.change_task(*task, change),
             Change::Queue { queue, change } => self.change_queue(*queue, change),
+            Change::Set { set, change } => self.change_set(*set, change),
         }
     }
 
@@ -455,6 +516,10 @@ impl State {
             Change::Queue { queue, change } => Ok(Change::Queue {
                 queue: *queue,
                 change: self.queue(*queue).inverse_of(alloc, change)?,
+            }),
+            Change::Set { set, change } => Ok(Change::Set {
+                set: *set,
+                change: self.set(*set).inverse_of(change),
             }),
         }
     }

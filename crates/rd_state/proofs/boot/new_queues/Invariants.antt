@@ -1,7 +1,7 @@
--- What holds in each turn of `new_queues`'s loop.
-use Rattle.std.proofs.Common.{◌≡◌, map, take}
-use Rattle.rd_state.specs.Boot.{queue_of_shape}
+-- The queues before this one are made.
+use Rattle.std.proofs.Common.{◌≡◌}
+use Rattle.rd_state.specs.Boot.{first_queues}
 use Rattle.rd_state.proofs.boot.new_queues.Given as goal
 
-abbrev pub invariant-loop-shape : goal.invariant-loop-shape
-invariant-loop-shape l = l.queues.items ≡ map (queue_of_shape l.tasks) (take l.shape-index l.shapes)
+abbrev pub invariant-loop-number : goal.invariant-loop-number
+invariant-loop-number l = l.queues.items ≡ first_queues l.app l.number

@@ -1,6 +1,8 @@
 -- The goals of `State::before_scheduling` that the check left open.
 use Rattle.std.proofs.Common.{length, refl, rules}
+use Rattle.std.proofs.lemmas.List.{length-map}
 use Rattle.rd_app.specs.Application.{priorities_of}
+use Rattle.rd_app.specs.TaskScript.{TaskScript}
 use Rattle.rd_state.proofs.SizeLaws.{IsKept-new}
 use Rattle.rd_state.proofs.state.State.before_scheduling.Goals as goal
 
@@ -10,4 +12,5 @@ invariant_of-result c =
     IsKept-new app _ (length (priorities_of app)) c.limits.ensures refl (search rules)
     (rw c.priorities-priorities.ensures at c.in_ok-all_ready.ensures)
     (rw (c.priorities-priorities.ensures, c.notes.ensures) at c.in_ok-new_tasks.ensures)
-    (rw (c.priorities-priorities.ensures, c.queues.ensures) at c.in_ok-new_queues.ensures)
+    (length-map app.scripts (λ (script : TaskScript). script.priority)) c.in_ok-new_queues.ensures
+    (rw (c.priorities-priorities.ensures, c.queues.ensures, c.sets.ensures) at c.in_ok-new_sets.ensures)

@@ -1,5 +1,5 @@
 -- The goals of `State::put_data` that the check left open.
-use Rattle.std.proofs.Common.{◌∙◌, sym, ap}
+use Rattle.std.proofs.Common.{◌∙◌, ap}
 use Rattle.rd_queue.specs.Changes.{put_at, queue_applied}
 use Rattle.rd_queue.specs.QueueSnapshot.{QueueSnapshot}
 use Rattle.rd_queue.specs.Queues.{fitted}
