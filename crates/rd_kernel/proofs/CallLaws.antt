@@ -9,8 +9,9 @@ use Rattle.std.proofs.lemmas.List.Elements.{All-get_or}
 use Rattle.std.proofs.lemmas.List.Sums.{get_or-le-sum_by}
 use Rattle.rd_app.specs.declared.instr.Instr.{Instr}
 use Rattle.rd_app.specs.declared.instr.Operand.{Operand}
+use Rattle.rd_state.specs.declared.phase.Cause.{Cause}
 use Rattle.rd_state.specs.declared.phase.Phase.{Phase}
-use Rattle.rd_state.specs.declared.phase.Phase.TheVariants.{Run, Again, Wait, Ended}
+use Rattle.rd_state.specs.declared.phase.Phase.TheVariants.{Run, Again, Wait, Failed, Ended}
 use Rattle.rd_state.specs.declared.phase.Place.{Place}
 use Rattle.rd_app.specs.Application.{Application, code_of, instr_at, priorities_of}
 use Rattle.rd_wait.specs.Joined.{joined, IsInOrder}
@@ -26,13 +27,13 @@ use Rattle.rd_state.proofs.ScheduleLaws.{one_if}
 use Rattle.rd_state.proofs.ScheduleLaws.{times_in_list-cons, times_in_list-joined, times_on_cores-set}
 use Rattle.rd_state.proofs.UndoLaws.{IsSizedList-waiting_at}
 use Rattle.rd_kernel.specs.declared.outcome.Outcome.TheVariants.{Waits}
-use Rattle.rd_kernel.specs.Outcomes.{IsCalling, blocked, call_answers, call_fails, concluded, passed, returned}
+use Rattle.rd_kernel.specs.Outcomes.{IsCalling, blocked, call_answers, call_fails, concluded, passed, returned, stopped}
 use Rattle.rd_kernel.specs.Tasks.{with_idle_core, with_pc, with_phase, advanced}
 use Rattle.rd_kernel.specs.Waking.{deadline_of, is_due, may_wait, with_waiter, woken_first, woken_one}
 use Rattle.rd_kernel.proofs.ConsistentLaws.{TaskMoves, IsConsistent, IsConsistent-moved}
 use Rattle.rd_kernel.proofs.ConsistentLaws.{IsConsistent-task_replaced, IsConsistent-valid}
 use Rattle.rd_kernel.proofs.ConsistentLaws.{IsConsistentTask, all_have_time_left, same_place-self}
-use Rattle.rd_kernel.proofs.ConsistentLaws.{task_now, task_or_other, waiting_at-same_queues}
+use Rattle.rd_kernel.proofs.ConsistentLaws.{task_now, task_or_other, waiting_at-same_objects}
 use Rattle.rd_kernel.proofs.WakingLaws.{AfterWaking, AfterWaking-woken_first}
 use Rattle.rd_kernel.proofs.WakingLaws.{has_seat, member_has, room_for, waiter_is_idle, waits_nowhere, times_waiting_at-at_most_one, woken_from-tick}
 
@@ -61,6 +62,7 @@ runs_outside_calls Run instr runs none at = refl
 runs_outside_calls (Again deadline) instr runs none at = absurd (false≢true (sym (ap is_some none) ∙ at))
 runs_outside_calls (Wait place deadline) instr runs none at = absurd (omega (arith, runs))
 runs_outside_calls Ended instr runs none at = absurd (omega (arith, runs))
+runs_outside_calls (Failed cause) instr runs none at = absurd (omega (arith, runs))
 
 pub seats_to_run-one : (phase : Phase) → 1 ≤ seats_to_run phase → seats_to_run phase ≡ 1
 seats_to_run-one phase h = ap one_if (has_seat (can_run phase) h)
@@ -149,14 +151,15 @@ same_one task = let e : nat_eq task task ≡ true = grind (arith, nat_tests) in 
 pub other_none : (t task : ℕ) → t ≢ task → one_if (nat_eq t task) ≡ 0
 other_none t task differs = let e : nat_eq t task ≡ false = grind (arith, nat_tests, differs) in ap one_if e
 
--- It ends.
-pub IsConsistent-ended : (app : Application) (D : ℕ → Phase → Type 0) (s : Snapshot) (core task : ℕ) → task < length s.tasks
-    → 1 ≤ seats_to_run (task_at s task).phase → core < length s.cores → core_at s core ≡ Some task → D task Ended → IsConsistent app D s
-    → IsConsistent app D (with_idle_core (with_phase s task Ended) core)
-IsConsistent-ended app D s core task there runs has_core e asked at =
+-- It is in a phase in which it can't run and waits nowhere.
+pub IsConsistent-stopped : (app : Application) (D : ℕ → Phase → Type 0) (s : Snapshot) (core task : ℕ) (phase : Phase) → task < length s.tasks
+    → 1 ≤ seats_to_run (task_at s task).phase → core < length s.cores → core_at s core ≡ Some task
+    → seats_to_run phase ≡ 0 → ((place : Place) → times_waiting_at place phase ≡ 0) → PhaseFitsCall phase (instr_at app task (task_at s task).pc) → D task phase
+    → IsConsistent app D s → IsConsistent app D (stopped s core task phase)
+IsConsistent-stopped app D s core task phase there runs has_core e idle nowhere call asked at =
     let was = at.each task there in
-    let now : TaskSnapshot = record (task_at s task) { phase = Ended } in
-    let p = with_idle_core (with_phase s task Ended) core in
+    let now : TaskSnapshot = record (task_at s task) { phase = phase } in
+    let p = stopped s core task phase in
     let times_off_core : (t : ℕ) → times_on_cores t (set s.cores core None) + one_if (nat_eq t task) ≡ times_on_cores t s.cores =
     λ t. times_on_cores-with_idle_core s core task t has_core e in
     let one = seats_to_run-one (task_at s task).phase runs in
@@ -165,18 +168,21 @@ IsConsistent-ended app D s core task there runs has_core e asked at =
       tasks = length-set s.tasks task now ∙ at.tasks;
       each =
           task_or_other s p task now (IsConsistentTask app D) there refl
-          (record { pc = was.pc; notes = was.notes; call = tt; deadline = asked; entries = was.entries }) (λ t differs h. at.each t h);
+          (record { pc = was.pc; notes = was.notes; call = call; deadline = asked; entries = was.entries }) (λ t differs h. at.each t h);
       shapes = at.shapes;
+      rooms = at.rooms;
       placed_once = task_or_other s p task now (λ t x. times_in_list t s.ready + times_on_cores t (set s.cores core None) ≡ seats_to_run x.phase) there refl
-          (omega (arith, times_off_core task, same_one task, at.placed_once task there, one))
+          (omega (arith, times_off_core task, same_one task, at.placed_once task there, one, idle))
           (λ t differs h. omega (arith, times_off_core t, other_none t task differs, at.placed_once t h));
       waiting_lists = record {
         ready = at.waiting_lists.ready;
-        waiting = λ place. subst (λ list. IsInOrder (priorities_of app) list) (sym (waiting_at-same_queues s p place refl)) (at.waiting_lists.waiting place);
+        waiting =
+            λ place. subst (λ list. IsInOrder (priorities_of app) list) (sym (waiting_at-same_objects s p place refl refl)) (at.waiting_lists.waiting place);
       };
       places = λ place. task_or_other s p task now (λ t x. times_in_list t (waiting_at p place) ≡ times_waiting_at place x.phase) there refl
-          (ap (times_in_list task) (waiting_at-same_queues s p place refl) ∙ at.places place task there ∙ waits_nowhere place (task_at s task).phase runs)
-          (λ t differs h. ap (times_in_list t) (waiting_at-same_queues s p place refl) ∙ at.places place t h);
+          (ap (times_in_list task) (waiting_at-same_objects s p place refl refl) ∙ at.places place task there
+          ∙ waits_nowhere place (task_at s task).phase runs ∙ sym (nowhere place))
+          (λ t differs h. ap (times_in_list t) (waiting_at-same_objects s p place refl refl) ∙ at.places place t h);
     }
 
 -- It waits.
@@ -262,6 +268,13 @@ pub record IsDone (app : Application) (s p : Snapshot) (task : ℕ) (waiting : P
   pub runs : 1 ≤ seats_to_run (task_at p task).phase
   pub within : (task_at p task).pc + 1 < length (code_of app task)
   pub waiters : (t : ℕ) → 1 ≤ times_in_list t (waiting_at p waiting) → t < length p.tasks
+
+-- A call that has failed, and its task with it.
+pub IsConsistent-failed : (app : Application) (s : Snapshot) (core task : ℕ) (cause : Cause) (instr : Instr) → RunsInstr app s core task instr
+    → IsConsistent app (all_have_time_left s.tick) (stopped s core task (Failed cause))
+IsConsistent-failed app s core task cause instr calls =
+    IsConsistent-stopped app (all_have_time_left s.tick) s core task (Failed cause) calls.there calls.runs calls.has_core calls.on_core refl (λ place. refl) tt tt
+    (IsConsistent-valid app s calls.valid)
 
 -- It wakes the first who waits for what it left.
 pub IsConsistent-done : (app : Application) (s p : Snapshot) (core task : ℕ) (waiting : Place) → IsDone app s p task waiting

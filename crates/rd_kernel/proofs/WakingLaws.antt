@@ -10,7 +10,7 @@ use Rattle.std.proofs.lemmas.List.Elements.{All-cons, All-get_or, All-head, All-
 use Rattle.std.proofs.lemmas.List.Sums.{sum_by-remove, passes_at_first}
 use Rattle.std.proofs.lemmas.Map.Steps.{length-le_from_distinct_below}
 use Rattle.rd_state.specs.declared.phase.Phase.{Phase}
-use Rattle.rd_state.specs.declared.phase.Phase.TheVariants.{Run, Again, Wait, Ended}
+use Rattle.rd_state.specs.declared.phase.Phase.TheVariants.{Run, Again, Wait, Ended, Failed}
 use Rattle.rd_state.specs.declared.phase.Place.{Place}
 use Rattle.rd_app.specs.Application.{Application, instr_at, priorities_of}
 use Rattle.rd_wait.specs.Joined.{joined}
@@ -22,7 +22,7 @@ use Rattle.rd_state.specs.Waiting.{waiting_at}
 use Rattle.rd_state.proofs.ScheduleLaws.{one_if, times_in_list-cons, times_in_list-joined}
 use Rattle.rd_app.specs.Application.{max_delay}
 use Rattle.rd_kernel.specs.Waking.{FirstTriesWait, deadline_after, is_first, value_of, is_due}
-use Rattle.rd_kernel.specs.Waking.{queues_without, timed_out, woken, woken_at, woken_from, woken_first, woken_one}
+use Rattle.rd_kernel.specs.Waking.{queues_without, sets_without, timed_out, woken, woken_at, woken_from, woken_first, woken_one}
 use Rattle.rd_kernel.proofs.ConsistentLaws.{TaskMoves, IsConsistent, IsConsistent-deadlines, IsConsistent-moved, place_there, same_place-self}
 
 -- ---- where a task stands in a list
@@ -124,6 +124,7 @@ runner_waits_nowhere Run e = refl
 runner_waits_nowhere (Again deadline) e = refl
 runner_waits_nowhere (Wait place deadline) e = absurd (false≢true e)
 runner_waits_nowhere Ended e = refl
+runner_waits_nowhere (Failed cause) e = refl
 
 -- It is one that has a seat.
 pub has_seat : (runs : Bool) → 1 ≤ cond runs 1 0 → runs ≡ true
@@ -196,7 +197,9 @@ IsConsistent-woken_at app D s task (Some place) deadline there e asked at =
     let f = find_in_list (waiting_at s place) task some in
     let ready = joined (priorities_of app) s.ready task in
     let x = with_phase_again (task_at s task) deadline in
-    subst (λ (o : Option ℕ). IsConsistent app D (record s { ready = ready; tasks = set s.tasks task x; queues = queues_without s place o })) (sym f.is_at)
+    subst (λ (o : Option ℕ).
+    IsConsistent app D (record s { ready = ready; tasks = set s.tasks task x; queues = queues_without s place o; sets = sets_without s place o }))
+    (sym f.is_at)
     (IsConsistent-moved app D s task x place s.cores ready (remove (waiting_at s place) f.index)
     (TaskMoves-again app D s task place deadline f there e some asked at) at)
 

@@ -2,7 +2,8 @@
 use Rattle.std.specs.Prelude.{ℕ, ◌≡◌, ◌+◌, ◌<◌, ◌≤◌, List, length, if◌then◌else◌}
 use Rattle.rd_app.specs.declared.instr.Operand.{Operand}
 use Rattle.rd_app.specs.Application.{Application}
-use Rattle.rd_state.specs.declared.phase.Phase.TheVariants.{Run, Wait}
+use Rattle.rd_state.specs.declared.phase.Phase.{Phase}
+use Rattle.rd_state.specs.declared.phase.Phase.TheVariants.{Run, Wait, Failed}
 use Rattle.rd_state.specs.declared.phase.Place.{Place}
 use Rattle.rd_state.specs.Edit.{Edit, Reaches}
 use Rattle.rd_state.specs.Sizes.{IsSizedPhase}
@@ -10,7 +11,7 @@ use Rattle.rd_state.specs.Snapshot.{Numbers, Snapshot, numbers_of, task_at}
 use Rattle.rd_state.specs.Valid.{IsValid, seats_to_run}
 use Rattle.rd_state.specs.Waiting.{HasPlace, waiting_at}
 use Rattle.rd_kernel.specs.declared.outcome.Outcome.{Outcome}
-use Rattle.rd_kernel.specs.declared.outcome.Outcome.TheVariants.{Returns, Waits}
+use Rattle.rd_kernel.specs.declared.outcome.Outcome.TheVariants.{Returns, Waits, Fails}
 use Rattle.rd_kernel.specs.Tasks.{with_idle_core, with_register, with_pc, with_phase}
 use Rattle.rd_kernel.specs.Waking.{ReadyHasRoom, deadline_of, may_wait, with_waiter, woken_first}
 
@@ -61,19 +62,24 @@ abbrev pub returned : Snapshot → ℕ → ℕ → Snapshot
 returned s task answer =
     with_pc (with_phase (with_register s task 0 answer) task Run) task ((task_at s task).pc + 1)
 
--- and where it waits: it has left its core
+-- the caller off its core, in another phase
+abbrev pub stopped : Snapshot → ℕ → ℕ → Phase → Snapshot
+stopped s core task phase = with_idle_core (with_phase s task phase) core
+
+-- and where it waits or has failed: it has left its core
 abbrev pub concluded : Called → ℕ → ℕ → Snapshot
 concluded called core task = concluded_as called.state core task called.outcome
   where
     concluded_as : Snapshot → ℕ → ℕ → Outcome → Snapshot
     concluded_as s core task (Returns answer) = returned s task answer
-    concluded_as s core task (Waits place deadline) =
-        with_idle_core (with_phase s task (Wait place deadline)) core
+    concluded_as s core task (Waits place deadline) = stopped s core task (Wait place deadline)
+    concluded_as s core task (Fails cause) = stopped s core task (Failed cause)
 
 -- A task that is to wait, waits at a place that is there, until a deadline that is one.
 abbrev pub IsSizedOutcome : Numbers → Outcome → Type 0
 IsSizedOutcome numbers (Returns answer) = Unit {0}
 IsSizedOutcome numbers (Waits place deadline) = IsSizedPhase numbers (Wait place deadline)
+IsSizedOutcome numbers (Fails cause) = Unit {0}
 
 -- The call has been done, at that cost at the most, and this became of the caller.
 pub record DoesCall (old new : Edit) (called : Called) (cost : ℕ) (outcome : Outcome) : Type 0 where

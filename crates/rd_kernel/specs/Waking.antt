@@ -3,6 +3,7 @@ use Rattle.std.specs.Prelude.{ℕ, ◌≡◌, zero, suc, ◌+◌, ◌<◌, ◌&&
 use Rattle.std.specs.Prelude.{length, nat_eq, nat_lt, not, position, remove, slice_get}
 use Rattle.std.specs.Prelude.{if◌then◌else◌, Option, None, Some}
 use Rattle.rd_queue.specs.QueueSnapshot.{QueueSnapshot}
+use Rattle.rd_queue.specs.SetSnapshot.{SetSnapshot}
 use Rattle.rd_app.specs.declared.instr.Operand.{Operand}
 use Rattle.rd_app.specs.declared.instr.Operand.TheVariants.{Number, Register}
 use Rattle.rd_state.specs.declared.phase.Phase.{Phase}
@@ -13,7 +14,7 @@ use Rattle.rd_wait.specs.Joined.{joined}
 use Rattle.rd_state.specs.Phases.{can_run, kept_deadline, tries_again, waits_at}
 use Rattle.rd_state.specs.Snapshot.{Snapshot, task_at}
 use Rattle.rd_state.specs.Valid.{is_ahead}
-use Rattle.rd_state.specs.Waiting.{waiting_at, queues_then, with_waiting_at}
+use Rattle.rd_state.specs.Waiting.{waiting_at, queues_then, sets_then, with_waiting_at}
 use Rattle.rd_kernel.specs.Tasks.{register_at, with_phase}
 
 -- the number that an operand stands for
@@ -51,15 +52,20 @@ abbrev pub with_waiter : List ℕ → Snapshot → Place → ℕ → Snapshot
 with_waiter priorities s place task =
     with_waiting_at s place (joined priorities (waiting_at s place) task)
 
--- the queues, once the member at that index of the list has left it
+-- the queues and the sets, once the member at that index of the list has left it
 abbrev pub queues_without : Snapshot → Place → Option ℕ → List QueueSnapshot
 queues_without s place None = s.queues
 queues_without s place (Some index) = queues_then s place (remove (waiting_at s place) index)
+
+abbrev pub sets_without : Snapshot → Place → Option ℕ → List SetSnapshot
+sets_without s place None = s.sets
+sets_without s place (Some index) = sets_then s place (remove (waiting_at s place) index)
 
 -- the state once the task has left the list, if it stood there
 abbrev pub without_waiter : Snapshot → Place → ℕ → Snapshot
 without_waiter s place task = record s {
   queues = queues_without s place (position (λ member. nat_eq member task) (waiting_at s place));
+  sets = sets_without s place (position (λ member. nat_eq member task) (waiting_at s place));
 }
 
 -- The ready list has room for one task more.

@@ -5,36 +5,29 @@ ghost use Rattle.rd_state.specs.Edit.{Reaches};
 ghost use Rattle.rd_state.specs.Sizes.{IsSizedPhase};
 ghost use Rattle.rd_state.specs.Snapshot.{numbers_of, task_at};
 ghost use Rattle.rd_kernel.specs.Costs.{ending_cost};
-ghost use Rattle.rd_kernel.specs.Outcomes.{IsSizedOutcome, concluded};
-ghost use Rattle.rd_kernel.specs.Tasks.{with_idle_core, with_phase};
+ghost use Rattle.rd_kernel.specs.Outcomes.{IsSizedOutcome, concluded, stopped};
 
 use crate::outcome::Outcome;
 use crate::steps::{return_from, set_phase};
 use rd_bytes::no_memory::NoMemory;
 use rd_state::change::Change;
 use rd_state::editing::Editing;
-use rd_state::phase::{Phase, Place};
+use rd_state::phase::Phase;
 
-// Takes a task that waits off its core.
-fn begin_waiting(
-    editing: &mut Editing,
-    core: usize,
-    task: usize,
-    place: Place,
-    deadline: Option<u64>,
-) -> Result<(), NoMemory>
+// Takes a task off its core, into a phase in which it can't run.
+fn stop(editing: &mut Editing, core: usize, task: usize, phase: Phase) -> Result<(), NoMemory>
     requires task { task < length editing.old.now.tasks }
     requires core { core < length editing.old.now.cores }
-    requires sized { IsSizedPhase (numbers_of editing.old.now) (Phase.Wait place deadline) }
-    ensures ok { OnOk result (Reaches editing.old editing.new
-        (with_idle_core (with_phase editing.old.now task (Phase.Wait place deadline)) core) 2) }
+    requires sized { IsSizedPhase (numbers_of editing.old.now) phase }
+    ensures ok { OnOk result
+        (Reaches editing.old editing.new (stopped editing.old.now core task phase) 2) }
     ensures err { OnErr result (editing.new.base ≡ editing.old.base) }
 {
-    set_phase(editing, task, Phase::Wait { place, deadline })?;
+    set_phase(editing, task, phase)?;
     editing.change(Change::SetCore { core, task: None })
 }
 
-/// What becomes of a caller: its call returns, or it waits and leaves its core.
+/// What becomes of a caller: its call returns, or it waits, or has failed, and leaves its core.
 pub fn conclude(
     editing: &mut Editing,
     core: usize,
@@ -53,7 +46,8 @@ pub fn conclude(
     match outcome {
         Outcome::Returns(answer) => return_from(editing, task, answer),
         Outcome::Waits { place, deadline } => {
-            begin_waiting(editing, core, task, place, deadline)
+            stop(editing, core, task, Phase::Wait { place, deadline })
         }
+        Outcome::Fails(cause) => stop(editing, core, task, Phase::Failed { cause }),
     }
 }

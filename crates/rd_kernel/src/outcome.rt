@@ -1,6 +1,6 @@
 //! What becomes of a caller.
 
-use rd_state::phase::Place;
+use rd_state::phase::{Cause, Place};
 
 /// What becomes of a task that calls the kernel.
 #[derive(Clone, Copy, Debug, PartialEq, Eq)]
@@ -10,4 +10,6 @@ pub enum Outcome {
     /// The task waits at a place while the deadline, a tick, is
     /// ahead; without end where there is none.
     Waits { place: Place, deadline: Option<u64> },
+    /// The call has failed, and so has the task.
+    Fails(Cause),
 }
