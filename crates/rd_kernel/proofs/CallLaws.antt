@@ -27,7 +27,7 @@ use Rattle.rd_state.proofs.ScheduleLaws.{one_if}
 use Rattle.rd_state.proofs.ScheduleLaws.{times_in_list-cons, times_in_list-joined, times_on_cores-set}
 use Rattle.rd_state.proofs.UndoLaws.{IsSizedList-waiting_at}
 use Rattle.rd_kernel.specs.declared.outcome.Outcome.TheVariants.{Waits}
-use Rattle.rd_kernel.specs.Outcomes.{IsCalling, blocked, call_answers, call_fails, concluded, passed, returned, stopped}
+use Rattle.rd_kernel.specs.Outcomes.{Called, IsCalling, blocked, call_answers, call_fails, concluded, passed, returned, stopped}
 use Rattle.rd_kernel.specs.Tasks.{with_idle_core, with_pc, with_phase, advanced}
 use Rattle.rd_kernel.specs.Waking.{deadline_of, is_due, may_wait, with_waiter, woken_first, woken_one}
 use Rattle.rd_kernel.proofs.ConsistentLaws.{TaskMoves, IsConsistent, IsConsistent-moved}
@@ -289,20 +289,17 @@ pub IsConsistent-answered : (app : Application) (s : Snapshot) (core task answer
 IsConsistent-answered app s core task answer instr calls =
     IsConsistent-returned app (all_have_time_left s.tick) s task answer calls.there calls.runs calls.within tt (IsConsistent-valid app s calls.valid)
 
--- A call either can't be done, or is done and wakes the first who waits for what it left.
-pub IsConsistent-does_or_waits : (app : Application) (s p : Snapshot) (core task : ℕ) (instr : Instr) (place waiting : Place) (wait : Operand) (cannot : Bool)
-    → RunsInstr app s core task instr → HasPlace s place → place_of_call instr ≡ Some place → IsDone app s p task waiting
-    → IsConsistent app (all_have_time_left s.tick)
-    (concluded (cond cannot (blocked (priorities_of app) s task place wait) (passed (priorities_of app) p waiting)) core task)
-IsConsistent-does_or_waits app s p core task instr place waiting wait cannot calls there at_place done =
-    let priorities = priorities_of app in
-    let D = all_have_time_left s.tick in
-    let at = IsConsistent-valid app s calls.valid in
-    elim cannot as (λ b. IsConsistent app D (concluded (cond b (blocked priorities s task place wait) (passed priorities p waiting)) core task)) [
+-- A call either can't be done, or it ends so.
+pub IsConsistent-or_blocked : (app : Application) (s : Snapshot) (core task : ℕ) (instr : Instr) (place : Place) (wait : Operand) (cannot : Bool)
+    (called : Called) → RunsInstr app s core task instr → HasPlace s place → place_of_call instr ≡ Some place
+    → IsConsistent app (all_have_time_left s.tick) (concluded called core task)
+    → IsConsistent app (all_have_time_left s.tick) (concluded (cond cannot (blocked (priorities_of app) s task place wait) called) core task)
+IsConsistent-or_blocked app s core task instr place wait cannot called calls there at_place done =
+    elim cannot as (λ b. IsConsistent app (all_have_time_left s.tick) (concluded (cond b (blocked (priorities_of app) s task place wait) called) core task)) [
       | true ↦
           IsConsistent-blocked app s core task place wait calls.there calls.runs calls.has_core calls.on_core there
-          (ap place_of_call calls.at_instr ∙ at_place) calls.within at
-      | false ↦ IsConsistent-done app s p core task waiting done
+          (ap place_of_call calls.at_instr ∙ at_place) calls.within (IsConsistent-valid app s calls.valid)
+      | false ↦ done
     ]
 
 -- An instruction leaves the tick.
@@ -319,13 +316,13 @@ blocked-tick priorities s core task place wait =
     (concluded (cond b (record { state = with_waiter priorities s place task; outcome = Waits place (deadline_of s task wait) }) (call_fails s)) core task).tick
     ≡ s.tick) [ true ↦ refl | false ↦ refl ]
 
--- The tick stays, whether the call waits or is done.
-pub does_or_waits-tick : (priorities : List ℕ) (s p : Snapshot) (core task : ℕ) (place waiting : Place) (wait : Operand) (cannot : Bool) → p.tick ≡ s.tick
-    → (concluded (cond cannot (blocked priorities s task place wait) (passed priorities p waiting)) core task).tick ≡ s.tick
-does_or_waits-tick priorities s p core task place waiting wait cannot same =
-    elim cannot as (λ b. (concluded (cond b (blocked priorities s task place wait) (passed priorities p waiting)) core task).tick ≡ s.tick) [
+-- The tick stays, whether the call waits or ends so.
+pub or_blocked-tick : (priorities : List ℕ) (s : Snapshot) (core task : ℕ) (place : Place) (wait : Operand) (cannot : Bool) (called : Called)
+    → (concluded called core task).tick ≡ s.tick → (concluded (cond cannot (blocked priorities s task place wait) called) core task).tick ≡ s.tick
+or_blocked-tick priorities s core task place wait cannot called same =
+    elim cannot as (λ b. (concluded (cond b (blocked priorities s task place wait) called) core task).tick ≡ s.tick) [
       | true ↦ blocked-tick priorities s core task place wait
-      | false ↦ woken_first-tick priorities p waiting ∙ same
+      | false ↦ same
     ]
 
 -- ---- room

@@ -1,107 +1,147 @@
--- What the calls of a queue keep of what makes a state valid.
-use Rattle.std.proofs.Common.{◌≡◌, ◌∙◌, ℕ, ◌+◌, ◌-◌, ◌<◌, ◌≤◌, true, false, cond, [], ◌∷◌, ◌++◌, List, length, get_or, set, drop, refl, ap, subst, sym, arith}
+-- What the calls of a queue and of a set keep of what makes a state valid.
+use Rattle.std.proofs.Common.{◌≡◌, ◌∙◌, ℕ, ◌+◌, ◌-◌, ◌<◌, ◌≤◌, ◌&&◌, Bool, true, false, cond, [], ◌∷◌, ◌++◌, List, length, get_or, set, slice_index, drop}
+use Rattle.std.proofs.Common.{Option, Some, None, refl, ap, subst, sym, arith}
+use Rattle.std.specs.Prelude.{IfSome}
 use Rattle.std.proofs.lemmas.List.{length-set}
 use Rattle.rd_app.specs.declared.instr.Instr.{Instr}
 use Rattle.rd_app.specs.declared.instr.Instr.TheVariants as instr
 use Rattle.rd_app.specs.declared.instr.QueueCall.{QueueCall}
-use Rattle.rd_app.specs.declared.instr.QueueCall.TheVariants.{Send, Receive, Peek, Overwrite, Reset, Count, Spaces}
+use Rattle.rd_app.specs.declared.instr.QueueCall.TheVariants.{Send, Receive, Peek, Overwrite, Reset, Count, Spaces, AddToSet, RemoveFromSet}
+use Rattle.rd_app.specs.declared.instr.SetCall.{SetCall}
+use Rattle.rd_app.specs.declared.instr.SetCall.TheVariants.{Select}
 use Rattle.rd_app.specs.Application.{Application, code_of, priorities_of}
 use Rattle.rd_queue.specs.Changes.{put_at, queue_applied}
 use Rattle.rd_queue.specs.declared.end.End.{End}
 use Rattle.rd_queue.specs.declared.end.End.TheVariants.{Back, Front}
 use Rattle.rd_queue.specs.declared.waiting_list.WaitingList.{WaitingList}
 use Rattle.rd_queue.specs.declared.waiting_list.WaitingList.TheVariants.{Receiving, Sending}
+use Rattle.rd_queue.specs.QueueSnapshot.{QueueSnapshot}
 use Rattle.rd_queue.specs.Queues.{with_items}
+use Rattle.rd_queue.specs.SetSnapshot.{SetSnapshot}
+use Rattle.rd_queue.specs.Sets.{with_handles}
+use Rattle.rd_state.specs.declared.phase.Cause.TheVariants.{SetFull}
 use Rattle.rd_state.specs.declared.phase.Place.{Place}
-use Rattle.rd_state.specs.declared.phase.Place.TheVariants.{Queue}
-use Rattle.rd_state.specs.Change.{with_queue, items_at}
-use Rattle.rd_state.specs.Snapshot.{Snapshot, TaskSnapshot, task_at, queue_at}
+use Rattle.rd_state.specs.declared.phase.Place.TheVariants.{Queue, Set}
+use Rattle.rd_state.specs.Change.{with_queue, with_set, items_at}
+use Rattle.rd_state.specs.Sizes.{IsSized}
+use Rattle.rd_state.specs.Snapshot.{Snapshot, TaskSnapshot, no_task, task_at, queue_at, set_at}
 use Rattle.rd_state.specs.Valid.{seats_to_run, times_in_list}
 use Rattle.rd_state.specs.Waiting.{HasPlace, waiting_at}
-use Rattle.rd_kernel.specs.Outcomes.{concluded}
+use Rattle.rd_state.proofs.UndoLaws.{queue_sized}
+use Rattle.rd_kernel.specs.Outcomes.{call_answers, call_fails, call_passes, concluded}
 use Rattle.rd_kernel.specs.Waking.{ReadyHasRoom}
-use Rattle.rd_kernel.proofs.ConsistentLaws.{IsConsistent, IsConsistent-items, IsConsistent-valid, all_have_time_left, task_now, waiting_at-with_items}
-use Rattle.rd_kernel.proofs.CallLaws.{IsDone, RunsInstr, IsConsistent-answered, IsConsistent-done, IsConsistent-does_or_waits, IsConsistent-with_values}
-use Rattle.rd_kernel.proofs.CallLaws.{does_or_waits-tick, waits_is_task, woken_first-tick}
-use Rattle.rd_queue_calls.specs.QueueCalls.{is_empty, is_full, queue_outcome, sent_item, with_item_over, with_item_peeked, with_item_sent}
+use Rattle.rd_kernel.proofs.ConsistentLaws.{IsConsistent, IsConsistent-items, IsConsistent-queue_replaced, IsConsistent-set_replaced, IsConsistent-valid}
+use Rattle.rd_kernel.proofs.ConsistentLaws.{IsSameWaiting, all_have_time_left, place_there, task_now, waiting_at-with_queue, waiting_at-with_set}
+use Rattle.rd_kernel.proofs.CallLaws.{IsDone, RunsInstr, IsConsistent-answered, IsConsistent-done, IsConsistent-failed, IsConsistent-or_blocked}
+use Rattle.rd_kernel.proofs.CallLaws.{IsConsistent-returned, IsConsistent-with_values, first_waits, or_blocked-tick, waits_is_task, woken_first-tick}
+use Rattle.rd_queue_calls.specs.Posts.{HasRoomToWake, call_breaks, is_in_full_set, is_in_no_set, is_in_set, posted, replaced, set_of, with_handle, with_member}
+use Rattle.rd_queue_calls.specs.QueueCalls.{is_empty, is_full, queue_outcome, sent_item, sent_outcome, with_item_over, with_item_peeked, with_item_sent}
 use Rattle.rd_queue_calls.specs.QueueCalls.{with_item_taken, with_no_items}
+use Rattle.rd_queue_calls.specs.SetCalls.{has_no_handle, set_outcome, with_handle_taken}
 
--- The queue has other items, and the same tasks wait at it.
-waiters_stay : (s : Snapshot) (queue : ℕ) (items : List (List ℕ)) (list : WaitingList) (t : ℕ) → queue < length s.queues
-    → 1 ≤ times_in_list t (waiting_at (with_queue s queue (with_items (queue_at s queue) items)) (Queue queue list))
-    → 1 ≤ times_in_list t (waiting_at s (Queue queue list))
-waiters_stay s queue items list t there some =
-    let p = with_queue s queue (with_items (queue_at s queue) items) in
-    omega (arith, some, ap (times_in_list t) (waiting_at-with_items s p queue items (Queue queue list) there refl))
+-- ---- room to wake
+
+-- Where the same tasks wait, and as many are ready, whoever waits finds room in the ready list.
+pub room_kept : (s p : Snapshot) → ((place : Place) → waiting_at p place ≡ waiting_at s place) → p.ready ≡ s.ready → length p.tasks ≡ length s.tasks
+    → HasRoomToWake s → (place : Place) → 0 < length (waiting_at p place) → ReadyHasRoom p
+room_kept s p same ready tasks room place some =
+    let some_before : 0 < length (waiting_at s place) = omega (arith, some, ap length (same place)) in
+    let first = first_waits (waiting_at s place) some_before in
+    omega (arith, room place (place_there s place first.0 first.1) some_before, ap length ready, tasks)
+
+-- The same of a queue that has changed in something else.
+pub room_after_queue : (s p : Snapshot) (queue : ℕ) (now : QueueSnapshot) → queue < length s.queues → IsSameWaiting now (queue_at s queue) → HasRoomToWake s
+    → p.queues ≡ set s.queues queue now → p.sets ≡ s.sets → p.ready ≡ s.ready → length p.tasks ≡ length s.tasks
+    → (place : Place) → 0 < length (waiting_at p place) → ReadyHasRoom p
+room_after_queue s p queue now there kept room queues sets ready tasks =
+    room_kept s p (λ place. waiting_at-with_queue s p queue now place there kept queues sets) ready tasks room
+
+-- and of a set
+pub room_after_set : (s p : Snapshot) (number : ℕ) (now : SetSnapshot) → number < length s.sets → now.waiting ≡ (set_at s number).waiting → HasRoomToWake s
+    → p.queues ≡ s.queues → p.sets ≡ set s.sets number now → p.ready ≡ s.ready → length p.tasks ≡ length s.tasks
+    → (place : Place) → 0 < length (waiting_at p place) → ReadyHasRoom p
+room_after_set s p number now there kept room queues sets ready tasks =
+    room_kept s p (λ place. waiting_at-with_set s p number now place there kept queues sets) ready tasks room
+
+-- Other items, or another set, are none of who waits.
+pub items_keep : (queue : QueueSnapshot) (items : List (List ℕ)) → IsSameWaiting (with_items queue items) queue
+items_keep queue items = record { receiving = refl; sending = refl }
+
+pub put_keeps : (queue : QueueSnapshot) (end : End) (item : List ℕ) → IsSameWaiting (queue_applied queue (put_at end item)) queue
+put_keeps queue Back item = record { receiving = refl; sending = refl }
+put_keeps queue Front item = record { receiving = refl; sending = refl }
+
+-- The set of a queue is there.
+pub set_there : (s : Snapshot) (queue : ℕ) → IsSized s → queue < length s.queues → IfSome (set_of s queue) (λ set. set < length s.sets)
+set_there s queue sized there =
+    let here = queue_sized s queue sized there in
+    subst (λ sets. IfSome (set_of s queue) (λ set. set < sets)) here.2 here.0.set
+
+-- ---- what a call leaves
+
+-- The tasks are as they were, and the same wait at a place.
+done_as : (app : Application) (s p : Snapshot) (core task : ℕ) (instr : Instr) (place : Place) → RunsInstr app s core task instr
+    → IsConsistent app (all_have_time_left s.tick) p → p.tasks ≡ s.tasks → HasPlace s place → waiting_at p place ≡ waiting_at s place
+    → IsDone app s p task place
+done_as app s p core task instr place calls consistent tasks has_place same =
+    let is : task_at p task ≡ task_at s task = ap (λ (ts : List TaskSnapshot). get_or ts task no_task) tasks in
+    record {
+      consistent = consistent;
+      there = omega (arith, calls.there, ap length tasks);
+      runs = subst (λ (t : TaskSnapshot). 1 ≤ seats_to_run t.phase) (sym is) calls.runs;
+      within = subst (λ (t : TaskSnapshot). t.pc + 1 < length (code_of app task)) (sym is) calls.within;
+      waiters = λ t some.
+          let before = waits_is_task s place t calls.valid.in_limits.sized has_place (omega (arith, some, ap (times_in_list t) same)) in
+          omega (arith, before, ap length tasks);
+    }
 
 -- A queue gets other items, and who waits in one of its lists is woken.
 with_items_done : (app : Application) (s : Snapshot) (core task queue : ℕ) (list : WaitingList) (instr : Instr) (items : List (List ℕ))
     → RunsInstr app s core task instr → queue < length s.queues
     → IsDone app s (with_queue s queue (with_items (queue_at s queue) items)) task (Queue queue list)
 with_items_done app s core task queue list instr items calls there =
-    let at = IsConsistent-valid app s calls.valid in
-    record {
-      consistent = IsConsistent-items app (all_have_time_left s.tick) s queue items there at;
-      there = calls.there;
-      runs = calls.runs;
-      within = calls.within;
-      waiters = λ t some. waits_is_task s (Queue queue list) t calls.valid.in_limits.sized there (waiters_stay s queue items list t there some);
-    }
+    let now = with_items (queue_at s queue) items in
+    let p = with_queue s queue now in
+    done_as app s p core task instr (Queue queue list) calls
+    (IsConsistent-items app (all_have_time_left s.tick) s queue items there (IsConsistent-valid app s calls.valid)) refl there
+    (waiting_at-with_queue s p queue now (Queue queue list) there (items_keep (queue_at s queue) items) refl refl)
 
--- Its first item becomes the caller's data, and who waits for a free slot is woken.
-taken : (app : Application) (s : Snapshot) (core task queue : ℕ) (instr : Instr) → RunsInstr app s core task instr → queue < length s.queues
-    → IsDone app s (with_item_taken s task queue) task (Queue queue Sending)
-taken app s core task queue instr calls there =
+-- A queue gets other items, and its set a handle.
+with_handle_done : (app : Application) (s : Snapshot) (core task queue number : ℕ) (instr : Instr) (items : List (List ℕ))
+    → RunsInstr app s core task instr → queue < length s.queues → number < length s.sets
+    → IsDone app s (with_handle (with_queue s queue (with_items (queue_at s queue) items)) number queue) task (Set number)
+with_handle_done app s core task queue number instr items calls there has_set =
     let D = all_have_time_left s.tick in
-    let at = IsConsistent-valid app s calls.valid in
-    let items = drop 1 (items_at s queue) in
-    let first = get_or (items_at s queue) 0 [] in
-    let without_item = with_queue s queue (with_items (queue_at s queue) items) in
-    let x = record (task_at s task) { bytes = first } in
-    let p = with_item_taken s task queue in
-    let is : task_at p task ≡ x = task_now without_item task x calls.there in
-    let same : length p.tasks ≡ length s.tasks = length-set s.tasks task x in
-    record {
-      consistent = IsConsistent-with_values app D without_item task (task_at s task).registers first calls.there
-          (IsConsistent-items app D s queue items there at);
-      there = omega (arith, calls.there, same);
-      runs = subst (λ (t : TaskSnapshot). 1 ≤ seats_to_run t.phase) (sym is) calls.runs;
-      within = subst (λ (t : TaskSnapshot). t.pc + 1 < length (code_of app task)) (sym is) calls.within;
-      waiters = λ t some. subst (λ n. t < n) (sym same)
-          (waits_is_task s (Queue queue Sending) t calls.valid.in_limits.sized there (waiters_stay s queue items Sending t there some));
-    }
+    let now = with_items (queue_at s queue) items in
+    let p = with_queue s queue now in
+    let handles = with_handles (set_at p number) ((set_at p number).handles ++ queue ∷ []) in
+    let q = with_set p number handles in
+    done_as app s q core task instr (Set number) calls
+    (IsConsistent-set_replaced app D p number handles has_set refl refl (IsConsistent-items app D s queue items there (IsConsistent-valid app s calls.valid)))
+    refl has_set
+    (waiting_at-with_set p q number handles (Set number) has_set refl refl refl
+    ∙ waiting_at-with_queue s p queue now (Set number) there (items_keep (queue_at s queue) items) refl refl)
 
--- The ready list has room for whoever is woken once a queue has other items.
-pub room_after_items : (s p : Snapshot) (queue : ℕ) (items : List (List ℕ)) (list : WaitingList) → queue < length s.queues
-    → ((place : Place) → HasPlace s place → 0 < length (waiting_at s place) → ReadyHasRoom s)
-    → p.queues ≡ set s.queues queue (with_items (queue_at s queue) items) → p.ready ≡ s.ready → length p.tasks ≡ length s.tasks
-    → 0 < length (waiting_at p (Queue queue list)) → ReadyHasRoom p
-room_after_items s p queue items list there room queues ready tasks some =
-    let waiting = waiting_at-with_items s p queue items (Queue queue list) there queues in
-    omega (arith, room (Queue queue list) there (omega (arith, some, ap length waiting)), ap length ready, tasks)
+-- A queue becomes a member of a set, or of none.
+with_member_done : (app : Application) (s : Snapshot) (core task queue : ℕ) (member : Option ℕ) (instr : Instr)
+    → RunsInstr app s core task instr → queue < length s.queues → IsDone app s (with_member s queue member) task (Queue queue Receiving)
+with_member_done app s core task queue member instr calls there =
+    let now : QueueSnapshot = record (queue_at s queue) { set = member } in
+    let p = with_queue s queue now in
+    let kept : IsSameWaiting now (queue_at s queue) = record { receiving = refl; sending = refl } in
+    done_as app s p core task instr (Queue queue Receiving) calls
+    (IsConsistent-queue_replaced app (all_have_time_left s.tick) s queue now there refl kept (IsConsistent-valid app s calls.valid)) refl there
+    (waiting_at-with_queue s p queue now (Queue queue Receiving) there kept refl refl)
 
--- The same of an item put at an end.
-pub room_after_item : (s p : Snapshot) (queue : ℕ) (end : End) (item : List ℕ) (list : WaitingList) → queue < length s.queues
-    → ((place : Place) → HasPlace s place → 0 < length (waiting_at s place) → ReadyHasRoom s)
-    → p.queues ≡ set s.queues queue (queue_applied (queue_at s queue) (put_at end item)) → p.ready ≡ s.ready → length p.tasks ≡ length s.tasks
-    → 0 < length (waiting_at p (Queue queue list)) → ReadyHasRoom p
-room_after_item s p queue Back item list there room queues = room_after_items s p queue (items_at s queue ++ item ∷ []) list there room queues
-room_after_item s p queue Front item list there room queues = room_after_items s p queue (item ∷ items_at s queue) list there room queues
-
--- The same of an item that is made the only one.
-pub room_after_over : (s p : Snapshot) (task queue : ℕ) (list : WaitingList) → queue < length s.queues
-    → ((place : Place) → HasPlace s place → 0 < length (waiting_at s place) → ReadyHasRoom s) → p ≡ with_item_over s task queue
-    → 0 < length (waiting_at p (Queue queue list)) → ReadyHasRoom p
-room_after_over s p task queue list there room =
-    let item = sent_item s task queue in
-    elim (is_empty (queue_at s queue)) as (λ b.
-    p ≡ cond b (with_item_sent s task queue Back) (with_queue s queue (with_items (queue_at s queue) (set (items_at s queue) 0 item)))
-    → 0 < length (waiting_at p (Queue queue list)) → ReadyHasRoom p) [
-      | true ↦ λ is. room_after_items s p queue (items_at s queue ++ item ∷ []) list there room (ap (λ (t : Snapshot). t.queues) is)
-          (ap (λ (t : Snapshot). t.ready) is) (ap (λ (t : Snapshot). length t.tasks) is)
-      | false ↦ λ is. room_after_items s p queue (set (items_at s queue) 0 item) list there room (ap (λ (t : Snapshot). t.queues) is)
-          (ap (λ (t : Snapshot). t.ready) is) (ap (λ (t : Snapshot). length t.tasks) is)
-    ]
+-- The first handle leaves a set.
+with_handle_taken_done : (app : Application) (s : Snapshot) (core task number : ℕ) (instr : Instr)
+    → RunsInstr app s core task instr → number < length s.sets → IsDone app s (with_handle_taken s number) task (Set number)
+with_handle_taken_done app s core task number instr calls has_set =
+    let now = with_handles (set_at s number) (drop 1 (set_at s number).handles) in
+    let p = with_set s number now in
+    done_as app s p core task instr (Set number) calls
+    (IsConsistent-set_replaced app (all_have_time_left s.tick) s number now has_set refl refl (IsConsistent-valid app s calls.valid)) refl has_set
+    (waiting_at-with_set s p number now (Set number) has_set refl refl refl)
 
 -- The first item becomes the caller's data, and who else waits for one is woken.
 peeked : (app : Application) (s : Snapshot) (core task queue : ℕ) (instr : Instr) → RunsInstr app s core task instr → queue < length s.queues
@@ -120,40 +160,116 @@ peeked app s core task queue instr calls there =
       waiters = λ t some. subst (λ n. t < n) (sym same) (waits_is_task s (Queue queue Receiving) t calls.valid.in_limits.sized there some);
     }
 
--- An item is put, or takes the place of the one that is there.
-overwritten : (app : Application) (s : Snapshot) (core task queue : ℕ) (instr : Instr) → RunsInstr app s core task instr → queue < length s.queues
-    → IsDone app s (with_item_over s task queue) task (Queue queue Receiving)
-overwritten app s core task queue instr calls there =
-    let item = sent_item s task queue in
-    elim (is_empty (queue_at s queue)) as (λ b.
-    IsDone app s
-    (cond b (with_item_sent s task queue Back) (with_queue s queue (with_items (queue_at s queue) (set (items_at s queue) 0 item))))
-    task (Queue queue Receiving)) [
-      | true ↦ with_items_done app s core task queue Receiving instr (items_at s queue ++ item ∷ []) calls there
-      | false ↦ with_items_done app s core task queue Receiving instr (set (items_at s queue) 0 item) calls there
+-- It leaves the queue too, and who waits for a free slot is woken.
+taken : (app : Application) (s : Snapshot) (core task queue : ℕ) (instr : Instr) → RunsInstr app s core task instr → queue < length s.queues
+    → IsDone app s (with_item_taken s task queue) task (Queue queue Sending)
+taken app s core task queue instr calls there =
+    let D = all_have_time_left s.tick in
+    let items = drop 1 (items_at s queue) in
+    let now = with_items (queue_at s queue) items in
+    let first = get_or (items_at s queue) 0 [] in
+    let without_item = with_queue s queue now in
+    let x = record (task_at s task) { bytes = first } in
+    let p = with_item_taken s task queue in
+    let is : task_at p task ≡ x = task_now without_item task x calls.there in
+    let same : length p.tasks ≡ length s.tasks = length-set s.tasks task x in
+    record {
+      consistent = IsConsistent-with_values app D without_item task (task_at s task).registers first calls.there
+          (IsConsistent-items app D s queue items there (IsConsistent-valid app s calls.valid));
+      there = omega (arith, calls.there, same);
+      runs = subst (λ (t : TaskSnapshot). 1 ≤ seats_to_run t.phase) (sym is) calls.runs;
+      within = subst (λ (t : TaskSnapshot). t.pc + 1 < length (code_of app task)) (sym is) calls.within;
+      waiters = λ t some.
+          let before = waiting_at-with_queue s p queue now (Queue queue Sending) there (items_keep (queue_at s queue) items) refl refl in
+          subst (λ n. t < n) (sym same)
+          (waits_is_task s (Queue queue Sending) t calls.valid.in_limits.sized there (omega (arith, some, ap (times_in_list t) before)));
+    }
+
+-- ---- each call
+
+-- A call that is done returns.
+returns_done : (app : Application) (s p : Snapshot) (core task answer : ℕ) (place : Place) → IsDone app s p task place
+    → IsConsistent app (all_have_time_left s.tick) (concluded (call_answers p answer) core task)
+returns_done app s p core task answer place done =
+    IsConsistent-returned app (all_have_time_left s.tick) p task answer done.there done.runs done.within tt done.consistent
+
+-- An item was put.
+posts : (app : Application) (s : Snapshot) (core task queue : ℕ) (member : Option ℕ) (instr : Instr) (items : List (List ℕ))
+    → RunsInstr app s core task instr → queue < length s.queues → IfSome member (λ set. set < length s.sets)
+    → IsConsistent app (all_have_time_left s.tick)
+    (concluded (posted (priorities_of app) (with_queue s queue (with_items (queue_at s queue) items)) queue member) core task)
+posts app s core task queue None instr items calls there has_set =
+    IsConsistent-done app s (with_queue s queue (with_items (queue_at s queue) items)) core task (Queue queue Receiving)
+    (with_items_done app s core task queue Receiving instr items calls there)
+posts app s core task queue (Some number) instr items calls there has_set =
+    IsConsistent-done app s (with_handle (with_queue s queue (with_items (queue_at s queue) items)) number queue) core task (Set number)
+    (with_handle_done app s core task queue number instr items calls there has_set)
+
+sends : (app : Application) (s : Snapshot) (core task queue : ℕ) (end : End) (instr : Instr) → RunsInstr app s core task instr → queue < length s.queues
+    → IsConsistent app (all_have_time_left s.tick) (concluded (sent_outcome (priorities_of app) s task queue end) core task)
+sends app s core task queue end instr calls there =
+    elim (is_in_full_set s (set_of s queue)) as (λ b.
+    IsConsistent app (all_have_time_left s.tick)
+    (concluded (cond b (call_breaks s SetFull) (posted (priorities_of app) (with_item_sent s task queue end) queue (set_of s queue))) core task)) [
+      | true ↦ IsConsistent-failed app s core task SetFull instr calls
+      | false ↦ by_end end
+    ]
+  where
+    by_end : (end : End) → IsConsistent app (all_have_time_left s.tick)
+        (concluded (posted (priorities_of app) (with_item_sent s task queue end) queue (set_of s queue)) core task)
+    by_end Back =
+        posts app s core task queue (set_of s queue) instr (items_at s queue ++ sent_item s task queue ∷ []) calls there
+        (set_there s queue calls.valid.in_limits.sized there)
+    by_end Front =
+        posts app s core task queue (set_of s queue) instr (sent_item s task queue ∷ items_at s queue) calls there
+        (set_there s queue calls.valid.in_limits.sized there)
+
+-- An item took the place of another.
+replaces : (app : Application) (s : Snapshot) (core task queue : ℕ) (member : Option ℕ) (instr : Instr) → RunsInstr app s core task instr
+    → queue < length s.queues
+    → IsConsistent app (all_have_time_left s.tick) (concluded (replaced (priorities_of app) (with_item_over s task queue) queue member) core task)
+replaces app s core task queue None instr calls there =
+    IsConsistent-done app s (with_item_over s task queue) core task (Queue queue Receiving)
+    (with_items_done app s core task queue Receiving instr (set (items_at s queue) 0 (sent_item s task queue)) calls there)
+replaces app s core task queue (Some number) instr calls there =
+    returns_done app s (with_item_over s task queue) core task 1 (Queue queue Receiving)
+    (with_items_done app s core task queue Receiving instr (set (items_at s queue) 0 (sent_item s task queue)) calls there)
+
+-- A queue joins a set or leaves it, or nothing happens.
+joins_or_not : (app : Application) (s : Snapshot) (core task queue : ℕ) (member : Option ℕ) (instr : Instr) (can : Bool) → RunsInstr app s core task instr
+    → queue < length s.queues
+    → IsConsistent app (all_have_time_left s.tick) (concluded (cond can (call_passes (with_member s queue member)) (call_fails s)) core task)
+joins_or_not app s core task queue member instr can calls there =
+    elim can as (λ b. IsConsistent app (all_have_time_left s.tick) (concluded (cond b (call_passes (with_member s queue member)) (call_fails s)) core task)) [
+      | true ↦
+          returns_done app s (with_member s queue member) core task 1 (Queue queue Receiving)
+          (with_member_done app s core task queue member instr calls there)
+      | false ↦ IsConsistent-answered app s core task 0 instr calls
     ]
 
 -- A call of a queue leaves what stands, and the tick.
 pub IsConsistent-queue_call : (app : Application) (s : Snapshot) (core task queue : ℕ) (call : QueueCall) → RunsInstr app s core task (instr.Queue queue call)
     → queue < length s.queues
     → IsConsistent app (all_have_time_left s.tick) (concluded (queue_outcome (priorities_of app) s task queue call) core task)
-IsConsistent-queue_call app s core task queue (Send Back wait) calls there =
-    IsConsistent-does_or_waits app s (with_item_sent s task queue Back) core task (instr.Queue queue (Send Back wait)) (Queue queue Sending)
-    (Queue queue Receiving) wait (is_full (queue_at s queue)) calls there refl
-    (with_items_done app s core task queue Receiving (instr.Queue queue (Send Back wait)) (items_at s queue ++ sent_item s task queue ∷ []) calls there)
-IsConsistent-queue_call app s core task queue (Send Front wait) calls there =
-    IsConsistent-does_or_waits app s (with_item_sent s task queue Front) core task (instr.Queue queue (Send Front wait)) (Queue queue Sending)
-    (Queue queue Receiving) wait (is_full (queue_at s queue)) calls there refl
-    (with_items_done app s core task queue Receiving (instr.Queue queue (Send Front wait)) (sent_item s task queue ∷ items_at s queue) calls there)
+IsConsistent-queue_call app s core task queue (Send end wait) calls there =
+    IsConsistent-or_blocked app s core task (instr.Queue queue (Send end wait)) (Queue queue Sending) wait (is_full (queue_at s queue))
+    (sent_outcome (priorities_of app) s task queue end) calls there refl (sends app s core task queue end (instr.Queue queue (Send end wait)) calls there)
 IsConsistent-queue_call app s core task queue (Receive wait) calls there =
-    IsConsistent-does_or_waits app s (with_item_taken s task queue) core task (instr.Queue queue (Receive wait)) (Queue queue Receiving) (Queue queue Sending)
-    wait (is_empty (queue_at s queue)) calls there refl (taken app s core task queue (instr.Queue queue (Receive wait)) calls there)
+    IsConsistent-or_blocked app s core task (instr.Queue queue (Receive wait)) (Queue queue Receiving) wait (is_empty (queue_at s queue)) _ calls there refl
+    (IsConsistent-done app s (with_item_taken s task queue) core task (Queue queue Sending)
+    (taken app s core task queue (instr.Queue queue (Receive wait)) calls there))
 IsConsistent-queue_call app s core task queue (Peek wait) calls there =
-    IsConsistent-does_or_waits app s (with_item_peeked s task queue) core task (instr.Queue queue (Peek wait)) (Queue queue Receiving) (Queue queue Receiving)
-    wait (is_empty (queue_at s queue)) calls there refl (peeked app s core task queue (instr.Queue queue (Peek wait)) calls there)
+    IsConsistent-or_blocked app s core task (instr.Queue queue (Peek wait)) (Queue queue Receiving) wait (is_empty (queue_at s queue)) _ calls there refl
+    (IsConsistent-done app s (with_item_peeked s task queue) core task (Queue queue Receiving)
+    (peeked app s core task queue (instr.Queue queue (Peek wait)) calls there))
 IsConsistent-queue_call app s core task queue Overwrite calls there =
-    IsConsistent-done app s (with_item_over s task queue) core task (Queue queue Receiving)
-    (overwritten app s core task queue (instr.Queue queue Overwrite) calls there)
+    elim (is_empty (queue_at s queue)) as (λ b.
+    IsConsistent app (all_have_time_left s.tick)
+    (concluded (cond b (sent_outcome (priorities_of app) s task queue Back)
+    (replaced (priorities_of app) (with_item_over s task queue) queue (set_of s queue))) core task)) [
+      | true ↦ sends app s core task queue Back (instr.Queue queue Overwrite) calls there
+      | false ↦ replaces app s core task queue (set_of s queue) (instr.Queue queue Overwrite) calls there
+    ]
 IsConsistent-queue_call app s core task queue Reset calls there =
     IsConsistent-done app s (with_no_items s queue) core task (Queue queue Sending)
     (with_items_done app s core task queue Sending (instr.Queue queue Reset) [] calls there)
@@ -161,24 +277,73 @@ IsConsistent-queue_call app s core task queue Count calls there =
     IsConsistent-answered app s core task (length (items_at s queue)) (instr.Queue queue Count) calls
 IsConsistent-queue_call app s core task queue Spaces calls there =
     IsConsistent-answered app s core task ((queue_at s queue).capacity - length (items_at s queue)) (instr.Queue queue Spaces) calls
+IsConsistent-queue_call app s core task queue (AddToSet number) calls there =
+    joins_or_not app s core task queue (Some number) (instr.Queue queue (AddToSet number)) (is_empty (queue_at s queue) && is_in_no_set (set_of s queue)) calls there
+IsConsistent-queue_call app s core task queue (RemoveFromSet number) calls there =
+    joins_or_not app s core task queue None (instr.Queue queue (RemoveFromSet number)) (is_empty (queue_at s queue) && is_in_set number (set_of s queue)) calls
+    there
 
-over-tick : (s : Snapshot) (task queue : ℕ) → (with_item_over s task queue).tick ≡ s.tick
-over-tick s task queue =
-    elim (is_empty (queue_at s queue)) as (λ b.
-    (cond b (with_item_sent s task queue Back)
-    (with_queue s queue (with_items (queue_at s queue) (set (items_at s queue) 0 (sent_item s task queue))))).tick ≡ s.tick) [ true ↦ refl | false ↦ refl ]
+-- and so does a call of a set.
+pub IsConsistent-set_call : (app : Application) (s : Snapshot) (core task number : ℕ) (call : SetCall) → RunsInstr app s core task (instr.Set number call)
+    → number < length s.sets
+    → IsConsistent app (all_have_time_left s.tick) (concluded (set_outcome (priorities_of app) s task number call) core task)
+IsConsistent-set_call app s core task number (Select wait) calls there =
+    IsConsistent-or_blocked app s core task (instr.Set number (Select wait)) (Set number) wait (has_no_handle (set_at s number)) _ calls there refl
+    (returns_done app s (with_handle_taken s number) core task (slice_index (set_at s number).handles 0 + 1) (Set number)
+    (with_handle_taken_done app s core task number (instr.Set number (Select wait)) calls there))
+
+-- ---- the tick
+
+posts-tick : (priorities : List ℕ) (s : Snapshot) (core task queue : ℕ) (member : Option ℕ) → (concluded (posted priorities s queue member) core task).tick ≡ s.tick
+posts-tick priorities s core task queue None = woken_first-tick priorities s (Queue queue Receiving)
+posts-tick priorities s core task queue (Some number) = woken_first-tick priorities (with_handle s number queue) (Set number)
+
+sends-tick : (priorities : List ℕ) (s : Snapshot) (core task queue : ℕ) (end : End)
+    → (concluded (sent_outcome priorities s task queue end) core task).tick ≡ s.tick
+sends-tick priorities s core task queue end =
+    elim (is_in_full_set s (set_of s queue)) as (λ b.
+    (concluded (cond b (call_breaks s SetFull) (posted priorities (with_item_sent s task queue end) queue (set_of s queue))) core task).tick ≡ s.tick) [
+      | true ↦ refl
+      | false ↦ posts-tick priorities (with_item_sent s task queue end) core task queue (set_of s queue)
+    ]
+
+replaces-tick : (priorities : List ℕ) (s : Snapshot) (core task queue : ℕ) (member : Option ℕ)
+    → (concluded (replaced priorities s queue member) core task).tick ≡ s.tick
+replaces-tick priorities s core task queue None = woken_first-tick priorities s (Queue queue Receiving)
+replaces-tick priorities s core task queue (Some number) = refl
+
+joins_or_not-tick : (s : Snapshot) (core task queue : ℕ) (member : Option ℕ) (can : Bool)
+    → (concluded (cond can (call_passes (with_member s queue member)) (call_fails s)) core task).tick ≡ s.tick
+joins_or_not-tick s core task queue member can =
+    elim can as (λ b. (concluded (cond b (call_passes (with_member s queue member)) (call_fails s)) core task).tick ≡ s.tick) [ true ↦ refl | false ↦ refl ]
 
 pub queue_call-tick : (priorities : List ℕ) (s : Snapshot) (core task queue : ℕ) (call : QueueCall)
     → (concluded (queue_outcome priorities s task queue call) core task).tick ≡ s.tick
 queue_call-tick priorities s core task queue (Send end wait) =
-    does_or_waits-tick priorities s (with_item_sent s task queue end) core task (Queue queue Sending) (Queue queue Receiving) wait (is_full (queue_at s queue)) refl
+    or_blocked-tick priorities s core task (Queue queue Sending) wait (is_full (queue_at s queue)) (sent_outcome priorities s task queue end)
+    (sends-tick priorities s core task queue end)
 queue_call-tick priorities s core task queue (Receive wait) =
-    does_or_waits-tick priorities s (with_item_taken s task queue) core task (Queue queue Receiving) (Queue queue Sending) wait (is_empty (queue_at s queue)) refl
+    or_blocked-tick priorities s core task (Queue queue Receiving) wait (is_empty (queue_at s queue)) _
+    (woken_first-tick priorities (with_item_taken s task queue) (Queue queue Sending))
 queue_call-tick priorities s core task queue (Peek wait) =
-    does_or_waits-tick priorities s (with_item_peeked s task queue) core task (Queue queue Receiving) (Queue queue Receiving) wait (is_empty (queue_at s queue))
-    refl
+    or_blocked-tick priorities s core task (Queue queue Receiving) wait (is_empty (queue_at s queue)) _
+    (woken_first-tick priorities (with_item_peeked s task queue) (Queue queue Receiving))
 queue_call-tick priorities s core task queue Overwrite =
-    woken_first-tick priorities (with_item_over s task queue) (Queue queue Receiving) ∙ over-tick s task queue
+    elim (is_empty (queue_at s queue)) as (λ b.
+    (concluded (cond b (sent_outcome priorities s task queue Back) (replaced priorities (with_item_over s task queue) queue (set_of s queue))) core task).tick
+    ≡ s.tick) [
+      | true ↦ sends-tick priorities s core task queue Back
+      | false ↦ replaces-tick priorities (with_item_over s task queue) core task queue (set_of s queue)
+    ]
 queue_call-tick priorities s core task queue Reset = woken_first-tick priorities (with_no_items s queue) (Queue queue Sending)
 queue_call-tick priorities s core task queue Count = refl
 queue_call-tick priorities s core task queue Spaces = refl
+queue_call-tick priorities s core task queue (AddToSet number) =
+    joins_or_not-tick s core task queue (Some number) (is_empty (queue_at s queue) && is_in_no_set (set_of s queue))
+queue_call-tick priorities s core task queue (RemoveFromSet number) =
+    joins_or_not-tick s core task queue None (is_empty (queue_at s queue) && is_in_set number (set_of s queue))
+
+pub set_call-tick : (priorities : List ℕ) (s : Snapshot) (core task number : ℕ) (call : SetCall)
+    → (concluded (set_outcome priorities s task number call) core task).tick ≡ s.tick
+set_call-tick priorities s core task number (Select wait) =
+    or_blocked-tick priorities s core task (Set number) wait (has_no_handle (set_at s number)) _ refl

@@ -1,2 +1,4 @@
 -- The files of definitions of rd_queue_calls.
+pub mod Posts
 pub mod QueueCalls
+pub mod SetCalls

@@ -1,23 +1,29 @@
 -- What the calls of a queue do.
-use Rattle.std.specs.Prelude.{ℕ, ◌+◌, ◌-◌, [], Bool, List, length, drop, nat_eq}
+use Rattle.std.specs.Prelude.{ℕ, ◌+◌, ◌-◌, ◌&&◌, [], Bool, List, length, drop, nat_eq}
+use Rattle.std.specs.Prelude.{None, Some}
 use Rattle.std.specs.Prelude.{slice_index_or, slice_set, if◌then◌else◌}
 use Rattle.std.specs.List.{concat}
 use Rattle.rd_app.specs.declared.instr.Operand.{Operand}
 use Rattle.rd_app.specs.declared.instr.QueueCall.{QueueCall}
 use Rattle.rd_app.specs.declared.instr.QueueCall.TheVariants.{Send, Receive, Peek}
 use Rattle.rd_app.specs.declared.instr.QueueCall.TheVariants.{Overwrite, Reset, Count, Spaces}
+use Rattle.rd_app.specs.declared.instr.QueueCall.TheVariants.{AddToSet, RemoveFromSet}
 use Rattle.rd_queue.specs.declared.end.End.{End}
 use Rattle.rd_queue.specs.declared.end.End.TheVariants.{Back}
 use Rattle.rd_queue.specs.declared.waiting_list.WaitingList.TheVariants.{Receiving, Sending}
 use Rattle.rd_queue.specs.Changes.{put_at, queue_applied}
 use Rattle.rd_queue.specs.QueueSnapshot.{QueueSnapshot}
 use Rattle.rd_queue.specs.Queues.{fitted, with_items}
+use Rattle.rd_state.specs.declared.phase.Cause.TheVariants.{SetFull}
 use Rattle.rd_state.specs.declared.phase.Place.TheVariants.{Queue}
 use Rattle.rd_state.specs.Change.{with_queue, items_at}
 use Rattle.rd_state.specs.Snapshot.{Snapshot, task_at, queue_at}
 use Rattle.rd_kernel.specs.Costs.{data_cost, item_cost, waking_cost}
-use Rattle.rd_kernel.specs.Outcomes.{Called, blocked, call_answers, passed}
+use Rattle.rd_kernel.specs.Outcomes.{Called, blocked, call_answers, call_fails}
+use Rattle.rd_kernel.specs.Outcomes.{call_passes, passed}
 use Rattle.rd_kernel.specs.Tasks.{with_bytes}
+use Rattle.rd_queue_calls.specs.Posts.{call_breaks, is_in_full_set, is_in_no_set, is_in_set}
+use Rattle.rd_queue_calls.specs.Posts.{posted, replaced, set_of, with_member}
 
 -- Is there no free slot? Is there no item?
 abbrev pub is_full : QueueSnapshot → Bool
@@ -36,13 +42,11 @@ with_item_sent s task queue end =
     with_queue s queue
     (queue_applied (queue_at s queue) (put_at end (sent_item s task queue)))
 
--- the item as a queue's only one, whether it is put or takes the place of the one that is there
+-- the item in the place of the one at a queue's front
 abbrev pub with_item_over : Snapshot → ℕ → ℕ → Snapshot
 with_item_over s task queue =
-    if is_empty (queue_at s queue) then with_item_sent s task queue Back
-    else with_queue s queue
-    (with_items (queue_at s queue)
-    (slice_set (items_at s queue) 0 (sent_item s task queue)))
+    with_queue s queue
+    (with_items (queue_at s queue) (slice_set (items_at s queue) 0 (sent_item s task queue)))
 
 -- a queue's first item as the task's data
 abbrev pub with_item_peeked : Snapshot → ℕ → ℕ → Snapshot
@@ -58,12 +62,19 @@ with_item_taken s task queue =
 abbrev pub with_no_items : Snapshot → ℕ → Snapshot
 with_no_items s queue = with_queue s queue (with_items (queue_at s queue) [])
 
--- xQueueSend, xQueueSendToBack, xQueueSendToFront: where there is room, the item goes to that end,
--- and the first who waits for one is woken. It isn't handed the item: it tries again when it runs.
+-- An item goes to that end, unless its queue is a member of a set that has no room for its handle:
+-- then nothing is sent, and the caller has failed. Nobody is handed the item: whoever is woken
+-- tries again when it runs.
+abbrev pub sent_outcome : List ℕ → Snapshot → ℕ → ℕ → End → Called
+sent_outcome priorities s task queue end =
+    if is_in_full_set s (set_of s queue) then call_breaks s SetFull
+    else posted priorities (with_item_sent s task queue end) queue (set_of s queue)
+
+-- xQueueSend, xQueueSendToBack, xQueueSendToFront: where there is room, the item is sent.
 abbrev pub send_outcome : List ℕ → Snapshot → ℕ → ℕ → End → Operand → Called
 send_outcome priorities s task queue end wait =
     if is_full (queue_at s queue) then blocked priorities s task (Queue queue Sending) wait
-    else passed priorities (with_item_sent s task queue end) (Queue queue Receiving)
+    else sent_outcome priorities s task queue end
 
 -- xQueueReceive: where there is an item, the one at the front leaves and becomes the caller's data,
 -- and the first who waits for a free slot is woken
@@ -79,10 +90,11 @@ peek_outcome priorities s task queue wait =
     if is_empty (queue_at s queue) then blocked priorities s task (Queue queue Receiving) wait
     else passed priorities (with_item_peeked s task queue) (Queue queue Receiving)
 
--- xQueueOverwrite: the item becomes the queue's only one, and the first who waits for one is woken
+-- xQueueOverwrite: into an empty queue the item is sent; else it takes the place of the one there.
 abbrev pub overwrite_outcome : List ℕ → Snapshot → ℕ → ℕ → Called
 overwrite_outcome priorities s task queue =
-    passed priorities (with_item_over s task queue) (Queue queue Receiving)
+    if is_empty (queue_at s queue) then sent_outcome priorities s task queue Back
+    else replaced priorities (with_item_over s task queue) queue (set_of s queue)
 
 -- xQueueReset: the items are gone, and the first who waits for a free slot is woken
 abbrev pub reset_outcome : List ℕ → Snapshot → ℕ → Called
@@ -97,6 +109,20 @@ abbrev pub spaces_outcome : Snapshot → ℕ → Called
 spaces_outcome s queue =
     call_answers s ((queue_at s queue).capacity - length (items_at s queue))
 
+-- xQueueAddToSet: an empty queue in no set becomes a member.
+abbrev pub add_outcome : Snapshot → ℕ → ℕ → Called
+add_outcome s queue set =
+    if is_empty (queue_at s queue) && is_in_no_set (set_of s queue)
+    then call_passes (with_member s queue (Some set))
+    else call_fails s
+
+-- xQueueRemoveFromSet: an empty queue leaves the set that it is a member of. Its handles stay.
+abbrev pub remove_outcome : Snapshot → ℕ → ℕ → Called
+remove_outcome s queue set =
+    if is_empty (queue_at s queue) && is_in_set set (set_of s queue)
+    then call_passes (with_member s queue None)
+    else call_fails s
+
 -- what a call of a queue does
 abbrev pub queue_outcome : List ℕ → Snapshot → ℕ → ℕ → QueueCall → Called
 queue_outcome priorities s task queue (Send end wait) =
@@ -107,10 +133,13 @@ queue_outcome priorities s task queue Overwrite = overwrite_outcome priorities s
 queue_outcome priorities s task queue Reset = reset_outcome priorities s queue
 queue_outcome priorities s task queue Count = count_outcome s queue
 queue_outcome priorities s task queue Spaces = spaces_outcome s queue
+queue_outcome priorities s task queue (AddToSet set) = add_outcome s queue set
+queue_outcome priorities s task queue (RemoveFromSet set) = remove_outcome s queue set
 
--- What they take in a record at the most. An item that is put carries nothing.
+-- What they take in a record at the most. An item that is put carries nothing; its handle is one
+-- change more.
 abbrev pub send_cost : ℕ
-send_cost = 1 + waking_cost
+send_cost = 2 + waking_cost
 
 abbrev pub receive_cost : ℕ
 receive_cost = data_cost + item_cost + waking_cost
@@ -119,7 +148,10 @@ abbrev pub peek_cost : ℕ
 peek_cost = data_cost + waking_cost
 
 abbrev pub overwrite_cost : ℕ
-overwrite_cost = item_cost + waking_cost
+overwrite_cost = item_cost + 1 + waking_cost
+
+abbrev pub member_cost : ℕ
+member_cost = 1
 
 abbrev pub reset_cost : ℕ
 reset_cost = 1 + waking_cost
@@ -133,6 +165,8 @@ dropped_by s queue Overwrite = 0
 dropped_by s queue Reset = length (concat (items_at s queue))
 dropped_by s queue Count = 0
 dropped_by s queue Spaces = 0
+dropped_by s queue (AddToSet set) = 0
+dropped_by s queue (RemoveFromSet set) = 0
 
 -- the most of them all, beside the bytes that a reset drops
 abbrev pub queue_call_cost : ℕ

@@ -8,13 +8,16 @@ ghost use Rattle.rd_state.specs.Sizes.{IsSized};
 ghost use Rattle.rd_state.specs.Snapshot.{queue_at, task_at};
 ghost use Rattle.rd_kernel.specs.Costs.{data_cost, item_cost};
 ghost use Rattle.rd_kernel.specs.Outcomes.{DoesCall, IsCalling};
-ghost use Rattle.rd_queue_calls.specs.QueueCalls.{with_item_taken, with_item_over};
+ghost use Rattle.rd_queue_calls.specs.QueueCalls.{with_item_taken, sent_outcome};
 ghost use Rattle.rd_queue_calls.specs.QueueCalls.{send_outcome, receive_outcome, peek_outcome};
 ghost use Rattle.rd_queue_calls.specs.QueueCalls.{overwrite_outcome, reset_outcome};
+ghost use Rattle.rd_queue_calls.specs.QueueCalls.{add_outcome, remove_outcome};
 ghost use Rattle.rd_queue_calls.specs.QueueCalls.{queue_outcome, dropped_by};
 ghost use Rattle.rd_queue_calls.specs.QueueCalls.{send_cost, receive_cost, peek_cost};
-ghost use Rattle.rd_queue_calls.specs.QueueCalls.{overwrite_cost, reset_cost, queue_call_cost};
+ghost use Rattle.rd_queue_calls.specs.QueueCalls.{overwrite_cost, reset_cost, member_cost};
+ghost use Rattle.rd_queue_calls.specs.QueueCalls.{queue_call_cost};
 
+use crate::posts::{is_in_full_set, post};
 use rd_app::app::App;
 use rd_app::instr::{Operand, QueueCall};
 use rd_bytes::no_memory::NoMemory;
@@ -25,7 +28,7 @@ use rd_queue::end::End;
 use rd_queue::waiting_list::WaitingList;
 use rd_state::change::Change;
 use rd_state::editing::Editing;
-use rd_state::phase::Place;
+use rd_state::phase::{Cause, Place};
 use rd_state::transfer::Transfer;
 
 // The queue's first item becomes the task's data.
@@ -44,22 +47,6 @@ fn dequeue(editing: &mut Editing, task: usize, queue: usize) -> Result<(), NoMem
     editing.change(Change::Queue { queue, change })
 }
 
-// The task's data becomes the queue's only item.
-fn overwrite_item(editing: &mut Editing, task: usize, queue: usize) -> Result<(), NoMemory>
-    requires task { task < length editing.old.now.tasks }
-    requires queue { queue < length editing.old.now.queues }
-    requires sized { IsSized editing.old.now }
-    ensures ok { OnOk result (Reaches editing.old editing.new
-        (with_item_over editing.old.now task queue) item_cost) }
-    ensures err { OnErr result (editing.new.base ≡ editing.old.base) }
-{
-    if editing.state().queue(queue).count() > 0 {
-        return editing.transfer(Transfer::DataOverFront { task, queue });
-    }
-    let end = End::Back;
-    editing.transfer(Transfer::DataToQueue { task, queue, end })
-}
-
 // Where tasks wait for an item of the queue, and for a free slot.
 fn receiving(queue: usize) -> Place
     ensures { result ≡ Place.Queue queue WaitingList.Receiving }
@@ -73,6 +60,32 @@ fn sending(queue: usize) -> Place
 {
     let list = WaitingList::Sending;
     Place::Queue { queue, list }
+}
+
+// Puts the task's data at an end of a queue with room for it, unless its set is full.
+fn deliver(
+    app: &App,
+    editing: &mut Editing,
+    task: usize,
+    queue: usize,
+    end: End,
+) -> Result<Outcome, NoMemory>
+    requires caller { IsCalling app.now editing.old.now task }
+    requires queue { queue < length editing.old.now.queues }
+    requires room { length (queue_at editing.old.now queue).items
+        < (queue_at editing.old.now queue).capacity }
+    ensures ok { IfOk result (DoesCall editing.old editing.new
+        (sent_outcome (priorities_of app.now) editing.old.now task queue end) send_cost) }
+    ensures stays { OnOk result
+        ((task_at editing.new.now task).pc ≡ (task_at editing.old.now task).pc) }
+    ensures err { OnErr result (editing.new.base ≡ editing.old.base) }
+{
+    let set = editing.state().queue(queue).set_of();
+    if is_in_full_set(editing.state(), set) {
+        return Ok(Outcome::Fails(Cause::SetFull));
+    }
+    editing.transfer(Transfer::DataToQueue { task, queue, end })?;
+    post(app, editing, queue, set)
 }
 
 // Puts the task's data at an end of the queue (`xQueueSend`, `xQueueSendToFront`), or waits for
@@ -97,8 +110,7 @@ fn send(
     if editing.state().queue(queue).spaces() == 0 {
         return block(app, editing, task, sending(queue), wait);
     }
-    editing.transfer(Transfer::DataToQueue { task, queue, end })?;
-    pass(editing, app.priorities(), receiving(queue))
+    deliver(app, editing, task, queue, end)
 }
 
 // Takes the queue's first item as the task's data (`xQueueReceive`), or waits for one.
@@ -164,8 +176,15 @@ fn overwrite(
         ((task_at editing.new.now task).pc ≡ (task_at editing.old.now task).pc) }
     ensures err { OnErr result (editing.new.base ≡ editing.old.base) }
 {
-    overwrite_item(editing, task, queue)?;
-    pass(editing, app.priorities(), receiving(queue))
+    if editing.state().queue(queue).count() == 0 {
+        return deliver(app, editing, task, queue, End::Back);
+    }
+    let set = editing.state().queue(queue).set_of();
+    editing.transfer(Transfer::DataOverFront { task, queue })?;
+    match set {
+        Some(_) => Ok(Outcome::Returns(1)),
+        None => pass(editing, app.priorities(), receiving(queue)),
+    }
 }
 
 // Empties the queue (`xQueueReset`).
@@ -185,6 +204,43 @@ fn reset(app: &App, editing: &mut Editing, task: usize, queue: usize) -> Result<
     pass(editing, app.priorities(), sending(queue))
 }
 
+// Makes an empty queue a member of the set, if it is one of none (`xQueueAddToSet`).
+fn add_to_set(editing: &mut Editing, queue: usize, set: usize) -> Result<Outcome, NoMemory>
+    requires sized { IsSized editing.old.now }
+    requires queue { queue < length editing.old.now.queues }
+    requires set { set < length editing.old.now.sets }
+    ensures ok { IfOk result (DoesCall editing.old editing.new
+        (add_outcome editing.old.now queue set) member_cost) }
+    ensures tasks { OnOk result (editing.new.now.tasks ≡ editing.old.now.tasks) }
+    ensures err { OnErr result (editing.new.base ≡ editing.old.base) }
+{
+    let target = editing.state().queue(queue);
+    if target.count() > 0 || target.set_of().is_some() {
+        return Ok(Outcome::Returns(0));
+    }
+    let change = QueueChange::SetMember { set: Some(set) };
+    editing.change(Change::Queue { queue, change })?;
+    Ok(Outcome::Returns(1))
+}
+
+// Takes an empty queue out of the set, if it is a member of that (`xQueueRemoveFromSet`).
+fn remove_from_set(editing: &mut Editing, queue: usize, set: usize) -> Result<Outcome, NoMemory>
+    requires sized { IsSized editing.old.now }
+    requires queue { queue < length editing.old.now.queues }
+    ensures ok { IfOk result (DoesCall editing.old editing.new
+        (remove_outcome editing.old.now queue set) member_cost) }
+    ensures tasks { OnOk result (editing.new.now.tasks ≡ editing.old.now.tasks) }
+    ensures err { OnErr result (editing.new.base ≡ editing.old.base) }
+{
+    let target = editing.state().queue(queue);
+    if target.count() > 0 || target.set_of() != Some(set) {
+        return Ok(Outcome::Returns(0));
+    }
+    let change = QueueChange::SetMember { set: None };
+    editing.change(Change::Queue { queue, change })?;
+    Ok(Outcome::Returns(1))
+}
+
 /// Does a call of a queue.
 pub fn call_queue(
     app: &App,
@@ -195,7 +251,7 @@ pub fn call_queue(
 ) -> Result<Outcome, NoMemory>
     requires caller { IsCalling app.now editing.old.now task }
     requires queue { queue < length editing.old.now.queues }
-    requires registers { IsQueueCall call }
+    requires registers { IsQueueCall (length editing.old.now.sets) call }
     ensures ok { IfOk result (DoesCall editing.old editing.new
         (queue_outcome (priorities_of app.now) editing.old.now task queue call)
         (queue_call_cost + dropped_by editing.old.now queue call)) }
@@ -217,5 +273,7 @@ pub fn call_queue(
             let spaces = editing.state().queue(queue).spaces();
             Ok(Outcome::Returns(spaces as u32))
         }
+        QueueCall::AddToSet { set } => add_to_set(editing, queue, set),
+        QueueCall::RemoveFromSet { set } => remove_from_set(editing, queue, set),
     }
 }

@@ -1,4 +1,7 @@
-//! The calls of queues: what each does to its queue, whom it wakes, and when it waits.
+//! The calls of queues and of queue sets: what each does to its object, whom it wakes, and when it
+//! waits.
 #![tactic(auto)]
 
 pub mod calls;
+pub mod posts;
+pub mod selecting;

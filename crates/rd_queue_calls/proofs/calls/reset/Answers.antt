@@ -1,14 +1,18 @@
 -- The goals of `reset` that the check left open.
 use Rattle.std.proofs.Common.{[], length, ap}
 use Rattle.rd_queue.specs.declared.waiting_list.WaitingList.TheVariants.{Sending}
-use Rattle.rd_state.specs.Snapshot.{Snapshot}
-use Rattle.rd_queue_calls.proofs.QueueCallLaws.{room_after_items}
+use Rattle.rd_queue.specs.Queues.{with_items}
+use Rattle.rd_state.specs.declared.phase.Place.TheVariants.{Queue}
+use Rattle.rd_state.specs.Snapshot.{Snapshot, queue_at}
+use Rattle.rd_queue_calls.proofs.QueueCallLaws.{items_keep, room_after_queue}
 use Rattle.rd_queue_calls.proofs.calls.reset.Goals as goal
 
 pub pass-requires-clause-room : goal.pass-requires-clause-room
 pass-requires-clause-room c =
     let s = c.args.editing.now.now in
+    let queue = c.args.queue in
     let now = c.in_ok-change.ensures.ok.now in
     rw c.sending.ensures
-    (room_after_items s c.change.new.self.now c.args.queue [] Sending c.requires.queue c.requires.caller.room_to_wake
-    (ap (λ (t : Snapshot). t.queues) now) (ap (λ (t : Snapshot). t.ready) now) (ap (λ (t : Snapshot). length t.tasks) now))
+    (room_after_queue s c.change.new.self.now queue (with_items (queue_at s queue) []) c.requires.queue (items_keep (queue_at s queue) [])
+    c.requires.caller.room_to_wake (ap (λ (t : Snapshot). t.queues) now) (ap (λ (t : Snapshot). t.sets) now) (ap (λ (t : Snapshot). t.ready) now)
+    (ap (λ (t : Snapshot). length t.tasks) now) (Queue queue Sending))

@@ -1,0 +1,22 @@
+-- The goals of `post` that the check left open.
+use Rattle.std.proofs.Common.{◌<◌, ◌∷◌, ◌++◌, [], length, refl, ap, subst}
+use Rattle.std.specs.Prelude.{IfSome}
+use Rattle.rd_queue.specs.declared.waiting_list.WaitingList.TheVariants.{Receiving}
+use Rattle.rd_queue.specs.Sets.{with_handles}
+use Rattle.rd_state.specs.declared.phase.Place.TheVariants.{Queue, Set}
+use Rattle.rd_state.specs.Snapshot.{Snapshot, set_at}
+use Rattle.rd_queue_calls.proofs.QueueCallLaws.{room_after_set}
+use Rattle.rd_queue_calls.proofs.posts.post.Goals as goal
+
+pub pass-requires-clause-room : goal.pass-requires-clause-room
+pass-requires-clause-room c = λ some. c.requires.ready (Queue c.args.queue Receiving) c.requires.queue some
+
+pub pass-requires-2-clause-room : goal.pass-requires-2-clause-room
+pass-requires-2-clause-room c =
+    let s = c.args.editing.now.now in
+    let number = c.in-Some.set in
+    let there : number < length s.sets = subst (λ o. IfSome o (λ set. set < length s.sets)) c.in-Some.is c.requires.set in
+    let now = c.in_ok-change.ensures.ok.now in
+    room_after_set s c.change.new.self.now number (with_handles (set_at s number) ((set_at s number).handles ++ c.args.queue ∷ [])) there refl c.requires.ready
+    (ap (λ (t : Snapshot). t.queues) now) (ap (λ (t : Snapshot). t.sets) now) (ap (λ (t : Snapshot). t.ready) now)
+    (ap (λ (t : Snapshot). length t.tasks) now) (Set number)
