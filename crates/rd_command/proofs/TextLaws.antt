@@ -39,10 +39,3 @@ pub all_joined : {X : Type 0} (text : X → List ℕ) (xs : List X) (i : ℕ) (s
 all_joined text [] i start page some all so_far = absurd (omega arith)
 all_joined {X = X} text (x ∷ xs) i start page some all so_far =
     so_far ∙ ap (λ (ys : List X). start ++ joined text ys) (take_all i (x ∷ xs) (omega arith))
-
--- what five texts make of a page, one after the other
-pub five_texts : (page₀ page₁ page₂ page₃ page₄ page₅ a b c d e : List ℕ) → page₁ ≡ page₀ ++ a → page₂ ≡ page₁ ++ b
-    → page₃ ≡ page₂ ++ c → page₄ ≡ page₃ ++ d → page₅ ≡ page₄ ++ e
-    → page₅ ≡ page₀ ++ (a ++ b ++ c ++ d ++ e)
-five_texts page₀ page₁ page₂ page₃ page₄ page₅ a b c d e h₁ h₂ h₃ h₄ h₅ =
-    h₅ ∙ ap (λ p. p ++ e) (h₄ ∙ ap (λ p. p ++ d) (h₃ ∙ ap (λ p. p ++ c) (h₂ ∙ ap (λ p. p ++ b) h₁))) ∙ simp append_assoc

@@ -12,6 +12,7 @@ pub data Asked : Type 0 where
   Tick : Asked
   Back : ℕ → Asked
   ShowQueue : List ℕ → Asked
+  ShowSet : List ℕ → Asked
   ShowTask : List ℕ → Asked
   ShowCores : Asked
 
@@ -20,6 +21,7 @@ asked (command.Step core) = Step core
 asked command.Tick = Tick
 asked (command.Back count) = Back count
 asked (command.ShowQueue name) = ShowQueue name.now
+asked (command.ShowSet name) = ShowSet name.now
 asked (command.ShowTask name) = ShowTask name.now
 asked command.ShowCores = ShowCores
 
@@ -37,10 +39,11 @@ numbered_command verb number =
     else if bytes_eq verb (codes "back") then option_map Back (count_of number)
     else None
 
--- `show queue Q`, `show task K`
+-- `show queue Q`, `show set S`, `show task K`
 abbrev pub named_view : List ℕ → List ℕ → Option Asked
 named_view kind name =
     if bytes_eq kind (codes "queue") then option_map ShowQueue (name_of name)
+    else if bytes_eq kind (codes "set") then option_map ShowSet (name_of name)
     else if bytes_eq kind (codes "task") then option_map ShowTask (name_of name)
     else None
 

@@ -1,6 +1,6 @@
 -- The text of replies.
-use Rattle.std.specs.Prelude.{ℕ, ◌==◌, ◌<◌, Bool, false, codes, decimal, List, [], ◌∷◌, ◌++◌}
-use Rattle.std.specs.Prelude.{length, slice_index_or, All, Option, Some, None, IfSome}
+use Rattle.std.specs.Prelude.{ℕ, ◌==◌, Bool, false, codes, decimal, List, [], ◌∷◌, ◌++◌}
+use Rattle.std.specs.Prelude.{length, Option, Some, None}
 use Rattle.std.specs.List.{flat_map}
 use Rattle.hex.specs.Hex.{encode_lower}
 use Rattle.rd_text.specs.declared.refusal.Refusal.{Refusal}
@@ -13,14 +13,15 @@ use Rattle.rd_notify.specs.declared.notes.EntryState.TheVariants.{Idle, Waiting,
 use Rattle.rd_queue.specs.declared.waiting_list.WaitingList.{WaitingList}
 use Rattle.rd_queue.specs.declared.waiting_list.WaitingList.TheVariants.{Receiving, Sending}
 use Rattle.rd_queue.specs.QueueSnapshot.{QueueSnapshot}
+use Rattle.rd_queue.specs.SetSnapshot.{SetSnapshot}
+use Rattle.rd_state.specs.declared.phase.Cause.{Cause}
+use Rattle.rd_state.specs.declared.phase.Cause.TheVariants.{SetFull}
 use Rattle.rd_state.specs.declared.phase.Phase.{Phase}
-use Rattle.rd_state.specs.declared.phase.Phase.TheVariants.{Run, Again, Wait, Ended}
+use Rattle.rd_state.specs.declared.phase.Phase.TheVariants.{Run, Again, Wait, Ended, Failed}
 use Rattle.rd_state.specs.declared.phase.Place.{Place}
-use Rattle.rd_state.specs.declared.phase.Place.TheVariants.{Queue}
-use Rattle.rd_state.specs.Sizes.{IsTaskOrIdle}
-use Rattle.rd_state.specs.Phases.{waits_at}
+use Rattle.rd_state.specs.declared.phase.Place.TheVariants.{Queue, Set}
 use Rattle.rd_state.specs.Snapshot.{Snapshot, TaskSnapshot}
-use Rattle.rd_state.specs.Waiting.{IsPlace}
+use Rattle.rd_command.specs.Names.{AllNames, name_at, name_or_dash}
 use Rattle.rd_command.specs.declared.reply.Reply.{Reply}
 use Rattle.rd_command.specs.declared.reply.Reply.TheVariants.{Done, Refused}
 
@@ -61,10 +62,6 @@ abbrev pub bytes_text : List ℕ → List ℕ
 bytes_text [] = codes "-"
 bytes_text (byte ∷ bytes) = encode_lower (byte ∷ bytes)
 
--- the name of an object or a task, by its number
-abbrev pub name_at : List (List ℕ) → ℕ → List ℕ
-name_at names number = slice_index_or names number []
-
 -- a deadline's tick; `max` for none
 abbrev pub deadline_text : Option ℕ → List ℕ
 deadline_text None = codes "max"
@@ -75,20 +72,22 @@ abbrev pub list_name : WaitingList → List ℕ
 list_name Receiving = codes "recv"
 list_name Sending = codes "send"
 
--- a place where tasks wait, by the queues' names
-abbrev pub place_text : List (List ℕ) → Place → List ℕ
-place_text queues (Queue queue list) = list_name list ++ codes ":" ++ name_at queues queue
+-- a place where tasks wait, by the name of its queue or of its set
+abbrev pub place_text : AllNames → Place → List ℕ
+place_text names (Queue queue list) = list_name list ++ codes ":" ++ name_at names.queues queue
+place_text names (Set set) = codes "set:" ++ name_at names.sets set
 
-abbrev pub phase_text : List (List ℕ) → Phase → List ℕ
-phase_text queues Run = codes "run"
-phase_text queues (Again deadline) = codes "again:" ++ deadline_text deadline
-phase_text queues (Wait place deadline) =
-    codes "wait:" ++ place_text queues place ++ codes ":" ++ deadline_text deadline
-phase_text queues Ended = codes "ended"
+-- why a call failed
+abbrev pub cause_text : Cause → List ℕ
+cause_text SetFull = codes "SetFull"
 
--- The place where a task waits, if it waits, has a name.
-abbrev pub PlaceIsNamed : List (List ℕ) → Phase → Type 0
-PlaceIsNamed queues phase = IfSome (waits_at phase) (IsPlace (record { queues = length queues }))
+abbrev pub phase_text : AllNames → Phase → List ℕ
+phase_text names Run = codes "run"
+phase_text names (Again deadline) = codes "again:" ++ deadline_text deadline
+phase_text names (Wait place deadline) =
+    codes "wait:" ++ place_text names place ++ codes ":" ++ deadline_text deadline
+phase_text names Ended = codes "ended"
+phase_text names (Failed cause) = codes "failed:" ++ cause_text cause
 
 abbrev pub entry_state_text : EntryState → List ℕ
 entry_state_text Idle = codes "idle"
@@ -110,49 +109,55 @@ running_core_text (Some core) = decimal core
 
 -- ---- views
 
--- how many items there are, and how many there is room for
-abbrev pub counts_text : QueueSnapshot → List ℕ
-counts_text queue = decimal (length queue.items) ++ codes "/" ++ decimal queue.capacity
+-- how many there are, and how many there is room for
+abbrev pub counts_text : ℕ → ℕ → List ℕ
+counts_text count capacity = decimal count ++ codes "/" ++ decimal capacity
 
--- who waits to receive and to send, by the tasks' names; the queue is in no set
-abbrev pub waiting_text : List (List ℕ) → QueueSnapshot → List ℕ
+-- what is in a queue
+abbrev pub contents_text : QueueSnapshot → List ℕ
+contents_text queue =
+    counts_text (length queue.items) queue.capacity ++ codes " items "
+    ++ list_text bytes_text queue.items
+
+-- who waits to receive and to send, by the tasks' names
+abbrev pub waiting_text : AllNames → QueueSnapshot → List ℕ
 waiting_text names queue =
-    codes " recv " ++ list_text (name_at names) queue.receiving
-    ++ codes " send " ++ list_text (name_at names) queue.sending ++ codes " set -"
+    codes " recv " ++ list_text (name_at names.tasks) queue.receiving
+    ++ codes " send " ++ list_text (name_at names.tasks) queue.sending
 
--- what a queue has, from its amounts on
-abbrev pub amounts_text : List (List ℕ) → QueueSnapshot → List ℕ
-amounts_text names queue =
-    counts_text queue ++ codes " items " ++ list_text bytes_text queue.items
-    ++ waiting_text names queue
+-- the set that a queue is a member of, by its name; `-` for none
+abbrev pub membership_text : AllNames → QueueSnapshot → List ℕ
+membership_text names queue = codes " set " ++ name_or_dash names.sets queue.set
 
--- a queue, by the tasks' names and its own
-abbrev pub queue_text : List (List ℕ) → List ℕ → QueueSnapshot → List ℕ
-queue_text names name queue = codes "queue " ++ name ++ codes " " ++ amounts_text names queue
+-- a queue of that name
+abbrev pub queue_text : AllNames → List ℕ → QueueSnapshot → List ℕ
+queue_text names name queue =
+    codes "queue " ++ name ++ codes " " ++ contents_text queue ++ waiting_text names queue
+    ++ membership_text names queue
 
--- Those who wait at the queue have a name.
-pub record WaitersAreNamed (names : List (List ℕ)) (queue : QueueSnapshot) : Type 0 where
-  pub receiving : All (λ task. task < length names) queue.receiving
-  pub sending : All (λ task. task < length names) queue.sending
+-- what is in a queue set: handles, the oldest first, by the names of their queues
+abbrev pub handles_text : AllNames → SetSnapshot → List ℕ
+handles_text names set =
+    counts_text (length set.handles) set.capacity ++ codes " handles "
+    ++ list_text (name_at names.queues) set.handles
 
--- who runs on a core, by the tasks' names; `-` for nobody
-abbrev pub seat_text : List (List ℕ) → Option ℕ → List ℕ
-seat_text names None = codes "-"
-seat_text names (Some task) = name_at names task
+-- who waits to select, by the tasks' names
+abbrev pub selecting_text : AllNames → SetSnapshot → List ℕ
+selecting_text names set = codes " wait " ++ list_text (name_at names.tasks) set.waiting
+
+-- a queue set of that name
+abbrev pub set_text : AllNames → List ℕ → SetSnapshot → List ℕ
+set_text names name set =
+    codes "set " ++ name ++ codes " " ++ handles_text names set ++ selecting_text names set
 
 abbrev pub ticks_text : Snapshot → List ℕ
 ticks_text s = codes " tick " ++ decimal s.tick ++ codes " turn " ++ decimal s.turn
 
 -- who runs and who is ready, by the tasks' names, with the tick and the turn
-abbrev pub cores_text : List (List ℕ) → Snapshot → List ℕ
+abbrev pub cores_text : AllNames → Snapshot → List ℕ
 cores_text names s =
-    codes "cores " ++ list_text (seat_text names) s.cores
-    ++ codes " ready " ++ list_text (name_at names) s.ready ++ ticks_text s
-
--- Those who run and those who are ready have a name.
-pub record SeatedAreNamed (names : List (List ℕ)) (s : Snapshot) : Type 0 where
-  pub cores : All (IsTaskOrIdle (length names)) s.cores
-  pub ready : All (λ task. task < length names) s.ready
+    codes "cores " ++ list_text (name_or_dash names.tasks) s.cores
+    ++ codes " ready " ++ list_text (name_at names.tasks) s.ready ++ ticks_text s
 
 -- what a task has, from its registers on
 abbrev pub state_text : TaskSnapshot → List ℕ
@@ -160,9 +165,9 @@ state_text task =
     codes " regs " ++ list_text decimal task.registers ++ codes " data " ++ bytes_text task.bytes
     ++ codes " notes " ++ list_text entry_text task.entries
 
--- a task that runs on that core, if on any, by the queues' names and its own
-abbrev pub task_text : List (List ℕ) → List ℕ → Option ℕ → TaskSnapshot → List ℕ
-task_text queues name core task =
+-- a task of that name that runs on that core, if on any
+abbrev pub task_text : AllNames → List ℕ → Option ℕ → TaskSnapshot → List ℕ
+task_text names name core task =
     codes "task " ++ name ++ codes " core " ++ running_core_text core
-    ++ codes " pc " ++ decimal task.pc ++ codes " phase " ++ phase_text queues task.phase
+    ++ codes " pc " ++ decimal task.pc ++ codes " phase " ++ phase_text names task.phase
     ++ state_text task

@@ -25,6 +25,8 @@ pub enum Command<'a> {
     Back { count: u32 },
     /// `show queue Q`: the queue of this name.
     ShowQueue { name: &'a str },
+    /// `show set S`: the queue set of this name.
+    ShowSet { name: &'a str },
     /// `show task K`: the task of this name.
     ShowTask { name: &'a str },
     /// `show cores`: who runs, who is ready, the tick and the turn.
@@ -102,12 +104,13 @@ fn numbered_command<'a>(verb: &[u8], word: &'a [u8]) -> Option<Command<'a>>
     }
 }
 
-// `show queue Q` or `show task K`.
+// `show queue Q`, `show set S` or `show task K`.
 fn named_view<'a>(kind: &[u8], word: &'a [u8]) -> Option<Command<'a>>
     ensures { option_map asked result ≡ named_view kind.now word.now }
 {
     match kind {
         b"queue" => Some(Command::ShowQueue { name: name(word)? }),
+        b"set" => Some(Command::ShowSet { name: name(word)? }),
         b"task" => Some(Command::ShowTask { name: name(word)? }),
         _ => None,
     }

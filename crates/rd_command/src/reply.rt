@@ -1,18 +1,22 @@
 //! The text of replies.
 #![tactic(auto, using(crate::proofs::PageLaws::kept_then))]
 
-ghost use Rattle.std.specs.Prelude.{◌≡◌, ◌+◌, ◌++◌, ◌<◌, ◌≤◌, ◌∷◌, [], decimal, length, position};
+ghost use Rattle.std.specs.Prelude.{◌≡◌, ◌+◌, ◌++◌, ◌≤◌, ◌∷◌, [], decimal, length, position};
 ghost use Rattle.std.specs.Prelude.{All, IsOk, OnErr, OnOk, vec_capacity, vec_len};
-ghost use Rattle.rd_state.specs.Sizes.{IsTaskOrIdle};
+ghost use Rattle.rd_app.specs.Application.{names_of};
 ghost use Rattle.rd_state.specs.Waiting.{IsPlace};
+ghost use Rattle.rd_command.specs.Names.{all_names, name_at, name_or_dash, numbers_named};
+ghost use Rattle.rd_command.specs.Names.{IsNamed, IsNamedOrNone, PlaceIsNamed};
+ghost use Rattle.rd_command.specs.Names.{QueueIsNamed, SetIsNamed, SeatedAreNamed};
 ghost use Rattle.rd_command.specs.Replies.{line_of, refusal_text, reply_text, list_text};
 ghost use Rattle.rd_command.specs.Replies.{bytes_text};
-ghost use Rattle.rd_command.specs.Replies.{name_at, deadline_text, list_name, place_text};
+ghost use Rattle.rd_command.specs.Replies.{deadline_text, list_name, place_text, cause_text};
 ghost use Rattle.rd_command.specs.Replies.{phase_text, entry_text};
-ghost use Rattle.rd_command.specs.Replies.{counts_text, waiting_text, amounts_text, queue_text};
+ghost use Rattle.rd_command.specs.Replies.{counts_text, contents_text, waiting_text};
+ghost use Rattle.rd_command.specs.Replies.{membership_text, queue_text};
+ghost use Rattle.rd_command.specs.Replies.{handles_text, selecting_text, set_text};
 ghost use Rattle.rd_command.specs.Replies.{running_core_text, state_text, task_text, is_task};
-ghost use Rattle.rd_command.specs.Replies.{seat_text, ticks_text, cores_text};
-ghost use Rattle.rd_command.specs.Replies.{PlaceIsNamed, WaitersAreNamed, SeatedAreNamed};
+ghost use Rattle.rd_command.specs.Replies.{ticks_text, cores_text};
 ghost use Rattle.rd_command.specs.Pages.{KeepsFront};
 
 use itoa::{Buffer, Integer};
@@ -20,8 +24,9 @@ use rd_app::app::{App, Kind};
 use rd_bytes::bytes::MAX_BYTES;
 use rd_notify::notes::{Entry, EntryState};
 use rd_queue::queue::Queue;
+use rd_queue::queue_set::QueueSet;
 use rd_queue::waiting_list::WaitingList;
-use rd_state::phase::{Phase, Place};
+use rd_state::phase::{Cause, Phase, Place};
 use rd_state::state::State;
 use rd_state::task::Task;
 use rd_text::refusal::Refusal;
@@ -190,7 +195,7 @@ fn append_number_list(page: &mut Vec<u8>, numbers: &[u32]) -> Appended
 
 // The names of tasks.
 fn append_task_names(page: &mut Vec<u8>, app: &App, tasks: &[usize]) -> Appended
-    requires { All (λ task. task < length app.now.task_names) tasks.now }
+    requires { All (IsNamed app.now.task_names) tasks.now }
     ensures text { OnOk result (page.new.items
         ≡ page.old.items ++ list_text (name_at app.now.task_names) tasks.now) }
     ensures kept { KeepsFront page.old page.new }
@@ -205,23 +210,41 @@ fn append_task_names(page: &mut Vec<u8>, app: &App, tasks: &[usize]) -> Appended
     Ok(())
 }
 
-// The name of the task that runs on a core; `-` for none.
-fn append_seat(page: &mut Vec<u8>, app: &App, running: Option<usize>) -> Appended
-    requires { IsTaskOrIdle (length app.now.task_names) running }
+// The names of the queues whose handles are in a set.
+fn append_handle_names(page: &mut Vec<u8>, app: &App, set: &QueueSet) -> Appended
+    requires { All (IsNamed app.now.queue_names) set.now.handles }
     ensures text { OnOk result (page.new.items
-        ≡ page.old.items ++ seat_text app.now.task_names running) }
+        ≡ page.old.items ++ list_text (name_at app.now.queue_names) set.now.handles) }
     ensures kept { KeepsFront page.old page.new }
 {
-    match running {
-        Some(task) => append(page, app.name(Kind::Task, task).as_bytes()),
+    if set.count() == 0 {
+        return append(page, b"-");
+    }
+    for index in 0..set.count() {
+        append_comma(page, index)?;
+        append(page, app.name(Kind::Queue, set.handle(index)).as_bytes())?;
+    }
+    Ok(())
+}
+
+// The name of an object or a task; `-` for none.
+fn append_name(page: &mut Vec<u8>, app: &App, kind: Kind, number: Option<usize>) -> Appended
+    requires { IsNamedOrNone (names_of kind app.now) number }
+    ensures text { OnOk result (page.new.items
+        ≡ page.old.items ++ name_or_dash (names_of kind app.now) number) }
+    ensures kept { KeepsFront page.old page.new }
+{
+    match number {
+        Some(number) => append(page, app.name(kind, number).as_bytes()),
         None => append(page, b"-"),
     }
 }
 
-fn append_seat_list(page: &mut Vec<u8>, app: &App, cores: &[Option<usize>]) -> Appended
-    requires { All (IsTaskOrIdle (length app.now.task_names)) cores.now }
+// The names of the tasks on the cores.
+fn append_seat_names(page: &mut Vec<u8>, app: &App, cores: &[Option<usize>]) -> Appended
+    requires { All (IsNamedOrNone app.now.task_names) cores.now }
     ensures text { OnOk result (page.new.items
-        ≡ page.old.items ++ list_text (seat_text app.now.task_names) cores.now) }
+        ≡ page.old.items ++ list_text (name_or_dash app.now.task_names) cores.now) }
     ensures kept { KeepsFront page.old page.new }
 {
     if cores.is_empty() {
@@ -229,7 +252,7 @@ fn append_seat_list(page: &mut Vec<u8>, app: &App, cores: &[Option<usize>]) -> A
     }
     for (index, running) in cores.iter().enumerate() {
         append_comma(page, index)?;
-        append_seat(page, app, *running)?;
+        append_name(page, app, Kind::Task, *running)?;
     }
     Ok(())
 }
@@ -284,9 +307,9 @@ fn list_name(list: WaitingList) -> &'static [u8]
 
 // Where a task waits.
 fn append_place(page: &mut Vec<u8>, app: &App, place: Place) -> Appended
-    requires { IsPlace (record { queues = length app.now.queue_names }) place }
+    requires { IsPlace (numbers_named (all_names app.now)) place }
     ensures text { OnOk result
-        (page.new.items ≡ page.old.items ++ place_text app.now.queue_names place) }
+        (page.new.items ≡ page.old.items ++ place_text (all_names app.now) place) }
     ensures kept { KeepsFront page.old page.new }
 {
     match place {
@@ -295,13 +318,27 @@ fn append_place(page: &mut Vec<u8>, app: &App, place: Place) -> Appended
             append(page, b":")?;
             append(page, app.name(Kind::Queue, queue).as_bytes())
         }
+        Place::Set { set } => {
+            append(page, b"set:")?;
+            append(page, app.name(Kind::Set, set).as_bytes())
+        }
+    }
+}
+
+// Why a call failed.
+fn append_cause(page: &mut Vec<u8>, cause: Cause) -> Appended
+    ensures text { OnOk result (page.new.items ≡ page.old.items ++ cause_text cause) }
+    ensures kept { KeepsFront page.old page.new }
+{
+    match cause {
+        Cause::SetFull => append(page, b"SetFull"),
     }
 }
 
 fn append_phase(page: &mut Vec<u8>, app: &App, phase: Phase) -> Appended
-    requires { PlaceIsNamed app.now.queue_names phase }
-    ensures text { OnOk result (page.new.items
-        ≡ page.old.items ++ phase_text app.now.queue_names phase) }
+    requires { PlaceIsNamed (all_names app.now) phase }
+    ensures text { OnOk result
+        (page.new.items ≡ page.old.items ++ phase_text (all_names app.now) phase) }
     ensures kept { KeepsFront page.old page.new }
 {
     match phase {
@@ -317,6 +354,10 @@ fn append_phase(page: &mut Vec<u8>, app: &App, phase: Phase) -> Appended
             append_deadline(page, deadline)
         }
         Phase::Ended => append(page, b"ended"),
+        Phase::Failed { cause } => {
+            append(page, b"failed:")?;
+            append_cause(page, cause)
+        }
     }
 }
 
@@ -334,53 +375,101 @@ fn append_running_core(page: &mut Vec<u8>, core: Option<usize>) -> Appended
 /// Appends the view of a queue. An `Err` says that there is no memory for it; the page may then
 /// have some part of it after what it had.
 pub fn show_queue(page: &mut Vec<u8>, app: &App, name: &str, queue: &Queue) -> Appended
-    requires { WaitersAreNamed app.now.task_names queue.now }
+    requires { QueueIsNamed (all_names app.now) queue.now }
     ensures text { OnOk result (page.new.items
-        ≡ page.old.items ++ line_of (queue_text app.now.task_names name.now queue.now)) }
+        ≡ page.old.items ++ line_of (queue_text (all_names app.now) name.now queue.now)) }
     ensures kept { KeepsFront page.old page.new }
 {
     append(page, b"queue ")?;
     append(page, name.as_bytes())?;
     append(page, b" ")?;
-    append_amounts(page, app, queue)
-}
-
-// How many items there are, and how many there is room for.
-fn append_counts(page: &mut Vec<u8>, queue: &Queue) -> Appended
-    ensures text { OnOk result (page.new.items ≡ page.old.items ++ counts_text queue.now) }
-    ensures kept { KeepsFront page.old page.new }
-{
-    append_number(page, queue.count())?;
-    append(page, b"/")?;
-    append_number(page, queue.capacity())
-}
-
-// The rest of a queue's view, from its amounts on.
-fn append_amounts(page: &mut Vec<u8>, app: &App, queue: &Queue) -> Appended
-    requires { WaitersAreNamed app.now.task_names queue.now }
-    ensures text { OnOk result (page.new.items
-        ≡ page.old.items ++ line_of (amounts_text app.now.task_names queue.now)) }
-    ensures kept { KeepsFront page.old page.new }
-{
-    append_counts(page, queue)?;
-    append(page, b" items ")?;
-    append_items(page, queue)?;
+    append_contents(page, queue)?;
     append_waiting(page, app, queue)?;
+    append_membership(page, app, queue)?;
     append(page, b"\n")
+}
+
+// How many there are, and how many there is room for.
+fn append_counts(page: &mut Vec<u8>, count: usize, capacity: usize) -> Appended
+    ensures text { OnOk result (page.new.items ≡ page.old.items ++ counts_text count capacity) }
+    ensures kept { KeepsFront page.old page.new }
+{
+    append_number(page, count)?;
+    append(page, b"/")?;
+    append_number(page, capacity)
+}
+
+// What is in a queue.
+fn append_contents(page: &mut Vec<u8>, queue: &Queue) -> Appended
+    ensures text { OnOk result (page.new.items ≡ page.old.items ++ contents_text queue.now) }
+    ensures kept { KeepsFront page.old page.new }
+{
+    append_counts(page, queue.count(), queue.capacity())?;
+    append(page, b" items ")?;
+    append_items(page, queue)
 }
 
 // Who waits at a queue.
 fn append_waiting(page: &mut Vec<u8>, app: &App, queue: &Queue) -> Appended
-    requires { WaitersAreNamed app.now.task_names queue.now }
-    ensures text { OnOk result (page.new.items
-        ≡ page.old.items ++ waiting_text app.now.task_names queue.now) }
+    requires { QueueIsNamed (all_names app.now) queue.now }
+    ensures text { OnOk result
+        (page.new.items ≡ page.old.items ++ waiting_text (all_names app.now) queue.now) }
     ensures kept { KeepsFront page.old page.new }
 {
     append(page, b" recv ")?;
     append_task_names(page, app, queue.waiting(WaitingList::Receiving).as_slice())?;
     append(page, b" send ")?;
-    append_task_names(page, app, queue.waiting(WaitingList::Sending).as_slice())?;
-    append(page, b" set -")
+    append_task_names(page, app, queue.waiting(WaitingList::Sending).as_slice())
+}
+
+// The set that a queue is a member of.
+fn append_membership(page: &mut Vec<u8>, app: &App, queue: &Queue) -> Appended
+    requires { QueueIsNamed (all_names app.now) queue.now }
+    ensures text { OnOk result
+        (page.new.items ≡ page.old.items ++ membership_text (all_names app.now) queue.now) }
+    ensures kept { KeepsFront page.old page.new }
+{
+    append(page, b" set ")?;
+    append_name(page, app, Kind::Set, queue.set_of())
+}
+
+/// Appends the view of a queue set. An `Err` says that there is no memory for it; the page may
+/// then have some part of it after what it had.
+pub fn show_set(page: &mut Vec<u8>, app: &App, name: &str, set: &QueueSet) -> Appended
+    requires { SetIsNamed (all_names app.now) set.now }
+    ensures text { OnOk result (page.new.items
+        ≡ page.old.items ++ line_of (set_text (all_names app.now) name.now set.now)) }
+    ensures kept { KeepsFront page.old page.new }
+{
+    append(page, b"set ")?;
+    append(page, name.as_bytes())?;
+    append(page, b" ")?;
+    append_handles(page, app, set)?;
+    append_selecting(page, app, set)?;
+    append(page, b"\n")
+}
+
+// What is in a set.
+fn append_handles(page: &mut Vec<u8>, app: &App, set: &QueueSet) -> Appended
+    requires { SetIsNamed (all_names app.now) set.now }
+    ensures text { OnOk result
+        (page.new.items ≡ page.old.items ++ handles_text (all_names app.now) set.now) }
+    ensures kept { KeepsFront page.old page.new }
+{
+    append_counts(page, set.count(), set.capacity())?;
+    append(page, b" handles ")?;
+    append_handle_names(page, app, set)
+}
+
+// Who waits to select from a set.
+fn append_selecting(page: &mut Vec<u8>, app: &App, set: &QueueSet) -> Appended
+    requires { SetIsNamed (all_names app.now) set.now }
+    ensures text { OnOk result
+        (page.new.items ≡ page.old.items ++ selecting_text (all_names app.now) set.now) }
+    ensures kept { KeepsFront page.old page.new }
+{
+    append(page, b" wait ")?;
+    append_task_names(page, app, set.waiting().as_slice())
 }
 
 /// Appends the view of a task. An `Err` says that there is no memory for it; the page may then
@@ -392,9 +481,9 @@ pub fn show_task(
     core: Option<usize>,
     task: &Task,
 ) -> Appended
-    requires { PlaceIsNamed app.now.queue_names task.now.phase }
+    requires { PlaceIsNamed (all_names app.now) task.now.phase }
     ensures text { OnOk result (page.new.items
-        ≡ page.old.items ++ line_of (task_text app.now.queue_names name.now core task.now)) }
+        ≡ page.old.items ++ line_of (task_text (all_names app.now) name.now core task.now)) }
     ensures kept { KeepsFront page.old page.new }
 {
     append(page, b"task ")?;
@@ -425,13 +514,13 @@ fn append_state(page: &mut Vec<u8>, task: &Task) -> Appended
 /// Appends the view of the cores. An `Err` says that there is no memory for it; the page may then
 /// have some part of it after what it had.
 pub fn show_cores(page: &mut Vec<u8>, app: &App, state: &State) -> Appended
-    requires { SeatedAreNamed app.now.task_names state.now }
+    requires { SeatedAreNamed (all_names app.now) state.now }
     ensures text { OnOk result (page.new.items
-        ≡ page.old.items ++ line_of (cores_text app.now.task_names state.now)) }
+        ≡ page.old.items ++ line_of (cores_text (all_names app.now) state.now)) }
     ensures kept { KeepsFront page.old page.new }
 {
     append(page, b"cores ")?;
-    append_seat_list(page, app, state.cores())?;
+    append_seat_names(page, app, state.cores())?;
     append(page, b" ready ")?;
     append_task_names(page, app, state.ready().as_slice())?;
     append_ticks(page, state)

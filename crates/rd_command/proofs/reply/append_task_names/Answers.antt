@@ -3,7 +3,7 @@ use Rattle.std.proofs.Common.{◌∙◌, ◌++◌, ℕ, List, [], ap, sym, arith
 use Rattle.std.proofs.lemmas.Option.{get_or_from_slice_get}
 use Rattle.rd_command.proofs.PageLaws.{kept_then}
 use Rattle.rd_command.proofs.TextLaws.{one_more}
-use Rattle.rd_command.specs.Replies.{name_at}
+use Rattle.rd_command.specs.Names.{name_at}
 use Rattle.rd_command.proofs.reply.append_task_names.Goals as goal
 
 pub loop-index-preserved : goal.loop-index-preserved

@@ -1,7 +1,8 @@
 -- What holds in each turn of append_task_names's loop.
 use Rattle.std.proofs.Common.{◌≡◌, ◌++◌, take}
 use Rattle.rd_command.specs.Pages.{KeepsFront}
-use Rattle.rd_command.specs.Replies.{joined, name_at}
+use Rattle.rd_command.specs.Replies.{joined}
+use Rattle.rd_command.specs.Names.{name_at}
 use Rattle.rd_command.proofs.reply.append_task_names.Given as goal
 
 abbrev pub invariant-loop-index : goal.invariant-loop-index

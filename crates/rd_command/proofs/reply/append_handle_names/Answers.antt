@@ -1,0 +1,20 @@
+-- The goals of append_handle_names that the check left open.
+use Rattle.std.proofs.Common.{◌∙◌, ◌++◌, ℕ, List, [], ap, sym, arith}
+use Rattle.std.proofs.lemmas.Option.{get_or_from_slice_get}
+use Rattle.rd_command.proofs.PageLaws.{kept_then}
+use Rattle.rd_command.proofs.TextLaws.{one_more}
+use Rattle.rd_command.specs.Names.{name_at}
+use Rattle.rd_command.proofs.reply.append_handle_names.Goals as goal
+
+pub loop-index-preserved : goal.loop-index-preserved
+loop-index-preserved c =
+    let before = c.append_comma.new.page.items in
+    let names = c.args.app.now.queue_names in
+    let named = c.as_bytes.ensures.value ∙ sym (get_or_from_slice_get names _ c.name.result.now [] c.name.ensures) in
+    record {
+      text = one_more (name_at names) c.args.set.now.handles c.loop-index.index 0
+          c.args.page.now.items c.loop-index.page.items before c.append-in-loop-index.new.page.items
+          (omega arith) c.loop-index.invariant.text c.in_ok-append_comma.ensures.first c.in_ok-append_comma.ensures.later
+          (c.in_ok-append.ensures.text ∙ ap (λ (name : List ℕ). before ++ name) (named ∙ ap (name_at names) c.handle.ensures.handle));
+      kept = kept_then _ _ _ (kept_then _ _ _ c.loop-index.invariant.kept c.in_ok-append_comma.ensures.kept) c.in_ok-append.ensures.kept;
+    }
