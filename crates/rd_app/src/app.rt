@@ -1,9 +1,8 @@
 //! An application: its cores, its queues and their sets, its tasks with their scripts, and names.
 
 ghost use Rattle.std.specs.Prelude.{◌≡◌, ◌<◌, ◌≤◌, length, map, position, slice_get};
-ghost use Rattle.std.specs.Prelude.{All, Some, IfOk};
+ghost use Rattle.std.specs.Prelude.{All, Some, IfOk, IfSome};
 ghost use Rattle.std.specs.Str.{bytes_eq};
-ghost use Rattle.std.specs.Prelude.{IfSome};
 ghost use Rattle.rd_app.specs.Application.{IsApplication, IsWithin, names_of, code_of};
 ghost use Rattle.rd_app.specs.Application.{priorities_of, set_at_boot};
 ghost use Rattle.rd_app.specs.Builtin.{builtin};
@@ -31,8 +30,8 @@ pub struct QueueShape {
     pub item_size: usize,
 }
 
-/// A queue set to be made: room for 1 to 2,048 handles, and the queues that are its members at boot,
-/// by number (`xQueueCreateSet`).
+/// A queue set to be made: room for 1 to 2,048 handles (`xQueueCreateSet`), and the queues that are
+/// its members at boot, by number.
 #[derive(Drop)]
 pub struct SetShape {
     capacity: usize,

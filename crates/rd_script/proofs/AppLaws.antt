@@ -13,17 +13,20 @@ use Rattle.rd_script.specs.declared.error.AppError.{AppError}
 use Rattle.rd_script.specs.declared.error.AppError.TheVariants as fault
 use Rattle.rd_script.specs.Objects.{objects_of}
 use Rattle.rd_script.specs.Spelling.{◌>>=◌}
-use Rattle.rd_app.specs.Application.{Application, IsApplication, IsQueueShape, IsScript}
+use Rattle.rd_app.specs.Application.{Application, IsApplication, IsQueueShape, IsSetShape, IsScript}
 use Rattle.rd_text.specs.Names.{AreNames}
-use Rattle.rd_script.specs.File.{TaskDraft, object_with, field, number_in, number_or, array_in, array_or_empty, queue_of, queues_after, task_of, tasks_after}
+use Rattle.rd_script.specs.File.{TaskDraft, object_with, field, number_in, number_or, array_in, array_or_empty}
+use Rattle.rd_script.specs.File.{queue_of, queues_after, set_of, sets_after, task_of, tasks_after}
 use Rattle.rd_script.specs.File.{scripts_after, file_keys, AppDraft, draft_of, with_scripts, app_of, text_of, file_of, checked}
 use Rattle.rd_script.specs.File.{GivesFaultFirst, GivesOrNoMemory}
-use Rattle.rd_script.specs.Says.{IsNumberOr, IsArrayOrEmpty, IsQueue, AreQueues, Says, FileSays}
-use Rattle.rd_script.proofs.NamedLaws.{length_named, named_again, named_take}
+use Rattle.rd_script.specs.Says.{IsNumberOr, IsArrayOrEmpty, IsQueue, AreQueues, AreSets, Says, FileSays}
+use Rattle.std.specs.List.{AllByRecursion}
+use Rattle.rd_script.proofs.NamedLaws.{AllByRecursion-first, length_named, named_again, named_take, each_again, each_takes}
 use Rattle.rd_app.specs.TaskScript.{TaskScript}
 use Rattle.rd_script.proofs.Steps.{bind_ok, ok_or_ok, then_is, chosen}
 use Rattle.rd_script.proofs.Values.{object_ok, field_ok, number_ok, array_ok, object_again, field_again, number_again, array_again, limits_again}
 use Rattle.rd_script.proofs.QueueLaws as queue
+use Rattle.rd_script.proofs.SetLaws as set
 use Rattle.rd_script.proofs.ScriptLaws.{AreScripts, scripts_take, scripts_again}
 use Rattle.rd_script.proofs.TaskLaws as task
 
@@ -37,7 +40,8 @@ array_or_ok most None ds e = let is : no_items ≡ ds = cc in (sym is, omega (ar
 array_or_ok most (Some d) ds e = let a = array_ok 0 most d ds e in (a.0, a.2)
 
 -- the application was read so
-pub record IsRead (d : Data) (app : Application) (profile cores tasks : Data) (queue_items task_items : Items) (drafts : List TaskDraft) : Type 0 where
+pub record IsRead (d : Data) (app : Application) (profile cores tasks : Data) (queue_items set_items task_items : Items) (drafts : List TaskDraft)
+    : Type 0 where
   pub keys : object_with file_keys d ≡ Ok tt
   pub profile_at : field (codes "profile") d ≡ Ok profile
   pub cores_at : field (codes "cores") d ≡ Ok cores
@@ -48,6 +52,8 @@ pub record IsRead (d : Data) (app : Application) (profile cores tasks : Data) (q
   pub tick : number_or 0 0 (2 ^ 32 - 1) (get (codes "tick") d) ≡ Ok app.tick
   pub queue_array : array_or_empty 32 (get (codes "queues") d) ≡ Ok queue_items
   pub queues : queues_after [] [] queue_items ≡ Ok (app.queue_names, app.queues)
+  pub set_array : array_or_empty 32 (get (codes "sets") d) ≡ Ok set_items
+  pub sets : sets_after app.queue_names [] [] set_items ≡ Ok (app.set_names, app.sets)
   pub task_array : array_in 1 32 tasks ≡ Ok task_items
   pub drafts_are : tasks_after [] [] task_items ≡ Ok (app.task_names, drafts)
   pub scripts : scripts_after (objects_of app) [] drafts ≡ Ok app.scripts
@@ -55,34 +61,46 @@ pub record IsRead (d : Data) (app : Application) (profile cores tasks : Data) (q
 no_names : AreNames []
 no_names = record { named = refl; distinct = refl }
 
-pub read_takes : (d : Data) (app : Application) (profile cores tasks : Data) (queue_items task_items : Items) (drafts : List TaskDraft)
-    → IsRead d app profile cores tasks queue_items task_items drafts → Says d app queue_items task_items × IsApplication app
-read_takes d app profile cores tasks queue_items task_items drafts read =
+pub read_takes : (d : Data) (app : Application) (profile cores tasks : Data) (queue_items set_items task_items : Items) (drafts : List TaskDraft)
+    → IsRead d app profile cores tasks queue_items set_items task_items drafts → Says d app queue_items set_items task_items × IsApplication app
+read_takes d app profile cores tasks queue_items set_items task_items drafts read =
     let one = number_ok 1 1 profile 1 read.one in
     let core_count = number_ok 1 8 cores app.cores read.core_count in
     let notes = number_or_ok 1 1 4 (get (codes "notes") d) app.notes (omega arith) (omega arith) read.notes in
     let tick = number_or_ok 0 0 (2 ^ 32 - 1) (get (codes "tick") d) app.tick (omega arith) (omega arith) read.tick in
     let queue_array = array_or_ok 32 (get (codes "queues") d) queue_items read.queue_array in
+    let set_array = array_or_ok 32 (get (codes "sets") d) set_items read.set_array in
     let task_array = array_ok 1 32 tasks task_items read.task_array in
     let queues =
-    named_take queue_of IsQueue IsQueueShape queue.queue_takes queue_items [] [] (app.queue_names, app.queues) read.queues
+    named_take (λ names shapes. queue_of names) IsQueue (AllByRecursion IsQueueShape) (each_takes queue_of IsQueue IsQueueShape queue.queue_takes)
+    queue_items [] [] (app.queue_names, app.queues) read.queues
     (record { are_names = no_names; are_things = tt }) in
+    let sets =
+    named_take (set_of app.queue_names) (set.SaysSet app.queue_names) (set.AreSetsOf (length app.queue_names)) (set.set_takes app.queue_names)
+    set_items [] [] (app.set_names, app.sets) read.sets
+    (record { are_names = no_names; are_things = set.no_sets (length app.queue_names) }) in
     let taken =
-    named_take task_of task.IsDraft task.IsDraftInLimits task.task_takes task_items [] [] (app.task_names, drafts) read.drafts_are
+    named_take (λ names drafts. task_of names) task.IsDraft (AllByRecursion task.IsDraftInLimits)
+    (each_takes task_of task.IsDraft task.IsDraftInLimits task.task_takes) task_items [] [] (app.task_names, drafts) read.drafts_are
     (record { are_names = no_names; are_things = tt }) in
     let scripts = scripts_take (objects_of app) drafts [] app.scripts read.scripts in
     let names_said : AreQueues queue_items app.queue_names app.queues =
     subst (λ (ns : List (List ℕ)). AreQueues queue_items ns app.queues) (sym queues.2.names_are)
     (subst (AreQueues queue_items queues.0) (sym queues.2.things_are) queues.2.said) in
+    let sets_said : AreSets app.queue_names set_items app.set_names app.sets =
+    subst (λ (ns : List (List ℕ)). AreSets app.queue_names set_items ns app.sets) (sym sets.2.names_are)
+    (subst (AreSets app.queue_names set_items sets.0) (sym sets.2.things_are) sets.2.said) in
     let drafts_said : task.AreDrafts task_items app.task_names drafts =
     subst (λ (ns : List (List ℕ)). task.AreDrafts task_items ns drafts) (sym taken.2.names_are)
     (subst (task.AreDrafts task_items taken.0) (sym taken.2.things_are) taken.2.said) in
     let scripts_said : AreScripts (objects_of app) drafts app.scripts = subst (AreScripts (objects_of app) drafts) (sym scripts.1) scripts.2 in
     let tasks_said = task.tasks_said (objects_of app) task_items app.task_names drafts app.scripts drafts_said scripts_said in
     let sizes = length_named IsQueue queue_items app.queue_names app.queues names_said in
+    let set_sizes = length_named (set.SaysSet app.queue_names) set_items app.set_names app.sets sets_said in
     let count = (length_named task.IsDraft task_items app.task_names drafts drafts_said).0 in
     let same : length app.queues ≡ length app.queue_names = omega (arith, sizes) in
-    let within = task.scripts_in_limits app drafts app.scripts same taken.2.kept.are_things scripts_said in (
+    let same_sets : length app.sets ≡ length app.set_names = omega (arith, set_sizes) in
+    let within = task.scripts_in_limits app drafts app.scripts (record { queues = same; sets = same_sets }) taken.2.kept.are_things scripts_said in (
       record {
         keys = object_ok file_keys d tt read.keys;
         profile_at = field_ok (codes "profile") d profile read.profile_at ∙ ap Some one.0;
@@ -91,6 +109,9 @@ read_takes d app profile cores tasks queue_items task_items drafts read =
         tick_at = tick.0;
         queues_at = queue_array.0;
         queues = names_said;
+        sets_at = set_array.0;
+        sets = sets_said;
+        one_set_each = sets.2.kept.are_things.one_each;
         tasks_at = field_ok (codes "tasks") d tasks read.tasks_at ∙ ap Some task_array.0;
         tasks = tasks_said.0;
       },
@@ -104,6 +125,12 @@ read_takes d app profile cores tasks queue_items task_items drafts read =
         queues = All-from_recursion IsQueueShape app.queues queues.2.kept.are_things;
         queue_names = sym same;
         named_queues = queues.2.kept.are_names;
+        few_sets = omega (arith, set_array, set_sizes);
+        sets = All-from_recursion (IsSetShape app) app.sets
+            (set.sets_in_limits app (length app.queue_names) app.sets same sets.2.kept.are_things.shapes);
+        one_set_each = sets.2.kept.are_things.one_each;
+        set_names = sym same_sets;
+        named_sets = sets.2.kept.are_names;
         some_tasks = omega (arith, task_array, count, tasks_said.1);
         few_tasks = omega (arith, task_array, count, tasks_said.1);
         scripts = All-from_recursion (IsScript app) app.scripts within;
@@ -132,12 +159,14 @@ app_with draft scripts = record {
   tick = draft.tick;
   queues = draft.objects.queues;
   queue_names = draft.objects.queue_names;
+  sets = draft.sets;
+  set_names = draft.objects.set_names;
   scripts = scripts;
   task_names = draft.task_names;
 }
 
 pub app_takes : (d : Data) (app : Application) → app_of d ≡ Ok app
-    → (queue_items : Items) × (task_items : Items) × Says d app queue_items task_items × IsApplication app
+    → (queue_items : Items) × (set_items : Items) × (task_items : Items) × Says d app queue_items set_items task_items × IsApplication app
 unfolding draft_of
 app_takes d app e =
     let drafted = bind_ok (draft_of d) with_scripts app e in
@@ -152,20 +181,23 @@ app_takes d app e =
     let tick = bind_ok (number_or 0 0 (2 ^ 32 - 1) (get (codes "tick") d)) _ drafted.0 notes.2 in
     let queue_items = bind_ok (array_or_empty 32 (get (codes "queues") d)) _ drafted.0 tick.2 in
     let queues = bind_ok (queues_after [] [] queue_items.0) _ drafted.0 queue_items.2 in
-    let task_items = bind_ok (array_in 1 32 tasks.0) _ drafted.0 queues.2 in
+    let set_items = bind_ok (array_or_empty 32 (get (codes "sets") d)) _ drafted.0 queues.2 in
+    let sets = bind_ok (sets_after queues.0.0 [] [] set_items.0) _ drafted.0 set_items.2 in
+    let task_items = bind_ok (array_in 1 32 tasks.0) _ drafted.0 sets.2 in
     let drafts = bind_ok (tasks_after [] [] task_items.0) _ drafted.0 task_items.2 in
     let draft : AppDraft = record {
       cores = core_count.0;
       notes = notes.0;
       tick = tick.0;
-      objects = record { queue_names = queues.0.0; queues = queues.0.1 };
+      objects = record { queue_names = queues.0.0; queues = queues.0.1; set_names = sets.0.0 };
+      sets = sets.0.1;
       tasks = drafts.0.1;
       task_names = drafts.0.0;
     } in
     let draft_is : draft ≡ drafted.0 = ok_is draft drafted.0 drafts.2 in
     let made = app_with draft scripts.0 in
     let is : made ≡ app = ap (λ (draft : AppDraft). app_with draft scripts.0) draft_is ∙ ok_is _ app scripts.2 in
-    let all = read_takes d made profile.0 cores.0 tasks.0 queue_items.0 task_items.0 drafts.0.1 (record {
+    let all = read_takes d made profile.0 cores.0 tasks.0 queue_items.0 set_items.0 task_items.0 drafts.0.1 (record {
       keys = keys.1;
       profile_at = profile.1;
       cores_at = cores.1;
@@ -176,11 +208,14 @@ app_takes d app e =
       tick = tick.1;
       queue_array = queue_items.1;
       queues = queues.1;
+      set_array = set_items.1;
+      sets = sets.1;
       task_array = task_items.1;
       drafts_are = drafts.1;
       scripts = ap (λ (draft : AppDraft). scripts_after draft.objects [] draft.tasks) draft_is ∙ scripts.1;
     }) in
-    (queue_items.0, task_items.0, subst (λ (app : Application). Says d app queue_items.0 task_items.0) is all.0, subst IsApplication is all.1)
+    let says = subst (λ (app : Application). Says d app queue_items.0 set_items.0 task_items.0) is all.0 in
+    (queue_items.0, set_items.0, task_items.0, says, subst IsApplication is all.1)
 
 -- ---- what a file says is read
 
@@ -200,15 +235,16 @@ draft_from app drafts = record {
   notes = app.notes;
   tick = app.tick;
   objects = objects_of app;
+  sets = app.sets;
   tasks = drafts;
   task_names = app.task_names;
 }
 
 -- what was read so is the answer
-draft_read : (d : Data) (app : Application) (profile cores tasks : Data) (queue_items task_items : Items) (drafts : List TaskDraft)
-    → IsRead d app profile cores tasks queue_items task_items drafts → draft_of d ≡ Ok (draft_from app drafts)
+draft_read : (d : Data) (app : Application) (profile cores tasks : Data) (queue_items set_items task_items : Items) (drafts : List TaskDraft)
+    → IsRead d app profile cores tasks queue_items set_items task_items drafts → draft_of d ≡ Ok (draft_from app drafts)
 unfolding draft_of
-draft_read d app profile cores tasks queue_items task_items drafts read =
+draft_read d app profile cores tasks queue_items set_items task_items drafts read =
     then_is (object_with file_keys d) _ tt _ read.keys
     (then_is (field (codes "profile") d) _ profile _ read.profile_at
     (then_is (field (codes "cores") d) _ cores _ read.cores_at
@@ -219,24 +255,30 @@ draft_read d app profile cores tasks queue_items task_items drafts read =
     (then_is (number_or 0 0 (2 ^ 32 - 1) (get (codes "tick") d)) _ app.tick _ read.tick
     (then_is (array_or_empty 32 (get (codes "queues") d)) _ queue_items _ read.queue_array
     (then_is (queues_after [] [] queue_items) _ (app.queue_names, app.queues) _ read.queues
+    (then_is (array_or_empty 32 (get (codes "sets") d)) _ set_items _ read.set_array
+    (then_is (sets_after app.queue_names [] [] set_items) _ (app.set_names, app.sets) _ read.sets
     (then_is (array_in 1 32 tasks) _ task_items _ read.task_array
     (then_is (tasks_after [] [] task_items) _ (app.task_names, drafts) _ read.drafts_are
-    refl)))))))))))
+    refl)))))))))))))
 
-app_read : (d : Data) (app : Application) (profile cores tasks : Data) (queue_items task_items : Items) (drafts : List TaskDraft)
-    → IsRead d app profile cores tasks queue_items task_items drafts → app_of d ≡ Ok app
-app_read d app profile cores tasks queue_items task_items drafts read =
-    then_is (draft_of d) with_scripts (draft_from app drafts) _ (draft_read d app profile cores tasks queue_items task_items drafts read)
+app_read : (d : Data) (app : Application) (profile cores tasks : Data) (queue_items set_items task_items : Items) (drafts : List TaskDraft)
+    → IsRead d app profile cores tasks queue_items set_items task_items drafts → app_of d ≡ Ok app
+app_read d app profile cores tasks queue_items set_items task_items drafts read =
+    then_is (draft_of d) with_scripts (draft_from app drafts) _ (draft_read d app profile cores tasks queue_items set_items task_items drafts read)
     (then_is (scripts_after (objects_of app) [] drafts) _ app.scripts _ read.scripts refl)
 
-pub app_again : (d : Data) (app : Application) (queue_items task_items : Items) → Says d app queue_items task_items → IsApplication app → app_of d ≡ Ok app
-app_again d app queue_items task_items says limits =
+pub app_again : (d : Data) (app : Application) (queue_items set_items task_items : Items) → Says d app queue_items set_items task_items → IsApplication app
+    → app_of d ≡ Ok app
+app_again d app queue_items set_items task_items says limits =
     let sizes = length_named IsQueue queue_items app.queue_names app.queues says.queues in
     let shapes = recursion_from_All IsQueueShape app.queues limits.queues in
+    let set_sizes = length_named (set.SaysSet app.queue_names) set_items app.set_names app.sets says.sets in
+    let set_limits = recursion_from_All (IsSetShape app) app.sets limits.sets in
+    let set_shapes = set.sets_of_limits app (length app.queue_names) app.sets (sym limits.queue_names) set_limits in
     let scripts = recursion_from_All (IsScript app) app.scripts limits.scripts in
     let split = task.tasks_split app (objects_of app) task_items app.task_names app.scripts says.tasks scripts in
     let count = (length_named task.IsDraft task_items app.task_names split.0 split.1).0 in
-    app_read d app (number (unsigned 1)) (number (unsigned app.cores)) (array task_items) queue_items task_items split.0 (record {
+    app_read d app (number (unsigned 1)) (number (unsigned app.cores)) (array task_items) queue_items set_items task_items split.0 (record {
       keys = object_again file_keys d says.keys;
       profile_at = field_again (codes "profile") d _ says.profile_at;
       cores_at = field_again (codes "cores") d _ says.cores_at;
@@ -246,10 +288,16 @@ app_again d app queue_items task_items says limits =
       notes = number_or_again 1 1 4 (get (codes "notes") d) app.notes says.notes_at (omega (arith, limits.some_notes)) limits.few_notes;
       tick = number_or_again 0 0 (2 ^ 32 - 1) (get (codes "tick") d) app.tick says.tick_at (omega arith) (omega (arith, limits.tick));
       queue_array = array_or_again 32 (get (codes "queues") d) queue_items says.queues_at (omega (arith, sizes, limits.few_queues));
-      queues = named_again queue_of IsQueue IsQueueShape queue.queue_again queue_items [] [] app.queue_names app.queues says.queues limits.named_queues shapes;
+      queues = named_again (λ names shapes. queue_of names) IsQueue (AllByRecursion IsQueueShape) (AllByRecursion-first IsQueueShape)
+          (each_again queue_of IsQueue IsQueueShape queue.queue_again) queue_items [] [] app.queue_names app.queues says.queues limits.named_queues shapes;
+      set_array = array_or_again 32 (get (codes "sets") d) set_items says.sets_at (omega (arith, set_sizes, limits.few_sets));
+      sets = named_again (set_of app.queue_names) (set.SaysSet app.queue_names) (set.AreSetsOf (length app.queue_names))
+          (set.sets_first (length app.queue_names)) (set.set_again app.queue_names) set_items [] [] app.set_names app.sets says.sets limits.named_sets
+          (record { shapes = set_shapes; one_each = limits.one_set_each });
       task_array = array_again 1 32 (array task_items) task_items refl (omega (arith, count, limits.some_tasks, limits.task_names))
           (omega (arith, count, limits.few_tasks, limits.task_names));
-      drafts_are = named_again task_of task.IsDraft task.IsReadable task.draft_again task_items [] [] app.task_names split.0 split.1 limits.named_tasks split.2;
+      drafts_are = named_again (λ names drafts. task_of names) task.IsDraft (AllByRecursion task.IsReadable) (AllByRecursion-first task.IsReadable)
+          (each_again task_of task.IsDraft task.IsReadable task.draft_again) task_items [] [] app.task_names split.0 split.1 limits.named_tasks split.2;
       scripts = scripts_again (objects_of app) split.0 [] app.scripts split.3;
     })
 
@@ -260,7 +308,7 @@ file_takes bytes app e =
     let text = chosen (is_utf8 bytes) _ _ app e in
     let d = bind_ok (ok_or (read bytes) _) _ app text.1 in
     let taken = app_takes d.0 app d.2 in
-    ((d.0, IsUtf8-from_is_utf8 bytes text.0, ok_or_ok (read bytes) d.0 _ d.1, taken.0, taken.1, taken.2), taken.3)
+    ((d.0, IsUtf8-from_is_utf8 bytes text.0, ok_or_ok (read bytes) d.0 _ d.1, taken.0, taken.1, taken.2, taken.3), taken.4)
 
 -- the JSON value of a text decides
 pub text_is_file : (text : List ℕ) (d : Data) → read text ≡ Some d → text_of text ≡ app_of d
@@ -298,7 +346,7 @@ kept_app : (d : Data) (draft : AppDraft) (r : Result (List TaskScript) AppError)
     → IsOkAnd (r >>= λ scripts. Ok (app_with draft scripts)) IsApplication
 kept_app d draft (Ok scripts) drafted e h =
     (app_takes d (app_with draft scripts)
-    (then_is (draft_of d) with_scripts draft _ drafted (then_is (scripts_after draft.objects [] draft.tasks) _ scripts _ e refl))).3
+    (then_is (draft_of d) with_scripts draft _ drafted (then_is (scripts_after draft.objects [] draft.tasks) _ scripts _ e refl))).4
 kept_app d draft (Err x) drafted e h = absurd cc
 
 -- a draft whose scripts were checked is an application within the limits
@@ -317,7 +365,7 @@ fault_found d draft e drafted h = then_is (draft_of d) with_scripts draft (Err e
 
 pub file_again : (bytes : List ℕ) (app : Application) → FileSays bytes app → IsApplication app → file_of bytes ≡ Ok app
 file_again bytes app says limits =
-    rw (is_utf8-from_IsUtf8 bytes says.1) (text_is_file bytes says.0 says.2) ∙ app_again says.0 app says.3 says.4 says.5 limits
+    rw (is_utf8-from_IsUtf8 bytes says.1) (text_is_file bytes says.0 says.2) ∙ app_again says.0 app says.3 says.4 says.5 says.6 limits
 
 pub is_accepted : (bytes : List ℕ) (r : Result Application AppError) → GivesOrNoMemory (λ app. app) r (file_of bytes)
     → IfOk r (λ app. FileSays bytes app × IsApplication app)

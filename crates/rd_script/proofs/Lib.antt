@@ -5,6 +5,7 @@ pub mod SpellingLaws
 pub mod Values
 pub mod NamedLaws
 pub mod QueueLaws
+pub mod SetLaws
 pub mod ScriptLaws
 pub mod TaskLaws
 pub mod AppLaws

@@ -11,9 +11,18 @@ use Rattle.rd_script.specs.File.{named_after}
 use Rattle.rd_script.specs.Says.{AreNamed}
 use Rattle.rd_script.proofs.Steps.{bind_ok, then_is}
 
-AllByRecursion-push : {X : Type 0} (P : X → Type 0) (xs : List X) (x : X) → AllByRecursion P xs → P x → AllByRecursion P (xs ++ x ∷ [])
+-- what holds of each, one by one
+pub AllByRecursion-push : {X : Type 0} (P : X → Type 0) (xs : List X) (x : X) → AllByRecursion P xs → P x → AllByRecursion P (xs ++ x ∷ [])
 AllByRecursion-push P [] x h p = (p, tt)
 AllByRecursion-push P (y ∷ ys) x h p = (h.0, AllByRecursion-push P ys x h.1 p)
+
+pub AllByRecursion-last : {X : Type 0} (P : X → Type 0) (xs : List X) (x : X) → AllByRecursion P (xs ++ x ∷ []) → P x
+AllByRecursion-last P [] x h = h.0
+AllByRecursion-last P (y ∷ ys) x h = AllByRecursion-last P ys x h.1
+
+pub AllByRecursion-first : {X : Type 0} (P : X → Type 0) (xs ys : List X) → AllByRecursion P (xs ++ ys) → AllByRecursion P xs
+AllByRecursion-first P [] ys h = tt
+AllByRecursion-first P (x ∷ xs) ys h = (h.0, AllByRecursion-first P xs ys h.1)
 
 -- there are as many names as things
 pub length_named : {X : Type 0} (Is : Data → List ℕ → X → Type 0) (ds : Items) (names : List (List ℕ)) (things : List X) → AreNamed Is ds names things
@@ -25,20 +34,22 @@ length_named Is (item d ds) [] things h = absurd h
 length_named Is (item d ds) (n ∷ names) [] h = absurd h
 length_named Is (item d ds) (n ∷ names) (x ∷ things) h = let rest = length_named Is ds names things h.1 in (ap suc rest.0, ap suc rest.1)
 
-pub record AreKept {X : Type 0} (InLimits : X → Type 0) (names : List (List ℕ)) (things : List X) : Type 0 where
+pub record AreKept {X : Type 0} (InLimits : List X → Type 0) (names : List (List ℕ)) (things : List X) : Type 0 where
   pub are_names : AreNames names
-  pub are_things : AllByRecursion InLimits things
+  pub are_things : InLimits things
 
 -- what an array adds
-pub record Adds {X : Type 0} (Is : Data → List ℕ → X → Type 0) (InLimits : X → Type 0) (ds : Items) (names : List (List ℕ)) (things : List X)
+pub record Adds {X : Type 0} (Is : Data → List ℕ → X → Type 0) (InLimits : List X → Type 0) (ds : Items) (names : List (List ℕ)) (things : List X)
     (q : List (List ℕ) × List X) (more : List (List ℕ)) (others : List X) : Type 0 where
   pub names_are : q.0 ≡ names ++ more
   pub things_are : q.1 ≡ things ++ others
   pub said : AreNamed Is ds more others
   pub kept : AreKept InLimits q.0 q.1
 
-pub named_take : {X : Type 0} (read : List (List ℕ) → Data → Result (List ℕ × X) AppError) (Is : Data → List ℕ → X → Type 0) (InLimits : X → Type 0)
-    → ((names : List (List ℕ)) (d : Data) (t : List ℕ × X) → read names d ≡ Ok t → Is d t.0 t.1 × IsNewName names t.0 × InLimits t.1)
+pub named_take : {X : Type 0} (read : List (List ℕ) → List X → Data → Result (List ℕ × X) AppError) (Is : Data → List ℕ → X → Type 0)
+    (InLimits : List X → Type 0)
+    → ((names : List (List ℕ)) (things : List X) (d : Data) (t : List ℕ × X) → read names things d ≡ Ok t → InLimits things
+    → Is d t.0 t.1 × IsNewName names t.0 × InLimits (things ++ t.1 ∷ []))
     → (ds : Items) (names : List (List ℕ)) (things : List X) (q : List (List ℕ) × List X) → named_after read names things ds ≡ Ok q
     → AreKept InLimits names things → (more : List (List ℕ)) × (others : List X) × Adds Is InLimits ds names things q more others
 named_take {X = X} read Is InLimits takes no_items names things q e kept =
@@ -53,12 +64,12 @@ named_take {X = X} read Is InLimits takes no_items names things q e kept =
       },
     )
 named_take read Is InLimits takes (item d ds) names things q e kept =
-    let first = bind_ok (read names d) _ q e in
-    let taken = takes names d first.0 first.1 in
+    let first = bind_ok (read names things d) _ q e in
+    let taken = takes names things d first.0 first.1 kept.are_things in
     let rest =
     named_take read Is InLimits takes ds (names ++ first.0.0 ∷ []) (things ++ first.0.1 ∷ []) q first.2 (record {
       are_names = AreNames-push names first.0.0 kept.are_names taken.1;
-      are_things = AllByRecursion-push InLimits things first.0.1 kept.are_things taken.2;
+      are_things = taken.2;
     }) in (
       first.0.0 ∷ rest.0,
       first.0.1 ∷ rest.1,
@@ -70,17 +81,36 @@ named_take read Is InLimits takes (item d ds) names things q e kept =
       },
     )
 
-pub named_again : {X : Type 0} (read : List (List ℕ) → Data → Result (List ℕ × X) AppError) (Is : Data → List ℕ → X → Type 0) (InLimits : X → Type 0)
-    → ((names : List (List ℕ)) (d : Data) (name : List ℕ) (x : X) → Is d name x → IsNewName names name → InLimits x → read names d ≡ Ok (name, x))
+pub named_again : {X : Type 0} (read : List (List ℕ) → List X → Data → Result (List ℕ × X) AppError) (Is : Data → List ℕ → X → Type 0)
+    (InLimits : List X → Type 0) → ((xs ys : List X) → InLimits (xs ++ ys) → InLimits xs)
+    → ((names : List (List ℕ)) (things : List X) (d : Data) (name : List ℕ) (x : X) → Is d name x → IsNewName names name → InLimits (things ++ x ∷ [])
+    → read names things d ≡ Ok (name, x))
     → (ds : Items) (names : List (List ℕ)) (things : List X) (more : List (List ℕ)) (others : List X) → AreNamed Is ds more others
-    → AreNames (names ++ more) → AllByRecursion InLimits others → named_after read names things ds ≡ Ok (names ++ more, things ++ others)
-named_again read Is InLimits again no_items names things [] [] h are limits = rw (append-nil names, append-nil things) refl
-named_again read Is InLimits again no_items names things [] (x ∷ others) h are limits = absurd h
-named_again read Is InLimits again no_items names things (n ∷ more) others h are limits = absurd h
-named_again read Is InLimits again (item d ds) names things [] others h are limits = absurd h
-named_again read Is InLimits again (item d ds) names things (n ∷ more) [] h are limits = absurd h
-named_again read Is InLimits again (item d ds) names things (n ∷ more) (x ∷ others) h are limits =
+    → AreNames (names ++ more) → InLimits (things ++ others) → named_after read names things ds ≡ Ok (names ++ more, things ++ others)
+named_again read Is InLimits first again no_items names things [] [] h are limits = rw (append-nil names, append-nil things) refl
+named_again read Is InLimits first again no_items names things [] (x ∷ others) h are limits = absurd h
+named_again read Is InLimits first again no_items names things (n ∷ more) others h are limits = absurd h
+named_again read Is InLimits first again (item d ds) names things [] others h are limits = absurd h
+named_again read Is InLimits first again (item d ds) names things (n ∷ more) [] h are limits = absurd h
+named_again read Is InLimits first again (item d ds) names things (n ∷ more) (x ∷ others) h are limits =
     let all : AreNames ((names ++ n ∷ []) ++ more) = subst AreNames (sym (append_assoc names (n ∷ []) more)) are in
-    then_is (read names d) _ (n, x) _ (again names d n x h.0 (IsNewName-in names n more are) limits.0)
-    (named_again read Is InLimits again ds (names ++ n ∷ []) (things ++ x ∷ []) more others h.1 all limits.1
+    let within : InLimits ((things ++ x ∷ []) ++ others) = subst InLimits (sym (append_assoc things (x ∷ []) others)) limits in
+    then_is (read names things d) _ (n, x) _ (again names things d n x h.0 (IsNewName-in names n more are) (first (things ++ x ∷ []) others within))
+    (named_again read Is InLimits first again ds (names ++ n ∷ []) (things ++ x ∷ []) more others h.1 all within
     ∙ rw (append_assoc names (n ∷ []) more, append_assoc things (x ∷ []) others) refl)
+
+-- ---- things that are read over names alone, each within its own limits
+
+pub each_takes : {X : Type 0} (read : List (List ℕ) → Data → Result (List ℕ × X) AppError) (Is : Data → List ℕ → X → Type 0) (InLimits : X → Type 0)
+    → ((names : List (List ℕ)) (d : Data) (t : List ℕ × X) → read names d ≡ Ok t → Is d t.0 t.1 × IsNewName names t.0 × InLimits t.1)
+    → (names : List (List ℕ)) (things : List X) (d : Data) (t : List ℕ × X) → read names d ≡ Ok t → AllByRecursion InLimits things
+    → Is d t.0 t.1 × IsNewName names t.0 × AllByRecursion InLimits (things ++ t.1 ∷ [])
+each_takes read Is InLimits takes names things d t e all =
+    let taken = takes names d t e in
+    (taken.0, taken.1, AllByRecursion-push InLimits things t.1 all taken.2)
+
+pub each_again : {X : Type 0} (read : List (List ℕ) → Data → Result (List ℕ × X) AppError) (Is : Data → List ℕ → X → Type 0) (InLimits : X → Type 0)
+    → ((names : List (List ℕ)) (d : Data) (name : List ℕ) (x : X) → Is d name x → IsNewName names name → InLimits x → read names d ≡ Ok (name, x))
+    → (names : List (List ℕ)) (things : List X) (d : Data) (name : List ℕ) (x : X) → Is d name x → IsNewName names name
+    → AllByRecursion InLimits (things ++ x ∷ []) → read names d ≡ Ok (name, x)
+each_again read Is InLimits again names things d name x h new all = again names d name x h new (AllByRecursion-last InLimits things x all)

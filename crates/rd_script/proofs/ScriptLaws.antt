@@ -19,12 +19,12 @@ use Rattle.rd_script.specs.File.{TaskDraft, line_of, lines_after, ends, code_of,
 use Rattle.rd_script.specs.Says.{IsLine, AreLines, IsCode}
 use Rattle.rd_app.specs.TaskScript.{TaskScript}
 use Rattle.rd_text.specs.Words.{words_of}
-use Rattle.rd_script.proofs.SpellingLaws.{instr_takes, instr_again, spells_within}
+use Rattle.rd_script.proofs.SpellingLaws.{AreNamedObjects, instr_takes, instr_again, spells_within}
 use Rattle.rd_script.proofs.Steps.{bind_ok, guard_ok, ok_or_ok}
 
 -- ---- the texts of a task
 
-text_is : (d : Data) (text : List ℕ) → as_str d ≡ Some text → d ≡ string text
+pub text_is : (d : Data) (text : List ℕ) → as_str d ≡ Some text → d ≡ string text
 text_is null text e = absurd cc
 text_is (boolean b) text e = absurd cc
 text_is (number n) text e = absurd cc
@@ -63,7 +63,7 @@ length_lines objects len no_items (i ∷ code) h = absurd h
 length_lines objects len (item d ds) [] h = absurd h
 length_lines objects len (item d ds) (i ∷ code) h = ap suc (length_lines objects len ds code h.1)
 
-within_lines : (app : Application) (len : ℕ) (ds : Items) (code : List Instr) → length app.queues ≡ length app.queue_names
+within_lines : (app : Application) (len : ℕ) (ds : Items) (code : List Instr) → AreNamedObjects app
     → AreLines (objects_of app) len ds code → AllByRecursion (IsWithin app len) code
 within_lines app len no_items [] sizes h = tt
 within_lines app len no_items (i ∷ code) sizes h = absurd h
@@ -118,7 +118,7 @@ last_final [] k e = refl
 last_final (i ∷ code) zero e = e
 last_final (i ∷ code) (suc k) e = last_final code k e
 
-pub is_script : (app : Application) (lines : Items) (script : TaskScript) → length app.queues ≡ length app.queue_names → script.priority ≤ 31
+pub is_script : (app : Application) (lines : Items) (script : TaskScript) → AreNamedObjects app → script.priority ≤ 31
     → 1 ≤ items_len lines → items_len lines ≤ 256 → IsCode (objects_of app) lines script.code → IsScript app script
 is_script app lines script sizes low some few h =
     let len = length_lines (objects_of app) (items_len lines) lines script.code h.0 in

@@ -11,13 +11,14 @@ use Rattle.hex.specs.Hex.{decode_of}
 use Rattle.hex.proofs.HexLemmas.{decode_of-ok}
 use Rattle.rd_app.specs.declared.app.QueueShape.{QueueShape}
 use Rattle.rd_app.specs.declared.instr.Instr.{Instr}
-use Rattle.rd_app.specs.declared.instr.Instr.TheVariants.{Local, Queue}
+use Rattle.rd_app.specs.declared.instr.Instr.TheVariants as instruction
 use Rattle.rd_app.specs.declared.instr.LocalInstr.{LocalInstr}
 use Rattle.rd_app.specs.declared.instr.QueueCall.{QueueCall}
 use Rattle.rd_app.specs.declared.instr.QueueCall.TheVariants as call
+use Rattle.rd_app.specs.declared.instr.SetCall.{SetCall}
 use Rattle.rd_app.specs.declared.instr.Operand.{Operand}
 use Rattle.rd_app.specs.declared.instr.Operand.TheVariants as operand
-use Rattle.rd_app.specs.Application.{Application, IsOperand, IsLocalWithin, IsQueueCall, IsCallFor, IsWithin, max_delay}
+use Rattle.rd_app.specs.Application.{Application, IsOperand, IsLocalWithin, IsQueueCall, IsSetCall, IsCallFor, IsWithin, shape_at, max_delay}
 use Rattle.rd_script.specs.declared.error.AppError.{AppError}
 use Rattle.rd_script.specs.declared.error.AppError.TheVariants as fault
 use Rattle.rd_script.specs.declared.spelling.Keyword.{Keyword}
@@ -26,10 +27,15 @@ use Rattle.rd_script.specs.declared.spelling.LocalKeyword.{LocalKeyword}
 use Rattle.rd_script.specs.declared.spelling.LocalKeyword.TheVariants.{Set, Add, Move, Data, Pack, Unpack, Jump, JumpZero, End}
 use Rattle.rd_script.specs.declared.spelling.QueueKeyword.{QueueKeyword}
 use Rattle.rd_script.specs.declared.spelling.QueueKeyword.TheVariants.{Send, Front, Receive, Peek, Overwrite, Reset, Count, Spaces}
+use Rattle.rd_script.specs.declared.spelling.MemberKeyword.{MemberKeyword}
+use Rattle.rd_script.specs.declared.spelling.MemberKeyword.TheVariants.{AddToSet, RemoveFromSet}
+use Rattle.rd_script.specs.declared.spelling.SetKeyword.{SetKeyword}
+use Rattle.rd_script.specs.declared.spelling.SetKeyword.TheVariants.{Select}
 use Rattle.rd_script.specs.Objects.{Objects, objects_of, queue_shape}
+use Rattle.rd_script.specs.Spelling.{member_text, set_text, set_form, member_call, index_of, index_named}
 use Rattle.rd_script.specs.Spelling.{◌>>=◌, local_text, queue_text, text_of, keywords, first_written, keyword_of, register_of, target_of, operand_of, time_of}
 use Rattle.rd_script.specs.Spelling.{next_as, no_more_words, Form, Alone, One, Two, OfBytes, OfTime, local_form, queue_form, read_by}
-use Rattle.rd_script.specs.Spelling.{is_call_for, queue_of, operation_of, instr_of, HasOne, HasTwo, IsFormed, queue_named, IsOperation, Spells}
+use Rattle.rd_script.specs.Spelling.{is_call_for, operation_of, instr_of, HasOne, HasTwo, IsFormed, IsOperation, Spells}
 use Rattle.rd_text.specs.Words.{bytes_of, is_some_word, name_of, number_of}
 use Rattle.rd_text.proofs.WordLemmas.{and_right}
 use Rattle.rd_script.proofs.Steps.{bind_ok, guard_ok, ok_or_ok, then_is}
@@ -69,9 +75,18 @@ queue_keyword_again Reset = refl
 queue_keyword_again Count = refl
 queue_keyword_again Spaces = refl
 
+member_keyword_again : (k : MemberKeyword) → keyword_of (member_text k) ≡ Some (kind.Member k)
+member_keyword_again AddToSet = refl
+member_keyword_again RemoveFromSet = refl
+
+set_keyword_again : (k : SetKeyword) → keyword_of (set_text k) ≡ Some (kind.Set k)
+set_keyword_again Select = refl
+
 pub keyword_again : (k : Keyword) → keyword_of (text_of k) ≡ Some k
 keyword_again (kind.Local k) = local_keyword_again k
 keyword_again (kind.Queue k) = queue_keyword_again k
+keyword_again (kind.Member k) = member_keyword_again k
+keyword_again (kind.Set k) = set_keyword_again k
 
 -- ---- what is read is spelled
 
@@ -138,33 +153,80 @@ call_takes shape call.Overwrite e = grind (arith, nat_tests)
 call_takes shape call.Reset e = tt
 call_takes shape call.Count e = tt
 call_takes shape call.Spaces e = tt
+call_takes shape (call.AddToSet set) e = tt
+call_takes shape (call.RemoveFromSet set) e = tt
+
+-- a word that is a name, and the thing of that name
+pub named_ok : (names : List (List ℕ)) (word name : List ℕ) (number : ℕ) → name_of word ≡ Some name → index_of names name ≡ Ok number
+    → index_named names word ≡ Some number
+named_ok names word name number is found =
+    ap (λ (o : Option (List ℕ)). option_and_then (λ name. position (bytes_eq name) names) o) is
+    ∙ ok_or_ok (position (bytes_eq name) names) number fault.Name found
 
 operation_takes : (objects : Objects) (len : ℕ) (k : Keyword) (words : List (List ℕ)) (i : Instr) → operation_of objects len k words ≡ Ok i
     → IsOperation objects len k words i
 operation_takes objects len (kind.Local k) words i e =
     let made = bind_ok (read_by (local_form len k) words) _ i e in
     let end = bind_ok (no_more_words made.0.1) _ i made.2 in
-    let is : Local made.0.0 ≡ i = cc in
+    let is : instruction.Local made.0.0 ≡ i = cc in
     (made.0.0, form_takes (local_form len k) words made.0 made.1 (no_more_ok made.0.1 end.0 end.1), is)
 operation_takes objects len (kind.Queue k) words i e =
     let name = bind_ok (next_as name_of words) _ i e in
     let made = bind_ok (read_by (queue_form k) name.0.1) _ i name.2 in
     let end = bind_ok (no_more_words made.0.1) _ i made.2 in
-    let queue = bind_ok (queue_of objects name.0.0) _ i end.2 in
+    let queue = bind_ok (index_of objects.queue_names name.0.0) _ i end.2 in
     let word = next_as_ok name_of words name.0 name.1 in
-    let found = ok_or_ok (position (bytes_eq name.0.0) objects.queue_names) queue.0 _ queue.1 in
-    let test = guard_ok (is_call_for (queue_shape objects queue.0) made.0.0) (Queue queue.0 made.0.0) i _ queue.2 in (
+    let test = guard_ok (is_call_for (queue_shape objects queue.0) made.0.0) (instruction.Queue queue.0 made.0.0) i _ queue.2 in (
       queue.0,
       made.0.0,
       record {
         name = word.0;
         operands = name.0.1;
         words_are = word.1;
-        named = ap (λ (o : Option (List ℕ)). option_and_then (λ name. position (bytes_eq name) objects.queue_names) o) word.2 ∙ found;
+        named = named_ok objects.queue_names word.0 name.0.0 queue.0 word.2 queue.1;
         formed = form_takes (queue_form k) name.0.1 made.0 made.1 (no_more_ok made.0.1 end.0 end.1);
-        fits = call_takes (queue_shape objects queue.0) made.0.0 test.0;
       },
+      call_takes (queue_shape objects queue.0) made.0.0 test.0,
       test.1,
+    )
+operation_takes objects len (kind.Member k) words i e =
+    let first = bind_ok (next_as name_of words) _ i e in
+    let second = bind_ok (next_as name_of first.0.1) _ i first.2 in
+    let end = bind_ok (no_more_words second.0.1) _ i second.2 in
+    let queue = bind_ok (index_of objects.queue_names first.0.0) _ i end.2 in
+    let set = bind_ok (index_of objects.set_names second.0.0) _ i queue.2 in
+    let is : instruction.Queue queue.0 (member_call k set.0) ≡ i = cc in
+    let word = next_as_ok name_of words first.0 first.1 in
+    let last = next_as_ok name_of first.0.1 second.0 second.1 in
+    let rest = last.1 ∙ ap (λ (ws : List (List ℕ)). last.0 ∷ ws) (no_more_ok second.0.1 end.0 end.1) in (
+      queue.0,
+      set.0,
+      (
+        word.0,
+        last.0,
+        word.1 ∙ ap (λ (ws : List (List ℕ)). word.0 ∷ ws) rest,
+        named_ok objects.queue_names word.0 first.0.0 queue.0 word.2 queue.1,
+        named_ok objects.set_names last.0 second.0.0 set.0 last.2 set.1,
+      ),
+      is,
+    )
+operation_takes objects len (kind.Set k) words i e =
+    let name = bind_ok (next_as name_of words) _ i e in
+    let made = bind_ok (read_by (set_form k) name.0.1) _ i name.2 in
+    let end = bind_ok (no_more_words made.0.1) _ i made.2 in
+    let set = bind_ok (index_of objects.set_names name.0.0) _ i end.2 in
+    let is : instruction.Set set.0 made.0.0 ≡ i = cc in
+    let word = next_as_ok name_of words name.0 name.1 in (
+      set.0,
+      made.0.0,
+      record {
+        name = word.0;
+        operands = name.0.1;
+        words_are = word.1;
+        named = named_ok objects.set_names word.0 name.0.0 set.0 word.2 set.1;
+        formed = form_takes (set_form k) name.0.1 made.0 made.1 (no_more_ok made.0.1 end.0 end.1);
+      },
+      is,
     )
 
 pub instr_takes : (objects : Objects) (len : ℕ) (words : List (List ℕ)) (i : Instr) → instr_of objects len words ≡ Ok i → Spells objects len words i
@@ -212,6 +274,15 @@ call_again shape call.Overwrite h = grind (arith, nat_tests)
 call_again shape call.Reset h = refl
 call_again shape call.Count h = refl
 call_again shape call.Spaces h = refl
+call_again shape (call.AddToSet set) h = refl
+call_again shape (call.RemoveFromSet set) h = refl
+
+-- the next word is a name
+name_again : (word name : List ℕ) (words : List (List ℕ)) → name_of word ≡ Some name → next_as name_of (word ∷ words) ≡ Ok (name, words)
+name_again word name words is = ap (λ (o : Option (List ℕ)). ok_or (option_map (λ x. (x, words)) o) fault.Instr) is
+
+pub index_again : (names : List (List ℕ)) (name : List ℕ) (number : ℕ) → position (bytes_eq name) names ≡ Some number → index_of names name ≡ Ok number
+index_again names name number is = ap (λ o. ok_or o fault.Name) is
 
 operation_again : (objects : Objects) (len : ℕ) (k : Keyword) (words : List (List ℕ)) (i : Instr) → IsOperation objects len k words i
     → operation_of objects len k words ≡ Ok i
@@ -221,11 +292,25 @@ operation_again objects len (kind.Local k) words i h =
 operation_again objects len (kind.Queue k) words i h =
     let name = then_some (λ name. position (bytes_eq name) objects.queue_names) (name_of h.2.name) h.0 h.2.named in
     ap (operation_of objects len (kind.Queue k)) h.2.words_are
-    ∙ then_is (next_as name_of (h.2.name ∷ h.2.operands)) _ (name.0, h.2.operands) (Ok i)
-    (ap (λ (o : Option (List ℕ)). ok_or (option_map (λ x. (x, h.2.operands)) o) fault.Instr) name.1)
+    ∙ then_is (next_as name_of (h.2.name ∷ h.2.operands)) _ (name.0, h.2.operands) (Ok i) (name_again h.2.name name.0 h.2.operands name.1)
     (then_is (read_by (queue_form k) h.2.operands) _ (h.1, []) (Ok i) (form_again (queue_form k) h.2.operands h.1 h.2.formed)
-    (then_is (queue_of objects name.0) _ h.0 (Ok i) (ap (λ o. ok_or o fault.Name) name.2)
-    (ap (λ b. cond b (Ok (Queue h.0 h.1)) (Err fault.OverwriteLength)) (call_again (queue_shape objects h.0) h.1 h.2.fits) ∙ ap Ok h.3)))
+    (then_is (index_of objects.queue_names name.0) _ h.0 (Ok i) (index_again objects.queue_names name.0 h.0 name.2)
+    (ap (λ b. cond b (Ok (instruction.Queue h.0 h.1)) (Err fault.OverwriteLength)) (call_again (queue_shape objects h.0) h.1 h.3) ∙ ap Ok h.4)))
+operation_again objects len (kind.Member k) words i h =
+    let two = h.2 in
+    let queue = then_some (λ name. position (bytes_eq name) objects.queue_names) (name_of two.0) h.0 two.3 in
+    let set = then_some (λ name. position (bytes_eq name) objects.set_names) (name_of two.1) h.1 two.4 in
+    ap (operation_of objects len (kind.Member k)) two.2
+    ∙ then_is (next_as name_of (two.0 ∷ two.1 ∷ [])) _ (queue.0, two.1 ∷ []) (Ok i) (name_again two.0 queue.0 (two.1 ∷ []) queue.1)
+    (then_is (next_as name_of (two.1 ∷ [])) _ (set.0, []) (Ok i) (name_again two.1 set.0 [] set.1)
+    (then_is (index_of objects.queue_names queue.0) _ h.0 (Ok i) (index_again objects.queue_names queue.0 h.0 queue.2)
+    (then_is (index_of objects.set_names set.0) _ h.1 (Ok i) (index_again objects.set_names set.0 h.1 set.2) (ap Ok h.3))))
+operation_again objects len (kind.Set k) words i h =
+    let name = then_some (λ name. position (bytes_eq name) objects.set_names) (name_of h.2.name) h.0 h.2.named in
+    ap (operation_of objects len (kind.Set k)) h.2.words_are
+    ∙ then_is (next_as name_of (h.2.name ∷ h.2.operands)) _ (name.0, h.2.operands) (Ok i) (name_again h.2.name name.0 h.2.operands name.1)
+    (then_is (read_by (set_form k) h.2.operands) _ (h.1, []) (Ok i) (form_again (set_form k) h.2.operands h.1 h.2.formed)
+    (then_is (index_of objects.set_names name.0) _ h.0 (Ok i) (index_again objects.set_names name.0 h.0 name.2) (ap Ok h.3)))
 
 pub instr_again : (objects : Objects) (len : ℕ) (words : List (List ℕ)) (i : Instr) → Spells objects len words i → instr_of objects len words ≡ Ok i
 unfolding instr_of
@@ -260,10 +345,10 @@ target_small len word target e =
     let below : n.0 < len = grind (arith, nat_tests) in
     omega (arith, h.1)
 
-queue_there : (objects : Objects) (word : List ℕ) (queue : ℕ) → queue_named objects word ≡ Some queue → queue < length objects.queue_names
-queue_there objects word queue e =
-    let name = then_some (λ name. position (bytes_eq name) objects.queue_names) (name_of word) queue e in
-    (position-Some (bytes_eq name.0) objects.queue_names queue [] name.2).0
+pub index_there : (names : List (List ℕ)) (word : List ℕ) (number : ℕ) → index_named names word ≡ Some number → number < length names
+index_there names word number e =
+    let name = then_some (λ name. position (bytes_eq name) names) (name_of word) number e in
+    (position-Some (bytes_eq name.0) names number [] name.2).0
 
 option_if : {X : Type 0} (b : Bool) (o : Option X) (y : X) → cond b o None ≡ Some y → (b ≡ true) × (o ≡ Some y)
 option_if true o y e = (refl, e)
@@ -320,23 +405,46 @@ local_within len Jump words made h = subst (IsLocalWithin len) h.2 (target_small
 local_within len JumpZero words made h = subst (IsLocalWithin len) h.3 (register_small h.2.0 h.0 h.2.3, target_small len h.2.1 h.1 h.2.4)
 local_within len End words made h = subst (IsLocalWithin len) h.1 tt
 
-call_within : (k : QueueKeyword) (words : List (List ℕ)) (made : QueueCall) → IsFormed (queue_form k) words made → IsQueueCall made
-call_within Send words made h = subst IsQueueCall h.2 (time_there h.1.0 h.0 h.1.2)
-call_within Front words made h = subst IsQueueCall h.2 (time_there h.1.0 h.0 h.1.2)
-call_within Receive words made h = subst IsQueueCall h.2 (time_there h.1.0 h.0 h.1.2)
-call_within Peek words made h = subst IsQueueCall h.2 (time_there h.1.0 h.0 h.1.2)
-call_within Overwrite words made h = subst IsQueueCall h.1 tt
-call_within Reset words made h = subst IsQueueCall h.1 tt
-call_within Count words made h = subst IsQueueCall h.1 tt
-call_within Spaces words made h = subst IsQueueCall h.1 tt
+call_within : (sets : ℕ) (k : QueueKeyword) (words : List (List ℕ)) (made : QueueCall) → IsFormed (queue_form k) words made → IsQueueCall sets made
+call_within sets Send words made h = subst (IsQueueCall sets) h.2 (time_there h.1.0 h.0 h.1.2)
+call_within sets Front words made h = subst (IsQueueCall sets) h.2 (time_there h.1.0 h.0 h.1.2)
+call_within sets Receive words made h = subst (IsQueueCall sets) h.2 (time_there h.1.0 h.0 h.1.2)
+call_within sets Peek words made h = subst (IsQueueCall sets) h.2 (time_there h.1.0 h.0 h.1.2)
+call_within sets Overwrite words made h = subst (IsQueueCall sets) h.1 tt
+call_within sets Reset words made h = subst (IsQueueCall sets) h.1 tt
+call_within sets Count words made h = subst (IsQueueCall sets) h.1 tt
+call_within sets Spaces words made h = subst (IsQueueCall sets) h.1 tt
 
-operation_within : (app : Application) (len : ℕ) (k : Keyword) (words : List (List ℕ)) (i : Instr) → length app.queues ≡ length app.queue_names
+member_within : (sets : ℕ) (k : MemberKeyword) (set : ℕ) → set < sets → IsQueueCall sets (member_call k set)
+member_within sets AddToSet set there = there
+member_within sets RemoveFromSet set there = there
+
+member_fits : (shape : QueueShape) (k : MemberKeyword) (set : ℕ) → IsCallFor shape (member_call k set)
+member_fits shape AddToSet set = tt
+member_fits shape RemoveFromSet set = tt
+
+set_call_within : (k : SetKeyword) (words : List (List ℕ)) (made : SetCall) → IsFormed (set_form k) words made → IsSetCall made
+set_call_within Select words made h = subst IsSetCall h.2 (time_there h.1.0 h.0 h.1.2)
+
+-- there are as many names as objects
+pub record AreNamedObjects (app : Application) : Type 0 where
+  pub queues : length app.queues ≡ length app.queue_names
+  pub sets : length app.sets ≡ length app.set_names
+
+operation_within : (app : Application) (len : ℕ) (k : Keyword) (words : List (List ℕ)) (i : Instr) → AreNamedObjects app
     → IsOperation (objects_of app) len k words i → IsWithin app len i
 operation_within app len (kind.Local k) words i sizes h = subst (IsWithin app len) h.2 (local_within len k words h.0 h.1)
 operation_within app len (kind.Queue k) words i sizes h =
-    let there = queue_there (objects_of app) h.2.name h.0 h.2.named in
-    subst (IsWithin app len) h.3 (rw sizes there, call_within k h.2.operands h.1 h.2.formed, h.2.fits)
+    let there = index_there app.queue_names h.2.name h.0 h.2.named in
+    subst (IsWithin app len) h.4 (rw sizes.queues there, call_within (length app.sets) k h.2.operands h.1 h.2.formed, h.3)
+operation_within app len (kind.Member k) words i sizes h =
+    let queue_there = index_there app.queue_names h.2.0 h.0 h.2.3 in
+    let set_there : h.1 < length app.sets = rw sizes.sets (index_there app.set_names h.2.1 h.1 h.2.4) in
+    subst (IsWithin app len) h.3 (rw sizes.queues queue_there, member_within (length app.sets) k h.1 set_there, member_fits (shape_at app h.0) k h.1)
+operation_within app len (kind.Set k) words i sizes h =
+    let there = index_there app.set_names h.2.name h.0 h.2.named in
+    subst (IsWithin app len) h.3 (rw sizes.sets there, set_call_within k h.2.operands h.1 h.2.formed)
 
-pub spells_within : (app : Application) (len : ℕ) (words : List (List ℕ)) (i : Instr) → length app.queues ≡ length app.queue_names
+pub spells_within : (app : Application) (len : ℕ) (words : List (List ℕ)) (i : Instr) → AreNamedObjects app
     → Spells (objects_of app) len words i → IsWithin app len i
 spells_within app len words i sizes h = operation_within app len h.0 h.1 i sizes h.3

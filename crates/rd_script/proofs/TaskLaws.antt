@@ -14,6 +14,7 @@ use Rattle.rd_script.proofs.Steps.{bind_ok, guard_ok, then_is}
 use Rattle.rd_script.proofs.Values.{object_again, field_again, name_again, array_again, limits_again, object_ok, field_ok, number_ok, array_ok, name_ok}
 use Rattle.rd_text.proofs.NameLaws.{IsNewName}
 use Rattle.rd_script.proofs.ScriptLaws.{AreScripts, is_script, length_lines}
+use Rattle.rd_script.proofs.SpellingLaws.{AreNamedObjects}
 
 -- what a value says of a task
 pub record IsDraft (d : Data) (name : List ℕ) (draft : TaskDraft) : Type 0 where
@@ -87,7 +88,7 @@ tasks_said objects (item d ds) (n ∷ names) (draft ∷ drafts) (s ∷ scripts) 
       ap suc rest.1,
     )
 
-pub scripts_in_limits : (app : Application) (drafts : List TaskDraft) (scripts : List TaskScript) → length app.queues ≡ length app.queue_names
+pub scripts_in_limits : (app : Application) (drafts : List TaskDraft) (scripts : List TaskScript) → AreNamedObjects app
     → AllByRecursion IsDraftInLimits drafts → AreScripts (objects_of app) drafts scripts → AllByRecursion (IsScript app) scripts
 scripts_in_limits app [] [] sizes a b = tt
 scripts_in_limits app [] (s ∷ scripts) sizes a b = absurd b

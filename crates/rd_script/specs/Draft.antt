@@ -16,6 +16,7 @@ app_draft_view draft = record {
   notes = draft.notes;
   tick = draft.tick;
   objects = objects_view draft.objects;
+  sets = draft.sets.items;
   tasks = map task_draft_view draft.tasks.drafts.items;
   task_names = texts draft.tasks.names.items;
 }

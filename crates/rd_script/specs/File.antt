@@ -3,7 +3,7 @@
 use Rattle.std.specs.Prelude.{ℕ, ◌≡◌, ◌≢◌, ◌-◌, ◌^◌, ◌&&◌, ◌⊎◌, Bool, true, false, not, codes}
 use Rattle.std.specs.Prelude.{List, [], ◌∷◌, ◌++◌, length, slice_get, nat_le, if◌then◌else◌}
 use Rattle.std.specs.Prelude.{Option, Some, None, is_some, option_map, option_and_then, unwrap_or}
-use Rattle.std.specs.Prelude.{Result, Ok, Err, IsOk, ok_or, ⊤}
+use Rattle.std.specs.Prelude.{Result, Ok, Err, IsOk, ok_or, nat_eq, ⊤}
 use Rattle.std.specs.List.{list_all, list_any}
 use Rattle.std.specs.Str.{bytes_eq, is_utf8}
 use Rattle.serde_json.specs.Data.{Data, Items, no_items, item, Members, no_members, member}
@@ -14,11 +14,12 @@ use Rattle.rd_app.specs.declared.app.QueueShape.{QueueShape}
 use Rattle.rd_script.specs.declared.error.AppError.{AppError}
 use Rattle.rd_script.specs.declared.error.AppError.TheVariants as fault
 use Rattle.rd_app.specs.declared.instr.Instr.{Instr}
-use Rattle.rd_app.specs.Application.{Application, is_final}
+use Rattle.rd_app.specs.Application.{Application, is_final, members_of}
+use Rattle.rd_app.specs.QueueSetShape.{QueueSetShape}
 use Rattle.rd_script.specs.Objects.{Objects}
-use Rattle.rd_script.specs.Spelling.{◌>>=◌, instr_of}
+use Rattle.rd_script.specs.Spelling.{◌>>=◌, index_of, instr_of}
 use Rattle.rd_app.specs.TaskScript.{TaskScript}
-use Rattle.rd_text.specs.Words.{words_of, is_name}
+use Rattle.rd_text.specs.Words.{words_of, is_name, name_of}
 
 -- ---- values
 
@@ -71,15 +72,16 @@ new_name names d = do
 
 -- ---- arrays of named things
 
--- those before, and those of the array, each read over the names before it
-abbrev pub named_after : {X : Type 0} → (List (List ℕ) → Data → Result (List ℕ × X) AppError)
+-- those before, and those of the array, each read over the names and the things before it
+abbrev pub named_after : {X : Type 0}
+    → (List (List ℕ) → List X → Data → Result (List ℕ × X) AppError)
     → List (List ℕ)
     → List X
     → Items
     → Result (List (List ℕ) × List X) AppError
 named_after read names things no_items = Ok (names, things)
 named_after read names things (item d ds) = do
-  thing ← read names d
+  thing ← read names things d
   named_after read (names ++ thing.0 ∷ []) (things ++ thing.1 ∷ []) ds
 
 -- ---- queues
@@ -100,7 +102,45 @@ queue_of names d = do
 
 abbrev pub queues_after : List (List ℕ) → List QueueShape → Items
     → Result (List (List ℕ) × List QueueShape) AppError
-queues_after names shapes ds = named_after queue_of names shapes ds
+queues_after names shapes ds = named_after (λ names shapes. queue_of names) names shapes ds
+
+-- ---- queue sets
+
+abbrev pub set_keys : List (List ℕ)
+set_keys = codes "name" ∷ codes "length" ∷ codes "members" ∷ []
+
+-- the number of the queue of that name, which is none of these members
+abbrev pub member_of : List (List ℕ) → List ℕ → Data → Result ℕ AppError
+member_of queues others d = do
+  text ← ok_or (as_str d) fault.Shape
+  name ← ok_or (name_of text) fault.Name
+  queue ← index_of queues name
+  if list_any (nat_eq queue) others then Err fault.Name else Ok queue
+
+-- the members before, and those of the array; the others are members of other sets
+abbrev pub members_after : List (List ℕ) → List ℕ → List ℕ → Items → Result (List ℕ) AppError
+members_after queues others members no_items = Ok members
+members_after queues others members (item d ds) = do
+  queue ← member_of queues (others ++ members) d
+  members_after queues others (members ++ queue ∷ []) ds
+
+-- over the names of all queues, and over the names of the sets before it and these sets
+unfoldable pub set_of : List (List ℕ) → List (List ℕ) → List QueueSetShape → Data
+    → Result (List ℕ × QueueSetShape) AppError
+set_of queues names sets d = do
+  _ ← object_with set_keys d
+  name ← field (codes "name") d
+  capacity ← field (codes "length") d
+  members ← field (codes "members") d
+  name ← new_name names name
+  capacity ← number_in 1 2048 capacity
+  members ← ok_or (as_array members) fault.Shape
+  members ← members_after queues (members_of sets) [] members
+  Ok (name, record { capacity = capacity; members = members })
+
+abbrev pub sets_after : List (List ℕ) → List (List ℕ) → List QueueSetShape → Items
+    → Result (List (List ℕ) × List QueueSetShape) AppError
+sets_after queues names sets ds = named_after (set_of queues) names sets ds
 
 -- ---- tasks
 
@@ -132,7 +172,7 @@ task_of names d = do
 
 abbrev pub tasks_after : List (List ℕ) → List TaskDraft → Items
     → Result (List (List ℕ) × List TaskDraft) AppError
-tasks_after names drafts ds = named_after task_of names drafts ds
+tasks_after names drafts ds = named_after (λ names drafts. task_of names) names drafts ds
 
 -- ---- scripts
 
@@ -177,7 +217,8 @@ scripts_after objects scripts (draft ∷ drafts) = do
 
 abbrev pub file_keys : List (List ℕ)
 file_keys =
-    codes "profile" ∷ codes "cores" ∷ codes "notes" ∷ codes "tick" ∷ codes "queues" ∷ codes "tasks"
+    codes "profile" ∷ codes "cores" ∷ codes "notes" ∷ codes "tick" ∷ codes "queues" ∷ codes "sets"
+    ∷ codes "tasks"
     ∷ []
 
 -- what a file says, its scripts not read yet
@@ -186,6 +227,7 @@ pub record AppDraft : Type 0 where
   pub notes : ℕ
   pub tick : ℕ
   pub objects : Objects
+  pub sets : List QueueSetShape
   pub tasks : List TaskDraft
   pub task_names : List (List ℕ)
 
@@ -201,13 +243,16 @@ draft_of d = do
   tick ← number_or 0 0 (2 ^ 32 - 1) (get (codes "tick") d)
   queues ← array_or_empty 32 (get (codes "queues") d)
   queues ← queues_after [] [] queues
+  sets ← array_or_empty 32 (get (codes "sets") d)
+  sets ← sets_after queues.0 [] [] sets
   tasks ← array_in 1 32 tasks
   tasks ← tasks_after [] [] tasks
   Ok (record {
     cores = cores;
     notes = notes;
     tick = tick;
-    objects = record { queue_names = queues.0; queues = queues.1 };
+    objects = record { queue_names = queues.0; queues = queues.1; set_names = sets.0 };
+    sets = sets.1;
     tasks = tasks.1;
     task_names = tasks.0;
   })
@@ -222,6 +267,8 @@ with_scripts draft = do
     tick = draft.tick;
     queues = draft.objects.queues;
     queue_names = draft.objects.queue_names;
+    sets = draft.sets;
+    set_names = draft.objects.set_names;
     scripts = scripts;
     task_names = draft.task_names;
   })

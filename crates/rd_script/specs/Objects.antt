@@ -9,17 +9,23 @@ use Rattle.rd_text.specs.Words.{texts}
 pub record Objects : Type 0 where
   pub queue_names : List (List ℕ)
   pub queues : List QueueShape
+  pub set_names : List (List ℕ)
 
 -- what a contract sees of the code's
 abbrev pub objects_view : code.Objects → Objects
 objects_view objects = record {
   queue_names = texts objects.queues.names.items;
   queues = objects.queues.shapes.items;
+  set_names = texts objects.set_names.items;
 }
 
 -- those of an application
 abbrev pub objects_of : Application → Objects
-objects_of app = record { queue_names = app.queue_names; queues = app.queues }
+objects_of app = record {
+  queue_names = app.queue_names;
+  queues = app.queues;
+  set_names = app.set_names;
+}
 
 -- the shape of a queue
 abbrev pub queue_shape : Objects → ℕ → QueueShape

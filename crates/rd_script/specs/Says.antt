@@ -1,15 +1,19 @@
 -- Which application a file's JSON value says, whatever the order in which it is read.
 use Rattle.std.specs.Prelude.{ℕ, ◌≡◌, true, codes, List, [], ◌∷◌, Option, Some, None, IsUtf8}
+use Rattle.std.specs.Prelude.{nat_eq}
+use Rattle.std.specs.List.{IsDistinct}
 use Rattle.serde_json.specs.Read.{read}
 use Rattle.serde_json.specs.Data.{Data, number, unsigned, string, array, Items, no_items, item}
 use Rattle.serde_json.specs.Events.{items_len}
 use Rattle.serde_json.specs.Find.{get}
 use Rattle.rd_app.specs.declared.app.QueueShape.{QueueShape}
 use Rattle.rd_app.specs.declared.instr.Instr.{Instr}
-use Rattle.rd_app.specs.Application.{Application}
-use Rattle.rd_script.specs.File.{is_object_with, queue_keys, task_keys, file_keys, ends}
+use Rattle.rd_app.specs.Application.{Application, members_of}
+use Rattle.rd_app.specs.QueueSetShape.{QueueSetShape}
+use Rattle.rd_script.specs.File.{is_object_with, queue_keys, set_keys, task_keys, file_keys}
+use Rattle.rd_script.specs.File.{ends}
 use Rattle.rd_script.specs.Objects.{Objects, objects_of}
-use Rattle.rd_script.specs.Spelling.{Spells}
+use Rattle.rd_script.specs.Spelling.{Spells, index_named}
 use Rattle.rd_app.specs.TaskScript.{TaskScript}
 use Rattle.rd_text.specs.Words.{words_of}
 
@@ -29,6 +33,35 @@ AreNamed Is _ _ _ = ⊥
 
 abbrev pub AreQueues : Items → List (List ℕ) → List QueueShape → Type 0
 AreQueues ds names shapes = AreNamed IsQueue ds names shapes
+
+-- a text that names the queue of that number
+abbrev pub IsMember : List (List ℕ) → Data → ℕ → Type 0
+IsMember queues d queue =
+    (text : List ℕ) × (d ≡ string text) × (index_named queues text ≡ Some queue)
+
+abbrev pub AreMembers : List (List ℕ) → Items → List ℕ → Type 0
+AreMembers queues no_items [] = Unit {0}
+AreMembers queues (item d ds) (queue ∷ members) =
+    IsMember queues d queue × AreMembers queues ds members
+AreMembers queues _ _ = ⊥
+
+pub record IsSet
+    (queues : List (List ℕ))
+    (d : Data)
+    (name : List ℕ)
+    (set : QueueSetShape)
+    (texts : Items)
+    : Type 0 where
+  pub keys : is_object_with set_keys d ≡ true
+  pub name_at : get (codes "name") d ≡ Some (string name)
+  pub length_at : get (codes "length") d ≡ Some (number (unsigned set.capacity))
+  pub members_at : get (codes "members") d ≡ Some (array texts)
+  pub members : AreMembers queues texts set.members
+
+-- over the names of all queues
+abbrev pub AreSets : List (List ℕ) → Items → List (List ℕ) → List QueueSetShape → Type 0
+AreSets queues ds names sets =
+    AreNamed (λ d name set. (texts : Items) × IsSet queues d name set texts) ds names sets
 
 -- a text whose words spell the instruction
 abbrev pub IsLine : Objects → ℕ → Data → Instr → Type 0
@@ -71,7 +104,8 @@ abbrev pub IsArrayOrEmpty : Option Data → Items → Type 0
 IsArrayOrEmpty None ds = ds ≡ no_items
 IsArrayOrEmpty (Some d) ds = d ≡ array ds
 
-pub record Says (d : Data) (app : Application) (queue_items task_items : Items) : Type 0 where
+pub record Says (d : Data) (app : Application) (queue_items set_items task_items : Items)
+    : Type 0 where
   pub keys : is_object_with file_keys d ≡ true
   pub profile_at : get (codes "profile") d ≡ Some (number (unsigned 1))
   pub cores_at : get (codes "cores") d ≡ Some (number (unsigned app.cores))
@@ -79,6 +113,9 @@ pub record Says (d : Data) (app : Application) (queue_items task_items : Items) 
   pub tick_at : IsNumberOr 0 (get (codes "tick") d) app.tick
   pub queues_at : IsArrayOrEmpty (get (codes "queues") d) queue_items
   pub queues : AreQueues queue_items app.queue_names app.queues
+  pub sets_at : IsArrayOrEmpty (get (codes "sets") d) set_items
+  pub sets : AreSets app.queue_names set_items app.set_names app.sets
+  pub one_set_each : IsDistinct nat_eq (members_of app.sets)
   pub tasks_at : get (codes "tasks") d ≡ Some (array task_items)
   pub tasks : AreTasks (objects_of app) task_items app.task_names app.scripts
 
@@ -89,5 +126,6 @@ FileSays bytes app =
     × IsUtf8 bytes
     × (read bytes ≡ Some d)
     × (queue_items : Items)
+    × (set_items : Items)
     × (task_items : Items)
-    × Says d app queue_items task_items
+    × Says d app queue_items set_items task_items

@@ -11,11 +11,13 @@ use Rattle.rd_app.specs.declared.app.QueueShape.{QueueShape}
 use Rattle.rd_app.specs.declared.instr.Operand.{Operand}
 use Rattle.rd_app.specs.declared.instr.Operand.TheVariants.{Number, Register}
 use Rattle.rd_app.specs.declared.instr.Instr.{Instr}
-use Rattle.rd_app.specs.declared.instr.Instr.TheVariants.{Local, Queue}
+use Rattle.rd_app.specs.declared.instr.Instr.TheVariants as instruction
 use Rattle.rd_app.specs.declared.instr.LocalInstr.{LocalInstr}
 use Rattle.rd_app.specs.declared.instr.LocalInstr.TheVariants as local
 use Rattle.rd_app.specs.declared.instr.QueueCall.{QueueCall}
 use Rattle.rd_app.specs.declared.instr.QueueCall.TheVariants as call
+use Rattle.rd_app.specs.declared.instr.SetCall.{SetCall}
+use Rattle.rd_app.specs.declared.instr.SetCall.TheVariants as set_call
 use Rattle.rd_queue.specs.declared.end.End.TheVariants as end
 use Rattle.rd_script.specs.declared.spelling.Keyword.{Keyword}
 use Rattle.rd_script.specs.declared.spelling.Keyword.TheVariants as kind
@@ -26,6 +28,10 @@ use Rattle.rd_script.specs.declared.spelling.QueueKeyword.{QueueKeyword}
 use Rattle.rd_script.specs.declared.spelling.QueueKeyword.TheVariants.{Send, Front, Receive, Peek}
 use Rattle.rd_script.specs.declared.spelling.QueueKeyword.TheVariants.{Overwrite, Reset, Count}
 use Rattle.rd_script.specs.declared.spelling.QueueKeyword.TheVariants.{Spaces}
+use Rattle.rd_script.specs.declared.spelling.MemberKeyword.{MemberKeyword}
+use Rattle.rd_script.specs.declared.spelling.MemberKeyword.TheVariants.{AddToSet, RemoveFromSet}
+use Rattle.rd_script.specs.declared.spelling.SetKeyword.{SetKeyword}
+use Rattle.rd_script.specs.declared.spelling.SetKeyword.TheVariants.{Select}
 use Rattle.rd_app.specs.Application.{max_delay, IsCallFor}
 use Rattle.rd_script.specs.Objects.{Objects, queue_shape}
 use Rattle.rd_text.specs.Words.{number_of, bytes_of, name_of}
@@ -52,9 +58,18 @@ queue_text Reset = codes "qreset"
 queue_text Count = codes "count"
 queue_text Spaces = codes "spaces"
 
+abbrev pub member_text : MemberKeyword → List ℕ
+member_text AddToSet = codes "setadd"
+member_text RemoveFromSet = codes "setdel"
+
+abbrev pub set_text : SetKeyword → List ℕ
+set_text Select = codes "select"
+
 abbrev pub text_of : Keyword → List ℕ
 text_of (kind.Local keyword) = local_text keyword
 text_of (kind.Queue keyword) = queue_text keyword
+text_of (kind.Member keyword) = member_text keyword
+text_of (kind.Set keyword) = set_text keyword
 
 abbrev pub local_keywords : List LocalKeyword
 local_keywords = Set ∷ Add ∷ Move ∷ Data ∷ Pack ∷ Unpack ∷ Jump ∷ JumpZero ∷ End ∷ []
@@ -62,8 +77,18 @@ local_keywords = Set ∷ Add ∷ Move ∷ Data ∷ Pack ∷ Unpack ∷ Jump ∷ 
 abbrev pub queue_keywords : List QueueKeyword
 queue_keywords = Send ∷ Front ∷ Receive ∷ Peek ∷ Overwrite ∷ Reset ∷ Count ∷ Spaces ∷ []
 
+abbrev pub member_keywords : List MemberKeyword
+member_keywords = AddToSet ∷ RemoveFromSet ∷ []
+
+abbrev pub set_keywords : List SetKeyword
+set_keywords = Select ∷ []
+
 abbrev pub keywords : List Keyword
-keywords = map kind.Local local_keywords ++ map kind.Queue queue_keywords
+keywords =
+    map kind.Local local_keywords
+    ++ map kind.Queue queue_keywords
+    ++ map kind.Member member_keywords
+    ++ map kind.Set set_keywords
 
 -- the first of these that is written so
 abbrev pub first_written : List ℕ → List Keyword → Option Keyword
@@ -160,6 +185,15 @@ queue_form Reset = Alone call.Reset
 queue_form Count = Alone call.Count
 queue_form Spaces = Alone call.Spaces
 
+-- of the operands after the set's name
+abbrev pub set_form : SetKeyword → Form SetCall
+set_form Select = OfTime set_call.Select
+
+-- the call of a queue and of that set
+abbrev pub member_call : MemberKeyword → ℕ → QueueCall
+member_call AddToSet set = call.AddToSet set
+member_call RemoveFromSet set = call.RemoveFromSet set
+
 -- ---- how a row is read
 
 -- what the next words make, and the words after them
@@ -189,16 +223,19 @@ is_call_for shape call.Overwrite = shape.capacity == 1
 is_call_for shape call.Reset = true
 is_call_for shape call.Count = true
 is_call_for shape call.Spaces = true
+is_call_for shape (call.AddToSet set) = true
+is_call_for shape (call.RemoveFromSet set) = true
 
-abbrev pub queue_of : Objects → List ℕ → Result ℕ AppError
-queue_of objects name = ok_or (position (bytes_eq name) objects.queue_names) fault.Name
+-- the number of the thing with that name
+abbrev pub index_of : List (List ℕ) → List ℕ → Result ℕ AppError
+index_of names name = ok_or (position (bytes_eq name) names) fault.Name
 
 -- the call of the queue of that name, if it is one for that queue
 abbrev pub call_of : Objects → List ℕ → QueueCall → Result Instr AppError
 call_of objects name made = do
-  queue ← queue_of objects name
+  queue ← index_of objects.queue_names name
   if is_call_for (queue_shape objects queue) made
-      then Ok (Queue queue made)
+      then Ok (instruction.Queue queue made)
       else Err fault.OverwriteLength
 
 -- the instruction of a keyword and of all words after it
@@ -206,12 +243,25 @@ abbrev pub operation_of : Objects → ℕ → Keyword → List (List ℕ) → Re
 operation_of objects len (kind.Local keyword) words = do
   made ← read_by (local_form len keyword) words
   _ ← no_more_words made.1
-  Ok (Local made.0)
+  Ok (instruction.Local made.0)
 operation_of objects len (kind.Queue keyword) words = do
   name ← next_as name_of words
   made ← read_by (queue_form keyword) name.1
   _ ← no_more_words made.1
   call_of objects name.0 made.0
+operation_of objects len (kind.Member keyword) words = do
+  queue ← next_as name_of words
+  set ← next_as name_of queue.1
+  _ ← no_more_words set.1
+  queue ← index_of objects.queue_names queue.0
+  set ← index_of objects.set_names set.0
+  Ok (instruction.Queue queue (member_call keyword set))
+operation_of objects len (kind.Set keyword) words = do
+  name ← next_as name_of words
+  made ← read_by (set_form keyword) name.1
+  _ ← no_more_words made.1
+  set ← index_of objects.set_names name.0
+  Ok (instruction.Set set made.0)
 
 -- The instruction of a text's words, or its fault. One in the form of a word comes before an
 -- unknown name, and that before a queue that the call is not for.
@@ -248,36 +298,48 @@ IsFormed (OfBytes make) words made =
 IsFormed (OfTime make) words made =
     (wait : Operand) × HasOne time_of words wait × (make wait ≡ made)
 
--- the number of the queue of that name
-abbrev pub queue_named : Objects → List ℕ → Option ℕ
-queue_named objects word =
-    option_and_then (λ name. position (bytes_eq name) objects.queue_names) (name_of word)
+-- the number of the thing that a word names
+abbrev pub index_named : List (List ℕ) → List ℕ → Option ℕ
+index_named names word = option_and_then (λ name. position (bytes_eq name) names) (name_of word)
 
--- The words after a keyword are the name of a queue and the operands of the call, which is one for
--- that queue: only a queue with room for one item is overwritten.
-pub record SpellsCall
-    (objects : Objects)
-    (keyword : QueueKeyword)
+-- The words are a name and the operands of a form: of these names the one with that number, and
+-- this is what the operands make.
+pub record SpellsCall {X : Type 0}
+    (names : List (List ℕ))
+    (form : Form X)
     (words : List (List ℕ))
-    (queue : ℕ)
-    (made : QueueCall)
+    (number : ℕ)
+    (made : X)
     : Type 0 where
   pub name : List ℕ
   pub operands : List (List ℕ)
   pub words_are : words ≡ name ∷ operands
-  pub named : queue_named objects name ≡ Some queue
-  pub formed : IsFormed (queue_form keyword) operands made
-  pub fits : IsCallFor (queue_shape objects queue) made
+  pub named : index_named names name ≡ Some number
+  pub formed : IsFormed form operands made
 
--- The words after a keyword make the instruction.
+-- The words after a keyword make the instruction. A call of a queue is one for that queue: only a
+-- queue with room for one item is overwritten.
 abbrev pub IsOperation : Objects → ℕ → Keyword → List (List ℕ) → Instr → Type 0
 IsOperation objects len (kind.Local keyword) words instr =
-    (made : LocalInstr) × IsFormed (local_form len keyword) words made × (Local made ≡ instr)
+    (made : LocalInstr)
+    × IsFormed (local_form len keyword) words made
+    × (instruction.Local made ≡ instr)
 IsOperation objects len (kind.Queue keyword) words instr =
     (queue : ℕ)
     × (made : QueueCall)
-    × SpellsCall objects keyword words queue made
-    × (Queue queue made ≡ instr)
+    × SpellsCall objects.queue_names (queue_form keyword) words queue made
+    × IsCallFor (queue_shape objects queue) made
+    × (instruction.Queue queue made ≡ instr)
+IsOperation objects len (kind.Member keyword) words instr =
+    (queue : ℕ)
+    × (set : ℕ)
+    × HasTwo (index_named objects.queue_names) (index_named objects.set_names) words queue set
+    × (instruction.Queue queue (member_call keyword set) ≡ instr)
+IsOperation objects len (kind.Set keyword) words instr =
+    (set : ℕ)
+    × (made : SetCall)
+    × SpellsCall objects.set_names (set_form keyword) words set made
+    × (instruction.Set set made ≡ instr)
 
 -- The words are a keyword and its operands: over these objects, in a script of that length.
 abbrev pub Spells : Objects → ℕ → List (List ℕ) → Instr → Type 0

@@ -18,7 +18,7 @@ pub enum AppError {
     /// A number or a length is out of its limits.
     #[error("L3 Limit")]
     Limit,
-    /// A text is no name, stands twice in its kind, or names nothing.
+    /// A text is no name, stands twice in its kind, or names nothing; or a queue is a member twice.
     #[error("L4 Name")]
     Name,
     /// A text is no instruction, or the script could go on after its last one.

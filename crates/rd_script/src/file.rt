@@ -2,17 +2,19 @@
 //! what the file says.
 
 ghost use Rattle.std.specs.Prelude.{◌≡◌, ◌≤◌, ◌<◌, [], ◌++◌, false, true, length, map, option_map};
-ghost use Rattle.std.specs.Prelude.{string_bytes, ok_or, Ok, IfOk, IsOk, IsOkAnd, IsUtf8};
+ghost use Rattle.std.specs.Prelude.{string_bytes, ok_or, nat_eq, Ok, IfOk, IsOk, IsOkAnd, IsUtf8};
 ghost use Rattle.std.specs.List.{list_any};
 ghost use Rattle.std.specs.Str.{bytes_eq};
 ghost use Rattle.serde_json.specs.Read.{read};
 ghost use Rattle.serde_json.specs.View.{view, items_view, members_view};
 ghost use Rattle.rd_app.specs.Application.{Application, IsApplication, is_final, is_local_final};
+ghost use Rattle.rd_app.specs.Application.{members_of};
 ghost use Rattle.rd_script.specs.Draft.{app_draft_view, task_draft_view};
 ghost use Rattle.rd_script.specs.File.{Gives, GivesFaultFirst, GivesOrNoMemory, checked};
 ghost use Rattle.rd_script.specs.File.{array_in, array_or_empty, are_texts, field, has_only};
 ghost use Rattle.rd_script.specs.File.{in_limits, number_in, number_or, new_name, object_with};
 ghost use Rattle.rd_script.specs.File.{queue_of, queues_after, task_of, tasks_after};
+ghost use Rattle.rd_script.specs.File.{member_of, members_after, set_of, sets_after};
 ghost use Rattle.rd_script.specs.File.{line_ends, line_of, code_of, scripts_after};
 ghost use Rattle.rd_script.specs.File.{draft_of, with_scripts, app_of, text_of, file_of};
 ghost use Rattle.rd_script.specs.Objects.{objects_view};
@@ -21,20 +23,24 @@ ghost use Rattle.rd_text.specs.Words.{texts};
 
 use crate::error::AppError;
 use crate::objects::{Objects, Queues};
-use crate::spelling::read_instr;
+use crate::spelling::{index_of, read_instr};
 use arrayvec::ArrayVec;
-use rd_app::app::{App, Parts, QueueShape, Script};
+use rd_app::app::{App, Parts, QueueShape, Script, SetShape};
 use rd_app::instr::{Instr, LocalInstr};
 use rd_text::names::Names;
 use rd_text::words::is_name;
 use serde_json::{Map, Value};
 use std::alloc::{AllocError, Global};
+use std::marker::Model;
 
 /// How many cores an application has at the most.
 pub const MAX_CORES: u64 = 8;
 
 /// How many queues an application has at the most.
 pub const MAX_QUEUES: usize = 32;
+
+/// How many queue sets an application has at the most.
+pub const MAX_SETS: usize = 32;
 
 /// How many tasks an application has at the most.
 pub const MAX_TASKS: usize = 32;
@@ -174,6 +180,119 @@ fn read_queues(values: &[Value]) -> Result<Queues<'_>, AppError>
     Ok(Queues { names, shapes })
 }
 
+// A queue set's room, and its members, each of them once.
+#[derive(Default, Drop)]
+struct SetDraft {
+    capacity: usize,
+    members: ArrayVec<usize, MAX_QUEUES>,
+}
+
+impl Model for SetDraft {
+    ghost use Rattle.rd_app.specs.QueueSetShape.{QueueSetShape};
+
+    ghost Value = { QueueSetShape };
+
+    ghost view = { λ s. record { capacity = s.capacity; members = s.members.items } };
+}
+
+// Is the queue a member of one of these sets?
+fn is_member(queue: usize, sets: &[SetDraft]) -> bool
+    ensures { result ≡ list_any (λ set. list_any (nat_eq queue) set.members) sets.now }
+{
+    sets.iter()
+        .any(|set| set.members.as_slice().contains(&queue))
+}
+
+// Is the queue a member of one of these sets, or one of these?
+#[tactic(auto, using(crate::proofs::SetLaws::taken_is))]
+fn is_taken(queue: usize, sets: &[SetDraft], members: &[usize]) -> bool
+    ensures { result ≡ list_any (nat_eq queue) (members_of sets.now ++ members.now) }
+{
+    is_member(queue, sets) || members.contains(&queue)
+}
+
+// The number of the queue of that name, which is a member of none of these sets, nor one of these.
+fn read_member(
+    value: &Value,
+    queues: &[&str],
+    sets: &[SetDraft],
+    members: &[usize],
+) -> Result<usize, AppError>
+    ensures { result
+        ≡ member_of (texts queues.now) (members_of sets.now ++ members.now) (view value.now) }
+{
+    let name = value.as_str().ok_or(AppError::Shape)?;
+    if !is_name(name.as_bytes()) {
+        return Err(AppError::Name);
+    }
+    let queue = index_of(name, queues)?;
+    if is_taken(queue, sets, members) {
+        return Err(AppError::Name);
+    }
+    Ok(queue)
+}
+
+fn read_members(
+    values: &[Value],
+    queues: &[&str],
+    sets: &[SetDraft],
+) -> Result<ArrayVec<usize, MAX_QUEUES>, AppError>
+    requires { length queues.now ≤ 32 }
+    ensures { Gives (λ members. members.items) result
+        (members_after (texts queues.now) (members_of sets.now) [] (items_view values.now)) }
+{
+    let mut members = ArrayVec::new();
+    for value in values {
+        members.push(read_member(value, queues, sets, members.as_slice())?);
+    }
+    Ok(members)
+}
+
+#[tactic(auto, unfolding(crate::specs::File::set_of))]
+fn read_set<'a>(
+    value: &'a Value,
+    queues: &[&str],
+    names: &[&str],
+    sets: &[SetDraft],
+) -> Result<(&'a str, SetDraft), AppError>
+    requires { length queues.now ≤ 32 }
+    ensures { Gives (λ set. (set.0.now, set.1))
+        result (set_of (texts queues.now) (texts names.now) sets.now (view value.now)) }
+{
+    object_with(value, &["name", "length", "members"])?;
+    let name = field(value, "name")?;
+    let capacity = field(value, "length")?;
+    let members = field(value, "members")?;
+    let name = new_name(name, names)?;
+    let capacity = number(capacity, 1, 2048)? as usize;
+    let members = members.as_array().ok_or(AppError::Shape)?;
+    let members = read_members(members.as_slice(), queues, sets)?;
+    Ok((name, SetDraft { capacity, members }))
+}
+
+// The queue sets of an array, and their names, which lie in the file's value.
+#[derive(Drop)]
+struct Sets<'a> {
+    names: ArrayVec<&'a str, MAX_SETS>,
+    drafts: ArrayVec<SetDraft, MAX_SETS>,
+}
+
+fn read_sets<'a>(values: &'a [Value], queues: &[&str]) -> Result<Sets<'a>, AppError>
+    requires sets { length values.now ≤ 32 }
+    requires queues { length queues.now ≤ 32 }
+    ensures { Gives (λ sets. (texts sets.names.items, sets.drafts.items))
+        result (sets_after (texts queues.now) [] [] (items_view values.now)) }
+{
+    let mut names = ArrayVec::new();
+    let mut drafts = ArrayVec::new();
+    for value in values {
+        let (name, draft) = read_set(value, queues, names.as_slice(), drafts.as_slice())?;
+        names.push(name);
+        drafts.push(draft);
+    }
+    Ok(Sets { names, drafts })
+}
+
 // A task's priority and the texts of its instructions, which are not read yet.
 #[derive(Clone, Copy, Default)]
 struct TaskDraft<'a> {
@@ -239,6 +358,7 @@ struct AppDraft<'a> {
     notes: usize,
     tick: u32,
     objects: Objects<'a>,
+    sets: ArrayVec<SetDraft, MAX_SETS>,
     tasks: Tasks<'a>,
 }
 
@@ -248,7 +368,9 @@ fn read_draft(file: &Value) -> Result<AppDraft<'_>, AppError>
 {
     object_with(
         file,
-        &["profile", "cores", "notes", "tick", "queues", "tasks"],
+        &[
+            "profile", "cores", "notes", "tick", "queues", "sets", "tasks",
+        ],
     )?;
     let profile = field(file, "profile")?;
     let cores = field(file, "cores")?;
@@ -258,12 +380,18 @@ fn read_draft(file: &Value) -> Result<AppDraft<'_>, AppError>
     let notes = number_or(file.get("notes"), 1, 1, 4)? as usize;
     let tick = number_or(file.get("tick"), 0, 0, u64::from(u32::MAX))? as u32;
     let queues = read_queues(array_or_empty(file.get("queues"), MAX_QUEUES)?)?;
+    let sets = array_or_empty(file.get("sets"), MAX_SETS)?;
+    let sets = read_sets(sets, queues.names.as_slice())?;
     let tasks = read_tasks(array(tasks, 1, MAX_TASKS)?)?;
     Ok(AppDraft {
         cores,
         notes,
         tick,
-        objects: Objects { queues },
+        objects: Objects {
+            queues,
+            set_names: sets.names,
+        },
+        sets: sets.drafts,
         tasks,
     })
 }
@@ -289,7 +417,7 @@ fn is_final(instr: &Instr) -> bool
 {
     match instr {
         Instr::Local { instr } => is_local_final(instr),
-        Instr::Queue { .. } => false,
+        Instr::Queue { .. } | Instr::Set { .. } => false,
     }
 }
 
@@ -367,6 +495,19 @@ fn keep_scripts(
     Ok(scripts)
 }
 
+// The queue sets of drafts.
+fn keep_sets(alloc: Global, drafts: &[SetDraft]) -> Result<Vec<SetShape>, AllocError>
+    ensures { IfOk result (λ sets. sets.items ≡ drafts.now) }
+{
+    let mut sets = Vec::new(alloc);
+    for draft in drafts {
+        let draft: &SetDraft = draft;
+        let members = draft.members.as_slice().to_vec(alloc)?;
+        sets.push(SetShape::new(draft.capacity, members))?;
+    }
+    Ok(sets)
+}
+
 // The application of a draft without a fault.
 fn keep(alloc: Global, draft: &AppDraft<'_>) -> Result<App, AllocError>
     requires { IsOkAnd (with_scripts (app_draft_view draft.now)) IsApplication }
@@ -379,6 +520,8 @@ fn keep(alloc: Global, draft: &AppDraft<'_>) -> Result<App, AllocError>
         tick: draft.tick,
         queues: queues.shapes.as_slice().to_vec(alloc)?,
         queue_names: Names::new(alloc, queues.names.as_slice())?,
+        sets: keep_sets(alloc, draft.sets.as_slice())?,
+        set_names: Names::new(alloc, draft.objects.set_names.as_slice())?,
         scripts: keep_scripts(alloc, draft.tasks.drafts.as_slice(), &draft.objects)?,
         task_names: Names::new(alloc, draft.tasks.names.as_slice())?,
     };
@@ -420,7 +563,7 @@ fn read_bytes(alloc: Global, bytes: &[u8]) -> Result<App, AppError>
 }
 
 /// The application of a file's bytes: a JSON object with the keys `profile`, `cores`, `notes`,
-/// `tick`, `queues` and `tasks`.
+/// `tick`, `queues`, `sets` and `tasks`.
 pub fn read_app(alloc: Global, text: &[u8]) -> Result<App, AppError>
     // What is read is what the file says, within the limits.
     ensures accepted { IfOk result (λ app. FileSays text.now app × IsApplication app) }

@@ -2,7 +2,7 @@
 
 ghost use Rattle.std.specs.Prelude.{◌≡◌, length};
 
-use crate::file::MAX_QUEUES;
+use crate::file::{MAX_QUEUES, MAX_SETS};
 use arrayvec::ArrayVec;
 use rd_app::app::QueueShape;
 
@@ -18,4 +18,5 @@ pub(crate) struct Queues<'a> {
 #[derive(Drop)]
 pub(crate) struct Objects<'a> {
     pub(crate) queues: Queues<'a>,
+    pub(crate) set_names: ArrayVec<&'a str, MAX_SETS>,
 }

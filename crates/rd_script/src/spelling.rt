@@ -4,15 +4,15 @@ ghost use Rattle.std.specs.Prelude.{◌≡◌};
 ghost use Rattle.rd_script.specs.Objects.{objects_view};
 ghost use Rattle.rd_script.specs.Spelling.{Takes, TakesBy, next_as, no_more_words};
 ghost use Rattle.rd_script.specs.Spelling.{keyword_of, register_of, target_of, operand_of, time_of};
-ghost use Rattle.rd_script.specs.Spelling.{queue_of, is_call_for, call_of};
-ghost use Rattle.rd_script.specs.Spelling.{local_form, queue_form, read_by};
+ghost use Rattle.rd_script.specs.Spelling.{index_of, is_call_for, call_of, member_call};
+ghost use Rattle.rd_script.specs.Spelling.{local_form, queue_form, set_form, read_by};
 ghost use Rattle.rd_script.specs.Spelling.{operation_of, instr_of};
-ghost use Rattle.rd_text.specs.Words.{words_of, number_of, name_of, bytes_of};
+ghost use Rattle.rd_text.specs.Words.{words_of, texts, number_of, name_of, bytes_of};
 
 use crate::error::AppError;
 use crate::objects::Objects;
 use rd_app::app::QueueShape;
-use rd_app::instr::{Instr, LocalInstr, MAX_DELAY, Operand, QueueCall};
+use rd_app::instr::{Instr, LocalInstr, MAX_DELAY, Operand, QueueCall, SetCall};
 use rd_bytes::bytes::Bytes;
 use rd_queue::end::End;
 use rd_text::words::{Words, bytes, name, number};
@@ -44,11 +44,26 @@ enum QueueKeyword {
     Spaces,
 }
 
+/// The first word of a call of a queue and a set.
+#[derive(Clone, Copy, Debug, PartialEq, Eq)]
+enum MemberKeyword {
+    AddToSet,
+    RemoveFromSet,
+}
+
+/// The first word of a call of a queue set.
+#[derive(Clone, Copy, Debug, PartialEq, Eq)]
+enum SetKeyword {
+    Select,
+}
+
 /// The first word of an instruction.
 #[derive(Clone, Copy, Debug, PartialEq, Eq)]
 enum Keyword {
     Local(LocalKeyword),
     Queue(QueueKeyword),
+    Member(MemberKeyword),
+    Set(SetKeyword),
 }
 
 fn keyword_of(word: &[u8]) -> Option<Keyword>
@@ -72,6 +87,9 @@ fn keyword_of(word: &[u8]) -> Option<Keyword>
         b"qreset" => Some(Keyword::Queue(QueueKeyword::Reset)),
         b"count" => Some(Keyword::Queue(QueueKeyword::Count)),
         b"spaces" => Some(Keyword::Queue(QueueKeyword::Spaces)),
+        b"setadd" => Some(Keyword::Member(MemberKeyword::AddToSet)),
+        b"setdel" => Some(Keyword::Member(MemberKeyword::RemoveFromSet)),
+        b"select" => Some(Keyword::Set(SetKeyword::Select)),
         _ => None,
     }
 }
@@ -167,11 +185,12 @@ fn no_more_words(words: &mut Words<'_>) -> Result<(), AppError>
     }
 }
 
-fn queue_of(name: &str, objects: &Objects<'_>) -> Result<usize, AppError>
-    ensures { result ≡ queue_of (objects_view objects.now) name.now }
+/// The number of the thing with that name, which is its index among these.
+pub(crate) fn index_of(name: &str, names: &[&str]) -> Result<usize, AppError>
+    ensures { result ≡ index_of (texts names.now) name.now }
 {
-    for (index, queue) in objects.queues.names.as_slice().iter().enumerate() {
-        if name == *queue {
+    for (index, other) in names.iter().enumerate() {
+        if name == *other {
             return Ok(index);
         }
     }
@@ -189,7 +208,9 @@ fn is_call_for(shape: &QueueShape, call: &QueueCall) -> bool
         | QueueCall::Peek { .. }
         | QueueCall::Reset
         | QueueCall::Count
-        | QueueCall::Spaces => true,
+        | QueueCall::Spaces
+        | QueueCall::AddToSet { .. }
+        | QueueCall::RemoveFromSet { .. } => true,
     }
 }
 
@@ -197,7 +218,7 @@ fn is_call_for(shape: &QueueShape, call: &QueueCall) -> bool
 fn call_of(name: &str, call: QueueCall, objects: &Objects<'_>) -> Result<Instr, AppError>
     ensures { result ≡ call_of (objects_view objects.now) name.now call }
 {
-    let queue = queue_of(name, objects)?;
+    let queue = index_of(name, objects.queues.names.as_slice())?;
     if is_call_for(&objects.queues.shapes[queue], &call) {
         Ok(Instr::Queue { queue, call })
     } else {
@@ -274,6 +295,28 @@ fn queue_call(keyword: QueueKeyword, words: &mut Words<'_>) -> Result<QueueCall,
     })
 }
 
+// The call of a keyword for a queue and that set.
+fn member_call(keyword: MemberKeyword, set: usize) -> QueueCall
+    ensures { result ≡ member_call keyword set }
+{
+    match keyword {
+        MemberKeyword::AddToSet => QueueCall::AddToSet { set },
+        MemberKeyword::RemoveFromSet => QueueCall::RemoveFromSet { set },
+    }
+}
+
+// The call of a keyword and of the operands that come next, which stand after the set's name.
+#[tactic(auto, unfolding(crate::specs::Spelling::read_by))]
+fn set_call(keyword: SetKeyword, words: &mut Words<'_>) -> Result<SetCall, AppError>
+    ensures { Takes result words.new (read_by (set_form keyword) words.old) }
+{
+    Ok(match keyword {
+        SetKeyword::Select => SetCall::Select {
+            wait: next_time(words)?,
+        },
+    })
+}
+
 // The instruction of a keyword and of all words after it. A fault in the form of a word comes
 // before a name that nothing has, and that before a queue that the call is not for.
 fn operation(
@@ -295,6 +338,22 @@ fn operation(
             let call = queue_call(keyword, words)?;
             no_more_words(words)?;
             call_of(name, call, objects)
+        }
+        Keyword::Member(keyword) => {
+            let queue = next_name(words)?;
+            let set = next_name(words)?;
+            no_more_words(words)?;
+            let queue = index_of(queue, objects.queues.names.as_slice())?;
+            let set = index_of(set, objects.set_names.as_slice())?;
+            let call = member_call(keyword, set);
+            Ok(Instr::Queue { queue, call })
+        }
+        Keyword::Set(keyword) => {
+            let name = next_name(words)?;
+            let call = set_call(keyword, words)?;
+            no_more_words(words)?;
+            let set = index_of(name, objects.set_names.as_slice())?;
+            Ok(Instr::Set { set, call })
         }
     }
 }

@@ -5,6 +5,8 @@ use Rattle.rd_script.specs.declared.spelling.Keyword.{Keyword}
 use Rattle.rd_script.specs.declared.spelling.Keyword.TheVariants as kind
 use Rattle.rd_script.specs.declared.spelling.LocalKeyword.TheVariants.{Move, Data, Pack, Unpack, Jump, JumpZero}
 use Rattle.rd_script.specs.declared.spelling.QueueKeyword.TheVariants.{Send, Front, Receive, Peek, Overwrite, Reset, Count, Spaces}
+use Rattle.rd_script.specs.declared.spelling.MemberKeyword.TheVariants.{AddToSet, RemoveFromSet}
+use Rattle.rd_script.specs.declared.spelling.SetKeyword.TheVariants.{Select}
 use Rattle.rd_script.specs.Spelling.{text_of, keyword_of}
 use Rattle.rd_script.proofs.SpellingLaws.{keyword_again}
 use Rattle.rd_script.proofs.spelling.keyword_of.Goals as goal
@@ -54,3 +56,12 @@ returns-in-count c = read_as (kind.Queue Count) c.args.word.now (text_from_reads
 
 pub returns-in-spaces : goal.returns-in-spaces
 returns-in-spaces c = read_as (kind.Queue Spaces) c.args.word.now (text_from_reads c.args.word.now (codes "spaces") (omega arith) (search rules))
+
+pub returns-in-setadd : goal.returns-in-setadd
+returns-in-setadd c = read_as (kind.Member AddToSet) c.args.word.now (text_from_reads c.args.word.now (codes "setadd") (omega arith) (search rules))
+
+pub returns-in-setdel : goal.returns-in-setdel
+returns-in-setdel c = read_as (kind.Member RemoveFromSet) c.args.word.now (text_from_reads c.args.word.now (codes "setdel") (omega arith) (search rules))
+
+pub returns-in-select : goal.returns-in-select
+returns-in-select c = read_as (kind.Set Select) c.args.word.now (text_from_reads c.args.word.now (codes "select") (omega arith) (search rules))

@@ -5,7 +5,11 @@ use Rattle.rd_app.proofs.app.App.builtin.Goals as goal
 
 pub new-requires-6 : goal.new-requires-6
 new-requires-6 c =
-    let queues = c.in_ok-vec.ensures.items in
-    let scripts = c.in_ok-vec-2.ensures.items in
+    let queue_names = c.in_ok-new.ensures in
+    let sets = c.new-2.ensures.items in
+    let set_names = c.in_ok-new-2.ensures in
+    let script = c.new-4.ensures in
     let code = c.in_ok-code.ensures.items in
-    builtin_is_kept _ (rw (queues, c.in_ok-new.ensures, c.new-2.ensures.items, c.in_ok-new-2.ensures, scripts, c.new-4.ensures, code, c.in_ok-new-3.ensures) (search rules))
+    let task_names = c.in_ok-new-3.ensures in
+    builtin_is_kept _
+    (rw (c.in_ok-vec.ensures.items, queue_names, sets, set_names, c.in_ok-vec-2.ensures.items, script, code, task_names) (search rules))
