@@ -8,9 +8,10 @@ use Rattle.std.proofs.lemmas.List.{length-map}
 use Rattle.std.proofs.lemmas.List.Elements.{All-get_or}
 use Rattle.std.proofs.Math.Nat.{mod-lt}
 use Rattle.rd_app.specs.declared.instr.Instr.{Instr}
-use Rattle.rd_app.specs.declared.instr.Instr.TheVariants.{Local, Queue}
-use Rattle.rd_app.specs.declared.instr.LocalInstr.TheVariants.{Set, Add, Move, Data, Pack, Unpack, Jump, JumpZero, End}
-use Rattle.rd_state.specs.declared.phase.Phase.TheVariants.{Run}
+use Rattle.rd_app.specs.declared.instr.Instr.TheVariants.{Local, Queue, Set}
+use Rattle.rd_app.specs.declared.instr.LocalInstr.TheVariants.{Add, Move, Data, Pack, Unpack, Jump, JumpZero, End}
+use Rattle.rd_app.specs.declared.instr.LocalInstr.TheVariants as local
+use Rattle.rd_state.specs.declared.phase.Phase.TheVariants.{Run, Ended}
 use Rattle.rd_app.specs.Application.{Application, IsApplication, IsScript, IsWithin, code_of, instr_at, is_final, priorities_of}
 use Rattle.rd_app.specs.TaskScript.{TaskScript}
 use Rattle.rd_state.specs.Change.{with_task}
@@ -18,7 +19,8 @@ use Rattle.rd_state.specs.Settled.{seating_of, settled, IsSettled}
 use Rattle.rd_state.specs.Sizes.{IsSized}
 use Rattle.rd_state.specs.Snapshot.{Snapshot, task_at, core_at}
 use Rattle.rd_state.specs.Valid.{IsValid, PhaseFitsCall, place_of_call, seats_to_run}
-use Rattle.rd_state.specs.Valid.{shape_of}
+use Rattle.rd_state.specs.Valid.{room_of, shape_of}
+use Rattle.rd_app.specs.QueueSetShape.{QueueSetShape}
 use Rattle.rd_state.proofs.EndLaws.{scheduling_settles, stays_settled}
 use Rattle.rd_state.proofs.ScheduleLaws.{SeatsKept, SeatsKept-settled, SeatsKept-rotated, SeatsKept-then}
 use Rattle.rd_calls.specs.Local.{unpacked}
@@ -28,10 +30,10 @@ use Rattle.rd_kernel.specs.Waking.{is_due, timed_out}
 use Rattle.rd_kernel.proofs.ConsistentLaws.{IsValid-consistent, IsConsistent, IsConsistent-deadlines}
 use Rattle.rd_kernel.proofs.ConsistentLaws.{IsConsistent-seats, IsConsistent-valid}
 use Rattle.rd_kernel.proofs.ConsistentLaws.{all_have_time_left}
-use Rattle.rd_kernel.proofs.CallLaws.{RunsInstr, IsConsistent-advanced, IsConsistent-ended, IsConsistent-with_pc, due_idle}
+use Rattle.rd_kernel.proofs.CallLaws.{RunsInstr, IsConsistent-advanced, IsConsistent-stopped, IsConsistent-with_pc, due_idle}
 use Rattle.rd_kernel.proofs.CallLaws.{is_task_on_core, room_in_ready, runs_on_core}
 use Rattle.rd_kernel.proofs.CallLaws.{runs_outside_calls}
-use Rattle.rd_queue_calls.proofs.QueueCallLaws.{IsConsistent-queue_call, queue_call-tick}
+use Rattle.rd_queue_calls.proofs.QueueCallLaws.{IsConsistent-queue_call, IsConsistent-set_call, queue_call-tick, set_call-tick}
 use Rattle.rd_kernel.proofs.WakingLaws.{TimedOut, TimedOut-so_far, have_time_left_below}
 
 -- ---- a move of a core
@@ -41,8 +43,8 @@ IsConsistent-performed : (app : Application) (s : Snapshot) (core task : ℕ) (i
     → 1 ≤ seats_to_run (task_at s task).phase → core < length s.cores → core_at s core ≡ Some task
     → instr_at app task (task_at s task).pc ≡ instr → IsWithin app (length (code_of app task)) instr
     → (is_final instr ≡ false → (task_at s task).pc + 1 < length (code_of app task))
-    → length s.queues ≡ length app.queues → IsConsistent app (all_have_time_left s.tick) (performed (priorities_of app) s core task instr)
-IsConsistent-performed app s core task instr valid there runs has_core e is within next queues =
+    → length s.queues ≡ length app.queues → length s.sets ≡ length app.sets → IsConsistent app (all_have_time_left s.tick) (performed (priorities_of app) s core task instr)
+IsConsistent-performed app s core task instr valid there runs has_core e is within next queues sets =
     let D = all_have_time_left s.tick in
     let at = IsConsistent-valid app s valid in
     let x = task_at s task in
@@ -66,7 +68,7 @@ IsConsistent-performed app s core task instr valid there runs has_core e is with
         → ((target : ℕ) → place_of_call instr
         ≡ None → target < length (code_of app task) → IsConsistent app (all_have_time_left s.tick) (with_pc s task target))
         → IsConsistent app (all_have_time_left s.tick) (performed (priorities_of app) s core task instr)
-    by_instr (Local (Set register value)) within next calls further jumps =
+    by_instr (Local (local.Set register value)) within next calls further jumps =
         further (set (task_at s task).registers register value) (task_at s task).bytes refl refl
     by_instr (Local (Add register value)) within next calls further jumps =
         further (set (task_at s task).registers register ((register_at s task register + value) % 2 ^ 32)) (task_at s task).bytes refl refl
@@ -84,9 +86,12 @@ IsConsistent-performed app s core task instr valid there runs has_core e is with
         (nat_eq (register_at s task register) 0) as (λ b. cond b target ((task_at s task).pc + 1) < length (code_of app task))
         [ true ↦ within.1 | false ↦ next refl ])
     by_instr (Local End) within next calls further jumps =
-        IsConsistent-ended app (all_have_time_left s.tick) s core task there runs has_core e tt (IsConsistent-valid app s valid)
+        IsConsistent-stopped app (all_have_time_left s.tick) s core task Ended there runs has_core e refl (λ place. refl) tt tt
+        (IsConsistent-valid app s valid)
     by_instr (Queue queue call) within next calls further jumps =
         IsConsistent-queue_call app s core task queue call (calls refl) (omega (arith, within.0, queues))
+    by_instr (Set set call) within next calls further jumps =
+        IsConsistent-set_call app s core task set call (calls refl) (omega (arith, within.0, sets))
 
 -- The last instruction of a script doesn't go on at the next.
 not_last : (app : Application) (script : TaskScript) (pc : ℕ) → IsScript app script → pc < length script.code
@@ -110,11 +115,13 @@ IsConsistent-next_instr app s core task limits valid has_core e =
     let within = valid.in_limits.pcs task there in
     let fits = All-get_or (IsWithin app (length script.code)) script.code pc (Local End) within ok.within in
     let queues : length s.queues ≡ length app.queues = sym (length-map s.queues shape_of) ∙ ap length valid.in_limits.queues in
+    let sets : length s.sets ≡ length app.sets =
+    sym (length-map s.sets room_of) ∙ ap length valid.in_limits.sets ∙ length-map app.sets (λ (set : QueueSetShape). set.capacity) in
     IsConsistent-performed app s core task (next_instr app s task) valid there (runs_on_core app s core task valid has_core e) has_core e refl fits
-    (not_last app script pc ok within) queues
+    (not_last app script pc ok within) queues sets
 
 performed-tick : (priorities : List ℕ) (s : Snapshot) (core task : ℕ) (instr : Instr) → (performed priorities s core task instr).tick ≡ s.tick
-performed-tick priorities s core task (Local (Set register value)) = refl
+performed-tick priorities s core task (Local (local.Set register value)) = refl
 performed-tick priorities s core task (Local (Add register value)) = refl
 performed-tick priorities s core task (Local (Move into from)) = refl
 performed-tick priorities s core task (Local (Data bytes)) = refl
@@ -124,6 +131,7 @@ performed-tick priorities s core task (Local (Jump target)) = refl
 performed-tick priorities s core task (Local (JumpZero register target)) = refl
 performed-tick priorities s core task (Local End) = refl
 performed-tick priorities s core task (Queue queue call) = queue_call-tick priorities s core task queue call
+performed-tick priorities s core task (Set set call) = set_call-tick priorities s core task set call
 
 pub IsValid-step : (app : Application) (s s' : Snapshot) (core task : ℕ) → IsApplication app → IsValid app s → core < length s.cores
     → core_at s core ≡ Some task
@@ -135,7 +143,7 @@ IsValid-step app s s' core task limits valid there e same sized =
     let at = IsConsistent-next_instr app s core task limits valid there e in
     let some : 0 < length p.cores = omega (arith, limits.some_cores, at.cores) in
     let kept : SeatsKept priorities (seating_of p) (seating_of z) = SeatsKept-settled priorities (record p { turn = core + 1 }) some in
-    let consistent_z = IsConsistent-seats app (all_have_time_left s.tick) p z kept refl refl at in
+    let consistent_z = IsConsistent-seats app (all_have_time_left s.tick) p z kept refl refl refl at in
     let tick : s.tick ≡ z.tick = sym (performed-tick priorities s core task (next_instr app s task)) in
     subst (λ (t : Snapshot). IsSized t → IsValid app t) (sym same)
     (IsValid-consistent app z (subst (λ t. IsConsistent app (all_have_time_left t) z) tick consistent_z)) sized
@@ -161,7 +169,7 @@ TimedOut-of_valid app s n valid few =
     IsConsistent-deadlines app (all_have_time_left s.tick) (have_time_left_below now.tick 0) s (λ t h was below. absurd (omega (arith, below)))
     (IsConsistent-valid app s valid) in
     TimedOut-so_far app n now few
-    (IsConsistent-seats app (have_time_left_below now.tick 0) s now (record { cores = refl; seats = λ task. refl; order = λ h. h }) refl refl none)
+    (IsConsistent-seats app (have_time_left_below now.tick 0) s now (record { cores = refl; seats = λ task. refl; order = λ h. h }) refl refl refl none)
 
 IsConsistent-ticked : (app : Application) (s : Snapshot) → IsValid app s → IsConsistent app (all_have_time_left (s.tick + 1)) (ticked (priorities_of app) s)
 IsConsistent-ticked app s valid =
@@ -183,7 +191,7 @@ IsValid-tick app s s' limits valid same sized =
     let there : core < length (settled priorities p).cores = omega (arith, by_settling.cores, at.cores, valid.in_limits.cores, mod-lt (s.tick + 1) some) in
     let by_turns : SeatsKept priorities (seating_of (settled priorities p)) (seating_of z) = SeatsKept-rotated priorities core (settled priorities p) there in
     let kept = SeatsKept-then priorities (seating_of p) (seating_of (settled priorities p)) (seating_of z) by_settling by_turns in
-    let consistent_z = IsConsistent-seats app (all_have_time_left (s.tick + 1)) p z kept refl refl at in
+    let consistent_z = IsConsistent-seats app (all_have_time_left (s.tick + 1)) p z kept refl refl refl at in
     let tick : s.tick + 1 ≡ z.tick = sym (TimedOut-of_valid app s (length s.tasks) valid (omega arith)).tick in
     subst (λ (t : Snapshot). IsSized t → IsValid app t) (sym same)
     (IsValid-consistent app z (subst (λ t. IsConsistent app (all_have_time_left t) z) tick consistent_z)) sized

@@ -16,6 +16,7 @@ use rd_bytes::no_memory::NoMemory;
 use rd_kernel::conclude::conclude;
 use rd_kernel::steps::set_turn;
 use rd_queue_calls::calls::call_queue;
+use rd_queue_calls::selecting::call_set;
 use rd_state::editing::Editing;
 use std::alloc::Global;
 
@@ -41,6 +42,10 @@ fn perform(
         Instr::Local { instr } => do_local(alloc, editing, core, task, instr),
         Instr::Queue { queue, call } => {
             let outcome = call_queue(app, editing, task, *queue, *call)?;
+            conclude(editing, core, task, outcome)
+        }
+        Instr::Set { set, call } => {
+            let outcome = call_set(app, editing, task, *set, *call)?;
             conclude(editing, core, task, outcome)
         }
     }
