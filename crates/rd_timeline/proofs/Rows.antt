@@ -1,5 +1,5 @@
 -- The definitions computed on the built-in application, with nothing of the code between.
-use Rattle.std.specs.Prelude.{ℕ, ◌≡◌, List, [], ◌∷◌, Some, Ok, refl}
+use Rattle.std.specs.Prelude.{ℕ, ◌≡◌, List, [], ◌∷◌, Some, None, Ok, refl}
 use Rattle.rd_notify.specs.Entries.{idle_entry}
 use Rattle.rd_queue.specs.QueueSnapshot.{QueueSnapshot}
 use Rattle.rd_app.specs.Builtin.{builtin}
@@ -17,7 +17,7 @@ use Rattle.rd_calls.specs.declared.moves.Move.TheVariants.{Core}
 use Rattle.rd_timeline.specs.History.{state_after}
 
 abbrev queue_of : List (List ℕ) → QueueSnapshot
-queue_of items = record { items = items; capacity = 2; item_size = 1; receiving = []; sending = []; tasks = 1 }
+queue_of items = record { items = items; capacity = 2; item_size = 1; receiving = []; sending = []; tasks = 1; set = None; sets = 0 }
 
 -- t0 at a place of its script, with r0 and its data
 abbrev task_of : ℕ → ℕ → List ℕ → TaskSnapshot
@@ -25,7 +25,7 @@ task_of pc r0 bytes = record { pc = pc; registers = r0 ∷ 0 ∷ 0 ∷ 0 ∷ 0 �
 
 -- t0 runs on core 0
 abbrev state_of : ℕ → TaskSnapshot → List (List ℕ) → Snapshot
-state_of turn task items = record { tick = 0; turn = turn; cores = Some 0 ∷ []; ready = []; tasks = task ∷ []; queues = queue_of items ∷ [] }
+state_of turn task items = record { tick = 0; turn = turn; cores = Some 0 ∷ []; ready = []; tasks = task ∷ []; queues = queue_of items ∷ []; sets = [] }
 
 abbrev one_move : Move
 one_move = Core 0

@@ -26,6 +26,8 @@ over_a_queue cores scripts = record {
   tick = 0;
   queues = record { capacity = 1; item_size = 1 } ∷ [];
   queue_names = codes "q0" ∷ [];
+  sets = [];
+  set_names = [];
   scripts = scripts;
   task_names = codes "t0" ∷ codes "t1" ∷ codes "t2" ∷ [];
 }
@@ -40,7 +42,7 @@ abbrev waits_for_item : Option ℕ → TaskSnapshot
 waits_for_item deadline = task_of 0 0 [] (Wait (Queue 0 Receiving) deadline)
 
 abbrev queue_of : List (List ℕ) → List ℕ → QueueSnapshot
-queue_of items receiving = record { items = items; capacity = 1; item_size = 1; receiving = receiving; sending = []; tasks = 3 }
+queue_of items receiving = record { items = items; capacity = 1; item_size = 1; receiving = receiving; sending = []; tasks = 3; set = None; sets = 0 }
 
 -- ---- a woken receiver finds its item taken
 
@@ -59,6 +61,7 @@ item_is_sent : state_after stolen (Core 0 ∷ Core 1 ∷ Core 0 ∷ [])
       ready = [];
       tasks = waits_for_item None ∷ task_of 0 0 [] (Again (Some 10)) ∷ task_of 1 1 [] Run ∷ [];
       queues = queue_of ((0 ∷ []) ∷ []) (0 ∷ []) ∷ [];
+      sets = [];
     })
 item_is_sent = refl
 
@@ -71,6 +74,7 @@ item_is_lost : state_after stolen (Core 0 ∷ Core 1 ∷ Core 0 ∷ Core 0 ∷ C
       ready = [];
       tasks = waits_for_item None ∷ waits_for_item (Some 10) ∷ task_of 2 1 (0 ∷ []) Run ∷ [];
       queues = queue_of [] (1 ∷ 0 ∷ []) ∷ [];
+      sets = [];
     })
 item_is_lost = refl
 
@@ -90,5 +94,6 @@ second_times_out : state_after timing_out (Core 0 ∷ Core 1 ∷ Core 2 ∷ Tick
       ready = [];
       tasks = waits_for_item None ∷ task_of 0 0 [] (Again (Some 1)) ∷ waits_for_item None ∷ [];
       queues = queue_of [] (0 ∷ 2 ∷ []) ∷ [];
+      sets = [];
     })
 second_times_out = refl

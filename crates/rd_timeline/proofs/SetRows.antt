@@ -1,0 +1,83 @@
+-- The definitions computed on a queue in a set, with nothing of the code between.
+use Rattle.std.specs.Prelude.{ℕ, ◌≡◌, codes, List, [], ◌∷◌, Some, None, Ok, refl}
+use Rattle.rd_notify.specs.Entries.{idle_entry}
+use Rattle.rd_queue.specs.declared.end.End.TheVariants.{Back}
+use Rattle.rd_queue.specs.QueueSnapshot.{QueueSnapshot}
+use Rattle.rd_queue.specs.SetSnapshot.{SetSnapshot}
+use Rattle.rd_state.specs.declared.phase.Cause.TheVariants.{SetFull}
+use Rattle.rd_state.specs.declared.phase.Phase.{Phase}
+use Rattle.rd_state.specs.declared.phase.Phase.TheVariants.{Run, Failed}
+use Rattle.rd_app.specs.declared.instr.Instr.{Instr}
+use Rattle.rd_app.specs.declared.instr.Instr.TheVariants as instr
+use Rattle.rd_app.specs.declared.instr.LocalInstr.TheVariants.{Data, End}
+use Rattle.rd_app.specs.declared.instr.QueueCall.TheVariants as call
+use Rattle.rd_app.specs.declared.instr.SetCall.TheVariants.{Select}
+use Rattle.rd_app.specs.declared.instr.Operand.TheVariants.{Number}
+use Rattle.rd_app.specs.Application.{Application}
+use Rattle.rd_state.specs.Snapshot.{Snapshot, TaskSnapshot}
+use Rattle.rd_calls.specs.declared.moves.Move.{Move}
+use Rattle.rd_calls.specs.declared.moves.Move.TheVariants.{Core}
+use Rattle.rd_timeline.specs.History.{state_after}
+
+-- one task over a queue for items of one byte, in a set with room for one handle
+abbrev over_a_set : ℕ → List Instr → Application
+over_a_set capacity code = record {
+  cores = 1;
+  notes = 1;
+  tick = 0;
+  queues = record { capacity = capacity; item_size = 1 } ∷ [];
+  queue_names = codes "q0" ∷ [];
+  sets = record { capacity = 1; members = 0 ∷ [] } ∷ [];
+  set_names = codes "s0" ∷ [];
+  scripts = record { priority = 1; code = code } ∷ [];
+  task_names = codes "t0" ∷ [];
+}
+
+abbrev task_of : ℕ → ℕ → List ℕ → Phase → TaskSnapshot
+task_of pc r0 bytes phase = record { pc = pc; registers = r0 ∷ 0 ∷ 0 ∷ 0 ∷ 0 ∷ 0 ∷ 0 ∷ 0 ∷ []; bytes = bytes; phase = phase; entries = idle_entry ∷ [] }
+
+abbrev queue_of : ℕ → List (List ℕ) → QueueSnapshot
+queue_of capacity items = record { items = items; capacity = capacity; item_size = 1; receiving = []; sending = []; tasks = 1; set = Some 0; sets = 1 }
+
+abbrev set_of : List ℕ → SetSnapshot
+set_of handles = record { handles = handles; capacity = 1; queues = 1; waiting = []; tasks = 1 }
+
+abbrev runs_with : TaskSnapshot → QueueSnapshot → SetSnapshot → Snapshot
+runs_with task queue set =
+    record { tick = 0; turn = 1; cores = Some 0 ∷ []; ready = []; tasks = task ∷ []; queues = queue ∷ []; sets = set ∷ [] }
+
+abbrev one_move : Move
+one_move = Core 0
+
+-- ---- an overwrite of an item that is there posts nothing
+
+abbrev overwrites : Application
+overwrites = over_a_set 1 (
+    instr.Local (Data (7 ∷ [])) ∷ instr.Queue 0 call.Overwrite ∷ instr.Local (Data (8 ∷ [])) ∷ instr.Queue 0 call.Overwrite
+    ∷ instr.Set 0 (Select (Number 0)) ∷ instr.Queue 0 (call.Receive (Number 0)) ∷ instr.Set 0 (Select (Number 0)) ∷ instr.Local End ∷ [])
+
+one_handle : state_after overwrites (one_move ∷ one_move ∷ one_move ∷ one_move ∷ [])
+    ≡ Ok (runs_with (task_of 4 1 (8 ∷ []) Run) (queue_of 1 ((8 ∷ []) ∷ [])) (set_of (0 ∷ [])))
+one_handle = refl
+
+-- It is selected once, and the next time there is none.
+selected_once : state_after overwrites (one_move ∷ one_move ∷ one_move ∷ one_move ∷ one_move ∷ one_move ∷ one_move ∷ [])
+    ≡ Ok (runs_with (task_of 7 0 (8 ∷ []) Run) (queue_of 1 []) (set_of []))
+selected_once = refl
+
+-- ---- a send into a set without room has failed, and has sent nothing
+
+abbrev sends_twice : Application
+sends_twice = over_a_set 2 (instr.Queue 0 (call.Send Back (Number 0)) ∷ instr.Queue 0 (call.Send Back (Number 0)) ∷ instr.Local End ∷ [])
+
+full_set : state_after sends_twice (one_move ∷ one_move ∷ [])
+    ≡ Ok (record {
+      tick = 0;
+      turn = 1;
+      cores = None ∷ [];
+      ready = [];
+      tasks = task_of 1 1 [] (Failed SetFull) ∷ [];
+      queues = queue_of 2 ((0 ∷ []) ∷ []) ∷ [];
+      sets = set_of (0 ∷ []) ∷ [];
+    })
+full_set = refl
