@@ -5,10 +5,13 @@ use Rattle.std.specs.Str.{bytes_eq}
 use Rattle.rd_calls.specs.Step.{step}
 use Rattle.rd_calls.specs.declared.moves.Move.{Move}
 use Rattle.rd_calls.specs.declared.moves.Move.TheVariants as move
-use Rattle.rd_state.specs.Snapshot.{queue_at, task_at}
+use Rattle.rd_state.specs.Snapshot.{queue_at, set_at, task_at}
 use Rattle.rd_timeline.specs.Course.{Course, IsWhyNot}
-use Rattle.rd_command.specs.Commands.{Asked, Step, Tick, Back, ShowQueue, ShowTask, ShowCores}
-use Rattle.rd_command.specs.Replies.{line_of, reply_text, queue_text, task_text, cores_text}
+use Rattle.rd_command.specs.Commands.{Asked, Step, Tick, Back, ShowQueue, ShowSet}
+use Rattle.rd_command.specs.Commands.{ShowTask, ShowCores}
+use Rattle.rd_command.specs.Names.{all_names}
+use Rattle.rd_command.specs.Replies.{line_of, reply_text, queue_text, set_text, task_text}
+use Rattle.rd_command.specs.Replies.{cores_text}
 use Rattle.rd_command.specs.Replies.{is_task}
 use Rattle.rd_text.specs.declared.refusal.Refusal.TheVariants.{TooFar, NoSuch, NoMemory, Syntax}
 use Rattle.rd_command.specs.declared.reply.Reply.{Reply}
@@ -75,18 +78,24 @@ number_named name names = position (bytes_eq name) names
 abbrev pub QueueLine : Course → List ℕ → List ℕ → Type 0
 QueueLine course name line =
     IsView (number_named name course.app.queue_names)
-    (λ queue. queue_text course.app.task_names name (queue_at course.target queue))
+    (λ queue. queue_text (all_names course.app) name (queue_at course.target queue))
+    line
+
+abbrev pub SetLine : Course → List ℕ → List ℕ → Type 0
+SetLine course name line =
+    IsView (number_named name course.app.set_names)
+    (λ set. set_text (all_names course.app) name (set_at course.target set))
     line
 
 abbrev pub TaskLine : Course → List ℕ → List ℕ → Type 0
 TaskLine course name line =
     IsView (number_named name course.app.task_names)
-    (λ task. task_text course.app.queue_names name (position (is_task task) course.target.cores)
+    (λ task. task_text (all_names course.app) name (position (is_task task) course.target.cores)
     (task_at course.target task))
     line
 
 abbrev pub CoresLine : Course → List ℕ → Type 0
-CoresLine course line = IsShown (cores_text course.app.task_names course.target) line
+CoresLine course line = IsShown (cores_text (all_names course.app) course.target) line
 
 -- The line is the text of a reply that meets this.
 abbrev pub IsReplyLine : (Reply → Type 0) → List ℕ → Type 0
@@ -99,5 +108,6 @@ IsAnswer old (Some (Step core)) new line = IsReplyLine (StepReply old core new) 
 IsAnswer old (Some Tick) new line = IsReplyLine (MoveReply old move.Tick new) line
 IsAnswer old (Some (Back count)) new line = IsReplyLine (BackReply old count new) line
 IsAnswer old (Some (ShowQueue name)) new line = QueueLine old name line × (new ≡ old)
+IsAnswer old (Some (ShowSet name)) new line = SetLine old name line × (new ≡ old)
 IsAnswer old (Some (ShowTask name)) new line = TaskLine old name line × (new ≡ old)
 IsAnswer old (Some ShowCores) new line = CoresLine old line × (new ≡ old)

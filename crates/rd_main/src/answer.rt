@@ -6,13 +6,13 @@ ghost use Rattle.rd_calls.specs.Step.{IsMoveOf};
 ghost use Rattle.rd_text.specs.Words.{words_of};
 ghost use Rattle.rd_command.specs.Commands.{command_of};
 ghost use Rattle.rd_main.specs.Answers.{MoveReply, StepReply, BackReply, IsAnswer, Adds, no_memory};
-ghost use Rattle.rd_main.specs.Answers.{QueueLine, TaskLine, CoresLine};
+ghost use Rattle.rd_main.specs.Answers.{QueueLine, SetLine, TaskLine, CoresLine};
 
 use rd_app::app::Kind;
 use rd_calls::moves::Move;
 use rd_command::command::{Command, parse_line};
 use rd_command::reply::{
-    MAX_REPLY, Reply, append_reply_reserved, core_of, show_cores, show_queue, show_task,
+    MAX_REPLY, Reply, append_reply_reserved, core_of, show_cores, show_queue, show_set, show_task,
 };
 use rd_text::refusal::Refusal;
 use rd_timeline::timeline::Timeline;
@@ -84,6 +84,22 @@ fn put_queue(timeline: &Timeline, answers: &mut Vec<u8>, name: &str)
     end_view(answers, len, shown);
 }
 
+// Appends the view of the queue set of that name.
+fn put_set(timeline: &Timeline, answers: &mut Vec<u8>, name: &str)
+    requires { vec_len answers.old + MAX_REPLY ≤ vec_capacity answers.old }
+    ensures { Adds answers.old.items answers.new.items (SetLine timeline.now name.now) }
+{
+    let Some(set) = timeline.app().find(Kind::Set, name) else {
+        return append_reply_reserved(answers, refused(Refusal::NoSuch));
+    };
+    timeline.app().limits();
+    timeline.keeps();
+    let target = timeline.target();
+    let len = answers.len();
+    let shown = show_set(answers, timeline.app(), name, target.set(set));
+    end_view(answers, len, shown);
+}
+
 // Appends the view of the task of that name.
 fn put_task(timeline: &Timeline, answers: &mut Vec<u8>, name: &str)
     requires { vec_len answers.old + MAX_REPLY ≤ vec_capacity answers.old }
@@ -126,6 +142,7 @@ fn put_reserved(timeline: &mut Timeline, answers: &mut Vec<u8>, line: &[u8])
             append_reply_reserved(answers, back(timeline, count as usize));
         }
         Ok(Command::ShowQueue { name }) => put_queue(timeline, answers, name),
+        Ok(Command::ShowSet { name }) => put_set(timeline, answers, name),
         Ok(Command::ShowTask { name }) => put_task(timeline, answers, name),
         Ok(Command::ShowCores) => put_cores(timeline, answers),
         Err(_) => append_reply_reserved(answers, refused(Refusal::Syntax)),

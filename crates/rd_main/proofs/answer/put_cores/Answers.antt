@@ -3,6 +3,7 @@ use Rattle.std.proofs.Common.{◌∙◌, ◌++◌, ℕ, Some, refl, ap}
 use Rattle.std.proofs.lemmas.Result.{on_ok_weaker}
 use Rattle.rd_app.specs.Application.{Application}
 use Rattle.rd_state.specs.Snapshot.{Snapshot}
+use Rattle.rd_command.specs.Names.{all_names}
 use Rattle.rd_command.specs.Replies.{line_of, cores_text}
 use Rattle.rd_main.proofs.AnswerLaws.{view_added, seated_named}
 use Rattle.rd_main.proofs.answer.put_cores.Goals as goal
@@ -10,15 +11,15 @@ use Rattle.rd_main.proofs.answer.put_cores.Goals as goal
 pub show_cores-shown-requires : goal.show_cores-shown-requires
 show_cores-shown-requires c =
     let limits = rw c.app.ensures at c.limits.ensures in
-    rw (c.app-2.ensures, c.target.ensures) (seated_named c.args.timeline.now limits c.keeps.ensures.valid)
+    rw (c.app-2.ensures, c.target.ensures) (seated_named c.args.timeline.now.app c.args.timeline.now.target limits c.keeps.ensures.valid)
 
 pub returns : goal.returns
 returns c =
     let course = c.args.timeline.now in
     let before = c.args.answers.now.items in
-    let view = λ (n : ℕ). cores_text course.app.task_names course.target in
-    let by_app = λ (app : Application). before ++ line_of (cores_text app.task_names c.target.result.now) in
-    let by_state = λ (s : Snapshot). before ++ line_of (cores_text course.app.task_names s) in
+    let view = λ (n : ℕ). cores_text (all_names course.app) course.target in
+    let by_app = λ (app : Application). before ++ line_of (cores_text (all_names app) c.target.result.now) in
+    let by_state = λ (s : Snapshot). before ++ line_of (cores_text (all_names course.app) s) in
     view_added c.show_cores-shown.result (Some 0) view 0 _ _ _ _ refl c.len-len.ensures
     (on_ok_weaker c.show_cores-shown.result
     (λ text. text ∙ ap by_app c.app-2.ensures ∙ ap by_state c.target.ensures)

@@ -5,8 +5,9 @@ use Rattle.rd_queue.specs.QueueSnapshot.{QueueSnapshot}
 use Rattle.rd_app.specs.Application.{Application}
 use Rattle.rd_state.specs.Snapshot.{Snapshot, queue_at}
 use Rattle.rd_main.specs.Answers.{number_named}
+use Rattle.rd_command.specs.Names.{all_names}
 use Rattle.rd_command.specs.Replies.{line_of, queue_text}
-use Rattle.rd_main.proofs.AnswerLaws.{view_added, queue_there, waiters_named}
+use Rattle.rd_main.proofs.AnswerLaws.{view_added, queue_named, queue_there}
 use Rattle.rd_main.proofs.answer.put_queue.Goals as goal
 
 pub queue-requires : goal.queue-requires
@@ -21,8 +22,8 @@ show_queue-shown-requires c =
     let limits = rw c.app-2.ensures at c.limits.ensures in
     let named = rw c.app.ensures at c.in-Some.ensures in
     let there = queue_there c.args.timeline.now c.in-Some.queue c.args.name.now limits c.keeps.ensures.valid (sym named) in
-    rw (c.app-3.ensures, c.queue.ensures, c.target-target.ensures)
-    (waiters_named c.args.timeline.now c.in-Some.queue limits c.keeps.ensures.valid there)
+    rw (c.app-3.ensures, c.queue.ensures.queue, c.target-target.ensures)
+    (queue_named c.args.timeline.now.app c.args.timeline.now.target c.in-Some.queue limits c.keeps.ensures.valid there)
 
 pub returns : goal.returns
 returns c =
@@ -31,10 +32,10 @@ returns c =
     let name = c.args.name.now in
     let number = c.in-Some.queue in
     let found : number_named name course.app.queue_names ≡ Some number = sym (rw c.app.ensures at c.in-Some.ensures) in
-    let view = λ (queue : ℕ). queue_text course.app.task_names name (queue_at course.target queue) in
-    let by_app = λ (app : Application). before ++ line_of (queue_text app.task_names name c.queue.result.now) in
-    let by_queue = λ (queue : QueueSnapshot). before ++ line_of (queue_text course.app.task_names name queue) in
-    let there = c.queue.ensures ∙ ap (λ (s : Snapshot). queue_at s number) c.target-target.ensures in
+    let view = λ (queue : ℕ). queue_text (all_names course.app) name (queue_at course.target queue) in
+    let by_app = λ (app : Application). before ++ line_of (queue_text (all_names app) name c.queue.result.now) in
+    let by_queue = λ (queue : QueueSnapshot). before ++ line_of (queue_text (all_names course.app) name queue) in
+    let there = c.queue.ensures.queue ∙ ap (λ (s : Snapshot). queue_at s number) c.target-target.ensures in
     view_added c.show_queue-shown.result _ view number _ _ _ _ found c.len-len.ensures
     (on_ok_weaker c.show_queue-shown.result
     (λ text. text ∙ ap by_app c.app-3.ensures ∙ ap by_queue there)

@@ -4,6 +4,7 @@ use Rattle.std.proofs.lemmas.Result.{on_ok_weaker}
 use Rattle.rd_app.specs.Application.{Application}
 use Rattle.rd_state.specs.Snapshot.{Snapshot, TaskSnapshot, task_at}
 use Rattle.rd_main.specs.Answers.{number_named}
+use Rattle.rd_command.specs.Names.{all_names}
 use Rattle.rd_command.specs.Replies.{is_task, line_of, task_text}
 use Rattle.rd_main.proofs.AnswerLaws.{view_added, place_named, task_there}
 use Rattle.rd_main.proofs.answer.put_task.Goals as goal
@@ -21,7 +22,7 @@ show_task-shown-requires c =
     let named = rw c.app.ensures at c.in-Some.ensures in
     let there = task_there c.args.timeline.now c.in-Some.task c.args.name.now limits c.keeps.ensures.valid (sym named) in
     rw (c.app-3.ensures, c.task.ensures, c.target-target.ensures)
-    (place_named c.args.timeline.now c.in-Some.task limits c.keeps.ensures.valid there)
+    (place_named c.args.timeline.now.app c.args.timeline.now.target c.in-Some.task limits c.keeps.ensures.valid there)
 
 pub returns : goal.returns
 returns c =
@@ -34,10 +35,10 @@ returns c =
     let on_core : c.core_of-core.result ≡ position (is_task task) course.target.cores =
     c.core_of-core.ensures ∙ ap (λ (cores : List (Option ℕ)). position (is_task task) cores) cores_are in
     let core_now = position (is_task task) course.target.cores in
-    let view = λ (t : ℕ). task_text course.app.queue_names name (position (is_task t) course.target.cores) (task_at course.target t) in
-    let by_app = λ (app : Application). before ++ line_of (task_text app.queue_names name c.core_of-core.result c.task.result.now) in
-    let by_core = λ (core : Option ℕ). before ++ line_of (task_text course.app.queue_names name core c.task.result.now) in
-    let by_task = λ (t : TaskSnapshot). before ++ line_of (task_text course.app.queue_names name core_now t) in
+    let view = λ (t : ℕ). task_text (all_names course.app) name (position (is_task t) course.target.cores) (task_at course.target t) in
+    let by_app = λ (app : Application). before ++ line_of (task_text (all_names app) name c.core_of-core.result c.task.result.now) in
+    let by_core = λ (core : Option ℕ). before ++ line_of (task_text (all_names course.app) name core c.task.result.now) in
+    let by_task = λ (t : TaskSnapshot). before ++ line_of (task_text (all_names course.app) name core_now t) in
     let there = c.task.ensures ∙ ap (λ (s : Snapshot). task_at s task) c.target-target.ensures in
     view_added c.show_task-shown.result _ view task _ _ _ _ found c.len-len.ensures
     (on_ok_weaker c.show_task-shown.result
