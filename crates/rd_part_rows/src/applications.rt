@@ -1,7 +1,7 @@
 //! What no clause says of reading files: outside texts, and each public function once.
 
 use rd_app::app::{App, Kind};
-use rd_app::instr::{Instr, LocalInstr, MAX_DELAY, Operand, QueueCall};
+use rd_app::instr::{Instr, LocalInstr, MAX_DELAY, Operand, QueueCall, SetCall};
 use rd_script::error::AppError;
 use rd_script::file::read_app;
 use std::alloc::Global;
@@ -63,11 +63,83 @@ fn refused_files(rt: HostRuntime) -> Result<(), Fail> {
         (file_with_code!(r#""qreset q0 0","end""#), AppError::Instr),
         (file_with_code!(r#""count","end""#), AppError::Instr),
         (file_with_code!(r#""peek q0","end""#), AppError::Instr),
+        (file_with_code!(r#""setadd q0 s0","end""#), AppError::Name),
+        (file_with_code!(r#""setdel q0","end""#), AppError::Instr),
+        (file_with_code!(r#""select s0 0","end""#), AppError::Name),
+        (file_with_code!(r#""select s0","end""#), AppError::Instr),
         (file_with_code!(r#""send q9 0","end""#), AppError::Name),
         (file_with_code!(r#""send q0","end""#), AppError::Instr),
         (file_with_code!(r#""send q9 r8","end""#), AppError::Instr),
         (
             r#"{"profile":1,"cores":1,"queues":[{"name":"q0","length":2,"item":1}]}"#,
+            AppError::Shape,
+        ),
+    ] {
+        assert_eq!(rt; fault_of(alloc, text), Some(want), "{text}");
+    }
+    Ok(())
+}
+
+// The file of two queues with these sets.
+macro_rules! file_with_sets {
+    ($sets:literal) => {
+        concat!(
+            r#"{"profile":1,"cores":1,"queues":[{"name":"q0","length":1,"item":1},"#,
+            r#"{"name":"q1","length":1,"item":1}],"sets":["#,
+            $sets,
+            r#"],"tasks":[{"name":"t0","priority":1,"code":["end"]}]}"#
+        )
+    };
+}
+
+#[test]
+fn files_with_sets(rt: HostRuntime) -> Result<(), Fail> {
+    let alloc = rt.alloc();
+    let text = file_with_sets!(
+        r#"{"name":"s0","length":2048,"members":["q1"]},{"name":"q0","length":1,"members":[]}"#
+    );
+    let app = read_app(alloc, text.as_bytes())?;
+    assert_eq!(rt; app.find(Kind::Set, "q0"), Some(1));
+    assert_eq!(rt; app.find(Kind::Set, "q1"), None);
+    assert_eq!(rt; app.sets().len(), 2);
+    assert!(rt; app.queues().len() == 2);
+    assert_eq!(rt; app.set_of(0), None);
+    assert_eq!(rt; app.set_of(1), Some(0));
+    for (text, want) in [
+        (
+            file_with_sets!(r#"{"name":"s0","length":1,"members":["q2"]}"#),
+            AppError::Name,
+        ),
+        (
+            file_with_sets!(r#"{"name":"s0","length":1,"members":["q0","q0"]}"#),
+            AppError::Name,
+        ),
+        (
+            file_with_sets!(
+                r#"{"name":"s0","length":1,"members":["q0"]},{"name":"s1","length":1,"members":["q0"]}"#
+            ),
+            AppError::Name,
+        ),
+        (
+            file_with_sets!(
+                r#"{"name":"s0","length":1,"members":[]},{"name":"s0","length":1,"members":[]}"#
+            ),
+            AppError::Name,
+        ),
+        (
+            file_with_sets!(r#"{"name":"s0","length":0,"members":["q2"]}"#),
+            AppError::Limit,
+        ),
+        (
+            file_with_sets!(r#"{"name":"s0","length":2049,"members":[]}"#),
+            AppError::Limit,
+        ),
+        (
+            file_with_sets!(r#"{"name":"s0","length":1}"#),
+            AppError::Shape,
+        ),
+        (
+            file_with_sets!(r#"{"name":"s0","length":1,"members":[7]}"#),
             AppError::Shape,
         ),
     ] {
@@ -131,7 +203,15 @@ fn wait_of(instr: &Instr) -> Option<Operand> {
         Instr::Queue { call, .. } => match call {
             QueueCall::Send { wait, .. } | QueueCall::Receive { wait } | QueueCall::Peek { wait } =>
                 Some(*wait),
-            QueueCall::Overwrite | QueueCall::Reset | QueueCall::Count | QueueCall::Spaces => None,
+            QueueCall::Overwrite
+            | QueueCall::Reset
+            | QueueCall::Count
+            | QueueCall::Spaces
+            | QueueCall::AddToSet { .. }
+            | QueueCall::RemoveFromSet { .. } => None,
+        },
+        Instr::Set { call, .. } => match call {
+            SetCall::Select { wait } => Some(*wait),
         },
         Instr::Local { .. } => None,
     }

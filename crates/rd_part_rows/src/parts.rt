@@ -100,7 +100,7 @@ fn always_out_of_memory(rt: HostRuntime) -> Result<(), Fail> {
 #[test]
 fn waiting_lists(rt: HostRuntime) -> Result<(), Fail> {
     let alloc = rt.alloc();
-    let mut queue = Queue::new(alloc, 1, 1, 8)?;
+    let mut queue = Queue::new(alloc, 1, 1, 8, 0)?;
     queue.insert(WaitingList::Receiving, 0, 4);
     queue.insert(WaitingList::Receiving, 0, 7);
     let receiving = queue.waiting(WaitingList::Receiving).as_slice();

@@ -10,6 +10,8 @@ mod queues;
 #[cfg(test)]
 mod rows;
 #[cfg(test)]
+mod sets;
+#[cfg(test)]
 mod streams;
 #[cfg(test)]
 mod tasks;
