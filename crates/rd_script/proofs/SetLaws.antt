@@ -11,13 +11,13 @@ use Rattle.std.proofs.lemmas.List.Folds.{concat-append, list_any-append}
 use Rattle.std.proofs.lemmas.Map.Keys.{IsDistinct-push}
 use Rattle.std.proofs.lemmas.Map.Steps.{length-le_from_distinct_below}
 use Rattle.serde_json.specs.Data.{Data, null, boolean, number, unsigned, string, array, object, Items, no_items, item}
-use Rattle.serde_json.specs.Find.{as_array, as_str}
+use Rattle.serde_json.specs.Find.{get, as_array, as_str}
 use Rattle.rd_app.specs.Application.{Application, IsSetShape, members_of}
 use Rattle.rd_app.specs.QueueSetShape.{QueueSetShape}
 use Rattle.rd_script.specs.declared.error.AppError.TheVariants as fault
 use Rattle.rd_script.specs.Says.{IsMember, AreMembers, IsSet}
 use Rattle.rd_script.specs.Spelling.{index_of}
-use Rattle.rd_script.specs.File.{object_with, field, number_in, new_name, set_keys, member_of, members_after, set_of}
+use Rattle.rd_script.specs.File.{is_object_with, object_with, field, number_in, new_name, set_keys, member_of, members_after, set_of}
 use Rattle.rd_script.proofs.NamedLaws.{AllByRecursion-push, AllByRecursion-last, AllByRecursion-first}
 use Rattle.rd_script.proofs.ScriptLaws.{text_is}
 use Rattle.rd_script.proofs.SpellingLaws.{then_some, named_ok, index_again, index_there}
@@ -105,7 +105,8 @@ members_take queues others members no_items made e once =
 members_take queues others members (item d ds) made e once =
     let first = bind_ok (member_of queues (others ++ members) d) _ made e in
     let taken = member_takes queues (others ++ members) d first.0 first.1 in
-    let pushed = subst (IsDistinct nat_eq) (append_assoc others members (first.0 ∷ [])) (IsDistinct-push nat_eq_equiv (others ++ members) first.0 once taken.1) in
+    let more = IsDistinct-push nat_eq_equiv (others ++ members) first.0 once taken.1 in
+    let pushed = subst (IsDistinct nat_eq) (append_assoc others members (first.0 ∷ [])) more in
     let rest = members_take queues others (members ++ first.0 ∷ []) ds made first.2 pushed in
     record {
       more = first.0 ∷ rest.more;
@@ -160,37 +161,39 @@ array_is (string s) ds e = absurd cc
 array_is (array es) ds e = let is : es ≡ ds = cc in ap array is
 array_is (object ms) ds e = absurd cc
 
-pub set_takes : (queues names : List (List ℕ)) (sets : List QueueSetShape) (d : Data) (t : List ℕ × QueueSetShape) → set_of queues names sets d ≡ Ok t
-    → AreSetsOf (length queues) sets → SaysSet queues d t.0 t.1 × IsNewName names t.0 × AreSetsOf (length queues) (sets ++ t.1 ∷ [])
-unfolding set_of
-set_takes queues names sets d t e kept =
-    let keys = bind_ok (object_with set_keys d) _ t e in
-    let name = bind_ok (field (codes "name") d) _ t keys.2 in
-    let length_at = bind_ok (field (codes "length") d) _ t name.2 in
-    let members_at = bind_ok (field (codes "members") d) _ t length_at.2 in
-    let text = bind_ok (new_name names name.0) _ t members_at.2 in
-    let capacity = bind_ok (number_in 1 2048 length_at.0) _ t text.2 in
-    let texts = bind_ok (ok_or (as_array members_at.0) _) _ t capacity.2 in
-    let members = bind_ok (members_after queues (members_of sets) [] texts.0) _ t texts.2 in
-    let set : QueueSetShape = record { capacity = capacity.0; members = members.0 } in
-    let is : (text.0, set) ≡ t = cc in
-    let named = name_ok names name.0 text.0 text.1 in
-    let number = number_ok 1 2048 length_at.0 capacity.0 capacity.1 in
+-- the set was read so
+record IsSetRead (queues names : List (List ℕ)) (sets : List QueueSetShape) (d text length_value members_value : Data) (texts : Items)
+    (name : List ℕ) (set : QueueSetShape) : Type 0 where
+  keys : is_object_with set_keys d ≡ true
+  name_at : get (codes "name") d ≡ Some text
+  length_at : get (codes "length") d ≡ Some length_value
+  members_at : get (codes "members") d ≡ Some members_value
+  named : new_name names text ≡ Ok name
+  capacity : number_in 1 2048 length_value ≡ Ok set.capacity
+  texts_are : as_array members_value ≡ Some texts
+  members : members_after queues (members_of sets) [] texts ≡ Ok set.members
+
+read_takes : (queues names : List (List ℕ)) (sets : List QueueSetShape) (d text length_value members_value : Data) (texts : Items) (name : List ℕ)
+    (set : QueueSetShape) → IsSetRead queues names sets d text length_value members_value texts name set → AreSetsOf (length queues) sets
+    → SaysSet queues d name set × IsNewName names name × AreSetsOf (length queues) (sets ++ set ∷ [])
+read_takes queues names sets d text length_value members_value texts name set read kept =
+    let named = name_ok names text name read.named in
+    let capacity = number_ok 1 2048 length_value set.capacity read.capacity in
     let before : IsDistinct nat_eq (members_of sets ++ []) = subst (IsDistinct nat_eq) (sym (append-nil (members_of sets))) kept.one_each in
-    let adds = members_take queues (members_of sets) [] texts.0 members.0 members.1 before in
-    let said = subst (AreMembers queues texts.0) (sym adds.made_are) adds.said in
-    let there = subst (AllByRecursion (λ queue. queue < length queues)) (sym adds.made_are) adds.there in
-    let of_queues : IsSetOf (length queues) set = record { some = number.1; few = number.2; members = there } in
-    let array_at = array_is members_at.0 texts.0 (ok_or_ok (as_array members_at.0) texts.0 _ texts.1) in
-    subst (λ (t : List ℕ × QueueSetShape). SaysSet queues d t.0 t.1 × IsNewName names t.0 × AreSetsOf (length queues) (sets ++ t.1 ∷ [])) is (
+    let adds = members_take queues (members_of sets) [] texts set.members read.members before in
+    let of_queues : IsSetOf (length queues) set = record {
+      some = capacity.1;
+      few = capacity.2;
+      members = subst (AllByRecursion (λ queue. queue < length queues)) (sym adds.made_are) adds.there;
+    } in (
       (
-        texts.0,
+        texts,
         record {
-          keys = object_ok set_keys d keys.0 keys.1;
-          name_at = field_ok (codes "name") d name.0 name.1 ∙ ap Some named.0;
-          length_at = field_ok (codes "length") d length_at.0 length_at.1 ∙ ap Some number.0;
-          members_at = field_ok (codes "members") d members_at.0 members_at.1 ∙ ap Some array_at;
-          members = said;
+          keys = read.keys;
+          name_at = read.name_at ∙ ap Some named.0;
+          length_at = read.length_at ∙ ap Some capacity.0;
+          members_at = read.members_at ∙ ap Some (array_is members_value texts read.texts_are);
+          members = subst (AreMembers queues texts) (sym adds.made_are) adds.said;
         },
       ),
       record { named = named.1; fresh = named.2 },
@@ -199,6 +202,31 @@ set_takes queues names sets d t e kept =
         one_each = subst (IsDistinct nat_eq) (sym (members_of-push sets set)) adds.once;
       },
     )
+
+pub set_takes : (queues names : List (List ℕ)) (sets : List QueueSetShape) (d : Data) (t : List ℕ × QueueSetShape) → set_of queues names sets d ≡ Ok t
+    → AreSetsOf (length queues) sets → SaysSet queues d t.0 t.1 × IsNewName names t.0 × AreSetsOf (length queues) (sets ++ t.1 ∷ [])
+unfolding set_of
+set_takes queues names sets d t e kept =
+    let keys = bind_ok (object_with set_keys d) _ t e in
+    let text = bind_ok (field (codes "name") d) _ t keys.2 in
+    let length_value = bind_ok (field (codes "length") d) _ t text.2 in
+    let members_value = bind_ok (field (codes "members") d) _ t length_value.2 in
+    let name = bind_ok (new_name names text.0) _ t members_value.2 in
+    let capacity = bind_ok (number_in 1 2048 length_value.0) _ t name.2 in
+    let texts = bind_ok (ok_or (as_array members_value.0) _) _ t capacity.2 in
+    let members = bind_ok (members_after queues (members_of sets) [] texts.0) _ t texts.2 in
+    let is : (name.0, record { capacity = capacity.0; members = members.0 }) ≡ t = cc in
+    let set_is : record { capacity = capacity.0; members = members.0 } ≡ t.1 = ap (λ (t : List ℕ × QueueSetShape). t.1) is in
+    read_takes queues names sets d text.0 length_value.0 members_value.0 texts.0 t.0 t.1 (record {
+      keys = object_ok set_keys d keys.0 keys.1;
+      name_at = field_ok (codes "name") d text.0 text.1;
+      length_at = field_ok (codes "length") d length_value.0 length_value.1;
+      members_at = field_ok (codes "members") d members_value.0 members_value.1;
+      named = name.1 ∙ ap (λ (t : List ℕ × QueueSetShape). Ok t.0) is;
+      capacity = capacity.1 ∙ ap (λ (set : QueueSetShape). Ok set.capacity) set_is;
+      texts_are = ok_or_ok (as_array members_value.0) texts.0 _ texts.1;
+      members = members.1 ∙ ap (λ (set : QueueSetShape). Ok set.members) set_is;
+    }) kept
 
 pub set_again : (queues names : List (List ℕ)) (sets : List QueueSetShape) (d : Data) (name : List ℕ) (set : QueueSetShape) → SaysSet queues d name set
     → IsNewName names name → AreSetsOf (length queues) (sets ++ set ∷ []) → set_of queues names sets d ≡ Ok (name, set)

@@ -109,7 +109,7 @@ queues_after names shapes ds = named_after (λ names shapes. queue_of names) nam
 abbrev pub set_keys : List (List ℕ)
 set_keys = codes "name" ∷ codes "length" ∷ codes "members" ∷ []
 
--- the number of the queue of that name, which is none of these members
+-- the number of the queue of that name, which isn't a member already: one of the others
 abbrev pub member_of : List (List ℕ) → List ℕ → Data → Result ℕ AppError
 member_of queues others d = do
   text ← ok_or (as_str d) fault.Shape
@@ -117,14 +117,15 @@ member_of queues others d = do
   queue ← index_of queues name
   if list_any (nat_eq queue) others then Err fault.Name else Ok queue
 
--- the members before, and those of the array; the others are members of other sets
+-- the members before, and those of the array; the others are the members of other sets
 abbrev pub members_after : List (List ℕ) → List ℕ → List ℕ → Items → Result (List ℕ) AppError
 members_after queues others members no_items = Ok members
 members_after queues others members (item d ds) = do
   queue ← member_of queues (others ++ members) d
   members_after queues others (members ++ queue ∷ []) ds
 
--- over the names of all queues, and over the names of the sets before it and these sets
+-- The first names are those of all queues. The others are those of the sets before it, which are
+-- these sets.
 unfoldable pub set_of : List (List ℕ) → List (List ℕ) → List QueueSetShape → Data
     → Result (List ℕ × QueueSetShape) AppError
 set_of queues names sets d = do

@@ -58,7 +58,7 @@ pub record IsSet
   pub members_at : get (codes "members") d ≡ Some (array texts)
   pub members : AreMembers queues texts set.members
 
--- over the names of all queues
+-- The first names are those of all queues.
 abbrev pub AreSets : List (List ℕ) → Items → List (List ℕ) → List QueueSetShape → Type 0
 AreSets queues ds names sets =
     AreNamed (λ d name set. (texts : Items) × IsSet queues d name set texts) ds names sets

@@ -211,7 +211,7 @@ fn is_taken(queue: usize, sets: &[SetDraft], members: &[usize]) -> bool
     is_member(queue, sets) || members.contains(&queue)
 }
 
-// The number of the queue of that name, which is a member of none of these sets, nor one of these.
+// The number of the queue of that name, which is no member of these sets, and none of these.
 fn read_member(
     value: &Value,
     queues: &[&str],
