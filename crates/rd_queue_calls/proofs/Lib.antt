@@ -1,2 +1,3 @@
 -- The files of lemmas of rd_queue_calls.
 pub mod QueueCallLaws
+pub mod HandleLaws

@@ -2,3 +2,4 @@
 pub mod Posts
 pub mod QueueCalls
 pub mod SetCalls
+pub mod SetLaws

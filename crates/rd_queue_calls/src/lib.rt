@@ -3,5 +3,6 @@
 #![tactic(auto)]
 
 pub mod calls;
+pub mod laws;
 pub mod posts;
 pub mod selecting;
