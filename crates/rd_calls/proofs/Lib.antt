@@ -1,2 +1,3 @@
 -- The files of lemmas of rd_calls.
 pub mod StepLaws
+pub mod PlayLaws

@@ -1,5 +1,5 @@
 -- A move: one instruction of the task on a core, or a tick, and then scheduling.
-use Rattle.std.specs.Prelude.{ℕ, ◌+◌, ◌*◌, ◌%◌, ◌<◌, ◌≤◌, List, length, drop, position, nat_lt}
+use Rattle.std.specs.Prelude.{ℕ, ◌≡◌, ◌+◌, ◌*◌, ◌%◌, ◌<◌, ◌≤◌, List, length, drop, position, nat_lt}
 use Rattle.std.specs.Prelude.{if◌then◌else◌, Option, None, Some, is_some, Result, Ok, Err}
 use Rattle.rd_app.specs.declared.instr.Instr.{Instr}
 use Rattle.rd_app.specs.declared.instr.Instr.TheVariants.{Local, Queue, Set}
@@ -9,8 +9,10 @@ use Rattle.rd_text.specs.declared.refusal.Refusal.{Refusal}
 use Rattle.rd_text.specs.declared.refusal.Refusal.TheVariants.{NoTask, TickLimit}
 use Rattle.rd_state.specs.declared.change.Change.{Change}
 use Rattle.rd_state.specs.Change.{weight_of}
-use Rattle.rd_state.specs.Settled.{settled, rotated}
+use Rattle.rd_state.specs.Settled.{settled, rotated, IsSettled}
 use Rattle.rd_state.specs.Snapshot.{Numbers, Snapshot, task_at, core_at}
+use Rattle.rd_state.specs.Undoing.{undone, CanUndo}
+use Rattle.rd_state.specs.Valid.{IsValid}
 use Rattle.rd_calls.specs.Local.{local_step, NamesRegisters}
 use Rattle.rd_kernel.specs.Costs.{ending_cost}
 use Rattle.rd_kernel.specs.Outcomes.{concluded}
@@ -101,6 +103,17 @@ abbrev pub IsSmall : Application → Snapshot → Move → List Change → Type 
 IsSmall app s move changes =
     weight_of changes
     ≤ 4 * length s.tasks + 6 * length s.cores + 16 + 512 + dropped_by_move app s move
+
+-- What a move leaves: the written state, valid and with nothing left to schedule, and few changes,
+-- which lead back from there.
+pub record IsPlayed (app : Application) (s : Snapshot) (move : Move) (s' : Snapshot)
+    (changes : List Change) : Type 0 where
+  pub step : step app s move ≡ Ok s'
+  pub leads_back : undone s' changes ≡ s
+  pub can_undo : CanUndo s' changes
+  pub small : IsSmall app s move changes
+  pub valid : IsValid app s'
+  pub settled : IsSettled (priorities_of app) s'
 
 -- The registers and objects that an instruction names are there.
 abbrev pub NamesParts : Numbers → Instr → Type 0

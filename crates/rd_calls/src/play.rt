@@ -1,18 +1,17 @@
 //! Moves, made whole or not at all.
 
-ghost use Rattle.std.specs.Prelude.{◌≡◌, ◌↔◌, ◌+◌, ◌*◌, ◌<◌, ◌≤◌, ◌⊎◌, length, Ok, Err};
-ghost use Rattle.std.specs.Prelude.{Some, IfErr, IfOk, OnOk, OnErr, IsOk, IsErrOf};
-ghost use Rattle.rd_state.specs.Change.{weight_of};
+ghost use Rattle.std.specs.Prelude.{◌≡◌, ◌↔◌, ◌<◌, ◌⊎◌, length, take, Ok, Err};
+ghost use Rattle.std.specs.Prelude.{Some, IfErr, IfOk, OnOk, OnErr, IsErrOf};
 ghost use Rattle.rd_app.specs.Application.{priorities_of};
+ghost use Rattle.rd_state.specs.Edit.{added, GoesOn};
 ghost use Rattle.rd_state.specs.Settled.{IsSettled};
+ghost use Rattle.rd_state.specs.Sizes.{IsSized};
 ghost use Rattle.rd_state.specs.Snapshot.{core_at};
 ghost use Rattle.rd_state.specs.Undoing.{undone, CanUndo};
 ghost use Rattle.rd_state.specs.Valid.{IsValid};
 ghost use Rattle.rd_kernel.specs.Outcomes.{IsCalling};
 ghost use Rattle.rd_kernel.specs.Waking.{FirstTriesWait};
-ghost use Rattle.rd_calls.specs.Step.{step, core_step, instr_cost, tick_step, last_tick};
-ghost use Rattle.rd_calls.specs.Step.{next_instr};
-ghost use Rattle.rd_calls.specs.Step.{IsMoveOf, IsSmall};
+ghost use Rattle.rd_calls.specs.Step.{step, last_tick, IsMoveOf, IsPlayed, IsSmall};
 
 use crate::moves::Move;
 use crate::perform::move_core;
@@ -28,71 +27,102 @@ use std::alloc::Global;
 use std::mem;
 
 // Ends a move. Where memory ran out half-way, what was done of it is undone.
-fn finish(editing: Editing, made: Result<(), NoMemory>, state: &mut State) -> Result<Undo, NoMemory>
-    ensures made { IsOk result ↔ IsOk made }
-    ensures state { OnOk result (state.new ≡ editing.now) }
-    ensures undone { IfOk result (λ undo. undone state.new undo ≡ editing.base) }
-    ensures can_undo { IfOk result (λ undo. CanUndo state.new undo) }
-    ensures weight { IfOk result (λ undo. weight_of undo ≡ editing.weight) }
-    ensures err { OnErr result (state.new ≡ editing.base) }
+fn finish(
+    editing: Editing,
+    made: Result<(), NoMemory>,
+    state: &mut State,
+    undo: &mut Undo,
+) -> Result<(), NoMemory>
+    ensures made { result ≡ made }
+    ensures state { OnOk made (state.new ≡ editing.now) }
+    ensures record { OnOk made (GoesOn editing undo.new) }
+    ensures err { OnErr made ((state.new ≡ editing.base.state)
+        × (undo.new ≡ editing.base.recorded)) }
+    ensures sized { IsSized state.new }
 {
-    match made {
-        Ok(()) => Ok(editing.commit(state)),
-        Err(NoMemory) => {
-            editing.roll_back(state);
-            Err(NoMemory)
-        }
-    }
+    let ended = match made {
+        Ok(()) => editing.commit(state),
+        Err(NoMemory) => editing.roll_back(state),
+    };
+    mem::replace(undo, ended).retire();
+    state.sizes();
+    made
 }
 
 // The move of a core whose task is known.
 fn play_core(
     alloc: Global,
     state: &mut State,
+    undo: &mut Undo,
     app: &App,
     core: usize,
     task: usize,
-) -> Result<Undo, NoMemory>
+) -> Result<(), NoMemory>
     requires caller { IsCalling app.now state.old task }
     requires core { core < length state.old.cores }
     requires task { core_at state.old core ≡ Some task }
-    ensures state { OnOk result (state.new ≡ core_step app.now state.old core task) }
-    ensures undone { IfOk result (λ undo. undone state.new undo ≡ state.old) }
-    ensures can_undo { IfOk result (λ undo. CanUndo state.new undo) }
-    ensures small { IfOk result
-        (λ undo. weight_of undo ≤ instr_cost state.old (next_instr app.now state.old task)
-        + 1 + 3 * length state.old.cores) }
-    ensures err { OnErr result (state.new ≡ state.old) }
-    ensures valid { OnOk result (IsValid app.now state.new) }
-    ensures settled { OnOk result (IsSettled (priorities_of app.now) state.new) }
+    ensures before { OnOk result (take (length undo.old) undo.new ≡ undo.old) }
+    ensures played { OnOk result
+        (IsPlayed app.now state.old (Move.Core core) state.new (added undo.old undo.new)) }
+    ensures err { OnErr result ((state.new ≡ state.old) × (undo.new ≡ undo.old)) }
 {
     app.limits();
-    let mut editing = Editing::begin(alloc, mem::replace(state, State::hollow(alloc)));
+    let before = mem::replace(undo, Undo::new(alloc));
+    let mut editing = Editing::begin(mem::replace(state, State::hollow(alloc)), before);
     let made = move_core(alloc, app, &mut editing, core, task);
-    let undo = finish(editing, made, state)?;
-    state.sizes();
-    Ok(undo)
+    finish(editing, made, state, undo)
 }
 
 // A tick that isn't the last one.
-fn play_tick(alloc: Global, state: &mut State, app: &App) -> Result<Undo, NoMemory>
+fn play_tick(alloc: Global, state: &mut State, undo: &mut Undo, app: &App) -> Result<(), NoMemory>
     requires valid { IsValid app.now state.old }
     requires later { state.old.tick < last_tick }
-    ensures state { OnOk result (state.new ≡ tick_step app.now state.old) }
-    ensures undone { IfOk result (λ undo. undone state.new undo ≡ state.old) }
-    ensures can_undo { IfOk result (λ undo. CanUndo state.new undo) }
-    ensures small { IfOk result
-        (λ undo. weight_of undo ≤ 5 + 3 * length state.old.tasks + 3 * length state.old.cores) }
-    ensures err { OnErr result (state.new ≡ state.old) }
-    ensures valid { OnOk result (IsValid app.now state.new) }
-    ensures settled { OnOk result (IsSettled (priorities_of app.now) state.new) }
+    ensures before { OnOk result (take (length undo.old) undo.new ≡ undo.old) }
+    ensures played { OnOk result
+        (IsPlayed app.now state.old Move.Tick state.new (added undo.old undo.new)) }
+    ensures err { OnErr result ((state.new ≡ state.old) × (undo.new ≡ undo.old)) }
 {
     app.limits();
-    let mut editing = Editing::begin(alloc, mem::replace(state, State::hollow(alloc)));
+    let before = mem::replace(undo, Undo::new(alloc));
+    let mut editing = Editing::begin(mem::replace(state, State::hollow(alloc)), before);
     let made = move_tick(app, &mut editing);
-    let undo = finish(editing, made, state)?;
-    state.sizes();
-    Ok(undo)
+    finish(editing, made, state, undo)
+}
+
+/// Makes a move and adds its record, which undoes it exactly, to those of the moves before. A
+/// refusal leaves the state and the record as they were: `NoTask` where the core is idle,
+/// `TickLimit` where the tick is 4,294,967,295, `NoMemory` where a growth was refused. There is no
+/// other.
+pub fn play_on(
+    alloc: Global,
+    state: &mut State,
+    undo: &mut Undo,
+    app: &App,
+    action: Move,
+) -> Result<(), Refusal>
+    requires valid { IsValid app.now state.old }
+    requires named { IsMoveOf app.now action }
+    ensures before { OnOk result (take (length undo.old) undo.new ≡ undo.old) }
+    ensures played { OnOk result
+        (IsPlayed app.now state.old action state.new (added undo.old undo.new)) }
+    ensures no_task { IsErrOf result Refusal.NoTask
+        ↔ (step app.now state.old action ≡ Err Refusal.NoTask) }
+    ensures tick_limit { IsErrOf result Refusal.TickLimit
+        ↔ (step app.now state.old action ≡ Err Refusal.TickLimit) }
+    ensures refusals { IfErr result (λ refusal.
+        (step app.now state.old action ≡ Err refusal) ⊎ (refusal ≡ Refusal.NoMemory)) }
+    ensures err { OnErr result ((state.new ≡ state.old) × (undo.new ≡ undo.old)) }
+{
+    match action {
+        Move::Core { core } => {
+            let Some(task) = caller_on(app, state, core) else {
+                return Err(Refusal::NoTask);
+            };
+            play_core(alloc, state, undo, app, core, task).map_err(Refusal::from)
+        }
+        Move::Tick if state.tick() == u32::MAX => Err(Refusal::TickLimit),
+        Move::Tick => play_tick(alloc, state, undo, app).map_err(Refusal::from),
+    }
 }
 
 /// Makes a move and answers its record, which undoes it exactly. A refusal leaves the state as it
@@ -119,15 +149,13 @@ pub fn play(alloc: Global, state: &mut State, app: &App, action: Move) -> Result
     ensures valid { OnOk result (IsValid app.now state.new) }
     ensures settled { OnOk result (IsSettled (priorities_of app.now) state.new) }
 {
-    match action {
-        Move::Core { core } => {
-            let Some(task) = caller_on(app, state, core) else {
-                return Err(Refusal::NoTask);
-            };
-            play_core(alloc, state, app, core, task).map_err(Refusal::from)
+    let mut undo = Undo::new(alloc);
+    match play_on(alloc, state, &mut undo, app, action) {
+        Ok(()) => Ok(undo),
+        Err(refusal) => {
+            undo.retire();
+            Err(refusal)
         }
-        Move::Tick if state.tick() == u32::MAX => Err(Refusal::TickLimit),
-        Move::Tick => play_tick(alloc, state, app).map_err(Refusal::from),
     }
 }
 

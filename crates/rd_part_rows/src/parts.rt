@@ -9,6 +9,7 @@ use rd_state::change::Change;
 use rd_state::editing::Editing;
 use rd_state::phase::Place;
 use rd_state::state::State;
+use rd_state::undo::Undo;
 use rd_text::refusal::Refusal;
 use rd_timeline::log::Log;
 use rd_timeline::timeline::Timeline;
@@ -136,11 +137,11 @@ fn puts_to_wait(rt: &impl Abort, editing: &mut Editing) -> Result<(), Fail> {
 fn waiting_is_undone(rt: HostRuntime) -> Result<(), Fail> {
     let alloc = rt.alloc();
     let boot = State::boot(alloc, &App::builtin(alloc)?)?;
-    let mut editing = Editing::begin(alloc, boot.copy(alloc)?);
+    let mut editing = Editing::begin(boot.copy(alloc)?, Undo::new(alloc));
     let result = puts_to_wait(&rt, &mut editing);
     let differs = !editing.state().same(&boot);
     let mut state = State::hollow(alloc);
-    editing.roll_back(&mut state);
+    editing.roll_back(&mut state).retire();
     result?;
     assert!(rt; differs);
     assert!(rt; state.same(&boot));

@@ -1,5 +1,5 @@
 -- Transfers: the change that each makes fits.
-use Rattle.std.proofs.Common.{◌≡◌, ◌∙◌, ℕ, ◌<◌, ◌≤◌, List, [], ◌∷◌, ◌++◌, length, get_or, replicate, refl, subst, sym, arith}
+use Rattle.std.proofs.Common.{◌≡◌, ◌∙◌, ℕ, ◌<◌, ◌≤◌, List, [], ◌∷◌, ◌++◌, length, drop, get_or, replicate, refl, subst, sym, arith}
 use Rattle.std.proofs.lemmas.List.{length-append, length-replicate, length-take-le}
 use Rattle.std.proofs.lemmas.List.Elements.{All-get_or}
 use Rattle.std.specs.Prelude.{Result, OnOk, OnErr}
@@ -12,12 +12,12 @@ use Rattle.rd_state.specs.declared.transfer.Transfer.{Transfer}
 use Rattle.rd_state.specs.declared.transfer.Transfer.TheVariants.{DataToQueue, DataOverFront, FrontToData}
 use Rattle.rd_state.specs.declared.change.Change.{Change}
 use Rattle.rd_state.specs.Change.{applied, cost_of, inverse_of, Fits, items_at}
-use Rattle.rd_state.specs.Edit.{Edit, Reaches}
+use Rattle.rd_state.specs.Edit.{Edit, Reaches, edit_of}
 use Rattle.rd_state.specs.Sizes.{IsSized}
 use Rattle.rd_state.specs.Snapshot.{Snapshot, queue_at, task_at}
 use Rattle.rd_state.specs.Transfers.{change_of, CanTransfer}
 use Rattle.rd_state.specs.Undoing.{CanUndo}
-use Rattle.rd_state.proofs.EditLaws.{CanUndo-from_act, Reaches-from_act, edit_of}
+use Rattle.rd_state.proofs.EditLaws.{CanUndo-from_act, Reaches-from_act}
 use Rattle.rd_state.proofs.UndoLaws.{queue_sized}
 
 length-fitted : (size : ℕ) (bytes : List ℕ) → length (fitted size bytes) ≡ size
@@ -45,22 +45,22 @@ transfer_fits s (DataOverFront task queue) sized can =
 transfer_fits s (FrontToData queue task) sized can = (can.1, omega (arith, first_is_short s queue sized can.0 can.2), tt)
 
 -- what `act_transfer` makes of a state and its record
-pub Reaches-from_transfer : {T E : Type 0} (r : Result T E) (old : Edit) (s s' : Snapshot) (changes changes' : List Change) (transfer : Transfer)
-    → edit_of s changes ≡ old → IsSized s → CanTransfer old.now transfer
+pub Reaches-from_transfer : {T E : Type 0} (r : Result T E) (old : Edit) (s s' : Snapshot) (changes changes' : List Change) (start : ℕ) (transfer : Transfer)
+    → edit_of s changes start ≡ old → IsSized s → CanTransfer old.now transfer → start ≤ length changes
     → OnOk r (s' ≡ applied s (change_of s transfer)) → OnOk r (changes' ≡ changes ++ inverse_of s (change_of s transfer) ∷ [])
-    → OnOk r (Reaches old (edit_of s' changes') (applied old.now (change_of old.now transfer)) (cost_of (inverse_of old.now (change_of old.now transfer))))
-Reaches-from_transfer r old s s' changes changes' transfer e sized =
-    let P : Edit → Type 0 = λ f. CanTransfer f.now transfer
+    → OnOk r (Reaches old (edit_of s' changes' start) (applied old.now (change_of old.now transfer)) (cost_of (inverse_of old.now (change_of old.now transfer))))
+Reaches-from_transfer r old s s' changes changes' start transfer e sized =
+    let P : Edit → Type 0 = λ f. CanTransfer f.now transfer → start ≤ length changes
     → OnOk r (s' ≡ applied s (change_of s transfer)) → OnOk r (changes' ≡ changes ++ inverse_of s (change_of s transfer) ∷ [])
-    → OnOk r (Reaches f (edit_of s' changes') (applied f.now (change_of f.now transfer)) (cost_of (inverse_of f.now (change_of f.now transfer)))) in
+    → OnOk r (Reaches f (edit_of s' changes' start) (applied f.now (change_of f.now transfer)) (cost_of (inverse_of f.now (change_of f.now transfer)))) in
     subst P e
-    (λ can. Reaches-from_act r (edit_of s changes) s s' changes changes' (change_of s transfer) refl sized (transfer_fits s transfer sized can))
+    (λ can. Reaches-from_act r (edit_of s changes start) s s' changes changes' start (change_of s transfer) refl sized (transfer_fits s transfer sized can))
 
-pub CanUndo-from_transfer : {T E : Type 0} (r : Result T E) (old : Edit) (s s' : Snapshot) (changes changes' : List Change) (transfer : Transfer)
-    → edit_of s changes ≡ old → IsSized s → CanTransfer old.now transfer → CanUndo s changes
+pub CanUndo-from_transfer : {T E : Type 0} (r : Result T E) (old : Edit) (s s' : Snapshot) (changes changes' : List Change) (start : ℕ) (transfer : Transfer)
+    → edit_of s changes start ≡ old → IsSized s → CanTransfer old.now transfer → (start ≤ length changes) × CanUndo s (drop start changes)
     → OnOk r (s' ≡ applied s (change_of s transfer)) → OnOk r (changes' ≡ changes ++ inverse_of s (change_of s transfer) ∷ [])
     → OnErr r ((s' ≡ s) × (changes' ≡ changes))
-    → CanUndo s' changes'
-CanUndo-from_transfer r old s s' changes changes' transfer e sized can =
+    → (start ≤ length changes') × CanUndo s' (drop start changes')
+CanUndo-from_transfer r old s s' changes changes' start transfer e sized can =
     let here = subst (λ (f : Edit). CanTransfer f.now transfer) (sym e) can in
-    CanUndo-from_act r (edit_of s changes) s s' changes changes' (change_of s transfer) refl sized (transfer_fits s transfer sized here)
+    CanUndo-from_act r (edit_of s changes start) s s' changes changes' start (change_of s transfer) refl sized (transfer_fits s transfer sized here)

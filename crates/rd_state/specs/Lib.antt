@@ -7,8 +7,8 @@ pub mod TaskChanges
 pub mod Change
 pub mod Transfers
 pub mod Inside
-pub mod Edit
 pub mod Undoing
+pub mod Edit
 pub mod Settled
 pub mod Boot
 pub mod Valid

@@ -11,6 +11,7 @@ ghost use Rattle.rd_state.specs.Valid.{IsValid};
 use crate::editing::Editing;
 use crate::state::State;
 use crate::task::Task;
+use crate::undo::Undo;
 use rd_app::app::{App, SetShape};
 use rd_bytes::no_memory::NoMemory;
 use rd_queue::queue::Queue;
@@ -100,7 +101,7 @@ impl State {
     {
         let before = State::before_scheduling(alloc, app)?;
         app.limits();
-        let mut editing = Editing::begin(alloc, before);
+        let mut editing = Editing::begin(before, Undo::new(alloc));
         let settled = editing.settle(app.priorities());
         let mut state = State::hollow(alloc);
         editing.commit(&mut state).retire();

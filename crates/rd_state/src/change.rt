@@ -46,10 +46,3 @@ impl Change {
         }
     }
 }
-
-/// A change of nothing that matters, for room in a record that no change has taken yet.
-impl Default for Change {
-    fn default() -> Change {
-        Change::SetTurn { turn: 0 }
-    }
-}

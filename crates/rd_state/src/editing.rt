@@ -2,11 +2,10 @@
 
 ghost use Rattle.std.specs.Prelude.{◌≡◌, ◌<◌, ◌≤◌, length, insert, remove};
 ghost use Rattle.std.specs.Prelude.{OnOk, OnErr};
-ghost use Rattle.rd_state.specs.Change.{applied, inverse_of, cost_of, weight_of, Fits};
-ghost use Rattle.rd_state.specs.Edit.{Reaches};
+ghost use Rattle.rd_state.specs.Change.{applied, inverse_of, cost_of, Fits};
+ghost use Rattle.rd_state.specs.Edit.{GoesOn, Reaches};
 ghost use Rattle.rd_state.specs.Sizes.{IsSized};
 ghost use Rattle.rd_state.specs.Transfers.{change_of, CanTransfer};
-ghost use Rattle.rd_state.specs.Undoing.{undone, CanUndo};
 ghost use Rattle.rd_state.specs.Waiting.{HasPlace, waiting_at, with_waiting_at};
 
 use crate::change::Change;
@@ -17,14 +16,15 @@ use crate::undo::{Undo, act, act_transfer};
 use rd_bytes::no_memory::NoMemory;
 use rd_queue::change::QueueChange;
 use rd_queue::set_change::SetChange;
-use std::alloc::Global;
 use std::marker::Model;
 
-/// A step in the middle: the state, which it owns, and the record of what was changed so far. The
-/// rules of the kernel are written over it. It ends in `commit` or in `roll_back`.
+/// A step in the middle: the state, which it owns, and a record, to which it adds what it changes.
+/// The rules of the kernel are written over it. It ends in `commit` or in `roll_back`.
 pub struct Editing {
     state: State,
     undo: Undo,
+    // So many changes the record had before.
+    start: usize,
 }
 
 impl Model for Editing {
@@ -32,27 +32,26 @@ impl Model for Editing {
 
     ghost Value = { Edit };
 
-    ghost use Rattle.rd_state.specs.Undoing.{undone, CanUndo};
-    ghost use Rattle.rd_state.specs.Change.{weight_of};
+    ghost use Rattle.std.specs.Prelude.{◌≤◌, length, drop};
+    ghost use Rattle.rd_state.specs.Edit.{edit_of};
+    ghost use Rattle.rd_state.specs.Undoing.{CanUndo};
 
-    ghost view = { λ e. record {
-      now = e.state;
-      base = undone e.state e.undo;
-      weight = weight_of e.undo;
-    } };
+    ghost view = { λ e. edit_of e.state e.undo e.start };
 
-    ghost invariant = { λ e. CanUndo e.state e.undo };
+    ghost invariant = { λ e. (e.start ≤ length e.undo) × CanUndo e.state (drop e.start e.undo) };
 }
 
 impl Editing {
-    /// Begins at a state, with nothing recorded.
-    pub fn begin(alloc: Global, state: State) -> Editing
-        ensures { result ≡ record { now = state; base = state; weight = 0 } }
+    /// Begins at a state, with a record to which the step's changes will be added.
+    pub fn begin(state: State, undo: Undo) -> Editing
+        ensures { result ≡ record {
+          now = state;
+          base = record { state = state; recorded = undo };
+          weight = 0;
+        } }
     {
-        Editing {
-            state,
-            undo: Undo::new(alloc),
-        }
+        let start = undo.len();
+        Editing { state, undo, start }
     }
 
     /// The state as it is now.
@@ -142,24 +141,30 @@ impl Editing {
     /// Ends the step: the state goes back to its owner, and the record is handed out.
     pub fn commit(self, state: &mut State) -> Undo
         ensures state { state.new ≡ self.now }
-        ensures leads_back { undone state.new result ≡ self.base }
-        ensures fits { CanUndo state.new result }
-        ensures weight { weight_of result ≡ self.weight }
+        ensures record { GoesOn self result }
     {
-        let Editing { state: now, undo } = self;
+        let Editing {
+            state: now,
+            undo,
+            start: _,
+        } = self;
         *state = now;
         undo
     }
 
-    /// Takes the step back: the state from before it goes back to its owner. It takes no memory.
-    pub fn roll_back(self, state: &mut State)
-        ensures { state.new ≡ self.base }
+    /// Takes the step back: the state from before it goes back to its owner, and the record is
+    /// handed out as it was. It takes no memory.
+    pub fn roll_back(self, state: &mut State) -> Undo
+        ensures state { state.new ≡ self.base.state }
+        ensures record { result ≡ self.base.recorded }
     {
         let Editing {
             state: mut now,
-            undo,
+            mut undo,
+            start,
         } = self;
-        now.back(undo);
+        now.back_to(&mut undo, start);
         *state = now;
+        undo
     }
 }

@@ -1,6 +1,7 @@
 //! Records of changes, and the way back by one.
 
-ghost use Rattle.std.specs.Prelude.{◌≡◌, ◌∷◌, ◌++◌, ◌^◌, ◌<◌, [], OnOk, OnErr};
+ghost use Rattle.std.specs.Prelude.{◌≡◌, ◌∷◌, ◌++◌, ◌^◌, ◌<◌, ◌≤◌, [], length, drop, take};
+ghost use Rattle.std.specs.Prelude.{IfErr, OnOk, OnErr};
 ghost use Rattle.rd_state.specs.Change.{applied, inverse_of, cost_of, weight_of, Fits};
 ghost use Rattle.rd_state.specs.Transfers.{change_of, CanTransfer};
 ghost use Rattle.rd_state.specs.Undoing.{undone, CanUndo, EachIsUndone};
@@ -9,18 +10,13 @@ use crate::change::Change;
 use crate::state::State;
 use crate::transfer::Transfer;
 use rd_bytes::no_memory::NoMemory;
-use smallvec::SmallVec;
 use std::alloc::Global;
 use std::marker::Model;
 
-/// How many changes a record keeps without memory elsewhere: those of a call that receives at its
-/// first try and passes the turn.
-const INLINE: usize = 5;
-
-/// The record of a move: the changes that undo it, in the order of recording. It can't be dropped:
-/// it ends in `State::back`, in a log or in `retire`.
+/// The record of a move, or of moves one after the other: the changes that undo them, in the order
+/// of recording. It can't be dropped: it ends in `State::back`, in a log or in `retire`.
 pub struct Undo {
-    changes: SmallVec<Change, INLINE>,
+    changes: Vec<Change>,
 }
 
 impl Model for Undo {
@@ -38,13 +34,20 @@ impl Undo {
         ensures { result ≡ [] }
     {
         Undo {
-            changes: SmallVec::new(alloc),
+            changes: Vec::new(alloc),
         }
     }
 
     /// Ends a record that nobody will go back by.
     pub fn retire(self) {
         let Undo { changes: _ } = self;
+    }
+
+    /// How many changes it has.
+    pub fn len(&self) -> usize
+        ensures { result ≡ length self.now }
+    {
+        self.changes.len()
     }
 
     /// How much it takes: the number of its changes and the bytes that they carry.
@@ -65,6 +68,19 @@ impl Undo {
     {
         self.changes.push(change)?;
         Ok(())
+    }
+
+    /// Adds the changes of another record after its own. Where there is no memory for that, the
+    /// other is handed back and this one is as it was.
+    pub fn append(&mut self, other: Undo) -> Result<(), Undo>
+        ensures ok { OnOk result (self.new ≡ self.old ++ other) }
+        ensures err { IfErr result (λ back. (back ≡ other) × (self.new ≡ self.old)) }
+    {
+        let Undo { mut changes } = other;
+        match self.changes.append(&mut changes) {
+            Ok(()) => Ok(()),
+            Err(_) => Err(Undo { changes }),
+        }
     }
 }
 
@@ -101,16 +117,29 @@ pub fn act_transfer(state: &mut State, undo: &mut Undo, transfer: Transfer) -> R
 }
 
 impl State {
+    /// Goes back by the changes that a record has after its first `len`, the last one first; they
+    /// leave the record. It takes no memory.
+    pub fn back_to(&mut self, undo: &mut Undo, len: usize)
+        requires within { len ≤ length undo.old }
+        requires fits { CanUndo self.old (drop len undo.old) }
+        ensures state { self.new ≡ undone self.old (drop len undo.old) }
+        ensures record { undo.new ≡ take len undo.old }
+    {
+        while undo.changes.len() > len {
+            let change = undo.changes.pop().unwrap();
+            self.apply(&change);
+            drop(change);
+        }
+    }
+
     /// Goes back by a record, its last change first. It takes no memory.
     pub fn back(&mut self, undo: Undo)
         requires { CanUndo self.old undo }
         ensures { self.new ≡ undone self.old undo }
     {
-        let Undo { mut changes } = undo;
-        while let Some(change) = changes.pop() {
-            self.apply(&change);
-            drop(change);
-        }
+        let mut undo = undo;
+        self.back_to(&mut undo, 0);
+        undo.retire();
     }
 }
 

@@ -1,4 +1,6 @@
 -- Laws of the timeline, and worked rows.
+pub mod CutLaws
+pub mod LogLaws
 pub mod JournalLaws
 pub mod HistoryLaws
 pub mod TimelineLaws

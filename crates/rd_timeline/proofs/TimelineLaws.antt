@@ -1,7 +1,7 @@
 -- What a timeline keeps of its fields.
-use Rattle.std.proofs.Common.{◌≡◌, ◌≢◌, List, [], ◌∷◌, ◌++◌, length, refl, ap, subst, sym, arith}
+use Rattle.std.proofs.Common.{◌≡◌, ◌∙◌, ◌≢◌, ◌+◌, ◌-◌, ◌<◌, take, List, [], ◌∷◌, ◌++◌, length, refl, ap, subst, sym, arith}
 use Rattle.std.specs.Prelude.{Ok}
-use Rattle.std.proofs.lemmas.List.{length_push}
+use Rattle.std.proofs.lemmas.List.{length_push, take_all, take_more}
 use Rattle.rd_app.specs.Application.{IsApplication, priorities_of}
 use Rattle.rd_state.specs.declared.change.Change.{Change}
 use Rattle.rd_state.specs.Boot.{boot_of}
@@ -16,6 +16,7 @@ use Rattle.rd_timeline.specs.Course.{Course, IsKept}
 use Rattle.rd_timeline.specs.History.{CanRewind, Retraces}
 use Rattle.rd_timeline.specs.Inside.{IsWhole, course_of}
 use Rattle.rd_timeline.specs.JournalView.{JournalView, TakesBack}
+use Rattle.rd_timeline.specs.LogView.{last_record}
 use Rattle.rd_timeline.proofs.HistoryLaws.{CanRewind-push, CanRewind-pop, Retraces-boot, Retraces-push, Retraces-pop}
 
 -- a course over the moves and records of a journal
@@ -83,6 +84,17 @@ IsKept-pop c moves rest records move last kept done log =
       },
       popped.0,
     )
+
+-- The records of some moves: those before the last one, and the last one.
+pub up_to_last : (records : List (List Change)) → 0 < length records → records ≡ take (length records - 1) records ++ last_record records ∷ []
+up_to_last records some =
+    let last = length records - 1 in
+    sym (take_all (last + 1) records (omega (arith, some))) ∙ take_more records last [] (omega (arith, some))
+
+pub can_undo_last : (t : Inside) → IsWhole t → 0 < length t.journal.done → CanUndo t.target (last_record t.journal.records)
+can_undo_last t whole some =
+    let there = up_to_last t.journal.records (omega (arith, some, whole.kept.records)) in
+    (CanRewind-pop t.target _ _ (subst (CanRewind t.target) there whole.kept.rewinds)).0
 
 -- the fields after one move more
 pub IsWhole-push : (t : Inside) (s : Snapshot) (journal : JournalView) (move : Move) (last : List Change) → IsWhole t

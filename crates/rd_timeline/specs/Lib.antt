@@ -1,4 +1,5 @@
 -- What the contracts of the timeline cite.
+pub mod Cut
 pub mod LogView
 pub mod JournalView
 pub mod JournalInside

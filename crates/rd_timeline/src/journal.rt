@@ -1,11 +1,19 @@
 //! The moves done and undone, and the records that lead back through those done.
 
-ghost use Rattle.std.specs.Prelude.{◌≡◌, ◌∷◌, ◌++◌, ◌<◌, ◌≤◌, [], length, IfErr, IsOk, OnOk};
+ghost use Rattle.std.specs.Prelude.{◌≡◌, ◌↔◌, ◌-◌, ◌∷◌, ◌++◌, ◌<◌, ◌≤◌, ◌⊎◌, [], length, take};
+ghost use Rattle.std.specs.Prelude.{Err, IfErr, IsErrOf, IsOk, OnErr, OnOk};
+ghost use Rattle.rd_calls.specs.Step.{step, IsMoveOf};
+ghost use Rattle.rd_state.specs.Undoing.{undone, CanUndo};
+ghost use Rattle.rd_state.specs.Valid.{IsValid};
 ghost use Rattle.rd_timeline.specs.JournalView.{IsAsBefore, TakesBack};
+ghost use Rattle.rd_timeline.specs.LogView.{last_record, Lays};
 
 use crate::log::Log;
+use rd_app::app::App;
+use rd_bytes::no_memory::NoMemory;
 use rd_calls::moves::Move;
-use rd_state::undo::Undo;
+use rd_state::state::State;
+use rd_text::refusal::Refusal;
 use std::alloc::Global;
 use std::marker::Model;
 
@@ -59,42 +67,66 @@ impl Journal {
         self.moves.len() - self.done
     }
 
-    /// Lays a move on the moves done, with its record, and forgets the moves undone. Where there is
-    /// no memory for that, the record is handed back and nothing has changed. It needs none while
-    /// there is room for more moves done, as there is after going back.
-    pub fn keep(&mut self, action: Move, undo: Undo) -> Result<(), Undo>
-        ensures done { OnOk result (self.new.done ≡ self.old.done ++ action ∷ []) }
-        ensures records { OnOk result (self.new.records ≡ self.old.records ++ undo ∷ []) }
-        ensures undone { OnOk result (self.new.undone ≡ []) }
-        ensures err { IfErr result (λ back. (back ≡ undo) × IsAsBefore self.old self.new) }
+    /// Makes room for one move more done, with its record. Where there is no memory for that,
+    /// nothing else has changed. It needs none where there is room for more moves done, as there is
+    /// after going back.
+    pub fn reserve(&mut self) -> Result<(), NoMemory>
+        ensures same { IsAsBefore self.old self.new }
+        ensures ok { OnOk result (length self.new.done < self.new.room) }
         ensures enough { length self.old.done < self.old.room → IsOk result }
         ensures room { self.old.room ≤ self.new.room }
     {
         let missing = (self.done + 1).saturating_sub(self.moves.len());
-        if self.moves.reserve(missing).is_err() {
-            return Err(undo);
-        }
-        match self.log.push(undo) {
-            Ok(()) => {
-                self.moves.truncate(self.done);
-                self.moves.push_reserved(action);
-                self.done += 1;
-                Ok(())
-            }
-            Err(undo) => Err(undo),
-        }
+        self.moves.reserve(missing)?;
+        self.log.reserve()
     }
 
-    /// Takes the last move done back: it becomes the first of the moves undone, and its record is
-    /// handed out. It takes no memory, and the room stays.
-    pub fn take_back(&mut self) -> Undo
-        requires { 0 < length self.old.done }
+    /// Makes a move: it is laid on the moves done, with its record, and the moves undone are
+    /// forgotten. A refusal is one of `play_on`, and leaves the state, the moves and their records
+    /// as they were.
+    pub fn play(
+        &mut self,
+        alloc: Global,
+        state: &mut State,
+        app: &App,
+        action: Move,
+    ) -> Result<(), Refusal>
+        requires valid { IsValid app.now state.old }
+        requires named { IsMoveOf app.now action }
+        requires room { length self.old.done < self.old.room }
+        ensures lays { OnOk result
+            (Lays app.now state.old action state.new self.old.records self.new.records) }
+        ensures done { OnOk result (self.new.done ≡ self.old.done ++ action ∷ []) }
+        ensures undone { OnOk result (self.new.undone ≡ []) }
+        ensures no_task { IsErrOf result Refusal.NoTask
+            ↔ (step app.now state.old action ≡ Err Refusal.NoTask) }
+        ensures tick_limit { IsErrOf result Refusal.TickLimit
+            ↔ (step app.now state.old action ≡ Err Refusal.TickLimit) }
+        ensures refusals { IfErr result (λ refusal.
+            (step app.now state.old action ≡ Err refusal) ⊎ (refusal ≡ Refusal.NoMemory)) }
+        ensures err { OnErr result ((state.new ≡ state.old) × IsAsBefore self.old self.new) }
+        ensures kept_room { self.new.room ≡ self.old.room }
+    {
+        self.log.play(alloc, state, app, action.copy())?;
+        self.moves.truncate(self.done);
+        self.moves.push_reserved(action);
+        self.done += 1;
+        Ok(())
+    }
+
+    /// Takes the last move done back: the state goes back by its record, and it becomes the first
+    /// of the moves undone. It takes no memory, and the room stays.
+    pub fn take_back(&mut self, state: &mut State)
+        requires some { 0 < length self.old.done }
+        requires can_undo { CanUndo state.old (last_record self.old.records) }
+        ensures state { state.new ≡ undone state.old (last_record self.old.records) }
         ensures moves { TakesBack self.old self.new }
-        ensures records { self.old.records ≡ self.new.records ++ result ∷ [] }
+        ensures records { self.new.records
+            ≡ take (length self.old.records - 1) self.old.records }
         ensures room { self.new.room ≡ self.old.room }
     {
         self.done -= 1;
-        self.log.pop()
+        self.log.take_back(state);
     }
 
     /// Ends the journal: nobody will go back any more.

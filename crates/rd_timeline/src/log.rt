@@ -1,23 +1,43 @@
 //! The records of the moves done.
 
-ghost use Rattle.std.specs.Prelude.{◌≡◌, ◌∷◌, ◌++◌, ◌<◌, ◌≤◌, [], length, IfErr, IsOk, OnOk};
+ghost use Rattle.std.specs.Prelude.{◌≡◌, ◌↔◌, ◌-◌, ◌∷◌, ◌++◌, ◌<◌, ◌≤◌, ◌⊎◌, [], length, take};
+ghost use Rattle.std.specs.Prelude.{Err, IfErr, IsErrOf, IsOk, OnErr, OnOk};
+ghost use Rattle.rd_calls.specs.Step.{step, IsMoveOf};
+ghost use Rattle.rd_state.specs.Undoing.{undone, CanUndo};
+ghost use Rattle.rd_state.specs.Valid.{IsValid};
+ghost use Rattle.rd_timeline.specs.LogView.{last_record, Lays};
 
+use rd_app::app::App;
+use rd_bytes::no_memory::NoMemory;
+use rd_calls::moves::Move;
+use rd_calls::play::play_on;
+use rd_state::state::State;
 use rd_state::undo::Undo;
+use rd_text::refusal::Refusal;
 use std::alloc::Global;
 use std::marker::Model;
 
 /// The records of the moves done, in order. It can't be dropped: it ends in `retire`.
 pub struct Log {
-    records: Vec<Undo>,
+    // The changes of all records, one record after the other.
+    undo: Undo,
+    // How many of them each record has.
+    counts: Vec<usize>,
 }
 
 impl Model for Log {
-    ghost use Rattle.std.specs.Prelude.{vec_capacity};
+    ghost use Rattle.std.specs.Prelude.{◌≡◌, length, vec_capacity};
+    ghost use Rattle.rd_timeline.specs.Cut.{cut, total};
     ghost use Rattle.rd_timeline.specs.LogView.{LogView};
 
     ghost Value = { LogView };
 
-    ghost view = { λ l. record { records = l.records.items; room = vec_capacity l.records } };
+    ghost view = { λ l. record {
+      records = cut l.counts.items l.undo;
+      room = vec_capacity l.counts;
+    } };
+
+    ghost invariant = { λ l. total l.counts.items ≡ length l.undo };
 }
 
 impl Log {
@@ -26,7 +46,8 @@ impl Log {
         ensures { result.records ≡ [] }
     {
         Log {
-            records: Vec::new(alloc),
+            undo: Undo::new(alloc),
+            counts: Vec::new(alloc),
         }
     }
 
@@ -34,35 +55,88 @@ impl Log {
     pub fn len(&self) -> usize
         ensures { result ≡ length self.now.records }
     {
-        self.records.len()
+        self.counts.len()
     }
 
-    /// Puts a record at the end. Where the log can't grow, the record is handed back and the others
-    /// are as they were. It needs no memory while there are fewer records than there is room for.
-    pub fn push(&mut self, undo: Undo) -> Result<(), Undo>
-        ensures ok { OnOk result (self.new.records ≡ self.old.records ++ undo ∷ []) }
-        ensures err { IfErr result (λ back. (back ≡ undo) × (self.new.records ≡ self.old.records)) }
+    /// Makes room for one record more. Where there is no memory for that, the log is as it was. It
+    /// needs none while there are fewer records than there is room for.
+    pub fn reserve(&mut self) -> Result<(), NoMemory>
+        ensures records { self.new.records ≡ self.old.records }
+        ensures ok { OnOk result (length self.new.records < self.new.room) }
         ensures enough { length self.old.records < self.old.room → IsOk result }
         ensures room { self.old.room ≤ self.new.room }
     {
-        self.records.push(undo).map_err(|failed| failed.value)
+        self.counts.reserve(1)?;
+        Ok(())
     }
 
-    /// Takes the record at the end. Its room stays.
-    pub fn pop(&mut self) -> Undo
-        requires { 0 < length self.old.records }
-        ensures records { self.old.records ≡ self.new.records ++ result ∷ [] }
+    /// Makes a move, and its record is the last one then. A refusal is one of `play_on`, and leaves
+    /// the state and the log as they were.
+    pub fn play(
+        &mut self,
+        alloc: Global,
+        state: &mut State,
+        app: &App,
+        action: Move,
+    ) -> Result<(), Refusal>
+        requires valid { IsValid app.now state.old }
+        requires named { IsMoveOf app.now action }
+        requires room { length self.old.records < self.old.room }
+        ensures lays { OnOk result
+            (Lays app.now state.old action state.new self.old.records self.new.records) }
+        ensures no_task { IsErrOf result Refusal.NoTask
+            ↔ (step app.now state.old action ≡ Err Refusal.NoTask) }
+        ensures tick_limit { IsErrOf result Refusal.TickLimit
+            ↔ (step app.now state.old action ≡ Err Refusal.TickLimit) }
+        ensures refusals { IfErr result (λ refusal.
+            (step app.now state.old action ≡ Err refusal) ⊎ (refusal ≡ Refusal.NoMemory)) }
+        ensures err { OnErr result ((state.new ≡ state.old)
+            × (self.new.records ≡ self.old.records)) }
+        ensures kept_room { self.new.room ≡ self.old.room }
+    {
+        let before = self.undo.len();
+        play_on(alloc, state, &mut self.undo, app, action)?;
+        self.counts.push_reserved(self.undo.len() - before);
+        Ok(())
+    }
+
+    /// Goes back by the last record, which leaves the log. It takes no memory, and the room stays.
+    pub fn take_back(&mut self, state: &mut State)
+        requires some { 0 < length self.old.records }
+        requires can_undo { CanUndo state.old (last_record self.old.records) }
+        ensures state { state.new ≡ undone state.old (last_record self.old.records) }
+        ensures records { self.new.records
+            ≡ take (length self.old.records - 1) self.old.records }
         ensures room { self.new.room ≡ self.old.room }
     {
-        self.records.pop().unwrap()
+        let count = self.counts.pop().unwrap();
+        let before = self.undo.len() - count;
+        state.back_to(&mut self.undo, before);
+    }
+
+    /// Puts a record at the end. Where there is no memory for it, the record is handed back and the
+    /// others are as they were.
+    pub fn push(&mut self, undo: Undo) -> Result<(), Undo>
+        ensures ok { OnOk result (self.new.records ≡ self.old.records ++ undo ∷ []) }
+        ensures err { IfErr result (λ back. (back ≡ undo) × (self.new.records ≡ self.old.records)) }
+        ensures room { self.old.room ≤ self.new.room }
+    {
+        if self.counts.reserve(1).is_err() {
+            return Err(undo);
+        }
+        let count = undo.len();
+        match self.undo.append(undo) {
+            Ok(()) => {
+                self.counts.push_reserved(count);
+                Ok(())
+            }
+            Err(undo) => Err(undo),
+        }
     }
 
     /// Ends the log: nobody will go back by its records.
     pub fn retire(self) {
-        let Log { mut records } = self;
-        while let Some(undo) = records.pop() {
-            undo.retire();
-        }
-        records.destroy_empty();
+        let Log { undo, counts: _ } = self;
+        undo.retire();
     }
 }

@@ -134,15 +134,15 @@ impl Timeline {
         if self.at() == self.limit {
             return Err(Refusal::MovesFull);
         }
-        // What is wrong with the move itself is found before room is made for it.
-        let undo = play(self.alloc, &mut self.target, &self.app, action.copy())?;
-        match self.journal.keep(action, undo) {
-            Ok(()) => Ok(self.at()),
-            Err(undo) => {
-                self.target.back(undo);
-                Err(Refusal::NoMemory)
-            }
+        if self.journal.reserve().is_err() {
+            // What is wrong with the move itself is the cause, if something is.
+            let undo = play(self.alloc, &mut self.target, &self.app, action)?;
+            self.target.back(undo);
+            return Err(Refusal::NoMemory);
         }
+        self.journal
+            .play(self.alloc, &mut self.target, &self.app, action)?;
+        Ok(self.at())
     }
 
     // Takes the last move back.
@@ -154,8 +154,7 @@ impl Timeline {
         ensures app { self.new.app ≡ self.old.app }
         ensures limit { self.new.limit ≡ self.old.limit }
     {
-        let last = self.journal.take_back();
-        self.target.back(last);
+        self.journal.take_back(&mut self.target);
     }
 
     /// Goes back by `n` moves, which can be redone, the last one undone first. Answers how many

@@ -1,12 +1,11 @@
 -- The goals of `play_tick` that the check left open.
 use Rattle.std.proofs.Common.{rules}
-use Rattle.rd_calls.proofs.StepLaws.{IsValid-tick, IsSettled-tick}
+use Rattle.rd_calls.proofs.PlayLaws.{IsPlayed-from, Leads-tick}
 use Rattle.rd_calls.proofs.play.play_tick.Goals as goal
 
-pub returns-clause-valid : goal.returns-clause-valid
-returns-clause-valid c =
-    IsValid-tick c.args.app.now c.args.state.now _ c.limits.ensures c.requires.valid (search rules) c.sizes.ensures
-
-pub returns-clause-settled : goal.returns-clause-settled
-returns-clause-settled c =
-    IsSettled-tick c.args.app.now c.args.state.now c.finish.new.state c.limits.ensures c.requires.valid (search rules)
+pub returns-clause-played : goal.returns-clause-played
+returns-clause-played c =
+    rw c.finish.ensures.made
+    (IsPlayed-from c.move_tick-made.result c.args.app.now c.args.state.now c.finish.new.state _ _ _ c.begin-editing.result _ c.args.undo.now
+    c.finish.new.undo (search rules) (Leads-tick c.args.app.now c.args.state.now c.limits.ensures c.requires.valid c.requires.later)
+    c.finish.ensures.sized (search rules) c.finish.ensures.state c.finish.ensures.record)

@@ -1,6 +1,5 @@
 -- The goals of `begin_tick` that the check left open.
-use Rattle.std.proofs.Common.{rules, subst}
-use Rattle.rd_state.specs.Sizes.{IsSized}
+use Rattle.std.proofs.Common.{rules}
 use Rattle.rd_calls.proofs.StepLaws.{room_when_due}
 use Rattle.rd_calls.proofs.tick.begin_tick.Goals as goal
 

@@ -1,0 +1,22 @@
+-- The goals of `Log::reserve` that the check left open.
+use Rattle.std.proofs.Common.{ap, arith, length}
+use Rattle.std.proofs.lemmas.Bool.{false≢true}
+use Rattle.rd_timeline.specs.LogView.{LogView}
+use Rattle.rd_timeline.proofs.CutLaws.{length-cut}
+use Rattle.rd_timeline.proofs.log.Log.reserve.Goals as goal
+
+pub returns-in_err-reserve-clause-enough : goal.returns-in_err-reserve-clause-enough
+returns-in_err-reserve-clause-enough c more =
+    absurd
+    (false≢true
+    (c.in_err-reserve.ensures.succeeds
+    (omega (
+      arith,
+      more,
+      length-cut c.self.inside.counts.items c.self.inside.undo,
+      ap (λ (v : LogView). length v.records) c.self.view_is,
+      ap (λ (v : LogView). v.room) c.self.view_is,
+    ))))
+
+pub returns-clause-ok : goal.returns-clause-ok
+returns-clause-ok c = omega (arith, length-cut c.reserve.new.self.items c.self.inside.undo, c.in_ok-reserve.ensures.ok)
