@@ -50,7 +50,9 @@ IsLess-pop counts rest undo count records whole popped is =
       whole = omega (arith, length-take (length undo - count) undo, start, sum);
       last =
           ap (λ n. drop n undo) start
-          ∙ sym (ap last_record parts ∙ get_or_push (cut rest undo) part [] (length (cut rest undo ++ part ∷ []) - 1) (omega (arith, length_push (cut rest undo) part)));
+          ∙ sym
+          (ap last_record parts
+          ∙ get_or_push (cut rest undo) part [] (length (cut rest undo ++ part ∷ []) - 1) (omega (arith, length_push (cut rest undo) part)));
       others =
           ap (λ n. cut rest (take n undo)) start ∙ cut-take rest (total rest) undo (omega arith)
           ∙ sym (ap (λ n. take n records) fewer ∙ ap (take (length (cut rest undo))) parts ∙ take-append_seam (cut rest undo) (part ∷ []));

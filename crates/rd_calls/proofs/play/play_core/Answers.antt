@@ -7,5 +7,6 @@ pub returns-clause-played : goal.returns-clause-played
 returns-clause-played c =
     rw c.finish.ensures.made
     (IsPlayed-from c.move_core-made.result c.args.app.now c.args.state.now c.finish.new.state _ _ _ c.begin-editing.result _ c.args.undo.now
-    c.finish.new.undo (search rules) (Leads-core c.args.app.now c.args.state.now c.args.core c.args.task c.limits.ensures c.requires.caller.valid c.requires.core c.requires.task)
+    c.finish.new.undo (search rules)
+    (Leads-core c.args.app.now c.args.state.now c.args.core c.args.task c.limits.ensures c.requires.caller.valid c.requires.core c.requires.task)
     c.finish.ensures.sized (search rules) c.finish.ensures.state c.finish.ensures.record)
