@@ -13,11 +13,11 @@ use Rattle.rd_calls.specs.declared.moves.Move.{Move}
 use Rattle.rd_calls.specs.Step.{step}
 use Rattle.rd_timeline.specs.declared.timeline.Timeline.TheInside.{Inside}
 use Rattle.rd_timeline.specs.Course.{Course, IsKept}
-use Rattle.rd_timeline.specs.History.{CanRewind, Retraces}
+use Rattle.rd_timeline.specs.History.{CanRewind, IsStateAfter, Retraces}
 use Rattle.rd_timeline.specs.Inside.{IsWhole, course_of}
 use Rattle.rd_timeline.specs.JournalView.{JournalView, TakesBack}
 use Rattle.rd_timeline.specs.LogView.{last_record}
-use Rattle.rd_timeline.proofs.HistoryLaws.{CanRewind-push, CanRewind-pop, Retraces-boot, Retraces-push, Retraces-pop}
+use Rattle.rd_timeline.proofs.HistoryLaws.{CanRewind-push, CanRewind-pop, Retraces-boot, Retraces-now, Retraces-push, Retraces-pop}
 
 -- a course over the moves and records of a journal
 abbrev over : Course → Snapshot → JournalView → Course
@@ -95,6 +95,10 @@ pub can_undo_last : (t : Inside) → IsWhole t → 0 < length t.journal.done →
 can_undo_last t whole some =
     let there = up_to_last t.journal.records (omega (arith, some, whole.kept.records)) in
     (CanRewind-pop t.target _ _ (subst (CanRewind t.target) there whole.kept.rewinds)).0
+
+-- the state now is that after the moves done
+pub state_now : (t : Inside) → IsWhole t → IsStateAfter t.app t.journal.done t.target
+state_now t whole = Retraces-now t.app t.journal.done t.journal.records t.target whole.kept.records whole.kept.retraces
 
 -- the fields after one move more
 pub IsWhole-push : (t : Inside) (s : Snapshot) (journal : JournalView) (move : Move) (last : List Change) → IsWhole t

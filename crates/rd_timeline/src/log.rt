@@ -26,8 +26,8 @@ pub struct Log {
 }
 
 impl Model for Log {
-    ghost use Rattle.std.specs.Prelude.{◌≡◌, length, vec_capacity};
-    ghost use Rattle.rd_timeline.specs.Cut.{cut, total};
+    ghost use Rattle.std.specs.Prelude.{◌≡◌, length, sum, vec_capacity};
+    ghost use Rattle.rd_timeline.specs.Cut.{cut};
     ghost use Rattle.rd_timeline.specs.LogView.{LogView};
 
     ghost Value = { LogView };
@@ -37,7 +37,7 @@ impl Model for Log {
       room = vec_capacity l.counts;
     } };
 
-    ghost invariant = { λ l. total l.counts.items ≡ length l.undo };
+    ghost invariant = { λ l. sum l.counts.items ≡ length l.undo };
 }
 
 impl Log {

@@ -3,13 +3,13 @@ use Rattle.std.proofs.Common.{◌≡◌, ◌∙◌, ◌++◌, ◌∷◌, [], ℕ
 use Rattle.std.proofs.Math.Seq.{drop-append_seam, take-append_seam}
 use Rattle.std.proofs.lemmas.List.{length-append}
 use Rattle.rd_state.specs.declared.change.Change.{Change}
-use Rattle.rd_timeline.specs.Cut.{total}
+use Rattle.std.specs.Prelude.{sum}
 use Rattle.rd_timeline.specs.LogView.{LogView}
 use Rattle.rd_timeline.proofs.LogLaws.{IsMore, IsMore-push}
 use Rattle.rd_timeline.proofs.log.Log.push.Goals as goal
 
 -- another record behind the others
-appended : (counts counts' : List ℕ) (undo undo' other : List Change) → total counts ≡ length undo → undo' ≡ undo ++ other
+appended : (counts counts' : List ℕ) (undo undo' other : List Change) → sum counts ≡ length undo → undo' ≡ undo ++ other
     → counts' ≡ counts ++ length other ∷ [] → IsMore counts counts' undo undo'
 appended counts counts' undo undo' other whole is pushed =
     IsMore-push counts counts' undo undo' (length other) whole (ap (take (length undo)) is ∙ take-append_seam undo other)

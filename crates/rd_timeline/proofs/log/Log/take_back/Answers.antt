@@ -1,7 +1,6 @@
 -- The goals of `Log::take_back` that the check left open.
 use Rattle.std.proofs.Common.{◌∙◌, ◌++◌, ◌-◌, ap, arith, drop, length, subst, sym, take}
-use Rattle.std.specs.Prelude.{Option, option_to_list}
-use Rattle.std.specs.Prelude.{ℕ}
+use Rattle.std.specs.Prelude.{ℕ, Option, option_to_list}
 use Rattle.rd_state.specs.Undoing.{undone, CanUndo}
 use Rattle.rd_timeline.specs.Cut.{cut}
 use Rattle.rd_timeline.specs.LogView.{LogView}

@@ -3,21 +3,15 @@ use Rattle.std.proofs.Common.{◌∙◌, ◌++◌, ◌∷◌, [], List, ap, rule
 use Rattle.rd_calls.specs.declared.moves.Move.{Move}
 use Rattle.rd_state.specs.declared.change.Change.{Change}
 use Rattle.rd_timeline.specs.History.{state_after}
-use Rattle.rd_timeline.proofs.HistoryLaws.{Retraces-now, state_after-push}
-use Rattle.rd_timeline.proofs.TimelineLaws.{IsWhole-push}
+use Rattle.rd_timeline.proofs.HistoryLaws.{state_after-push}
+use Rattle.rd_timeline.proofs.TimelineLaws.{IsWhole-push, state_now}
 use Rattle.rd_timeline.proofs.timeline.Timeline.go.Goals as goal
 
 pub play-requires-clause-valid : goal.play-requires-clause-valid
-play-requires-clause-valid c =
-    let t = c.self.inside in
-    let kept = c.self.invariant.kept in
-    (Retraces-now t.app t.journal.done t.journal.records t.target kept.records kept.retraces).valid
+play-requires-clause-valid c = (state_now c.self.inside c.self.invariant).valid
 
 pub play-requires-2-clause-valid : goal.play-requires-2-clause-valid
-play-requires-2-clause-valid c =
-    let t = c.self.inside in
-    let kept = c.self.invariant.kept in
-    (Retraces-now t.app t.journal.done t.journal.records t.target kept.records kept.retraces).valid
+play-requires-2-clause-valid c = (state_now c.self.inside c.self.invariant).valid
 
 pub invariant_of-self-2 : goal.invariant_of-self-2
 invariant_of-self-2 c =
@@ -36,5 +30,5 @@ returns-clause-leads c =
     ap (λ (moves : List Move). state_after t.app moves)
     (made.done ∙ ap (λ (moves : List Move). moves ++ c.args.action ∷ []) c.reserve.ensures.same.done)
     ∙ state_after-push t.app t.journal.done c.args.action t.target
-    (Retraces-now t.app t.journal.done t.journal.records t.target c.self.invariant.kept.records c.self.invariant.kept.retraces).state
+    (state_now t c.self.invariant).state
     ∙ made.lays.played.step
