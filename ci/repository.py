@@ -2,6 +2,8 @@
 import os
 import pathlib
 import re
+import shutil
+import subprocess
 
 TOP = pathlib.Path(__file__).resolve().parent.parent
 
@@ -25,3 +27,32 @@ def free_memory():
     """In bytes."""
     text = pathlib.Path("/proc/meminfo").read_text()
     return int(re.search(r"MemAvailable:\s+(\d+)", text)[1]) << 10
+
+
+def copy_sources(scratch):
+    """Copies what git tracks, and what it would, into a repository of its own."""
+    words = ["git", "ls-files", "-co", "--exclude-standard", "-z"]
+    listed = subprocess.run(words, cwd=TOP, check=True, capture_output=True).stdout.decode()
+    for name in filter(None, listed.split("\0")):
+        if (TOP / name).is_file():
+            (scratch / name).parent.mkdir(parents=True, exist_ok=True)
+            shutil.copy2(TOP / name, scratch / name)
+    subprocess.run(["git", "init", "-q"], cwd=scratch, check=True)
+
+
+def processor_seconds(process):
+    """What the process and those below it have used of the processors."""
+    below, spent = {}, {}
+    for file in pathlib.Path("/proc").glob("[0-9]*/stat"):
+        try:
+            fields = file.read_text().rpartition(")")[2].split()
+        except OSError:
+            continue
+        own = int(file.parent.name)
+        below.setdefault(int(fields[1]), []).append(own)
+        # Ticks of the process itself and of those below it that have ended, for the user and the kernel.
+        spent[own] = sum(map(int, fields[11:15]))
+    around = [process]
+    for each in around:
+        around += below.get(each, [])
+    return sum(spent.get(each, 0) for each in around) / os.sysconf("SC_CLK_TCK")
