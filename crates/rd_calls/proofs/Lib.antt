@@ -1,3 +1,4 @@
 -- The files of lemmas of rd_calls.
+pub mod HandleMoveLaws
 pub mod StepLaws
 pub mod PlayLaws

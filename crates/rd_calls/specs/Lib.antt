@@ -1,4 +1,5 @@
 -- The files of definitions of rd_calls.
+pub mod HandleMoves
 pub mod Local
 pub mod Step
 pub use Rattle.rd_state.specs.Snapshot

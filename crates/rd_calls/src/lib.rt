@@ -1,6 +1,7 @@
 //! The kernel's rules: what each move does to the target.
 #![tactic(auto)]
 
+pub mod laws;
 mod local;
 pub mod moves;
 mod perform;

@@ -1,7 +1,7 @@
 //! The instructions that touch nothing but their own task.
 ghost use Rattle.std.specs.Prelude.{◌≡◌, ◌+◌, ◌<◌, ◌≤◌, length, slice_index, OnOk, OnErr};
 ghost use Rattle.std.specs.Int.{w32, from_le_bytes};
-ghost use Rattle.rd_state.specs.Edit.{Reaches};
+ghost use Rattle.rd_state.specs.Edit.{Reaches, KeepsBase};
 ghost use Rattle.rd_state.specs.Snapshot.{task_at};
 ghost use Rattle.rd_kernel.specs.Costs.{data_cost};
 ghost use Rattle.rd_kernel.specs.Tasks.{register_at, with_register, with_bytes, advanced};
@@ -44,7 +44,7 @@ fn put_register(
     requires pc { (task_at editing.old.now task).pc < 256 }
     ensures ok { OnOk result (Reaches editing.old editing.new
         (advanced (with_register editing.old.now task register value) task) 2) }
-    ensures err { OnErr result (editing.new.base ≡ editing.old.base) }
+    ensures err { OnErr result (KeepsBase editing.old editing.new) }
 {
     set_register(editing, task, register, value)?;
     advance(editing, task)
@@ -62,7 +62,7 @@ fn put_bytes(
     requires pc { (task_at editing.old.now task).pc < 256 }
     ensures ok { OnOk result (Reaches editing.old editing.new
         (advanced (with_bytes editing.old.now task bytes.now) task) (data_cost + 1)) }
-    ensures err { OnErr result (editing.new.base ≡ editing.old.base) }
+    ensures err { OnErr result (KeepsBase editing.old editing.new) }
 {
     set_bytes(alloc, editing, task, bytes)?;
     advance(editing, task)
@@ -74,7 +74,7 @@ fn end_task(editing: &mut Editing, core: usize, task: usize) -> Result<(), NoMem
     requires core { core < length editing.old.now.cores }
     ensures ok { OnOk result (Reaches editing.old editing.new
         (with_idle_core (with_phase editing.old.now task Phase.Ended) core) 2) }
-    ensures err { OnErr result (editing.new.base ≡ editing.old.base) }
+    ensures err { OnErr result (KeepsBase editing.old editing.new) }
 {
     set_phase(editing, task, Phase::Ended)?;
     editing.change(Change::SetCore { core, task: None })
@@ -95,7 +95,7 @@ pub fn do_local(
     ensures ok { OnOk result
         (Reaches editing.old editing.new (local_step editing.old.now core task instr.now)
         local_cost) }
-    ensures err { OnErr result (editing.new.base ≡ editing.old.base) }
+    ensures err { OnErr result (KeepsBase editing.old editing.new) }
 {
     match instr {
         LocalInstr::Set { register, value } => put_register(editing, task, *register, *value),

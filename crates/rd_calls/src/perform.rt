@@ -2,7 +2,7 @@
 
 ghost use Rattle.std.specs.Prelude.{◌≡◌, ◌+◌, ◌*◌, ◌<◌, length, Some, OnOk, OnErr};
 ghost use Rattle.rd_app.specs.Application.{priorities_of};
-ghost use Rattle.rd_state.specs.Edit.{Reaches};
+ghost use Rattle.rd_state.specs.Edit.{Reaches, KeepsBase};
 ghost use Rattle.rd_state.specs.Snapshot.{core_at, numbers_of, task_at};
 ghost use Rattle.rd_state.specs.Valid.{IsValid};
 ghost use Rattle.rd_kernel.specs.Outcomes.{IsCalling};
@@ -36,7 +36,7 @@ fn perform(
     ensures ok { OnOk result (Reaches editing.old editing.new
         (performed (priorities_of app.now) editing.old.now core task instr.now)
         (instr_cost editing.old.now instr.now)) }
-    ensures err { OnErr result (editing.new.base ≡ editing.old.base) }
+    ensures err { OnErr result (KeepsBase editing.old editing.new) }
 {
     match instr {
         Instr::Local { instr } => do_local(alloc, editing, core, task, instr),
@@ -65,7 +65,7 @@ pub fn move_core(
         (Reaches editing.old editing.new (core_step app.now editing.old.now core task)
         (instr_cost editing.old.now (next_instr app.now editing.old.now task)
         + 1 + 3 * length editing.old.now.cores)) }
-    ensures err { OnErr result (editing.new.base ≡ editing.old.base) }
+    ensures err { OnErr result (KeepsBase editing.old editing.new) }
 {
     app.limits();
     let pc = editing.state().task(task).pc();

@@ -36,8 +36,8 @@ fn finish(
     ensures made { result ≡ made }
     ensures state { OnOk made (state.new ≡ editing.now) }
     ensures record { OnOk made (GoesOn editing undo.new) }
-    ensures err { OnErr made ((state.new ≡ editing.base.state)
-        × (undo.new ≡ editing.base.recorded)) }
+    ensures err { OnErr made (state.new ≡ editing.base.state) }
+    ensures err_record { OnErr made (undo.new ≡ editing.base.recorded) }
     ensures sized { IsSized state.new }
 {
     let ended = match made {
@@ -64,7 +64,8 @@ fn play_core(
     ensures before { OnOk result (take (length undo.old) undo.new ≡ undo.old) }
     ensures played { OnOk result
         (IsPlayed app.now state.old (Move.Core core) state.new (added undo.old undo.new)) }
-    ensures err { OnErr result ((state.new ≡ state.old) × (undo.new ≡ undo.old)) }
+    ensures err { OnErr result (state.new ≡ state.old) }
+    ensures err_record { OnErr result (undo.new ≡ undo.old) }
 {
     app.limits();
     let before = mem::replace(undo, Undo::new(alloc));
@@ -80,7 +81,8 @@ fn play_tick(alloc: Global, state: &mut State, undo: &mut Undo, app: &App) -> Re
     ensures before { OnOk result (take (length undo.old) undo.new ≡ undo.old) }
     ensures played { OnOk result
         (IsPlayed app.now state.old Move.Tick state.new (added undo.old undo.new)) }
-    ensures err { OnErr result ((state.new ≡ state.old) × (undo.new ≡ undo.old)) }
+    ensures err { OnErr result (state.new ≡ state.old) }
+    ensures err_record { OnErr result (undo.new ≡ undo.old) }
 {
     app.limits();
     let before = mem::replace(undo, Undo::new(alloc));
@@ -111,7 +113,8 @@ pub fn play_on(
         ↔ (step app.now state.old action ≡ Err Refusal.TickLimit) }
     ensures refusals { IfErr result (λ refusal.
         (step app.now state.old action ≡ Err refusal) ⊎ (refusal ≡ Refusal.NoMemory)) }
-    ensures err { OnErr result ((state.new ≡ state.old) × (undo.new ≡ undo.old)) }
+    ensures err { OnErr result (state.new ≡ state.old) }
+    ensures err_record { OnErr result (undo.new ≡ undo.old) }
 {
     match action {
         Move::Core { core } => {

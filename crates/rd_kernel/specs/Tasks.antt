@@ -1,5 +1,5 @@
 -- A state with one thing of a task changed.
-use Rattle.std.specs.Prelude.{ℕ, ◌+◌, List, None, slice_index, slice_set}
+use Rattle.std.specs.Prelude.{ℕ, ◌≡◌, ◌+◌, List, None, slice_index, slice_set}
 use Rattle.rd_state.specs.declared.phase.Phase.{Phase}
 use Rattle.rd_state.specs.Snapshot.{Snapshot, task_at}
 use Rattle.rd_state.specs.Change.{with_task}
@@ -20,6 +20,10 @@ with_bytes s task bytes = with_task s task (record (task_at s task) { bytes = by
 
 abbrev pub with_phase : Snapshot → ℕ → Phase → Snapshot
 with_phase s task phase = with_task s task (record (task_at s task) { phase = phase })
+
+-- The task stands at the same instruction.
+abbrev pub KeepsPc : Snapshot → Snapshot → ℕ → Type 0
+KeepsPc old new task = (task_at new task).pc ≡ (task_at old task).pc
 
 -- the task stands at its next instruction
 abbrev pub advanced : Snapshot → ℕ → Snapshot

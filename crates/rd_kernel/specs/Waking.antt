@@ -11,7 +11,7 @@ use Rattle.rd_state.specs.declared.phase.Phase.TheVariants.{Again}
 use Rattle.rd_state.specs.declared.phase.Place.{Place}
 use Rattle.rd_app.specs.Application.{max_delay}
 use Rattle.rd_wait.specs.Joined.{joined}
-use Rattle.rd_state.specs.Phases.{can_run, kept_deadline, tries_again, waits_at}
+use Rattle.rd_state.specs.Phases.{is_first, kept_deadline, waits_at}
 use Rattle.rd_state.specs.Snapshot.{Snapshot, task_at}
 use Rattle.rd_state.specs.Valid.{is_ahead}
 use Rattle.rd_state.specs.Waiting.{waiting_at, queues_then, sets_then, with_waiting_at}
@@ -21,10 +21,6 @@ use Rattle.rd_kernel.specs.Tasks.{register_at, with_phase}
 abbrev pub value_of : Snapshot → ℕ → Operand → ℕ
 value_of s task (Number value) = value
 value_of s task (Register register) = register_at s task register
-
--- Is a call of a task in this phase its first try?
-abbrev pub is_first : Phase → Bool
-is_first phase = can_run phase && not (tries_again phase)
 
 -- the deadline of a block time that begins at a tick
 abbrev pub deadline_after : ℕ → ℕ → Option ℕ

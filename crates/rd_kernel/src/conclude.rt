@@ -1,7 +1,7 @@
 //! What becomes of a caller, once its call was done.
 
 ghost use Rattle.std.specs.Prelude.{◌≡◌, ◌<◌, length, OnOk, OnErr};
-ghost use Rattle.rd_state.specs.Edit.{Reaches};
+ghost use Rattle.rd_state.specs.Edit.{Reaches, KeepsBase};
 ghost use Rattle.rd_state.specs.Sizes.{IsSizedPhase};
 ghost use Rattle.rd_state.specs.Snapshot.{numbers_of, task_at};
 ghost use Rattle.rd_kernel.specs.Costs.{ending_cost};
@@ -21,7 +21,7 @@ fn stop(editing: &mut Editing, core: usize, task: usize, phase: Phase) -> Result
     requires sized { IsSizedPhase (numbers_of editing.old.now) phase }
     ensures ok { OnOk result
         (Reaches editing.old editing.new (stopped editing.old.now core task phase) 2) }
-    ensures err { OnErr result (editing.new.base ≡ editing.old.base) }
+    ensures err { OnErr result (KeepsBase editing.old editing.new) }
 {
     set_phase(editing, task, phase)?;
     editing.change(Change::SetCore { core, task: None })
@@ -41,7 +41,7 @@ pub fn conclude(
     ensures ok { OnOk result (Reaches editing.old editing.new
         (concluded (record { state = editing.old.now; outcome = outcome }) core task)
         ending_cost) }
-    ensures err { OnErr result (editing.new.base ≡ editing.old.base) }
+    ensures err { OnErr result (KeepsBase editing.old editing.new) }
 {
     match outcome {
         Outcome::Returns(answer) => return_from(editing, task, answer),

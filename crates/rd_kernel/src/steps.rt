@@ -1,7 +1,7 @@
 //! Single changes in the middle of a step.
 ghost use Rattle.std.specs.Prelude.{◌≡◌, ◌+◌, ◌<◌, ◌≤◌, length, IsOk, OnOk, OnErr};
 ghost use Rattle.rd_state.specs.declared.phase.Phase.TheVariants.{Run};
-ghost use Rattle.rd_state.specs.Edit.{Reaches};
+ghost use Rattle.rd_state.specs.Edit.{Reaches, KeepsBase};
 ghost use Rattle.rd_state.specs.Sizes.{IsSizedPhase};
 ghost use Rattle.rd_state.specs.Snapshot.{numbers_of, task_at};
 ghost use Rattle.rd_kernel.specs.Costs.{data_cost, ending_cost};
@@ -29,7 +29,7 @@ pub fn set_register(
     ensures ok { OnOk result
         (Reaches editing.old editing.new (with_register editing.old.now task register value) 1) }
     ensures has_it { register_at editing.old.now task register ≡ value → IsOk result }
-    ensures err { OnErr result (editing.new.base ≡ editing.old.base) }
+    ensures err { OnErr result (KeepsBase editing.old editing.new) }
 {
     if editing.state().task(task).register(register) == value {
         return Ok(());
@@ -49,7 +49,7 @@ pub fn set_bytes(
     requires few { length bytes.now ≤ 256 }
     ensures ok { OnOk result
         (Reaches editing.old editing.new (with_bytes editing.old.now task bytes.now) data_cost) }
-    ensures err { OnErr result (editing.new.base ≡ editing.old.base) }
+    ensures err { OnErr result (KeepsBase editing.old editing.new) }
 {
     editing.state().sizes();
     let bytes = SavedBytes::from_slice(alloc, bytes)?;
@@ -61,7 +61,7 @@ pub fn set_bytes(
 pub fn set_pc(editing: &mut Editing, task: usize, pc: usize) -> Result<(), NoMemory>
     requires { task < length editing.old.now.tasks }
     ensures ok { OnOk result (Reaches editing.old editing.new (with_pc editing.old.now task pc) 1) }
-    ensures err { OnErr result (editing.new.base ≡ editing.old.base) }
+    ensures err { OnErr result (KeepsBase editing.old editing.new) }
 {
     let change = TaskChange::SetPc { pc };
     editing.change(Change::Task { task, change })
@@ -72,7 +72,7 @@ pub fn advance(editing: &mut Editing, task: usize) -> Result<(), NoMemory>
     requires task { task < length editing.old.now.tasks }
     requires pc { (task_at editing.old.now task).pc < 256 }
     ensures ok { OnOk result (Reaches editing.old editing.new (advanced editing.old.now task) 1) }
-    ensures err { OnErr result (editing.new.base ≡ editing.old.base) }
+    ensures err { OnErr result (KeepsBase editing.old editing.new) }
 {
     let pc = editing.state().task(task).pc();
     set_pc(editing, task, pc + 1)
@@ -86,7 +86,7 @@ pub fn set_phase(editing: &mut Editing, task: usize, phase: Phase) -> Result<(),
     ensures ok { OnOk result
         (Reaches editing.old editing.new (with_phase editing.old.now task phase) 1) }
     ensures in_it { (task_at editing.old.now task).phase ≡ phase → IsOk result }
-    ensures err { OnErr result (editing.new.base ≡ editing.old.base) }
+    ensures err { OnErr result (KeepsBase editing.old editing.new) }
 {
     if editing.state().phase(task) == phase {
         return Ok(());
@@ -101,7 +101,7 @@ pub fn return_from(editing: &mut Editing, task: usize, answer: u32) -> Result<()
     requires pc { (task_at editing.old.now task).pc < 256 }
     ensures ok { OnOk result
         (Reaches editing.old editing.new (returned editing.old.now task answer) ending_cost) }
-    ensures err { OnErr result (editing.new.base ≡ editing.old.base) }
+    ensures err { OnErr result (KeepsBase editing.old editing.new) }
 {
     let pc = editing.state().task(task).pc();
     set_register(editing, task, 0, answer)?;
@@ -116,7 +116,7 @@ pub fn set_turn(editing: &mut Editing, turn: usize) -> Result<(), NoMemory>
     ensures ok { OnOk result
         (Reaches editing.old editing.new (record editing.old.now { turn = turn }) 1) }
     ensures has_it { editing.old.now.turn ≡ turn → IsOk result }
-    ensures err { OnErr result (editing.new.base ≡ editing.old.base) }
+    ensures err { OnErr result (KeepsBase editing.old editing.new) }
 {
     if editing.state().turn() == turn {
         return Ok(());

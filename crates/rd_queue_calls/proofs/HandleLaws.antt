@@ -53,7 +53,7 @@ handles_without : (s : Snapshot) (place : Place) (o : Option ℕ) → map (λ (q
 handles_without s place None = refl
 handles_without s place (Some index) = handles_then s place (remove (waiting_at s place) index)
 
-handles_woken_at : (priorities : List ℕ) (s : Snapshot) (task : ℕ) (o : Option Place) (deadline : Option ℕ)
+pub handles_woken_at : (priorities : List ℕ) (s : Snapshot) (task : ℕ) (o : Option Place) (deadline : Option ℕ)
     → handles_in (woken_at priorities s task o deadline) ≡ handles_in s
 handles_woken_at priorities s task None deadline = refl
 handles_woken_at priorities s task (Some place) deadline = handles_without s place (position (λ member. nat_eq member task) (waiting_at s place))

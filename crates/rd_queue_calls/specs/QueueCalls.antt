@@ -1,6 +1,6 @@
 -- What the calls of a queue do.
-use Rattle.std.specs.Prelude.{ℕ, ◌+◌, ◌-◌, ◌&&◌, [], Bool, List, length, drop, nat_eq}
-use Rattle.std.specs.Prelude.{None, Some}
+use Rattle.std.specs.Prelude.{ℕ, ◌≡◌, ◌+◌, ◌-◌, ◌&&◌, ◌⊎◌, [], Bool, true, false, List, length, drop}
+use Rattle.std.specs.Prelude.{None, Some, nat_eq}
 use Rattle.std.specs.Prelude.{slice_index_or, slice_set, if◌then◌else◌}
 use Rattle.std.specs.List.{concat}
 use Rattle.rd_app.specs.declared.instr.Operand.{Operand}
@@ -22,6 +22,7 @@ use Rattle.rd_kernel.specs.Costs.{data_cost, item_cost, waking_cost}
 use Rattle.rd_kernel.specs.Outcomes.{Called, blocked, call_answers, call_fails}
 use Rattle.rd_kernel.specs.Outcomes.{call_passes, passed}
 use Rattle.rd_kernel.specs.Tasks.{with_bytes}
+use Rattle.rd_kernel.specs.Waking.{may_wait}
 use Rattle.rd_queue_calls.specs.Posts.{call_breaks, is_in_full_set, is_in_no_set, is_in_set}
 use Rattle.rd_queue_calls.specs.Posts.{posted, replaced, set_of, with_member}
 
@@ -171,3 +172,26 @@ dropped_by s queue (RemoveFromSet set) = 0
 -- the most of them all, beside the bytes that a reset drops
 abbrev pub queue_call_cost : ℕ
 queue_call_cost = receive_cost
+
+-- The queue has room for the item that is put, and the queue's set has none for its handle.
+abbrev pub IsIntoFullSet : Snapshot → ℕ → Type 0
+IsIntoFullSet s queue =
+    (is_full (queue_at s queue) ≡ false) × (is_in_full_set s (set_of s queue) ≡ true)
+
+-- The call can't be done and may not wait, is refused, or only counts: it changes nothing.
+abbrev pub ChangesNothing : Snapshot → ℕ → ℕ → QueueCall → Type 0
+ChangesNothing s task queue (Send end wait) =
+    ((is_full (queue_at s queue) ≡ true) × (may_wait s task wait ≡ false)) ⊎ IsIntoFullSet s queue
+ChangesNothing s task queue (Receive wait) =
+    (is_empty (queue_at s queue) ≡ true) × (may_wait s task wait ≡ false)
+ChangesNothing s task queue (Peek wait) =
+    (is_empty (queue_at s queue) ≡ true) × (may_wait s task wait ≡ false)
+ChangesNothing s task queue Overwrite =
+    (is_empty (queue_at s queue) ≡ true) × (is_in_full_set s (set_of s queue) ≡ true)
+ChangesNothing s task queue Reset = ⊥
+ChangesNothing s task queue Count = Unit {0}
+ChangesNothing s task queue Spaces = Unit {0}
+ChangesNothing s task queue (AddToSet set) =
+    (is_empty (queue_at s queue) && is_in_no_set (set_of s queue)) ≡ false
+ChangesNothing s task queue (RemoveFromSet set) =
+    (is_empty (queue_at s queue) && is_in_set set (set_of s queue)) ≡ false

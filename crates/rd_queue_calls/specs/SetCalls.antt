@@ -1,5 +1,6 @@
 -- What the calls of a queue set do.
-use Rattle.std.specs.Prelude.{ℕ, ◌+◌, Bool, List, length, drop, nat_eq, slice_index, if◌then◌else◌}
+use Rattle.std.specs.Prelude.{ℕ, ◌≡◌, ◌+◌, Bool, true, false, List, length, drop, nat_eq}
+use Rattle.std.specs.Prelude.{slice_index, if◌then◌else◌}
 use Rattle.rd_app.specs.declared.instr.Operand.{Operand}
 use Rattle.rd_app.specs.declared.instr.SetCall.{SetCall}
 use Rattle.rd_app.specs.declared.instr.SetCall.TheVariants.{Select}
@@ -9,6 +10,7 @@ use Rattle.rd_state.specs.declared.phase.Place.TheVariants.{Set}
 use Rattle.rd_state.specs.Change.{with_set}
 use Rattle.rd_state.specs.Snapshot.{Snapshot, set_at}
 use Rattle.rd_kernel.specs.Outcomes.{Called, blocked, call_answers}
+use Rattle.rd_kernel.specs.Waking.{may_wait}
 
 -- Is there no handle?
 abbrev pub has_no_handle : SetSnapshot → Bool
@@ -33,3 +35,8 @@ set_outcome priorities s task set (Select wait) = select_outcome priorities s ta
 -- what it takes in a record at the most
 abbrev pub set_call_cost : ℕ
 set_call_cost = 1
+
+-- The call can't be done and may not wait: it changes nothing.
+abbrev pub SetCallChangesNothing : Snapshot → ℕ → ℕ → SetCall → Type 0
+SetCallChangesNothing s task set (Select wait) =
+    (has_no_handle (set_at s set) ≡ true) × (may_wait s task wait ≡ false)

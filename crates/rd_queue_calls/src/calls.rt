@@ -1,13 +1,16 @@
 //! The calls of queues.
 
-ghost use Rattle.std.specs.Prelude.{◌≡◌, ◌+◌, ◌<◌, length, IfOk, OnOk, OnErr};
+ghost use Rattle.std.specs.Prelude.{◌≡◌, ◌+◌, ◌<◌, ◌&&◌, length, true, false, IfOk, IsOk, OnOk, OnErr};
 ghost use Rattle.std.specs.List.{concat};
 ghost use Rattle.rd_app.specs.Application.{IsOperand, IsQueueCall, priorities_of};
-ghost use Rattle.rd_state.specs.Edit.{Reaches};
+ghost use Rattle.rd_state.specs.Edit.{Reaches, KeepsBase};
 ghost use Rattle.rd_state.specs.Sizes.{IsSized};
 ghost use Rattle.rd_state.specs.Snapshot.{queue_at, task_at};
 ghost use Rattle.rd_kernel.specs.Costs.{data_cost, item_cost};
 ghost use Rattle.rd_kernel.specs.Outcomes.{DoesCall, IsCalling};
+ghost use Rattle.rd_kernel.specs.Waking.{may_wait};
+ghost use Rattle.rd_queue_calls.specs.Posts.{is_in_full_set, is_in_no_set, is_in_set, set_of};
+ghost use Rattle.rd_queue_calls.specs.QueueCalls.{is_empty, is_full, ChangesNothing, IsIntoFullSet};
 ghost use Rattle.rd_queue_calls.specs.QueueCalls.{with_item_taken, sent_outcome};
 ghost use Rattle.rd_queue_calls.specs.QueueCalls.{send_outcome, receive_outcome, peek_outcome};
 ghost use Rattle.rd_queue_calls.specs.QueueCalls.{overwrite_outcome, reset_outcome};
@@ -16,6 +19,7 @@ ghost use Rattle.rd_queue_calls.specs.QueueCalls.{queue_outcome, dropped_by};
 ghost use Rattle.rd_queue_calls.specs.QueueCalls.{send_cost, receive_cost, peek_cost};
 ghost use Rattle.rd_queue_calls.specs.QueueCalls.{overwrite_cost, reset_cost, member_cost};
 ghost use Rattle.rd_queue_calls.specs.QueueCalls.{queue_call_cost};
+ghost use Rattle.rd_kernel.specs.Tasks.{KeepsPc};
 
 use crate::posts::{is_in_full_set, post};
 use rd_app::app::App;
@@ -40,7 +44,7 @@ fn dequeue(editing: &mut Editing, task: usize, queue: usize) -> Result<(), NoMem
     ensures ok { OnOk result
         (Reaches editing.old editing.new (with_item_taken editing.old.now task queue)
         (data_cost + item_cost)) }
-    ensures err { OnErr result (editing.new.base ≡ editing.old.base) }
+    ensures err { OnErr result (KeepsBase editing.old editing.new) }
 {
     editing.transfer(Transfer::FrontToData { queue, task })?;
     let change = QueueChange::TakeFront;
@@ -76,9 +80,10 @@ fn deliver(
         < (queue_at editing.old.now queue).capacity }
     ensures ok { IfOk result (DoesCall editing.old editing.new
         (sent_outcome (priorities_of app.now) editing.old.now task queue end) send_cost) }
-    ensures stays { OnOk result
-        ((task_at editing.new.now task).pc ≡ (task_at editing.old.now task).pc) }
-    ensures err { OnErr result (editing.new.base ≡ editing.old.base) }
+    ensures full_set { is_in_full_set editing.old.now (set_of editing.old.now queue) ≡ true
+        → IsOk result }
+    ensures stays { OnOk result (KeepsPc editing.old.now editing.new.now task) }
+    ensures err { OnErr result (KeepsBase editing.old editing.new) }
 {
     let set = editing.state().queue(queue).set_of();
     if is_in_full_set(editing.state(), set) {
@@ -103,9 +108,11 @@ fn send(
     requires register { IsOperand wait }
     ensures ok { IfOk result (DoesCall editing.old editing.new
         (send_outcome (priorities_of app.now) editing.old.now task queue end wait) send_cost) }
-    ensures stays { OnOk result
-        ((task_at editing.new.now task).pc ≡ (task_at editing.old.now task).pc) }
-    ensures err { OnErr result (editing.new.base ≡ editing.old.base) }
+    ensures full { is_full (queue_at editing.old.now queue) ≡ true
+        → may_wait editing.old.now task wait ≡ false → IsOk result }
+    ensures full_set { IsIntoFullSet editing.old.now queue → IsOk result }
+    ensures stays { OnOk result (KeepsPc editing.old.now editing.new.now task) }
+    ensures err { OnErr result (KeepsBase editing.old editing.new) }
 {
     if editing.state().queue(queue).spaces() == 0 {
         return block(app, editing, task, sending(queue), wait);
@@ -126,9 +133,10 @@ fn receive(
     requires register { IsOperand wait }
     ensures ok { IfOk result (DoesCall editing.old editing.new
         (receive_outcome (priorities_of app.now) editing.old.now task queue wait) receive_cost) }
-    ensures stays { OnOk result
-        ((task_at editing.new.now task).pc ≡ (task_at editing.old.now task).pc) }
-    ensures err { OnErr result (editing.new.base ≡ editing.old.base) }
+    ensures empty { is_empty (queue_at editing.old.now queue) ≡ true
+        → may_wait editing.old.now task wait ≡ false → IsOk result }
+    ensures stays { OnOk result (KeepsPc editing.old.now editing.new.now task) }
+    ensures err { OnErr result (KeepsBase editing.old editing.new) }
 {
     if editing.state().queue(queue).count() == 0 {
         return block(app, editing, task, receiving(queue), wait);
@@ -150,9 +158,10 @@ fn peek(
     requires register { IsOperand wait }
     ensures ok { IfOk result (DoesCall editing.old editing.new
         (peek_outcome (priorities_of app.now) editing.old.now task queue wait) peek_cost) }
-    ensures stays { OnOk result
-        ((task_at editing.new.now task).pc ≡ (task_at editing.old.now task).pc) }
-    ensures err { OnErr result (editing.new.base ≡ editing.old.base) }
+    ensures empty { is_empty (queue_at editing.old.now queue) ≡ true
+        → may_wait editing.old.now task wait ≡ false → IsOk result }
+    ensures stays { OnOk result (KeepsPc editing.old.now editing.new.now task) }
+    ensures err { OnErr result (KeepsBase editing.old editing.new) }
 {
     if editing.state().queue(queue).count() == 0 {
         return block(app, editing, task, receiving(queue), wait);
@@ -172,9 +181,10 @@ fn overwrite(
     requires queue { queue < length editing.old.now.queues }
     ensures ok { IfOk result (DoesCall editing.old editing.new
         (overwrite_outcome (priorities_of app.now) editing.old.now task queue) overwrite_cost) }
-    ensures stays { OnOk result
-        ((task_at editing.new.now task).pc ≡ (task_at editing.old.now task).pc) }
-    ensures err { OnErr result (editing.new.base ≡ editing.old.base) }
+    ensures full_set { is_empty (queue_at editing.old.now queue) ≡ true
+        → is_in_full_set editing.old.now (set_of editing.old.now queue) ≡ true → IsOk result }
+    ensures stays { OnOk result (KeepsPc editing.old.now editing.new.now task) }
+    ensures err { OnErr result (KeepsBase editing.old editing.new) }
 {
     if editing.state().queue(queue).count() == 0 {
         return deliver(app, editing, task, queue, End::Back);
@@ -194,9 +204,8 @@ fn reset(app: &App, editing: &mut Editing, task: usize, queue: usize) -> Result<
     ensures ok { IfOk result (DoesCall editing.old editing.new
         (reset_outcome (priorities_of app.now) editing.old.now queue)
         (reset_cost + length (concat (queue_at editing.old.now queue).items))) }
-    ensures stays { OnOk result
-        ((task_at editing.new.now task).pc ≡ (task_at editing.old.now task).pc) }
-    ensures err { OnErr result (editing.new.base ≡ editing.old.base) }
+    ensures stays { OnOk result (KeepsPc editing.old.now editing.new.now task) }
+    ensures err { OnErr result (KeepsBase editing.old editing.new) }
 {
     let _ = task;
     let change = QueueChange::Clear;
@@ -211,8 +220,10 @@ fn add_to_set(editing: &mut Editing, queue: usize, set: usize) -> Result<Outcome
     requires set { set < length editing.old.now.sets }
     ensures ok { IfOk result (DoesCall editing.old editing.new
         (add_outcome editing.old.now queue set) member_cost) }
+    ensures refused { (is_empty (queue_at editing.old.now queue)
+        && is_in_no_set (set_of editing.old.now queue)) ≡ false → IsOk result }
     ensures tasks { OnOk result (editing.new.now.tasks ≡ editing.old.now.tasks) }
-    ensures err { OnErr result (editing.new.base ≡ editing.old.base) }
+    ensures err { OnErr result (KeepsBase editing.old editing.new) }
 {
     let target = editing.state().queue(queue);
     if target.count() > 0 || target.set_of().is_some() {
@@ -227,10 +238,13 @@ fn add_to_set(editing: &mut Editing, queue: usize, set: usize) -> Result<Outcome
 fn remove_from_set(editing: &mut Editing, queue: usize, set: usize) -> Result<Outcome, NoMemory>
     requires sized { IsSized editing.old.now }
     requires queue { queue < length editing.old.now.queues }
+    requires set { set < length editing.old.now.sets }
     ensures ok { IfOk result (DoesCall editing.old editing.new
         (remove_outcome editing.old.now queue set) member_cost) }
+    ensures refused { (is_empty (queue_at editing.old.now queue)
+        && is_in_set set (set_of editing.old.now queue)) ≡ false → IsOk result }
     ensures tasks { OnOk result (editing.new.now.tasks ≡ editing.old.now.tasks) }
-    ensures err { OnErr result (editing.new.base ≡ editing.old.base) }
+    ensures err { OnErr result (KeepsBase editing.old editing.new) }
 {
     let target = editing.state().queue(queue);
     if target.count() > 0 || target.set_of() != Some(set) {
@@ -241,7 +255,8 @@ fn remove_from_set(editing: &mut Editing, queue: usize, set: usize) -> Result<Ou
     Ok(Outcome::Returns(1))
 }
 
-/// Does a call of a queue.
+/// Does a call of a queue. One that changes nothing, as it can't be done and may not wait, is refused,
+/// or only counts, takes no memory.
 pub fn call_queue(
     app: &App,
     editing: &mut Editing,
@@ -255,9 +270,9 @@ pub fn call_queue(
     ensures ok { IfOk result (DoesCall editing.old editing.new
         (queue_outcome (priorities_of app.now) editing.old.now task queue call)
         (queue_call_cost + dropped_by editing.old.now queue call)) }
-    ensures stays { OnOk result
-        ((task_at editing.new.now task).pc ≡ (task_at editing.old.now task).pc) }
-    ensures err { OnErr result (editing.new.base ≡ editing.old.base) }
+    ensures nothing { ChangesNothing editing.old.now task queue call → IsOk result }
+    ensures stays { OnOk result (KeepsPc editing.old.now editing.new.now task) }
+    ensures err { OnErr result (KeepsBase editing.old editing.new) }
 {
     match call {
         QueueCall::Send { end, wait } => send(app, editing, task, queue, end, wait),

@@ -5,6 +5,7 @@ ghost use Rattle.rd_app.specs.Application.{priorities_of};
 ghost use Rattle.rd_kernel.specs.Costs.{waking_cost};
 ghost use Rattle.rd_kernel.specs.Outcomes.{DoesCall};
 ghost use Rattle.rd_queue_calls.specs.Posts.{is_in_full_set, posted, HasRoomToWake};
+ghost use Rattle.rd_state.specs.Edit.{KeepsBase};
 
 use rd_app::app::App;
 use rd_bytes::no_memory::NoMemory;
@@ -43,7 +44,7 @@ pub fn post(
     requires priorities { length (priorities_of app.now) ≡ length editing.old.now.tasks }
     ensures ok { IfOk result (DoesCall editing.old editing.new
         (posted (priorities_of app.now) editing.old.now queue set) (1 + waking_cost)) }
-    ensures err { OnErr result (editing.new.base ≡ editing.old.base) }
+    ensures err { OnErr result (KeepsBase editing.old editing.new) }
 {
     let Some(set) = set else {
         let list = WaitingList::Receiving;

@@ -1,10 +1,14 @@
 //! The calls of queue sets.
 
-ghost use Rattle.std.specs.Prelude.{◌≡◌, ◌+◌, ◌<◌, length, IfOk, OnOk, OnErr};
+ghost use Rattle.std.specs.Prelude.{◌≡◌, ◌+◌, ◌<◌, length, true, false, IfOk, IsOk, OnOk, OnErr};
 ghost use Rattle.rd_app.specs.Application.{IsOperand, IsSetCall, priorities_of};
-ghost use Rattle.rd_state.specs.Snapshot.{task_at};
+ghost use Rattle.rd_state.specs.Snapshot.{set_at};
 ghost use Rattle.rd_kernel.specs.Outcomes.{DoesCall, IsCalling};
+ghost use Rattle.rd_kernel.specs.Waking.{may_wait};
 ghost use Rattle.rd_queue_calls.specs.SetCalls.{select_outcome, set_outcome, set_call_cost};
+ghost use Rattle.rd_queue_calls.specs.SetCalls.{has_no_handle, SetCallChangesNothing};
+ghost use Rattle.rd_state.specs.Edit.{KeepsBase};
+ghost use Rattle.rd_kernel.specs.Tasks.{KeepsPc};
 
 use rd_app::app::App;
 use rd_app::instr::{Operand, SetCall};
@@ -29,9 +33,10 @@ fn select(
     requires register { IsOperand wait }
     ensures ok { IfOk result (DoesCall editing.old editing.new
         (select_outcome (priorities_of app.now) editing.old.now task set wait) set_call_cost) }
-    ensures stays { OnOk result
-        ((task_at editing.new.now task).pc ≡ (task_at editing.old.now task).pc) }
-    ensures err { OnErr result (editing.new.base ≡ editing.old.base) }
+    ensures no_handle { has_no_handle (set_at editing.old.now set) ≡ true
+        → may_wait editing.old.now task wait ≡ false → IsOk result }
+    ensures stays { OnOk result (KeepsPc editing.old.now editing.new.now task) }
+    ensures err { OnErr result (KeepsBase editing.old editing.new) }
 {
     if editing.state().set(set).count() == 0 {
         return block(app, editing, task, Place::Set { set }, wait);
@@ -43,7 +48,7 @@ fn select(
     Ok(Outcome::Returns(queue as u32 + 1))
 }
 
-/// Does a call of a queue set.
+/// Does a call of a queue set. One that can't be done and may not wait takes no memory.
 pub fn call_set(
     app: &App,
     editing: &mut Editing,
@@ -56,9 +61,9 @@ pub fn call_set(
     requires registers { IsSetCall call }
     ensures ok { IfOk result (DoesCall editing.old editing.new
         (set_outcome (priorities_of app.now) editing.old.now task set call) set_call_cost) }
-    ensures stays { OnOk result
-        ((task_at editing.new.now task).pc ≡ (task_at editing.old.now task).pc) }
-    ensures err { OnErr result (editing.new.base ≡ editing.old.base) }
+    ensures nothing { SetCallChangesNothing editing.old.now task set call → IsOk result }
+    ensures stays { OnOk result (KeepsPc editing.old.now editing.new.now task) }
+    ensures err { OnErr result (KeepsBase editing.old editing.new) }
 {
     match call {
         SetCall::Select { wait } => select(app, editing, task, set, wait),

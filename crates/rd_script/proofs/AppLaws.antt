@@ -368,6 +368,6 @@ file_again bytes app says limits =
     rw (is_utf8-from_IsUtf8 bytes says.1) (text_is_file bytes says.0 says.2) ∙ app_again says.0 app says.3 says.4 says.5 says.6 limits
 
 pub is_accepted : (bytes : List ℕ) (r : Result Application AppError) → GivesOrNoMemory (λ app. app) r (file_of bytes)
-    → IfOk r (λ app. FileSays bytes app × IsApplication app)
-is_accepted bytes (Ok app) e = file_takes bytes app e
-is_accepted bytes (Err d) e = tt
+    → IfOk r (FileSays bytes) × IfOk r IsApplication
+is_accepted bytes (Ok app) e = let taken = file_takes bytes app e in (taken.0, taken.1)
+is_accepted bytes (Err d) e = (tt, tt)

@@ -554,7 +554,8 @@ fn read_text(alloc: Global, text: &str) -> Result<App, AppError>
 // Bytes that aren't UTF-8 are refused before anything is kept.
 fn read_bytes(alloc: Global, bytes: &[u8]) -> Result<App, AppError>
     ensures exact { GivesOrNoMemory (λ app. app) result (file_of bytes.now) }
-    ensures memory { result ≡ Err AppError.Memory → IsUtf8 bytes.now × (0 < length bytes.now) }
+    ensures memory { result ≡ Err AppError.Memory → 0 < length bytes.now }
+    ensures memory_text { result ≡ Err AppError.Memory → IsUtf8 bytes.now }
 {
     match str::from_utf8(bytes) {
         Ok(text) => read_text(alloc, text),
@@ -566,14 +567,16 @@ fn read_bytes(alloc: Global, bytes: &[u8]) -> Result<App, AppError>
 /// `tick`, `queues`, `sets` and `tasks`.
 pub fn read_app(alloc: Global, text: &[u8]) -> Result<App, AppError>
     // What is read is what the file says, within the limits.
-    ensures accepted { IfOk result (λ app. FileSays text.now app × IsApplication app) }
+    ensures accepted { IfOk result (FileSays text.now) }
+    ensures limits { IfOk result IsApplication }
     // What the file says is read, if it is within the limits.
     ensures only { (app : Application) → FileSays text.now app → IsApplication app
         → GivesOrNoMemory (λ app. app) result (Ok app) }
     // Which fault it is.
     ensures exact { GivesOrNoMemory (λ app. app) result (file_of text.now) }
     // Memory runs out only where there is text to read as JSON.
-    ensures memory { result ≡ Err AppError.Memory → IsUtf8 text.now × (0 < length text.now) }
+    ensures memory { result ≡ Err AppError.Memory → 0 < length text.now }
+    ensures memory_text { result ≡ Err AppError.Memory → IsUtf8 text.now }
 {
     read_bytes(alloc, text)
 }

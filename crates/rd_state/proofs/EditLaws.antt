@@ -87,13 +87,13 @@ Reaches-from_act r old s s' changes changes' start change e sized =
 
 pub CanUndo-from_act : {T E : Type 0} (r : Result T E) (old : Edit) (s s' : Snapshot) (changes changes' : List Change) (start : ℕ) (change : Change)
     → edit_of s changes start ≡ old → IsSized s → Fits old.now change → (start ≤ length changes) × CanUndo s (drop start changes)
-    → OnOk r (s' ≡ applied s change) → OnOk r (changes' ≡ changes ++ inverse_of s change ∷ []) → OnErr r ((s' ≡ s) × (changes' ≡ changes))
+    → OnOk r (s' ≡ applied s change) → OnOk r (changes' ≡ changes ++ inverse_of s change ∷ []) → OnErr r (s' ≡ s) → OnErr r (changes' ≡ changes)
     → (start ≤ length changes') × CanUndo s' (drop start changes')
 CanUndo-from_act r old s s' changes changes' start change e sized fits can =
     let fits_here = subst (λ (f : Edit). Fits f.now change) (sym e) fits in
-    elim r as (λ q. OnOk q (s' ≡ applied s change) → OnOk q (changes' ≡ changes ++ inverse_of s change ∷ []) → OnErr q ((s' ≡ s) × (changes' ≡ changes))
+    elim r as (λ q. OnOk q (s' ≡ applied s change) → OnOk q (changes' ≡ changes ++ inverse_of s change ∷ []) → OnErr q (s' ≡ s) → OnErr q (changes' ≡ changes)
     → (start ≤ length changes') × CanUndo s' (drop start changes'))
-    [ Ok x ↦ λ f g h. CanUndo-act s s' changes changes' start change sized fits_here can.0 f g can.1 | Err y ↦ λ f g h. rw (h.0, h.1) can ]
+    [ Ok x ↦ λ f g h k. CanUndo-act s s' changes changes' start change sized fits_here can.0 f g can.1 | Err y ↦ λ f g h k. rw (h, k) can ]
 
 -- A step begins where it is, with nothing recorded.
 pub edit_of-begin : (s : Snapshot) (changes : List Change) (start : ℕ) → start ≡ length changes

@@ -59,7 +59,7 @@ Reaches-from_transfer r old s s' changes changes' start transfer e sized =
 pub CanUndo-from_transfer : {T E : Type 0} (r : Result T E) (old : Edit) (s s' : Snapshot) (changes changes' : List Change) (start : ℕ) (transfer : Transfer)
     → edit_of s changes start ≡ old → IsSized s → CanTransfer old.now transfer → (start ≤ length changes) × CanUndo s (drop start changes)
     → OnOk r (s' ≡ applied s (change_of s transfer)) → OnOk r (changes' ≡ changes ++ inverse_of s (change_of s transfer) ∷ [])
-    → OnErr r ((s' ≡ s) × (changes' ≡ changes))
+    → OnErr r (s' ≡ s) → OnErr r (changes' ≡ changes)
     → (start ≤ length changes') × CanUndo s' (drop start changes')
 CanUndo-from_transfer r old s s' changes changes' start transfer e sized can =
     let here = subst (λ (f : Edit). CanTransfer f.now transfer) (sym e) can in

@@ -34,6 +34,10 @@ pub record GoesOn (edit : Edit) (changes : List Change) : Type 0 where
   pub can_undo : CanUndo edit.now (added edit.base.recorded changes)
   pub weight : weight_of (added edit.base.recorded changes) ≡ edit.weight
 
+-- The step still began where it did, and its record leads back there.
+abbrev pub KeepsBase : Edit → Edit → Type 0
+KeepsBase old new = new.base ≡ old.base
+
 -- the same numbers of cores, of tasks, and of objects of each kind
 pub record SameShape (old new : Snapshot) : Type 0 where
   pub cores : length new.cores ≡ length old.cores

@@ -1,5 +1,5 @@
 -- What a phase says of its task. All else that hangs on phases is defined by these.
-use Rattle.std.specs.Prelude.{ℕ, Bool, true, false, Option, Some, None}
+use Rattle.std.specs.Prelude.{ℕ, ◌&&◌, Bool, true, false, not, Option, Some, None}
 use Rattle.rd_state.specs.declared.phase.Phase.{Phase}
 use Rattle.rd_state.specs.declared.phase.Phase.TheVariants.{Run, Again, Wait, Ended, Failed}
 use Rattle.rd_state.specs.declared.phase.Place.{Place}
@@ -19,6 +19,10 @@ tries_again (Again deadline) = true
 tries_again (Wait place deadline) = false
 tries_again Ended = false
 tries_again (Failed cause) = false
+
+-- Is a call of a task in this phase its first try?
+abbrev pub is_first : Phase → Bool
+is_first phase = can_run phase && not (tries_again phase)
 
 -- the place where it waits, if it does
 abbrev pub waits_at : Phase → Option Place

@@ -1,7 +1,7 @@
 //! What a task is doing, and where it can wait.
 
 ghost use Rattle.std.specs.Prelude.{◌≡◌};
-ghost use Rattle.rd_state.specs.Phases.{kept_deadline, waits_at};
+ghost use Rattle.rd_state.specs.Phases.{is_first, kept_deadline, waits_at};
 
 use rd_queue::waiting_list::WaitingList;
 
@@ -29,6 +29,16 @@ pub enum Cause {
 }
 
 impl Phase {
+    /// Whether a call of a task in this phase is at its first try.
+    pub fn is_first(self) -> bool
+        ensures { result ≡ is_first self }
+    {
+        match self {
+            Phase::Run => true,
+            Phase::Again { .. } | Phase::Wait { .. } | Phase::Ended | Phase::Failed { .. } => false,
+        }
+    }
+
     /// The place where the task waits, if it does.
     pub fn waits_at(self) -> Option<Place>
         ensures { result ≡ waits_at self }

@@ -309,13 +309,6 @@ impl State {
         &self.queues[queue]
     }
 
-    /// How many queue sets there are.
-    pub fn set_count(&self) -> usize
-        ensures { result ≡ length self.now.sets }
-    {
-        self.sets.len()
-    }
-
     /// A queue set.
     pub fn set(&self, set: usize) -> &QueueSet
         requires { set < length self.now.sets }

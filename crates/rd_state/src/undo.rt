@@ -74,7 +74,8 @@ impl Undo {
     /// other is handed back and this one is as it was.
     pub fn append(&mut self, other: Undo) -> Result<(), Undo>
         ensures ok { OnOk result (self.new ≡ self.old ++ other) }
-        ensures err { IfErr result (λ back. (back ≡ other) × (self.new ≡ self.old)) }
+        ensures back { IfErr result (λ back. back ≡ other) }
+        ensures err { OnErr result (self.new ≡ self.old) }
     {
         let Undo { mut changes } = other;
         match self.changes.append(&mut changes) {
@@ -90,7 +91,8 @@ pub fn act(state: &mut State, undo: &mut Undo, change: Change) -> Result<(), NoM
     requires { Fits state.old change }
     ensures state { OnOk result (state.new ≡ applied state.old change) }
     ensures record { OnOk result (undo.new ≡ undo.old ++ inverse_of state.old change ∷ []) }
-    ensures err { OnErr result ((state.new ≡ state.old) × (undo.new ≡ undo.old)) }
+    ensures err { OnErr result (state.new ≡ state.old) }
+    ensures err_record { OnErr result (undo.new ≡ undo.old) }
 {
     let alloc = *undo.changes.allocator();
     let inverse = state.inverse_of(alloc, &change)?;
@@ -107,7 +109,8 @@ pub fn act_transfer(state: &mut State, undo: &mut Undo, transfer: Transfer) -> R
         (state.new ≡ applied state.old (change_of state.old transfer)) }
     ensures record { OnOk result
         (undo.new ≡ undo.old ++ inverse_of state.old (change_of state.old transfer) ∷ []) }
-    ensures err { OnErr result ((state.new ≡ state.old) × (undo.new ≡ undo.old)) }
+    ensures err { OnErr result (state.new ≡ state.old) }
+    ensures err_record { OnErr result (undo.new ≡ undo.old) }
 {
     let alloc = *undo.changes.allocator();
     let inverse = state.inverse_of_transfer(alloc, transfer)?;

@@ -104,7 +104,8 @@ impl Journal {
             ↔ (step app.now state.old action ≡ Err Refusal.TickLimit) }
         ensures refusals { IfErr result (λ refusal.
             (step app.now state.old action ≡ Err refusal) ⊎ (refusal ≡ Refusal.NoMemory)) }
-        ensures err { OnErr result ((state.new ≡ state.old) × IsAsBefore self.old self.new) }
+        ensures err { OnErr result (IsAsBefore self.old self.new) }
+        ensures err_state { OnErr result (state.new ≡ state.old) }
         ensures kept_room { self.new.room ≡ self.old.room }
     {
         self.log.play(alloc, state, app, action.copy())?;

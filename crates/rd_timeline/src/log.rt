@@ -90,8 +90,8 @@ impl Log {
             ↔ (step app.now state.old action ≡ Err Refusal.TickLimit) }
         ensures refusals { IfErr result (λ refusal.
             (step app.now state.old action ≡ Err refusal) ⊎ (refusal ≡ Refusal.NoMemory)) }
-        ensures err { OnErr result ((state.new ≡ state.old)
-            × (self.new.records ≡ self.old.records)) }
+        ensures err { OnErr result (self.new.records ≡ self.old.records) }
+        ensures err_state { OnErr result (state.new ≡ state.old) }
         ensures kept_room { self.new.room ≡ self.old.room }
     {
         let before = self.undo.len();
@@ -118,7 +118,8 @@ impl Log {
     /// others are as they were.
     pub fn push(&mut self, undo: Undo) -> Result<(), Undo>
         ensures ok { OnOk result (self.new.records ≡ self.old.records ++ undo ∷ []) }
-        ensures err { IfErr result (λ back. (back ≡ undo) × (self.new.records ≡ self.old.records)) }
+        ensures back { IfErr result (λ back. back ≡ undo) }
+        ensures err { OnErr result (self.new.records ≡ self.old.records) }
         ensures room { self.old.room ≤ self.new.room }
     {
         if self.counts.reserve(1).is_err() {

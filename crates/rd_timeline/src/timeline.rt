@@ -188,7 +188,8 @@ impl Timeline {
     /// both are as they were.
     pub fn keep(log: &mut Log, undo: Undo) -> Result<(), Undo>
         ensures ok { OnOk result (log.new.records ≡ log.old.records ++ undo ∷ []) }
-        ensures err { IfErr result (λ back. (back ≡ undo) × (log.new.records ≡ log.old.records)) }
+        ensures back { IfErr result (λ back. back ≡ undo) }
+        ensures err { OnErr result (log.new.records ≡ log.old.records) }
     {
         log.push(undo)
     }

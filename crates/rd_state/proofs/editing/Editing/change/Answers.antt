@@ -5,7 +5,7 @@ use Rattle.rd_state.proofs.editing.Editing.change.Goals as goal
 pub invariant_of-self : goal.invariant_of-self
 invariant_of-self c =
     CanUndo-from_act c.act.result c.args.self.now _ _ _ _ _ c.args.change c.self.view_is c.sizes.ensures c.requires c.self.invariant
-    c.act.ensures.state c.act.ensures.record c.act.ensures.err
+    c.act.ensures.state c.act.ensures.record c.act.ensures.err c.act.ensures.err_record
 
 pub returns-clause-ok : goal.returns-clause-ok
 returns-clause-ok c =

@@ -1,0 +1,32 @@
+-- The handles of queue sets, from move to move.
+use Rattle.std.specs.Prelude.{ℕ, ◌≡◌, List, Option, None, Some, Ok}
+use Rattle.rd_app.specs.declared.instr.Instr.{Instr}
+use Rattle.rd_app.specs.declared.instr.Instr.TheVariants.{Local, Queue, Set}
+use Rattle.rd_app.specs.Application.{Application}
+use Rattle.rd_state.specs.Snapshot.{Snapshot, core_at}
+use Rattle.rd_queue_calls.specs.SetLaws.{handles_after, handles_in, handles_selected}
+use Rattle.rd_calls.specs.declared.moves.Move.{Move}
+use Rattle.rd_calls.specs.declared.moves.Move.TheVariants.{Core, Tick}
+use Rattle.rd_calls.specs.Step.{next_instr, step}
+
+-- the handles after an instruction: a call of a queue adds one at the most, one of a set takes one
+-- at the most, and a local instruction changes none
+abbrev pub handles_performed : Snapshot → Instr → List (List ℕ)
+handles_performed s (Local instr) = handles_in s
+handles_performed s (Queue queue call) = handles_after s queue call
+handles_performed s (Set set call) = handles_selected s set call
+
+abbrev pub handles_run : Application → Snapshot → Option ℕ → List (List ℕ)
+handles_run app s None = handles_in s
+handles_run app s (Some task) = handles_performed s (next_instr app s task)
+
+-- after a move: those after the instruction of the core's task; a tick changes none
+abbrev pub handles_moved : Application → Snapshot → Move → List (List ℕ)
+handles_moved app s (Core core) = handles_run app s (core_at s core)
+handles_moved app s Tick = handles_in s
+
+-- What becomes of callers, whose time is up, who is woken and who runs: none of it changes handles.
+abbrev pub HandlesGoByMoves : Type 0
+HandlesGoByMoves =
+    (app : Application) (s s' : Snapshot) (move : Move) → step app s move ≡ Ok s'
+    → handles_in s' ≡ handles_moved app s move
