@@ -1,5 +1,5 @@
 -- What a page keeps through several texts that are appended to it.
-use Rattle.std.proofs.Common.{◌∙◌, ℕ, arith}
+use Rattle.std.proofs.Common.{◌∙◌, ℕ, Result, Ok, Err, OnErr, arith}
 use Rattle.std.specs.Global.{Vec}
 use Rattle.rd_command.specs.Pages.{KeepsFront}
 
@@ -9,3 +9,8 @@ kept_then old between new first second = record {
   len = omega (arith, first.len, second.len);
   room = omega (arith, first.room, second.room);
 }
+
+-- What holds anyway holds of an Err.
+pub on_err_of : {T E P : Type 0} (r : Result T E) → P → OnErr r P
+on_err_of (Ok x) p = tt
+on_err_of (Err e) p = p

@@ -17,7 +17,7 @@ ghost use Rattle.rd_command.specs.Replies.{membership_text, queue_text};
 ghost use Rattle.rd_command.specs.Replies.{handles_text, selecting_text, set_text};
 ghost use Rattle.rd_command.specs.Replies.{running_core_text, state_text, task_text, is_task};
 ghost use Rattle.rd_command.specs.Replies.{ticks_text, cores_text};
-ghost use Rattle.rd_command.specs.Pages.{KeepsFront};
+ghost use Rattle.rd_command.specs.Pages.{IsFull, KeepsFront};
 
 use itoa::{Buffer, Integer};
 use rd_app::app::{App, Kind};
@@ -50,10 +50,12 @@ const MAX_DIGITS: usize = 20;
 // Whether there was memory for what is appended to a page.
 type Appended = Result<(), AllocError>;
 
-// Appends a text. The functions below append to a page in the same way what their name says. Where
-// memory runs out half-way, what they appended by then stays after what the page had.
+// Appends a text. The functions below append to a page in the same way what their name says. An
+// `Err` comes only where the page has no room for the whole text. Where memory runs out half-way,
+// what they appended by then stays after what the page had.
 fn append(page: &mut Vec<u8>, text: &[u8]) -> Appended
     ensures text { OnOk result (page.new.items ≡ page.old.items ++ text.now) }
+    ensures full { OnErr result (IsFull page.old text.now) }
     ensures kept { KeepsFront page.old page.new }
 {
     page.extend_from_slice(text)
@@ -61,6 +63,7 @@ fn append(page: &mut Vec<u8>, text: &[u8]) -> Appended
 
 fn append_number<I: Integer>(page: &mut Vec<u8>, number: I) -> Appended
     ensures text { OnOk result (page.new.items ≡ page.old.items ++ I.text number) }
+    ensures full { OnErr result (IsFull page.old (I.text number)) }
     ensures kept { KeepsFront page.old page.new }
 {
     append(page, Buffer::new().format(number).as_bytes())
@@ -141,6 +144,7 @@ pub fn append_reply(page: &mut Vec<u8>, reply: Reply) -> Result<(), AllocError>
 fn append_bytes(page: &mut Vec<u8>, bytes: &[u8]) -> Appended
     requires { length bytes.now ≤ MAX_BYTES }
     ensures text { OnOk result (page.new.items ≡ page.old.items ++ bytes_text bytes.now) }
+    ensures full { OnErr result (IsFull page.old (bytes_text bytes.now)) }
     ensures kept { KeepsFront page.old page.new }
 {
     if bytes.is_empty() {
@@ -156,6 +160,8 @@ fn append_bytes(page: &mut Vec<u8>, bytes: &[u8]) -> Appended
 fn append_comma(page: &mut Vec<u8>, index: usize) -> Appended
     ensures first { index ≡ 0 → OnOk result (page.new.items ≡ page.old.items) }
     ensures later { 1 ≤ index → OnOk result (page.new.items ≡ page.old.items ++ 44 ∷ []) }
+    ensures needed { OnErr result (1 ≤ index) }
+    ensures full { OnErr result (IsFull page.old (44 ∷ [])) }
     ensures kept { KeepsFront page.old page.new }
 {
     if index > 0 {
@@ -167,6 +173,7 @@ fn append_comma(page: &mut Vec<u8>, index: usize) -> Appended
 fn append_items(page: &mut Vec<u8>, queue: &Queue) -> Appended
     ensures text { OnOk result (page.new.items
         ≡ page.old.items ++ list_text bytes_text queue.now.items) }
+    ensures full { OnErr result (IsFull page.old (list_text bytes_text queue.now.items)) }
     ensures kept { KeepsFront page.old page.new }
 {
     if queue.count() == 0 {
@@ -181,6 +188,7 @@ fn append_items(page: &mut Vec<u8>, queue: &Queue) -> Appended
 
 fn append_number_list(page: &mut Vec<u8>, numbers: &[u32]) -> Appended
     ensures text { OnOk result (page.new.items ≡ page.old.items ++ list_text decimal numbers.now) }
+    ensures full { OnErr result (IsFull page.old (list_text decimal numbers.now)) }
     ensures kept { KeepsFront page.old page.new }
 {
     if numbers.is_empty() {
@@ -198,6 +206,8 @@ fn append_task_names(page: &mut Vec<u8>, app: &App, tasks: &[usize]) -> Appended
     requires { All (IsNamed app.now.task_names) tasks.now }
     ensures text { OnOk result (page.new.items
         ≡ page.old.items ++ list_text (name_at app.now.task_names) tasks.now) }
+    ensures full { OnErr result
+        (IsFull page.old (list_text (name_at app.now.task_names) tasks.now)) }
     ensures kept { KeepsFront page.old page.new }
 {
     if tasks.is_empty() {
@@ -215,6 +225,8 @@ fn append_handle_names(page: &mut Vec<u8>, app: &App, set: &QueueSet) -> Appende
     requires { All (IsNamed app.now.queue_names) set.now.handles }
     ensures text { OnOk result (page.new.items
         ≡ page.old.items ++ list_text (name_at app.now.queue_names) set.now.handles) }
+    ensures full { OnErr result
+        (IsFull page.old (list_text (name_at app.now.queue_names) set.now.handles)) }
     ensures kept { KeepsFront page.old page.new }
 {
     if set.count() == 0 {
@@ -232,6 +244,7 @@ fn append_name(page: &mut Vec<u8>, app: &App, kind: Kind, number: Option<usize>)
     requires { IsNamedOrNone (names_of kind app.now) number }
     ensures text { OnOk result (page.new.items
         ≡ page.old.items ++ name_or_dash (names_of kind app.now) number) }
+    ensures full { OnErr result (IsFull page.old (name_or_dash (names_of kind app.now) number)) }
     ensures kept { KeepsFront page.old page.new }
 {
     match number {
@@ -245,6 +258,8 @@ fn append_seat_names(page: &mut Vec<u8>, app: &App, cores: &[Option<usize>]) -> 
     requires { All (IsNamedOrNone app.now.task_names) cores.now }
     ensures text { OnOk result (page.new.items
         ≡ page.old.items ++ list_text (name_or_dash app.now.task_names) cores.now) }
+    ensures full { OnErr result
+        (IsFull page.old (list_text (name_or_dash app.now.task_names) cores.now)) }
     ensures kept { KeepsFront page.old page.new }
 {
     if cores.is_empty() {
@@ -259,6 +274,7 @@ fn append_seat_names(page: &mut Vec<u8>, app: &App, cores: &[Option<usize>]) -> 
 
 fn append_entry(page: &mut Vec<u8>, entry: Entry) -> Appended
     ensures text { OnOk result (page.new.items ≡ page.old.items ++ entry_text entry) }
+    ensures full { OnErr result (IsFull page.old (entry_text entry)) }
     ensures kept { KeepsFront page.old page.new }
 {
     append_number(page, entry.value)?;
@@ -272,6 +288,7 @@ fn append_entry(page: &mut Vec<u8>, entry: Entry) -> Appended
 fn append_entry_list(page: &mut Vec<u8>, entries: &[Entry]) -> Appended
     ensures text { OnOk result (page.new.items
         ≡ page.old.items ++ list_text entry_text entries.now) }
+    ensures full { OnErr result (IsFull page.old (list_text entry_text entries.now)) }
     ensures kept { KeepsFront page.old page.new }
 {
     if entries.is_empty() {
@@ -287,6 +304,7 @@ fn append_entry_list(page: &mut Vec<u8>, entries: &[Entry]) -> Appended
 // A deadline's tick; `max` for none.
 fn append_deadline(page: &mut Vec<u8>, deadline: Option<u64>) -> Appended
     ensures text { OnOk result (page.new.items ≡ page.old.items ++ deadline_text deadline) }
+    ensures full { OnErr result (IsFull page.old (deadline_text deadline)) }
     ensures kept { KeepsFront page.old page.new }
 {
     match deadline {
@@ -310,6 +328,7 @@ fn append_place(page: &mut Vec<u8>, app: &App, place: Place) -> Appended
     requires { IsPlace (numbers_named (all_names app.now)) place }
     ensures text { OnOk result
         (page.new.items ≡ page.old.items ++ place_text (all_names app.now) place) }
+    ensures full { OnErr result (IsFull page.old (place_text (all_names app.now) place)) }
     ensures kept { KeepsFront page.old page.new }
 {
     match place {
@@ -328,6 +347,7 @@ fn append_place(page: &mut Vec<u8>, app: &App, place: Place) -> Appended
 // Why a call failed.
 fn append_cause(page: &mut Vec<u8>, cause: Cause) -> Appended
     ensures text { OnOk result (page.new.items ≡ page.old.items ++ cause_text cause) }
+    ensures full { OnErr result (IsFull page.old (cause_text cause)) }
     ensures kept { KeepsFront page.old page.new }
 {
     match cause {
@@ -339,6 +359,7 @@ fn append_phase(page: &mut Vec<u8>, app: &App, phase: Phase) -> Appended
     requires { PlaceIsNamed (all_names app.now) phase }
     ensures text { OnOk result
         (page.new.items ≡ page.old.items ++ phase_text (all_names app.now) phase) }
+    ensures full { OnErr result (IsFull page.old (phase_text (all_names app.now) phase)) }
     ensures kept { KeepsFront page.old page.new }
 {
     match phase {
@@ -364,6 +385,7 @@ fn append_phase(page: &mut Vec<u8>, app: &App, phase: Phase) -> Appended
 // The core that a task runs on; `-` for none.
 fn append_running_core(page: &mut Vec<u8>, core: Option<usize>) -> Appended
     ensures text { OnOk result (page.new.items ≡ page.old.items ++ running_core_text core) }
+    ensures full { OnErr result (IsFull page.old (running_core_text core)) }
     ensures kept { KeepsFront page.old page.new }
 {
     match core {
@@ -372,12 +394,14 @@ fn append_running_core(page: &mut Vec<u8>, core: Option<usize>) -> Appended
     }
 }
 
-/// Appends the view of a queue. An `Err` says that there is no memory for it; the page may then
-/// have some part of it after what it had.
+/// Appends the view of a queue. An `Err` says that there is no memory for it, and comes only where
+/// the page has no room for it; the page may then have some part of it after what it had.
 pub fn show_queue(page: &mut Vec<u8>, app: &App, name: &str, queue: &Queue) -> Appended
     requires { QueueIsNamed (all_names app.now) queue.now }
     ensures text { OnOk result (page.new.items
         ≡ page.old.items ++ line_of (queue_text (all_names app.now) name.now queue.now)) }
+    ensures full { OnErr result
+        (IsFull page.old (line_of (queue_text (all_names app.now) name.now queue.now))) }
     ensures kept { KeepsFront page.old page.new }
 {
     append(page, b"queue ")?;
@@ -392,6 +416,7 @@ pub fn show_queue(page: &mut Vec<u8>, app: &App, name: &str, queue: &Queue) -> A
 // How many there are, and how many there is room for.
 fn append_counts(page: &mut Vec<u8>, count: usize, capacity: usize) -> Appended
     ensures text { OnOk result (page.new.items ≡ page.old.items ++ counts_text count capacity) }
+    ensures full { OnErr result (IsFull page.old (counts_text count capacity)) }
     ensures kept { KeepsFront page.old page.new }
 {
     append_number(page, count)?;
@@ -402,6 +427,7 @@ fn append_counts(page: &mut Vec<u8>, count: usize, capacity: usize) -> Appended
 // What is in a queue.
 fn append_contents(page: &mut Vec<u8>, queue: &Queue) -> Appended
     ensures text { OnOk result (page.new.items ≡ page.old.items ++ contents_text queue.now) }
+    ensures full { OnErr result (IsFull page.old (contents_text queue.now)) }
     ensures kept { KeepsFront page.old page.new }
 {
     append_counts(page, queue.count(), queue.capacity())?;
@@ -414,6 +440,7 @@ fn append_waiting(page: &mut Vec<u8>, app: &App, queue: &Queue) -> Appended
     requires { QueueIsNamed (all_names app.now) queue.now }
     ensures text { OnOk result
         (page.new.items ≡ page.old.items ++ waiting_text (all_names app.now) queue.now) }
+    ensures full { OnErr result (IsFull page.old (waiting_text (all_names app.now) queue.now)) }
     ensures kept { KeepsFront page.old page.new }
 {
     append(page, b" recv ")?;
@@ -427,18 +454,21 @@ fn append_membership(page: &mut Vec<u8>, app: &App, queue: &Queue) -> Appended
     requires { QueueIsNamed (all_names app.now) queue.now }
     ensures text { OnOk result
         (page.new.items ≡ page.old.items ++ membership_text (all_names app.now) queue.now) }
+    ensures full { OnErr result (IsFull page.old (membership_text (all_names app.now) queue.now)) }
     ensures kept { KeepsFront page.old page.new }
 {
     append(page, b" set ")?;
     append_name(page, app, Kind::Set, queue.set_of())
 }
 
-/// Appends the view of a queue set. An `Err` says that there is no memory for it; the page may
-/// then have some part of it after what it had.
+/// Appends the view of a queue set. An `Err` says that there is no memory for it, and comes only
+/// where the page has no room for it; the page may then have some part of it after what it had.
 pub fn show_set(page: &mut Vec<u8>, app: &App, name: &str, set: &QueueSet) -> Appended
     requires { SetIsNamed (all_names app.now) set.now }
     ensures text { OnOk result (page.new.items
         ≡ page.old.items ++ line_of (set_text (all_names app.now) name.now set.now)) }
+    ensures full { OnErr result
+        (IsFull page.old (line_of (set_text (all_names app.now) name.now set.now))) }
     ensures kept { KeepsFront page.old page.new }
 {
     append(page, b"set ")?;
@@ -454,6 +484,7 @@ fn append_handles(page: &mut Vec<u8>, app: &App, set: &QueueSet) -> Appended
     requires { SetIsNamed (all_names app.now) set.now }
     ensures text { OnOk result
         (page.new.items ≡ page.old.items ++ handles_text (all_names app.now) set.now) }
+    ensures full { OnErr result (IsFull page.old (handles_text (all_names app.now) set.now)) }
     ensures kept { KeepsFront page.old page.new }
 {
     append_counts(page, set.count(), set.capacity())?;
@@ -466,14 +497,15 @@ fn append_selecting(page: &mut Vec<u8>, app: &App, set: &QueueSet) -> Appended
     requires { SetIsNamed (all_names app.now) set.now }
     ensures text { OnOk result
         (page.new.items ≡ page.old.items ++ selecting_text (all_names app.now) set.now) }
+    ensures full { OnErr result (IsFull page.old (selecting_text (all_names app.now) set.now)) }
     ensures kept { KeepsFront page.old page.new }
 {
     append(page, b" wait ")?;
     append_task_names(page, app, set.waiting().as_slice())
 }
 
-/// Appends the view of a task. An `Err` says that there is no memory for it; the page may then
-/// have some part of it after what it had.
+/// Appends the view of a task. An `Err` says that there is no memory for it, and comes only where
+/// the page has no room for it; the page may then have some part of it after what it had.
 pub fn show_task(
     page: &mut Vec<u8>,
     app: &App,
@@ -484,6 +516,8 @@ pub fn show_task(
     requires { PlaceIsNamed (all_names app.now) task.now.phase }
     ensures text { OnOk result (page.new.items
         ≡ page.old.items ++ line_of (task_text (all_names app.now) name.now core task.now)) }
+    ensures full { OnErr result
+        (IsFull page.old (line_of (task_text (all_names app.now) name.now core task.now))) }
     ensures kept { KeepsFront page.old page.new }
 {
     append(page, b"task ")?;
@@ -500,6 +534,7 @@ pub fn show_task(
 // The rest of a task's view, from its registers on.
 fn append_state(page: &mut Vec<u8>, task: &Task) -> Appended
     ensures text { OnOk result (page.new.items ≡ page.old.items ++ line_of (state_text task.now)) }
+    ensures full { OnErr result (IsFull page.old (line_of (state_text task.now))) }
     ensures kept { KeepsFront page.old page.new }
 {
     append(page, b" regs ")?;
@@ -511,12 +546,14 @@ fn append_state(page: &mut Vec<u8>, task: &Task) -> Appended
     append(page, b"\n")
 }
 
-/// Appends the view of the cores. An `Err` says that there is no memory for it; the page may then
-/// have some part of it after what it had.
+/// Appends the view of the cores. An `Err` says that there is no memory for it, and comes only
+/// where the page has no room for it; the page may then have some part of it after what it had.
 pub fn show_cores(page: &mut Vec<u8>, app: &App, state: &State) -> Appended
     requires { SeatedAreNamed (all_names app.now) state.now }
     ensures text { OnOk result (page.new.items
         ≡ page.old.items ++ line_of (cores_text (all_names app.now) state.now)) }
+    ensures full { OnErr result
+        (IsFull page.old (line_of (cores_text (all_names app.now) state.now))) }
     ensures kept { KeepsFront page.old page.new }
 {
     append(page, b"cores ")?;
@@ -529,6 +566,7 @@ pub fn show_cores(page: &mut Vec<u8>, app: &App, state: &State) -> Appended
 // The rest of the cores' view, from the tick on.
 fn append_ticks(page: &mut Vec<u8>, state: &State) -> Appended
     ensures text { OnOk result (page.new.items ≡ page.old.items ++ line_of (ticks_text state.now)) }
+    ensures full { OnErr result (IsFull page.old (line_of (ticks_text state.now))) }
     ensures kept { KeepsFront page.old page.new }
 {
     append(page, b" tick ")?;

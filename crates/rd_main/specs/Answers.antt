@@ -1,6 +1,7 @@
 -- What is answered to a command, and what becomes of the timeline.
 use Rattle.std.specs.Prelude.{ℕ, ◌≡◌, ◌≢◌, ◌-◌, ◌<◌, ◌≤◌, ◌⊎◌, List, [], ◌∷◌, ◌++◌, length}
-use Rattle.std.specs.Prelude.{take, drop, position, Option, Some, None, Ok}
+use Rattle.std.specs.Prelude.{take, drop, position, vec_capacity, vec_len, Option, Some, None, Ok}
+use Rattle.std.specs.Global.{Vec}
 use Rattle.std.specs.Str.{bytes_eq}
 use Rattle.rd_calls.specs.Step.{step}
 use Rattle.rd_calls.specs.declared.moves.Move.{Move}
@@ -62,52 +63,57 @@ no_such = line_of (reply_text (Refused NoSuch))
 abbrev pub no_memory : List ℕ
 no_memory = line_of (reply_text (Refused NoMemory))
 
--- A view, or `no NoMemory`.
-abbrev pub IsShown : List ℕ → List ℕ → Type 0
-IsShown view line = (line ≡ line_of view) ⊎ (line ≡ no_memory)
+-- how many bytes there is room for after the answers
+abbrev pub room_in : Vec ℕ → ℕ
+room_in answers = vec_capacity answers - vec_len answers
 
--- A view of what has a name, or `no NoSuch` where nothing has it, or `no NoMemory`.
-abbrev pub IsView : Option ℕ → (ℕ → List ℕ) → List ℕ → Type 0
-IsView None view line = line ≡ no_such
-IsView (Some number) view line = IsShown (view number) line
+-- A view, or `no NoMemory` where there is too little room for the view.
+abbrev pub IsShown : ℕ → List ℕ → List ℕ → Type 0
+IsShown room view line =
+    (line ≡ line_of view) ⊎ ((line ≡ no_memory) × (room < length (line_of view)))
+
+-- A view of what has a name, or `no NoSuch` where nothing has it.
+abbrev pub IsView : ℕ → Option ℕ → (ℕ → List ℕ) → List ℕ → Type 0
+IsView room None view line = line ≡ no_such
+IsView room (Some number) view line = IsShown room (view number) line
 
 -- the number of what has the name
 abbrev pub number_named : List ℕ → List (List ℕ) → Option ℕ
 number_named name names = position (bytes_eq name) names
 
-abbrev pub QueueLine : Course → List ℕ → List ℕ → Type 0
-QueueLine course name line =
-    IsView (number_named name course.app.queue_names)
+abbrev pub QueueLine : ℕ → Course → List ℕ → List ℕ → Type 0
+QueueLine room course name line =
+    IsView room (number_named name course.app.queue_names)
     (λ queue. queue_text (all_names course.app) name (queue_at course.target queue))
     line
 
-abbrev pub SetLine : Course → List ℕ → List ℕ → Type 0
-SetLine course name line =
-    IsView (number_named name course.app.set_names)
+abbrev pub SetLine : ℕ → Course → List ℕ → List ℕ → Type 0
+SetLine room course name line =
+    IsView room (number_named name course.app.set_names)
     (λ set. set_text (all_names course.app) name (set_at course.target set))
     line
 
-abbrev pub TaskLine : Course → List ℕ → List ℕ → Type 0
-TaskLine course name line =
-    IsView (number_named name course.app.task_names)
+abbrev pub TaskLine : ℕ → Course → List ℕ → List ℕ → Type 0
+TaskLine room course name line =
+    IsView room (number_named name course.app.task_names)
     (λ task. task_text (all_names course.app) name (position (is_task task) course.target.cores)
     (task_at course.target task))
     line
 
-abbrev pub CoresLine : Course → List ℕ → Type 0
-CoresLine course line = IsShown (cores_text (all_names course.app) course.target) line
+abbrev pub CoresLine : ℕ → Course → List ℕ → Type 0
+CoresLine room course line = IsShown room (cores_text (all_names course.app) course.target) line
 
 -- The line is the text of a reply that meets this.
 abbrev pub IsReplyLine : (Reply → Type 0) → List ℕ → Type 0
 IsReplyLine IsReply line = (reply : Reply) × (line ≡ line_of (reply_text reply)) × IsReply reply
 
--- the answer to a line, by the command that it spells
-abbrev pub IsAnswer : Course → Option Asked → Course → List ℕ → Type 0
-IsAnswer old None new line = (line ≡ line_of (reply_text (Refused Syntax))) × (new ≡ old)
-IsAnswer old (Some (Step core)) new line = IsReplyLine (StepReply old core new) line
-IsAnswer old (Some Tick) new line = IsReplyLine (MoveReply old move.Tick new) line
-IsAnswer old (Some (Back count)) new line = IsReplyLine (BackReply old count new) line
-IsAnswer old (Some (ShowQueue name)) new line = QueueLine old name line × (new ≡ old)
-IsAnswer old (Some (ShowSet name)) new line = SetLine old name line × (new ≡ old)
-IsAnswer old (Some (ShowTask name)) new line = TaskLine old name line × (new ≡ old)
-IsAnswer old (Some ShowCores) new line = CoresLine old line × (new ≡ old)
+-- the answer to a line, by the command that it spells, where there is so much room for it
+abbrev pub IsAnswer : ℕ → Course → Option Asked → Course → List ℕ → Type 0
+IsAnswer room old None new line = (line ≡ line_of (reply_text (Refused Syntax))) × (new ≡ old)
+IsAnswer room old (Some (Step core)) new line = IsReplyLine (StepReply old core new) line
+IsAnswer room old (Some Tick) new line = IsReplyLine (MoveReply old move.Tick new) line
+IsAnswer room old (Some (Back count)) new line = IsReplyLine (BackReply old count new) line
+IsAnswer room old (Some (ShowQueue name)) new line = QueueLine room old name line × (new ≡ old)
+IsAnswer room old (Some (ShowSet name)) new line = SetLine room old name line × (new ≡ old)
+IsAnswer room old (Some (ShowTask name)) new line = TaskLine room old name line × (new ≡ old)
+IsAnswer room old (Some ShowCores) new line = CoresLine room old line × (new ≡ old)

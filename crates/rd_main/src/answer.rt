@@ -6,7 +6,7 @@ ghost use Rattle.rd_calls.specs.Step.{IsMoveOf};
 ghost use Rattle.rd_text.specs.Words.{words_of};
 ghost use Rattle.rd_command.specs.Commands.{command_of};
 ghost use Rattle.rd_main.specs.Answers.{MoveReply, StepReply, BackReply, IsAnswer, Adds, no_memory};
-ghost use Rattle.rd_main.specs.Answers.{QueueLine, SetLine, TaskLine, CoresLine};
+ghost use Rattle.rd_main.specs.Answers.{QueueLine, SetLine, TaskLine, CoresLine, room_in};
 
 use rd_app::app::Kind;
 use rd_calls::moves::Move;
@@ -71,7 +71,8 @@ fn end_view(answers: &mut Vec<u8>, len: usize, shown: Result<(), AllocError>)
 // Appends the view of the queue of that name.
 fn put_queue(timeline: &Timeline, answers: &mut Vec<u8>, name: &str)
     requires { vec_len answers.old + MAX_REPLY ≤ vec_capacity answers.old }
-    ensures { Adds answers.old.items answers.new.items (QueueLine timeline.now name.now) }
+    ensures { Adds answers.old.items answers.new.items
+        (QueueLine (room_in answers.old) timeline.now name.now) }
 {
     let Some(queue) = timeline.app().find(Kind::Queue, name) else {
         return append_reply_reserved(answers, refused(Refusal::NoSuch));
@@ -87,7 +88,8 @@ fn put_queue(timeline: &Timeline, answers: &mut Vec<u8>, name: &str)
 // Appends the view of the queue set of that name.
 fn put_set(timeline: &Timeline, answers: &mut Vec<u8>, name: &str)
     requires { vec_len answers.old + MAX_REPLY ≤ vec_capacity answers.old }
-    ensures { Adds answers.old.items answers.new.items (SetLine timeline.now name.now) }
+    ensures { Adds answers.old.items answers.new.items
+        (SetLine (room_in answers.old) timeline.now name.now) }
 {
     let Some(set) = timeline.app().find(Kind::Set, name) else {
         return append_reply_reserved(answers, refused(Refusal::NoSuch));
@@ -103,7 +105,8 @@ fn put_set(timeline: &Timeline, answers: &mut Vec<u8>, name: &str)
 // Appends the view of the task of that name.
 fn put_task(timeline: &Timeline, answers: &mut Vec<u8>, name: &str)
     requires { vec_len answers.old + MAX_REPLY ≤ vec_capacity answers.old }
-    ensures { Adds answers.old.items answers.new.items (TaskLine timeline.now name.now) }
+    ensures { Adds answers.old.items answers.new.items
+        (TaskLine (room_in answers.old) timeline.now name.now) }
 {
     let Some(task) = timeline.app().find(Kind::Task, name) else {
         return append_reply_reserved(answers, refused(Refusal::NoSuch));
@@ -120,7 +123,8 @@ fn put_task(timeline: &Timeline, answers: &mut Vec<u8>, name: &str)
 // Appends the view of the cores.
 fn put_cores(timeline: &Timeline, answers: &mut Vec<u8>)
     requires { vec_len answers.old + MAX_REPLY ≤ vec_capacity answers.old }
-    ensures { Adds answers.old.items answers.new.items (CoresLine timeline.now) }
+    ensures { Adds answers.old.items answers.new.items
+        (CoresLine (room_in answers.old) timeline.now) }
 {
     timeline.app().limits();
     timeline.keeps();
@@ -132,8 +136,8 @@ fn put_cores(timeline: &Timeline, answers: &mut Vec<u8>)
 // Appends the answer to a line, where there is room for a reply.
 fn put_reserved(timeline: &mut Timeline, answers: &mut Vec<u8>, line: &[u8])
     requires { vec_len answers.old + MAX_REPLY ≤ vec_capacity answers.old }
-    ensures { Adds answers.old.items answers.new.items
-        (IsAnswer timeline.old (command_of (words_of line.now)) timeline.new) }
+    ensures { Adds answers.old.items answers.new.items (IsAnswer (room_in answers.old)
+        timeline.old (command_of (words_of line.now)) timeline.new) }
 {
     match parse_line(line) {
         Ok(Command::Step { core }) => append_reply_reserved(answers, step(timeline, core as usize)),
@@ -150,16 +154,17 @@ fn put_reserved(timeline: &mut Timeline, answers: &mut Vec<u8>, line: &[u8])
 }
 
 /// Does what the line asks for, if it is a command, and appends the answer. Where there is no
-/// memory for a move or a view, the answer says so. An `Err` says that there is no memory for any
-/// answer, and then nothing was done; it comes only where the answers have no room for `MAX_REPLY`
-/// bytes more.
+/// memory for a move or a view, the answer says so; of a view it does only where the answers have
+/// no room for it. An `Err` says that there is no memory for any answer, and then nothing was done;
+/// it comes only where the answers have no room for `MAX_REPLY` bytes more.
 pub fn put_answer(
     timeline: &mut Timeline,
     answers: &mut Vec<u8>,
     line: &[u8],
 ) -> Result<(), AllocError>
     ensures answer { OnOk result (Adds answers.old.items answers.new.items
-        (IsAnswer timeline.old (command_of (words_of line.now)) timeline.new)) }
+        (IsAnswer (room_in answers.old)
+        timeline.old (command_of (words_of line.now)) timeline.new)) }
     ensures err { OnErr result ((timeline.new ≡ timeline.old)
         × (answers.new.items ≡ answers.old.items)) }
     ensures room { vec_len answers.old + MAX_REPLY ≤ vec_capacity answers.old → IsOk result }

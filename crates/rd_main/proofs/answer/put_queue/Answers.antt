@@ -1,12 +1,11 @@
 -- The goals of put_queue that the check left open.
-use Rattle.std.proofs.Common.{◌≡◌, ◌∙◌, ◌++◌, ℕ, Some, ap, sym}
-use Rattle.std.proofs.lemmas.Result.{on_ok_weaker}
+use Rattle.std.proofs.Common.{◌≡◌, ◌∙◌, ℕ, Some, ap, sym}
 use Rattle.rd_queue.specs.QueueSnapshot.{QueueSnapshot}
 use Rattle.rd_app.specs.Application.{Application}
 use Rattle.rd_state.specs.Snapshot.{Snapshot, queue_at}
 use Rattle.rd_main.specs.Answers.{number_named}
 use Rattle.rd_command.specs.Names.{all_names}
-use Rattle.rd_command.specs.Replies.{line_of, queue_text}
+use Rattle.rd_command.specs.Replies.{queue_text}
 use Rattle.rd_main.proofs.AnswerLaws.{view_added, queue_named, queue_there}
 use Rattle.rd_main.proofs.answer.put_queue.Goals as goal
 
@@ -28,16 +27,13 @@ show_queue-shown-requires c =
 pub returns : goal.returns
 returns c =
     let course = c.args.timeline.now in
-    let before = c.args.answers.now.items in
     let name = c.args.name.now in
     let number = c.in-Some.queue in
     let found : number_named name course.app.queue_names ≡ Some number = sym (rw c.app.ensures at c.in-Some.ensures) in
     let view = λ (queue : ℕ). queue_text (all_names course.app) name (queue_at course.target queue) in
-    let by_app = λ (app : Application). before ++ line_of (queue_text (all_names app) name c.queue.result.now) in
-    let by_queue = λ (queue : QueueSnapshot). before ++ line_of (queue_text (all_names course.app) name queue) in
+    let by_app = λ (app : Application). queue_text (all_names app) name c.queue.result.now in
+    let by_queue = λ (queue : QueueSnapshot). queue_text (all_names course.app) name queue in
     let there = c.queue.ensures.queue ∙ ap (λ (s : Snapshot). queue_at s number) c.target-target.ensures in
-    view_added c.show_queue-shown.result _ view number _ _ _ _ found c.len-len.ensures
-    (on_ok_weaker c.show_queue-shown.result
-    (λ text. text ∙ ap by_app c.app-3.ensures ∙ ap by_queue there)
-    c.show_queue-shown.ensures.text)
-    c.show_queue-shown.ensures.kept c.end_view.ensures.ok c.end_view.ensures.err
+    view_added c.show_queue-shown.result _ view number _ _ _ _ _ found c.len-len.ensures
+    (ap by_app c.app-3.ensures ∙ ap by_queue there)
+    c.show_queue-shown.ensures.text c.show_queue-shown.ensures.full c.show_queue-shown.ensures.kept c.end_view.ensures.ok c.end_view.ensures.err

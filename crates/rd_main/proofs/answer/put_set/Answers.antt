@@ -1,12 +1,11 @@
 -- The goals of put_set that the check left open.
-use Rattle.std.proofs.Common.{◌≡◌, ◌∙◌, ◌++◌, ℕ, Some, ap, sym}
-use Rattle.std.proofs.lemmas.Result.{on_ok_weaker}
+use Rattle.std.proofs.Common.{◌≡◌, ◌∙◌, ℕ, Some, ap, sym}
 use Rattle.rd_queue.specs.SetSnapshot.{SetSnapshot}
 use Rattle.rd_app.specs.Application.{Application}
 use Rattle.rd_state.specs.Snapshot.{Snapshot, set_at}
 use Rattle.rd_main.specs.Answers.{number_named}
 use Rattle.rd_command.specs.Names.{all_names}
-use Rattle.rd_command.specs.Replies.{line_of, set_text}
+use Rattle.rd_command.specs.Replies.{set_text}
 use Rattle.rd_main.proofs.AnswerLaws.{view_added, set_named, set_there}
 use Rattle.rd_main.proofs.answer.put_set.Goals as goal
 
@@ -28,16 +27,13 @@ show_set-shown-requires c =
 pub returns : goal.returns
 returns c =
     let course = c.args.timeline.now in
-    let before = c.args.answers.now.items in
     let name = c.args.name.now in
     let number = c.in-Some.set in
     let found : number_named name course.app.set_names ≡ Some number = sym (rw c.app.ensures at c.in-Some.ensures) in
     let view = λ (set : ℕ). set_text (all_names course.app) name (set_at course.target set) in
-    let by_app = λ (app : Application). before ++ line_of (set_text (all_names app) name c.set.result.now) in
-    let by_set = λ (set : SetSnapshot). before ++ line_of (set_text (all_names course.app) name set) in
+    let by_app = λ (app : Application). set_text (all_names app) name c.set.result.now in
+    let by_set = λ (set : SetSnapshot). set_text (all_names course.app) name set in
     let there = c.set.ensures.set ∙ ap (λ (s : Snapshot). set_at s number) c.target-target.ensures in
-    view_added c.show_set-shown.result _ view number _ _ _ _ found c.len-len.ensures
-    (on_ok_weaker c.show_set-shown.result
-    (λ text. text ∙ ap by_app c.app-3.ensures ∙ ap by_set there)
-    c.show_set-shown.ensures.text)
-    c.show_set-shown.ensures.kept c.end_view.ensures.ok c.end_view.ensures.err
+    view_added c.show_set-shown.result _ view number _ _ _ _ _ found c.len-len.ensures
+    (ap by_app c.app-3.ensures ∙ ap by_set there)
+    c.show_set-shown.ensures.text c.show_set-shown.ensures.full c.show_set-shown.ensures.kept c.end_view.ensures.ok c.end_view.ensures.err
