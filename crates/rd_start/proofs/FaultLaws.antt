@@ -1,5 +1,5 @@
 -- What is loaded, and why nothing is.
-use Rattle.std.proofs.Common.{◌≡◌, ◌∙◌, ◌<◌, ◌++◌, List, [], ℕ, length, take, option_map, Option, Some, None}
+use Rattle.std.proofs.Common.{◌≡◌, ◌≢◌, ◌∙◌, ◌<◌, ◌++◌, List, [], ℕ, length, take, option_map, Option, Some, None}
 use Rattle.std.proofs.Common.{Result, Ok, Err, IfOk, IfErr, IsOk, OnOk, IfSome, IsErrAnd, ap, inl, inr, arith, refl, subst}
 use Rattle.std.proofs.lemmas.Bool.{cases_lt}
 use Rattle.std.proofs.lemmas.List.{length-take, take_all}
@@ -12,7 +12,7 @@ use Rattle.rd_app.specs.Application.{Application, IsApplication}
 use Rattle.rd_script.specs.Says.{FileSays}
 use Rattle.rd_start.specs.declared.fault.Fault.{Fault}
 use Rattle.rd_start.specs.declared.fault.Fault.TheVariants.{BadLine, CannotRead, App, NoMemory}
-use Rattle.rd_start.specs.Requests.{AreAllOf, IsFaultOf, IsFaultOfKind, IsFile, IsOfAFile, IsRefusalOf, IsSaidBy}
+use Rattle.rd_start.specs.Requests.{AreAllOf, IsFaultOf, IsFaultOfKind, IsFile, IsOfAFile, IsOfARefusedFile, IsRefusalOf, IsSaidBy}
 
 -- A file that can't be opened or read says nothing, whatever its bytes are.
 pub unread_is_fault : (known : Option (List ℕ)) (kind : ErrorKind) (fault : Fault) → IsFaultOfKind kind fault → IsFaultOf known fault
@@ -81,17 +81,48 @@ not_said known (Ok n) bytes (Err fault) up_to failed long refused = elim (cases_
 ]
 
 -- What is said by a file's bytes is said by some.
-pub of_a_file : (known : Option (List ℕ)) (result : Result Application Fault) → IfOk result (IsSaidBy known) → IfOk result IsOfAFile
+of_a_file : (known : Option (List ℕ)) (result : Result Application Fault) → IfOk result (IsSaidBy known) → IfOk result IsOfAFile
 of_a_file known (Ok app) h = (h.0, h.2, h.3, h.4)
 of_a_file known (Err fault) h = h
 
-fault_of_some : (known : Option (List ℕ)) (fault : Fault) → IsFaultOf known fault → IsFaultOf None fault
-fault_of_some known BadLine h = h
-fault_of_some known CannotRead h = tt
-fault_of_some known (App error) h = (h.0, tt, h.2, h.3)
-fault_of_some known NoMemory h = tt
+pub opened_app : {R : Type 0} (remaining : R → Option (List ℕ)) (opened : Result R Error) (result : Result Application Fault)
+    → IfErr opened (λ error. IsErrAnd result (IsFaultOfKind (error_kind error)))
+    → IfOk opened (λ reader. IfOk result (IsSaidBy (remaining reader))) → IfOk result IsOfAFile
+opened_app remaining (Ok reader) result failed h = of_a_file (remaining reader) result h
+opened_app remaining (Err e) (Ok app) failed h = absurd failed
+opened_app remaining (Err e) (Err fault) failed h = tt
 
-pub not_of_a_file : (known : Option (List ℕ)) (result : Result Application Fault) → IfErr result (IsFaultOf known)
-    → IfErr result (IsFaultOf None)
-not_of_a_file known (Ok app) h = h
-not_of_a_file known (Err fault) h = fault_of_some known fault h
+-- Why a file that can't be opened, or is opened and read, gives no application.
+not_opened : {R : Type 0} (remaining : R → Option (List ℕ)) (opened : Result R Error) (fault : Fault)
+    → IfErr opened (λ error. IsFaultOfKind (error_kind error) fault) → IfOk opened (λ reader. IsFaultOf (remaining reader) fault)
+    → (known : Option (List ℕ)) × IsFaultOf known fault
+not_opened remaining (Ok reader) fault failed h = (remaining reader, h)
+not_opened remaining (Err e) fault failed h = (None, unread_is_fault None (error_kind e) fault failed)
+
+not_bad_line : (known : Option (List ℕ)) (fault : Fault) → IsFaultOf known fault → fault ≢ BadLine
+not_bad_line known BadLine h = absurd h
+not_bad_line known CannotRead h = λ e. cc
+not_bad_line known (App error) h = λ e. cc
+not_bad_line known NoMemory h = λ e. cc
+
+of_a_refused_file : (known : Option (List ℕ)) (fault : Fault) → IsFaultOf known fault → IsOfARefusedFile fault
+of_a_refused_file known BadLine h = tt
+of_a_refused_file known CannotRead h = tt
+of_a_refused_file known (App error) h = (h.0, h.2, h.3)
+of_a_refused_file known NoMemory h = tt
+
+pub opened_fault : {R : Type 0} (remaining : R → Option (List ℕ)) (opened : Result R Error) (result : Result Application Fault)
+    → IfErr opened (λ error. IsErrAnd result (IsFaultOfKind (error_kind error)))
+    → IfOk opened (λ reader. IfErr result (IsFaultOf (remaining reader))) → IfErr result (λ fault. fault ≢ BadLine)
+opened_fault remaining opened (Ok app) failed h = tt
+opened_fault remaining opened (Err fault) failed h =
+    let why = not_opened remaining opened fault failed h in
+    not_bad_line why.0 fault why.1
+
+pub opened_refused : {R : Type 0} (remaining : R → Option (List ℕ)) (opened : Result R Error) (result : Result Application Fault)
+    → IfErr opened (λ error. IsErrAnd result (IsFaultOfKind (error_kind error)))
+    → IfOk opened (λ reader. IfErr result (IsFaultOf (remaining reader))) → IfErr result IsOfARefusedFile
+opened_refused remaining opened (Ok app) failed h = tt
+opened_refused remaining opened (Err fault) failed h =
+    let why = not_opened remaining opened fault failed h in
+    of_a_refused_file why.0 fault why.1

@@ -1,2 +1,4 @@
 -- The lemmas of this crate.
 pub mod FaultLaws
+pub mod WalkLaws
+pub mod WordsLaws

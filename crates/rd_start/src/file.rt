@@ -1,14 +1,14 @@
 //! Reads an application from a file.
 
-ghost use Rattle.std.specs.Prelude.{◌≡◌, ◌<◌, length, None, IsNone, IsSome, IfSome};
+ghost use Rattle.std.specs.Prelude.{◌≡◌, ◌≢◌, ◌<◌, length, IsNone, IsSome, IfSome};
 ghost use Rattle.std.specs.Prelude.{IfErr, IfOk, IsErr, IsErrAnd, IsOk};
 ghost use Rattle.std.specs.IoError.{error_kind};
 ghost use Rattle.rd_app.specs.Builtin.{builtin};
 ghost use Rattle.rd_app.specs.Application.{IsApplication};
 ghost use Rattle.rd_script.specs.Says.{FileSays};
 ghost use Rattle.rd_start.specs.Requests.{IsFile, IsOfAFile, IsFaultOf, IsFaultOfKind};
-ghost use Rattle.rd_start.specs.Requests.{IsRefusalOf, IsSaidBy};
-ghost use Rattle.rd_start.specs.declared.fault.Fault.TheVariants.{CannotRead, NoMemory};
+ghost use Rattle.rd_start.specs.Requests.{IsOfARefusedFile, IsRefusalOf, IsSaidBy};
+ghost use Rattle.rd_start.specs.declared.fault.Fault.TheVariants.{BadLine, CannotRead, NoMemory};
 
 use crate::fault::Fault;
 use rd_app::app::App;
@@ -63,6 +63,19 @@ pub fn read_application<R: Read + Drop>(alloc: Global, reader: R) -> Result<App,
     app_of_read(alloc, read, bytes.as_slice())
 }
 
+/// The application of a file, by how opening it ended: `NoMemory` where that failed for want of
+/// memory, `CannotRead` where it failed for another cause, and where it opened what
+/// `read_application` answers.
+pub fn app_of_opened<R: Read + Drop>(alloc: Global, opened: io::Result<R>) -> Result<App, Fault>
+    ensures failed { IfErr opened (λ error. IsErrAnd result (IsFaultOfKind (error_kind error))) }
+    ensures app { IfOk opened (λ reader. IfOk result (IsSaidBy (R.remaining reader))) }
+    ensures long { IfOk opened (λ reader. IfSome (R.remaining reader) (λ bytes.
+        1048576 < length bytes → IsErr result)) }
+    ensures fault { IfOk opened (λ reader. IfErr result (IsFaultOf (R.remaining reader))) }
+{
+    read_application(alloc, opened?)
+}
+
 /// The application of the file at the path, or the built-in one where no file is named.
 /// `CannotRead` where the file can't be opened or read or has more than 1,048,576 bytes, `App`
 /// where it is refused, `NoMemory` where there is none.
@@ -70,12 +83,13 @@ pub fn load<H: Files + AllocGlobal>(handle: &H, path: Option<&str>) -> Result<Ap
     // With no path, the built-in application, but for want of memory.
     ensures builtin { IsNone path.entry → IfOk result (λ app. app ≡ builtin) }
     ensures no_file { IsNone path.entry → IfErr result (λ fault. fault ≡ NoMemory) }
-    // With a path, what a file says.
+    // With a path, what a file says, or why it is refused.
     ensures app { IsSome path.entry → IfOk result IsOfAFile }
-    ensures fault { IfErr result (IsFaultOf None) }
+    ensures refused { IfErr result IsOfARefusedFile }
+    ensures fault { IfErr result (λ fault. fault ≢ BadLine) }
 {
     let Some(path) = path else {
         return Ok(App::builtin(handle.alloc())?);
     };
-    read_application(handle.alloc(), fs::open(handle, path)?)
+    app_of_opened(handle.alloc(), fs::open(handle, path))
 }

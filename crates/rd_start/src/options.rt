@@ -1,8 +1,14 @@
 //! The command line.
 
-ghost use Rattle.std.specs.Prelude.{◌≡◌, ◌≢◌, None, Ok, length, IfOk, IfErr, IsErr, IfSome};
-ghost use Rattle.clap.specs.Values.{kind_of};
-ghost use Rattle.rd_start.specs.Requests.{IsHelp, IsRequestWithinLimits, IsWithinLimits};
+ghost use Rattle.std.specs.Prelude.{◌≡◌, ◌≢◌, false, None, Ok, length, map, string_bytes};
+ghost use Rattle.std.specs.Prelude.{IfErr, IfOk, IfSome, IsSome};
+ghost use Rattle.clap.specs.Words.{app_of, kind_of, rule_of, subcommand_rows_of};
+ghost use Rattle.clap.specs.declared.builder.command.Command.TheViews.{out-Command};
+ghost use Rattle.rd_start.specs.Requests.{AreSettingsIn, HasMoves, HasSettingsOf, IsAskedBy};
+ghost use Rattle.rd_start.specs.Requests.{IsFaultOfError, IsFaultOfWords, IsHelp};
+ghost use Rattle.rd_start.specs.Requests.{IsRequestWithinLimits, IsWithinLimits, app_option};
+ghost use Rattle.rd_start.specs.Requests.{command_line, moves_option, options_of, run_line};
+ghost use Rattle.rd_start.specs.Requests.{words_read};
 ghost use Rattle.rd_start.specs.declared.fault.Fault.TheVariants.{BadLine, NoMemory};
 ghost use Rattle.rd_start.specs.declared.options.Request.TheVariants.{Run};
 
@@ -38,22 +44,46 @@ pub enum Request<'a> {
     Help { text: String },
 }
 
-// What the words are parsed by.
-fn command<'a>(alloc: Global) -> Result<Command<'a>, AllocError> {
-    let app = Arg::new(alloc, "app")
+// `--app FILE`.
+fn app_arg<'a>(alloc: Global) -> Arg<'a>
+    ensures rule { rule_of result ≡ app_option }
+    ensures local { result.global ≡ false }
+{
+    Arg::new(alloc, "app")
         .long("app")
         .value_name("FILE")
-        .help("The application file [default: the built-in application]");
-    let moves = Arg::new(alloc, "moves")
+        .help("The application file [default: the built-in application]")
+}
+
+// `--moves COUNT`.
+fn moves_arg<'a>(alloc: Global) -> Arg<'a>
+    ensures rule { rule_of result ≡ moves_option }
+    ensures local { result.global ≡ false }
+{
+    Arg::new(alloc, "moves")
         .long("moves")
         .value_name("COUNT")
         .value_parser(value_parser!(usize).range(1..=MAX_MOVES as i64))
         .default_value(DEFAULT_MOVES_WORD)
-        .help("How many moves may be done at a time, 1 to 1000000");
-    let run = Command::new(alloc, "run")
+        .help("How many moves may be done at a time, 1 to 1000000")
+}
+
+// `run` with its options.
+fn run_command<'a>(alloc: Global) -> Result<Command<'a>, AllocError>
+    ensures line { IfOk result (λ run. app_of run ≡ run_line) }
+    ensures local { IfOk result (λ run. (out-Command run).has_globals ≡ false) }
+{
+    Command::new(alloc, "run")
         .about("Answers commands from standard input")
-        .arg(app)?
-        .arg(moves)?;
+        .arg(app_arg(alloc))?
+        .arg(moves_arg(alloc))
+}
+
+// What the words are parsed by.
+fn command<'a>(alloc: Global) -> Result<Command<'a>, AllocError>
+    ensures { IfOk result (λ command. app_of command ≡ command_line) }
+{
+    let run = run_command(alloc)?;
     Command::new(alloc, "rdbg")
         .about("A reverse debugger for models of FreeRTOS applications")
         .bin_name("rdbg")?
@@ -64,7 +94,10 @@ fn command<'a>(alloc: Global) -> Result<Command<'a>, AllocError> {
 
 // The settings that were found after `run`.
 fn settings_of<'a>(matches: &ArgMatches<'a>) -> Option<Settings<'a>>
-    ensures { IfSome result IsWithinLimits }
+    ensures limits { IfSome result IsWithinLimits }
+    ensures settings { IfSome result (AreSettingsIn (options_of (subcommand_rows_of
+        matches.now))) }
+    ensures some { HasMoves (options_of (subcommand_rows_of matches.now)) → IsSome result }
 {
     let (_, run) = matches.subcommand()?;
     let app = run.get_str("app");
@@ -84,6 +117,8 @@ fn without_settings<'a>(alloc: Global, error: &clap::Error) -> Result<Request<'a
     ensures no_memory { kind_of error.now ≡ ErrorKind.OutOfMemory → result ≡ Err NoMemory }
     ensures bad_line { kind_of error.now ≢ ErrorKind.DisplayHelp
         → kind_of error.now ≢ ErrorKind.OutOfMemory → result ≡ Err BadLine }
+    ensures asked { IfOk result (λ _. kind_of error.now ≡ ErrorKind.DisplayHelp) }
+    ensures fault { IfErr result (IsFaultOfError (kind_of error.now)) }
     ensures limits { IfOk result IsRequestWithinLimits }
 {
     match error.kind() {
@@ -103,6 +138,12 @@ pub fn options<'a>(alloc: Global, words: &'a [String]) -> Result<Request<'a>, Fa
     ensures limits { IfOk result IsRequestWithinLimits }
     ensures no_words { length words.entry.now ≡ 0
         → result ≡ Ok (Run (record { app = None; moves = 100000 })) }
+    // What was asked for is what the words say, and no words say `run`.
+    ensures settings { IfOk result (HasSettingsOf (words_read (map string_bytes
+        words.entry.now))) }
+    ensures asked { IfOk result (IsAskedBy (words_read (map string_bytes words.entry.now))) }
+    ensures fault { IfErr result (IsFaultOfWords (words_read (map string_bytes
+        words.entry.now))) }
 {
     if words.is_empty() {
         let settings = Settings {
