@@ -165,8 +165,8 @@ pub fn put_answer(
     ensures answer { OnOk result (Adds answers.old.items answers.new.items
         (IsAnswer (room_in answers.old)
         timeline.old (command_of (words_of line.now)) timeline.new)) }
-    ensures err { OnErr result ((timeline.new ≡ timeline.old)
-        × (answers.new.items ≡ answers.old.items)) }
+    ensures err { OnErr result (timeline.new ≡ timeline.old) }
+    ensures err_answers { OnErr result (answers.new.items ≡ answers.old.items) }
     ensures room { vec_len answers.old + MAX_REPLY ≤ vec_capacity answers.old → IsOk result }
 {
     answers.reserve(MAX_REPLY)?;

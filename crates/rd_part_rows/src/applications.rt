@@ -4,7 +4,8 @@ use rd_app::app::{App, Kind};
 use rd_app::instr::{Instr, LocalInstr, MAX_DELAY, Operand, QueueCall, SetCall};
 use rd_script::error::AppError;
 use rd_script::file::read_app;
-use std::alloc::Global;
+use std::alloc::{AllocError, Global};
+use std::process::Abort;
 use std::test::Fail;
 
 // The file of one core, the queue q0 for two items of one byte, and the task t0 with this code.
@@ -19,64 +20,127 @@ macro_rules! file_with_code {
     };
 }
 
+// The application of a file's text. What `read_app` promises of it is not asked for here.
+fn read(alloc: Global, text: &str) -> Result<App, AppError> {
+    read_app(alloc, text.as_bytes())
+}
+
+// The built-in application, likewise.
+fn builtin_app(alloc: Global) -> Result<App, AllocError> {
+    App::builtin(alloc)
+}
+
 // Why the file is refused, if it is.
 fn fault_of(alloc: Global, text: &str) -> Option<AppError> {
-    read_app(alloc, text.as_bytes()).err()
+    read(alloc, text).err()
 }
+
+// A file, and the fault that it is refused for.
+#[derive(Clone, Copy)]
+struct Refused {
+    text: &'static str,
+    fault: AppError,
+}
+
+fn assert_refused(rt: &impl Abort, alloc: Global, files: &[Refused]) {
+    for file in files {
+        let Refused { text, fault } = *file;
+        assert_eq!(rt; fault_of(alloc, text), Some(fault), "{text}");
+    }
+}
+
+const REFUSED_FILES: [Refused; 19] = [
+    Refused {
+        text: concat!(
+            r#"{"profile":1,"cores":1,"queues":[{"name":"q0","length":0,"item":1}],"#,
+            r#""tasks":[{"name":"t0","priority":1,"code":["end"]}]}"#
+        ),
+        fault: AppError::Limit,
+    },
+    Refused {
+        text: r#"{"profile":1,"cores""#,
+        fault: AppError::NotJson,
+    },
+    Refused {
+        text: file_with_code!(r#""over q0","end""#),
+        fault: AppError::OverwriteLength,
+    },
+    Refused {
+        text: file_with_code!(r#""over q9","end""#),
+        fault: AppError::Name,
+    },
+    Refused {
+        text: file_with_code!(r#""over q0 0","end""#),
+        fault: AppError::Instr,
+    },
+    Refused {
+        text: file_with_code!(r#""over q0","over q9","end""#),
+        fault: AppError::OverwriteLength,
+    },
+    Refused {
+        text: file_with_code!(r#""over q9","over q0","end""#),
+        fault: AppError::Name,
+    },
+    Refused {
+        text: file_with_code!(r#""over q0","end 0""#),
+        fault: AppError::OverwriteLength,
+    },
+    Refused {
+        text: file_with_code!(r#""qreset q0 0","end""#),
+        fault: AppError::Instr,
+    },
+    Refused {
+        text: file_with_code!(r#""count","end""#),
+        fault: AppError::Instr,
+    },
+    Refused {
+        text: file_with_code!(r#""peek q0","end""#),
+        fault: AppError::Instr,
+    },
+    Refused {
+        text: file_with_code!(r#""setadd q0 s0","end""#),
+        fault: AppError::Name,
+    },
+    Refused {
+        text: file_with_code!(r#""setdel q0","end""#),
+        fault: AppError::Instr,
+    },
+    Refused {
+        text: file_with_code!(r#""select s0 0","end""#),
+        fault: AppError::Name,
+    },
+    Refused {
+        text: file_with_code!(r#""select s0","end""#),
+        fault: AppError::Instr,
+    },
+    Refused {
+        text: file_with_code!(r#""send q9 0","end""#),
+        fault: AppError::Name,
+    },
+    Refused {
+        text: file_with_code!(r#""send q0","end""#),
+        fault: AppError::Instr,
+    },
+    Refused {
+        text: file_with_code!(r#""send q9 r8","end""#),
+        fault: AppError::Instr,
+    },
+    Refused {
+        text: r#"{"profile":1,"cores":1,"queues":[{"name":"q0","length":2,"item":1}]}"#,
+        fault: AppError::Shape,
+    },
+];
 
 #[test]
 fn refused_files(rt: HostRuntime) -> Result<(), Fail> {
     let alloc = rt.alloc();
     let whole = file_with_code!(r#""end""#);
-    let app = read_app(alloc, whole.as_bytes())?;
+    let app = read(alloc, whole)?;
     assert_eq!(rt; app.find(Kind::Queue, "q0"), Some(0));
     assert_eq!(rt; app.find(Kind::Task, "q0"), None);
     assert_eq!(rt; app.queues().len(), 1);
     assert_eq!(rt; app.notes(), 1);
-    for (text, want) in [
-        (
-            concat!(
-                r#"{"profile":1,"cores":1,"queues":[{"name":"q0","length":0,"item":1}],"#,
-                r#""tasks":[{"name":"t0","priority":1,"code":["end"]}]}"#
-            ),
-            AppError::Limit,
-        ),
-        (r#"{"profile":1,"cores""#, AppError::NotJson),
-        (
-            file_with_code!(r#""over q0","end""#),
-            AppError::OverwriteLength,
-        ),
-        (file_with_code!(r#""over q9","end""#), AppError::Name),
-        (file_with_code!(r#""over q0 0","end""#), AppError::Instr),
-        (
-            file_with_code!(r#""over q0","over q9","end""#),
-            AppError::OverwriteLength,
-        ),
-        (
-            file_with_code!(r#""over q9","over q0","end""#),
-            AppError::Name,
-        ),
-        (
-            file_with_code!(r#""over q0","end 0""#),
-            AppError::OverwriteLength,
-        ),
-        (file_with_code!(r#""qreset q0 0","end""#), AppError::Instr),
-        (file_with_code!(r#""count","end""#), AppError::Instr),
-        (file_with_code!(r#""peek q0","end""#), AppError::Instr),
-        (file_with_code!(r#""setadd q0 s0","end""#), AppError::Name),
-        (file_with_code!(r#""setdel q0","end""#), AppError::Instr),
-        (file_with_code!(r#""select s0 0","end""#), AppError::Name),
-        (file_with_code!(r#""select s0","end""#), AppError::Instr),
-        (file_with_code!(r#""send q9 0","end""#), AppError::Name),
-        (file_with_code!(r#""send q0","end""#), AppError::Instr),
-        (file_with_code!(r#""send q9 r8","end""#), AppError::Instr),
-        (
-            r#"{"profile":1,"cores":1,"queues":[{"name":"q0","length":2,"item":1}]}"#,
-            AppError::Shape,
-        ),
-    ] {
-        assert_eq!(rt; fault_of(alloc, text), Some(want), "{text}");
-    }
+    assert_refused(&rt, alloc, &REFUSED_FILES);
     Ok(())
 }
 
@@ -92,60 +156,68 @@ macro_rules! file_with_sets {
     };
 }
 
+const REFUSED_SETS: [Refused; 8] = [
+    Refused {
+        text: file_with_sets!(r#"{"name":"s0","length":1,"members":["q2"]}"#),
+        fault: AppError::Name,
+    },
+    Refused {
+        text: file_with_sets!(r#"{"name":"s0","length":1,"members":["q0","q0"]}"#),
+        fault: AppError::Name,
+    },
+    Refused {
+        text: file_with_sets!(
+            r#"{"name":"s0","length":1,"members":["q0"]},{"name":"s1","length":1,"members":["q0"]}"#
+        ),
+        fault: AppError::Name,
+    },
+    Refused {
+        text: file_with_sets!(
+            r#"{"name":"s0","length":1,"members":[]},{"name":"s0","length":1,"members":[]}"#
+        ),
+        fault: AppError::Name,
+    },
+    Refused {
+        text: file_with_sets!(r#"{"name":"s0","length":0,"members":["q2"]}"#),
+        fault: AppError::Limit,
+    },
+    Refused {
+        text: file_with_sets!(r#"{"name":"s0","length":2049,"members":[]}"#),
+        fault: AppError::Limit,
+    },
+    Refused {
+        text: file_with_sets!(r#"{"name":"s0","length":1}"#),
+        fault: AppError::Shape,
+    },
+    Refused {
+        text: file_with_sets!(r#"{"name":"s0","length":1,"members":[7]}"#),
+        fault: AppError::Shape,
+    },
+];
+
 #[test]
 fn files_with_sets(rt: HostRuntime) -> Result<(), Fail> {
     let alloc = rt.alloc();
     let text = file_with_sets!(
         r#"{"name":"s0","length":2048,"members":["q1"]},{"name":"q0","length":1,"members":[]}"#
     );
-    let app = read_app(alloc, text.as_bytes())?;
+    let app = read(alloc, text)?;
     assert_eq!(rt; app.find(Kind::Set, "q0"), Some(1));
     assert_eq!(rt; app.find(Kind::Set, "q1"), None);
     assert_eq!(rt; app.sets().len(), 2);
     assert!(rt; app.queues().len() == 2);
     assert_eq!(rt; app.set_of(0), None);
     assert_eq!(rt; app.set_of(1), Some(0));
-    for (text, want) in [
-        (
-            file_with_sets!(r#"{"name":"s0","length":1,"members":["q2"]}"#),
-            AppError::Name,
-        ),
-        (
-            file_with_sets!(r#"{"name":"s0","length":1,"members":["q0","q0"]}"#),
-            AppError::Name,
-        ),
-        (
-            file_with_sets!(
-                r#"{"name":"s0","length":1,"members":["q0"]},{"name":"s1","length":1,"members":["q0"]}"#
-            ),
-            AppError::Name,
-        ),
-        (
-            file_with_sets!(
-                r#"{"name":"s0","length":1,"members":[]},{"name":"s0","length":1,"members":[]}"#
-            ),
-            AppError::Name,
-        ),
-        (
-            file_with_sets!(r#"{"name":"s0","length":0,"members":["q2"]}"#),
-            AppError::Limit,
-        ),
-        (
-            file_with_sets!(r#"{"name":"s0","length":2049,"members":[]}"#),
-            AppError::Limit,
-        ),
-        (
-            file_with_sets!(r#"{"name":"s0","length":1}"#),
-            AppError::Shape,
-        ),
-        (
-            file_with_sets!(r#"{"name":"s0","length":1,"members":[7]}"#),
-            AppError::Shape,
-        ),
-    ] {
-        assert_eq!(rt; fault_of(alloc, text), Some(want), "{text}");
-    }
+    assert_refused(&rt, alloc, &REFUSED_SETS);
     Ok(())
+}
+
+// The instruction, if it is a local one.
+fn local(instr: &Instr) -> Option<&LocalInstr> {
+    match instr {
+        Instr::Local { instr } => Some(instr),
+        Instr::Queue { .. } | Instr::Set { .. } => None,
+    }
 }
 
 #[test]
@@ -154,65 +226,51 @@ fn pack_and_unpack(rt: HostRuntime) -> Result<(), Fail> {
         r#"{"profile":1,"cores":1,"tasks":[{"name":"t0","priority":1,"#,
         r#""code":["set r1 258","pack r1"," unpack  r2 ","end"]}]}"#
     );
-    let app = read_app(rt.alloc(), text.as_bytes())?;
+    let app = read(rt.alloc(), text)?;
     assert!(rt; app.priorities().len() == 1);
     app.limits();
     let code = app.code(0);
     assert_eq!(rt; code.len(), 4);
     assert!(rt;
         matches!(
-            code[0],
-            Instr::Local {
-                instr: LocalInstr::Set {
-                    register: 1,
-                    value: 258
-                }
-            }
+            local(&code[0]),
+            Some(LocalInstr::Set {
+                register: 1,
+                value: 258
+            })
         )
     );
-    assert!(rt;
-        matches!(
-            code[1],
-            Instr::Local {
-                instr: LocalInstr::Pack { register: 1 }
-            }
-        )
-    );
-    assert!(rt;
-        matches!(
-            code[2],
-            Instr::Local {
-                instr: LocalInstr::Unpack { register: 2 }
-            }
-        )
-    );
-    assert!(rt;
-        matches!(
-            code[3],
-            Instr::Local {
-                instr: LocalInstr::End
-            }
-        )
-    );
+    assert!(rt; matches!(local(&code[1]), Some(LocalInstr::Pack { register: 1 })));
+    assert!(rt; matches!(local(&code[2]), Some(LocalInstr::Unpack { register: 2 })));
+    assert!(rt; matches!(local(&code[3]), Some(LocalInstr::End)));
     Ok(())
 }
 
-// The block time of a call.
+// The block time of a call of a queue, of a set, and of an instruction.
+fn queue_wait_of(call: &QueueCall) -> Option<Operand> {
+    match call {
+        QueueCall::Send { wait, .. } | QueueCall::Receive { wait } | QueueCall::Peek { wait } => {
+            Some(*wait)
+        }
+        QueueCall::Overwrite
+        | QueueCall::Reset
+        | QueueCall::Count
+        | QueueCall::Spaces
+        | QueueCall::AddToSet { .. }
+        | QueueCall::RemoveFromSet { .. } => None,
+    }
+}
+
+fn set_wait_of(call: &SetCall) -> Option<Operand> {
+    match call {
+        SetCall::Select { wait } => Some(*wait),
+    }
+}
+
 fn wait_of(instr: &Instr) -> Option<Operand> {
     match instr {
-        Instr::Queue { call, .. } => match call {
-            QueueCall::Send { wait, .. } | QueueCall::Receive { wait } | QueueCall::Peek { wait } =>
-                Some(*wait),
-            QueueCall::Overwrite
-            | QueueCall::Reset
-            | QueueCall::Count
-            | QueueCall::Spaces
-            | QueueCall::AddToSet { .. }
-            | QueueCall::RemoveFromSet { .. } => None,
-        },
-        Instr::Set { call, .. } => match call {
-            SetCall::Select { wait } => Some(*wait),
-        },
+        Instr::Queue { call, .. } => queue_wait_of(call),
+        Instr::Set { call, .. } => set_wait_of(call),
         Instr::Local { .. } => None,
     }
 }
@@ -222,7 +280,7 @@ fn block_times(rt: HostRuntime) -> Result<(), Fail> {
     let text = file_with_code!(
         r#""send q0 1","recv q0 max","send q0 r3","end","front q0 2","peek q0 4","qreset q0","end""#
     );
-    let app = read_app(rt.alloc(), text.as_bytes())?;
+    let app = read(rt.alloc(), text)?;
     let code = app.code(0);
     assert_eq!(rt; code.len(), 8);
     assert_eq!(rt; wait_of(&code[0]), Some(Operand::Number { value: 1 }));
@@ -240,7 +298,9 @@ fn block_times(rt: HostRuntime) -> Result<(), Fail> {
 
 #[test]
 fn builtin(rt: HostRuntime) -> Result<(), Fail> {
-    let app = App::builtin(rt.alloc())?;
+    let app = builtin_app(rt.alloc())?;
+    assert_eq!(rt; app.priorities().len(), 1);
+    app.limits();
     assert_eq!(rt; app.name(Kind::Task, 0), "t0");
     assert_eq!(rt; app.code(0).len(), 5);
     assert_eq!(rt; app.tick(), 0);

@@ -68,24 +68,25 @@ pub fn assert_ending(rt: &impl Abort, ending: &Ending, status: u8, output: &str,
     assert_eq!(rt; ending.errors.as_slice(), errors.as_bytes());
 }
 
+const BAD_COMMAND_LINES: [&[&str]; 12] = [
+    &["", "", ""],
+    &["fly"],
+    &["--moves", "3"],
+    &["--"],
+    &["run", "--moves", "0"],
+    &["run", "--moves", "1000001"],
+    &["run", "--moves", "many"],
+    &["run", "--moves"],
+    &["run", "--moves", "3", "--moves", "3"],
+    &["run", "--app"],
+    &["run", "--fast"],
+    &["run", "file.json"],
+];
+
 #[test]
 fn bad_command_line(rt: HostRuntime) -> Result<(), Fail> {
-    let lines = [
-        ["", "", ""].as_slice(),
-        &["fly"],
-        &["--moves", "3"],
-        &["--"],
-        &["run", "--moves", "0"],
-        &["run", "--moves", "1000001"],
-        &["run", "--moves", "many"],
-        &["run", "--moves"],
-        &["run", "--moves", "3", "--moves", "3"],
-        &["run", "--app"],
-        &["run", "--fast"],
-        &["run", "file.json"],
-    ];
-    for words in lines {
-        let words: &[&str] = words;
+    for words in &BAD_COMMAND_LINES {
+        let words: &[&str] = *words;
         let ending = run(&rt, words, "step 0\n")?;
         assert_ending(&rt, &ending, 2, "", "rdbg: bad command line\n");
     }

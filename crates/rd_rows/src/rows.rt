@@ -32,113 +32,189 @@ fn padded_line(alloc: Global, len: usize, end: &[u8]) -> Result<Vec<u8>, AllocEr
     Ok(bytes)
 }
 
-#[test]
-fn rows(rt: HostRuntime) -> Result<(), Fail> {
-    let alloc = rt.alloc();
-    let rows = [
-        ("fresh_queue", "show queue q0\n", EMPTY_QUEUE),
-        (
-            "queue_fills",
-            "step 0\nstep 0\nstep 0\nshow task t0\nstep 0\nshow task t0\nshow queue q0\n",
-            "ok at 1\nok at 2\nok at 3\n\
+// Lines to the built-in application, and what is answered.
+#[derive(Clone, Copy)]
+struct Session {
+    name: &'static str,
+    lines: &'static str,
+    replies: &'static str,
+}
+
+const SESSIONS: [Session; 12] = [
+    Session {
+        name: "fresh_queue",
+        lines: "show queue q0\n",
+        replies: EMPTY_QUEUE,
+    },
+    Session {
+        name: "queue_fills",
+        lines: "step 0\nstep 0\nstep 0\nshow task t0\nstep 0\nshow task t0\nshow queue q0\n",
+        replies: "ok at 1\nok at 2\nok at 3\n\
              task t0 core 0 pc 3 phase run regs 1,0,0,0,0,0,0,0 data 41 notes 0:idle\n\
              ok at 4\n\
              task t0 core 0 pc 4 phase run regs 0,0,0,0,0,0,0,0 data 41 notes 0:idle\n\
              queue q0 2/2 items 41,41 recv - send - set -\n",
-        ),
-        (
-            "undo_to_boot",
-            "step 0\nstep 0\nstep 0\nstep 0\nshow queue q0\nback 4\nshow queue q0\nback 1\n",
-            "ok at 1\nok at 2\nok at 3\nok at 4\n\
+    },
+    Session {
+        name: "undo_to_boot",
+        lines: "step 0\nstep 0\nstep 0\nstep 0\nshow queue q0\nback 4\nshow queue q0\nback 1\n",
+        replies: "ok at 1\nok at 2\nok at 3\nok at 4\n\
              queue q0 2/2 items 41,41 recv - send - set -\n\
              ok at 0\n\
              queue q0 0/2 items - recv - send - set -\n\
              no TooFar 0\n",
-        ),
-        (
-            "an idle core",
-            "step 0\nstep 0\nstep 0\nstep 0\nstep 0\nstep 0\nshow task t0\nback 5\nback 1\n",
-            "ok at 1\nok at 2\nok at 3\nok at 4\nok at 5\nno NoTask\n\
+    },
+    Session {
+        name: "an idle core",
+        lines: "step 0\nstep 0\nstep 0\nstep 0\nstep 0\nstep 0\nshow task t0\nback 5\nback 1\n",
+        replies: "ok at 1\nok at 2\nok at 3\nok at 4\nok at 5\nno NoTask\n\
              task t0 core - pc 4 phase ended regs 0,0,0,0,0,0,0,0 data 41 notes 0:idle\n\
              ok at 0\nno TooFar 0\n",
-        ),
-        (
-            "a refusal changes nothing",
-            "step 0\nback 2\nstep 1\nshow task t0\nback 1\nshow task t0\n",
-            "ok at 1\nno TooFar 1\nno NoSuch\n\
+    },
+    Session {
+        name: "a refusal changes nothing",
+        lines: "step 0\nback 2\nstep 1\nshow task t0\nback 1\nshow task t0\n",
+        replies: "ok at 1\nno TooFar 1\nno NoSuch\n\
              task t0 core 0 pc 1 phase run regs 0,0,0,0,0,0,0,0 data 41 notes 0:idle\n\
              ok at 0\n\
              task t0 core 0 pc 0 phase run regs 0,0,0,0,0,0,0,0 data - notes 0:idle\n",
-        ),
-        (
-            "unknown names",
-            "step 4294967295\nshow queue q1\nshow queue t0\nshow task q0\nshow task r0\n",
-            "no NoSuch\nno NoSuch\nno NoSuch\nno NoSuch\nno NoSuch\n",
-        ),
-        (
-            "numbers at their ends",
-            "back 1000000\nback 1000001\nback 0\nstep 4294967296\nstep 00000000000\n\
+    },
+    Session {
+        name: "unknown names",
+        lines: "step 4294967295\nshow queue q1\nshow queue t0\nshow task q0\nshow task r0\n",
+        replies: "no NoSuch\nno NoSuch\nno NoSuch\nno NoSuch\nno NoSuch\n",
+    },
+    Session {
+        name: "numbers at their ends",
+        lines: "back 1000000\nback 1000001\nback 0\nstep 4294967296\nstep 00000000000\n\
              step 0000000000\n",
-            "no TooFar 0\nno Syntax\nno Syntax\nno Syntax\nno Syntax\nok at 1\n",
-        ),
-        (
-            "no commands",
-            "step\nstep 0 0\nSTEP 0\nstep -1\nstep\t0\nback\nshow\nshow queue\nshow queue Q0\n\
+        replies: "no TooFar 0\nno Syntax\nno Syntax\nno Syntax\nno Syntax\nok at 1\n",
+    },
+    Session {
+        name: "no commands",
+        lines: "step\nstep 0 0\nSTEP 0\nstep -1\nstep\t0\nback\nshow\nshow queue\nshow queue Q0\n\
              show queue q0 q0\nshow core q0\nshow task 0t\n",
-            "no Syntax\nno Syntax\nno Syntax\nno Syntax\nno Syntax\nno Syntax\nno Syntax\n\
+        replies: "no Syntax\nno Syntax\nno Syntax\nno Syntax\nno Syntax\nno Syntax\nno Syntax\n\
              no Syntax\nno Syntax\nno Syntax\nno Syntax\nno Syntax\n",
-        ),
-        (
-            "spaces",
-            "  step   0  \n \n show  queue  q0\n",
-            "ok at 1\nno Syntax\nqueue q0 0/2 items - recv - send - set -\n",
-        ),
-        (
-            "ends of lines",
-            "step 0\r\nstep 0\r\r\n\n\r\nstep 0",
-            "ok at 1\nno Syntax\nno Syntax\nno Syntax\nok at 2\n",
-        ),
-        ("a CR at the very end", "step 0\r", "no Syntax\n"),
-        ("no lines", "", ""),
-    ];
-    for (name, lines, expected) in rows {
-        let whole = answers(&rt, Source::new(lines.as_bytes()));
-        assert_eq!(rt; whole.as_slice(), expected.as_bytes(), "in {name}");
-        let mut slow = Source::new(lines.as_bytes());
-        slow.step = 1;
-        let single = answers(&rt, slow);
-        assert_eq!(rt;
-            single.as_slice(),
-            expected.as_bytes(),
-            "in {name}, byte by byte"
-        );
+    },
+    Session {
+        name: "spaces",
+        lines: "  step   0  \n \n show  queue  q0\n",
+        replies: "ok at 1\nno Syntax\nqueue q0 0/2 items - recv - send - set -\n",
+    },
+    Session {
+        name: "ends of lines",
+        lines: "step 0\r\nstep 0\r\r\n\n\r\nstep 0",
+        replies: "ok at 1\nno Syntax\nno Syntax\nno Syntax\nok at 2\n",
+    },
+    Session {
+        name: "a CR at the very end",
+        lines: "step 0\r",
+        replies: "no Syntax\n",
+    },
+    Session {
+        name: "no lines",
+        lines: "",
+        replies: "",
+    },
+];
+
+// In one piece, and byte by byte.
+fn assert_session<H: Files + AllocGlobal + Abort>(rt: &H, session: Session) {
+    let Session {
+        name,
+        lines,
+        replies,
+    } = session;
+    let whole = answers(rt, Source::new(lines.as_bytes()));
+    assert_eq!(rt; whole.as_slice(), replies.as_bytes(), "in {name}");
+    let mut slow = Source::new(lines.as_bytes());
+    slow.step = 1;
+    let single = answers(rt, slow);
+    assert_eq!(rt;
+        single.as_slice(),
+        replies.as_bytes(),
+        "in {name}, byte by byte"
+    );
+}
+
+#[test]
+fn rows(rt: HostRuntime) {
+    for session in &SESSIONS {
+        assert_session(&rt, *session);
     }
+}
+
+// A line of so many `x` with this end, and what is answered to it.
+#[derive(Clone, Copy)]
+struct LongLine {
+    len: usize,
+    end: &'static str,
+    replies: &'static str,
+}
+
+const LONG_LINES: [LongLine; 7] = [
+    LongLine {
+        len: 1024,
+        end: "\nstep 0\n",
+        replies: "no Syntax\nok at 1\n",
+    },
+    LongLine {
+        len: 1024,
+        end: "",
+        replies: "no Syntax\n",
+    },
+    LongLine {
+        len: 1023,
+        end: "\r\nstep 0\n",
+        replies: "no Syntax\nok at 1\n",
+    },
+    LongLine {
+        len: 1025,
+        end: "\nstep 0\n",
+        replies: "no LineTooLong\n",
+    },
+    LongLine {
+        len: 1025,
+        end: "",
+        replies: "no LineTooLong\n",
+    },
+    LongLine {
+        len: 1024,
+        end: "\r\nstep 0\n",
+        replies: "no LineTooLong\n",
+    },
+    LongLine {
+        len: 100_000,
+        end: "\nstep 0\n",
+        replies: "no LineTooLong\n",
+    },
+];
+
+// With `step` bytes a read.
+fn assert_long_line<H: Files + AllocGlobal + Abort>(
+    rt: &H,
+    line: LongLine,
+    step: usize,
+) -> Result<(), AllocError> {
+    let LongLine { len, end, replies } = line;
+    let bytes = padded_line(rt.alloc(), len, end.as_bytes())?;
+    let mut source = Source::new(bytes.as_slice());
+    source.step = step;
+    let written = answers(rt, source);
+    assert_eq!(rt;
+        written.as_slice(),
+        replies.as_bytes(),
+        "at {len}, {step} a read"
+    );
     Ok(())
 }
 
 #[test]
 fn long_lines(rt: HostRuntime) -> Result<(), Fail> {
-    let alloc = rt.alloc();
-    let cases = [
-        (1024, "\nstep 0\n", "no Syntax\nok at 1\n"),
-        (1024, "", "no Syntax\n"),
-        (1023, "\r\nstep 0\n", "no Syntax\nok at 1\n"),
-        (1025, "\nstep 0\n", "no LineTooLong\n"),
-        (1025, "", "no LineTooLong\n"),
-        (1024, "\r\nstep 0\n", "no LineTooLong\n"),
-        (100_000, "\nstep 0\n", "no LineTooLong\n"),
-    ];
-    for (len, end, expected) in cases {
+    for line in &LONG_LINES {
         for step in [1, 1000, usize::MAX] {
-            let bytes = padded_line(alloc, len, end.as_bytes())?;
-            let mut source = Source::new(bytes.as_slice());
-            source.step = step;
-            let written = answers(&rt, source);
-            assert_eq!(rt;
-                written.as_slice(),
-                expected.as_bytes(),
-                "at {len}, {step} a read"
-            );
+            assert_long_line(&rt, *line, step)?;
         }
     }
     Ok(())

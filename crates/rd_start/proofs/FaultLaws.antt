@@ -55,12 +55,12 @@ all_of_few (Some all) (Err e) bytes up_to ok few = absurd cc
 pub said : (known : Option (List ℕ)) (read : Result ℕ Error) (bytes : List ℕ) (result : Result Application Fault)
     → ReadsUpTo known read bytes
     → IfErr read (λ error. IsErrAnd result (IsFaultOfKind (error_kind error)))
-    → IfOk result (λ app. IsFile bytes × FileSays bytes app × IsApplication app)
+    → IfOk result (λ _. IsFile bytes) → IfOk result (FileSays bytes) → IfOk result IsApplication
     → IfOk result (IsSaidBy known)
-said known (Ok n) bytes (Ok app) up_to failed h =
-    (bytes, all_of_few {E = Error} known (Ok n) bytes up_to refl h.0, h.0, h.1, h.2)
-said known (Err e) bytes (Ok app) up_to failed h = absurd failed
-said known read bytes (Err fault) up_to failed h = h
+said known (Ok n) bytes (Ok app) up_to failed short says limits =
+    (bytes, all_of_few {E = Error} known (Ok n) bytes up_to refl short, short, says, limits)
+said known (Err e) bytes (Ok app) up_to failed short says limits = absurd failed
+said known read bytes (Err fault) up_to failed short says limits = short
 
 -- A file that is too long says nothing.
 unread_is : (known : Option (List ℕ)) (fault : Fault) (result : Result Application Fault) → result ≡ Err fault

@@ -23,7 +23,8 @@ pub const MAX_FILE: usize = 1_048_576;
 
 // The application that a file's bytes say.
 fn app_of(alloc: Global, bytes: &[u8]) -> Result<App, Fault>
-    ensures app { IfOk result (λ app. FileSays bytes.now app × IsApplication app) }
+    ensures app { IfOk result (FileSays bytes.now) }
+    ensures limits { IfOk result IsApplication }
     ensures fault { IfErr result (IsRefusalOf bytes.now) }
 {
     match read_app(alloc, bytes) {
@@ -38,8 +39,9 @@ fn app_of(alloc: Global, bytes: &[u8]) -> Result<App, Fault>
 pub fn app_of_read(alloc: Global, read: io::Result<usize>, bytes: &[u8]) -> Result<App, Fault>
     ensures failed { IfErr read (λ error. IsErrAnd result (IsFaultOfKind (error_kind error))) }
     ensures long { IsOk read → 1048576 < length bytes.now → result ≡ Err CannotRead }
-    ensures app { IfOk result (λ app. IsFile bytes.now × FileSays bytes.now app
-        × IsApplication app) }
+    ensures short { IfOk result (λ _. IsFile bytes.now) }
+    ensures app { IfOk result (FileSays bytes.now) }
+    ensures limits { IfOk result IsApplication }
     ensures fault { IsOk read → IsFile bytes.now → IfErr result (IsRefusalOf bytes.now) }
 {
     read?;

@@ -8,7 +8,7 @@ returns-clause-app g c =
     let up_to = reads_up_to g.R.Read.remaining c.take.result c.args.reader read.result c.new-bytes.result.items read.new.buf.items
     c.take.ensures.limit c.take.ensures.inner c.new-bytes.ensures.items read.ensures.bytes in
     said _ read.result c.as_slice.result.now c.app_of_read.result (rw c.as_slice.ensures.value up_to)
-    c.app_of_read.ensures.failed c.app_of_read.ensures.app
+    c.app_of_read.ensures.failed c.app_of_read.ensures.short c.app_of_read.ensures.app c.app_of_read.ensures.limits
 
 pub returns-clause-fault : goal.returns-clause-fault
 returns-clause-fault g c =
