@@ -20,7 +20,7 @@ use Rattle.rd_state.specs.Undoing.{CanUndo}
 use Rattle.rd_state.proofs.EditLaws.{CanUndo-from_act, Reaches-from_act}
 use Rattle.rd_state.proofs.UndoLaws.{queue_sized}
 
-length-fitted : (size : ℕ) (bytes : List ℕ) → length (fitted size bytes) ≡ size
+pub length-fitted : (size : ℕ) (bytes : List ℕ) → length (fitted size bytes) ≡ size
 length-fitted size bytes =
     let zeros : List ℕ = replicate size 0 in
     length-take-le size (bytes ++ zeros) (omega (arith, length-append bytes zeros, length-replicate {A = ℕ} size 0))
