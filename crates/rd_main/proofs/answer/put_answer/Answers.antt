@@ -11,7 +11,7 @@ returns-clause-answer c =
     let added = c.put_reserved.ensures in
     let behind = λ (before : List ℕ). before ++ added.0 in (
       added.0,
-      added.1 ∙ ap behind c.in_ok-reserve.ensures.items,
+      added.1 ∙ ap behind c.reserve.ensures.items,
       answer_with_less (room_in c.args.answers.now) (room_in c.reserve.new.self) c.args.timeline.now c.put_reserved.new.timeline
           (command_of (words_of c.args.line.now)) added.0 (omega arith) added.2,
     )
