@@ -14,6 +14,6 @@ invariant_of-self c =
     let bytes = c.bytes-bytes.result.now in
     let change = SetItem 0 (fitted queue.item_size bytes) in
     let was = queue_read c.self.inside c.args.self.now c.args.queue queue c.self.view_is c.requires.1 c.index_mut-target.ensures.value in
-    let fits = (c.requires.2, length-fitted queue.item_size bytes ∙ ap (λ (q : QueueSnapshot). q.item_size) was) in
-    IsKept-queue c.self.inside _ c.args.queue change _ c.self.view_is (c.requires.1, fits)
+    let size = length-fitted queue.item_size bytes ∙ ap (λ (q : QueueSnapshot). q.item_size) was in
+    IsKept-queue c.self.inside _ c.args.queue change _ c.self.view_is (c.requires.1, (c.requires.2, size))
     (c.set_fitted.ensures ∙ ap (λ (q : QueueSnapshot). queue_applied q change) was) c.self.invariant

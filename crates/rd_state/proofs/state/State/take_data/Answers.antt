@@ -12,5 +12,5 @@ invariant_of-self c =
     let change = SetData item in
     let few : length item ≤ 256 = omega (arith, c.first-item.ensures.short) in
     let was = task_read c.self.inside c.args.self.now c.args.task c.index_mut-target.result.now c.self.view_is c.requires.1 c.index_mut-target.ensures.value in
-    IsKept-task c.self.inside _ c.args.task change _ c.self.view_is (c.requires.1, few)
+    IsKept-task c.self.inside _ c.args.task change _ c.self.view_is (c.requires.1, few, tt)
     (c.set_bytes.ensures ∙ ap (λ (t : TaskSnapshot). task_applied t change) was) c.self.invariant
