@@ -6,4 +6,8 @@ mod applications;
 #[cfg(test)]
 mod parts;
 #[cfg(test)]
+mod queues;
+#[cfg(test)]
+mod records;
+#[cfg(test)]
 mod runs;

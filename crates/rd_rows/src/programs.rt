@@ -68,6 +68,19 @@ pub fn assert_ending(rt: &impl Abort, ending: &Ending, status: u8, output: &str,
     assert_eq!(rt; ending.errors.as_slice(), errors.as_bytes());
 }
 
+/// Fails unless the run ended with status 0 and these replies, at the first that differs. It wrote
+/// nothing to its errors.
+pub fn assert_replies(rt: &impl Abort, ending: &Ending, replies: &str) -> Result<(), Fail> {
+    let output = str::from_utf8(ending.output.as_slice())?;
+    for (reply, want) in output.lines().zip(replies.lines()) {
+        assert_eq!(rt; reply, want);
+    }
+    assert!(rt; output == replies);
+    assert_eq!(rt; ending.status, 0);
+    assert!(rt; ending.errors.is_empty());
+    Ok(())
+}
+
 const BAD_COMMAND_LINES: [&[&str]; 12] = [
     &["", "", ""],
     &["fly"],

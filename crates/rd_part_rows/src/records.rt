@@ -1,0 +1,93 @@
+//! Records of moves: how many changes they have, and their weight.
+
+ghost use Rattle.rd_calls.specs.Step.{IsMoveOf};
+ghost use Rattle.rd_state.specs.Valid.{IsValid};
+
+use rd_app::app::App;
+use rd_calls::moves::Move;
+use rd_calls::play::play;
+use rd_script::file::read_app;
+use rd_state::state::State;
+use std::alloc::{AllocError, Global};
+use std::process::Abort;
+use std::test::Fail;
+
+// A queue with room for two items of three bytes, and a task with 256 bytes of data.
+fn file(alloc: Global) -> Result<String, AllocError> {
+    let head = r#""profile":1,"cores":1,"queues":[{"name":"q0","length":2,"item":3}]"#;
+    let data = format!(in alloc; "data {:0>512}", "")?;
+    let calls = r#""send q0 0","recv q0 0","send q0 0","send q0 0","qreset q0","end""#;
+    let task = format!(in alloc; r#"{{"name":"t0","priority":1,"code":["{data}",{calls}]}}"#)?;
+    format!(in alloc; r#"{{{head},"tasks":[{task}]}}"#)
+}
+
+// The move is made, and its record has so many changes and that weight.
+#[tactic(auto, using(crate::proofs::RecordLaws::dropped_few))]
+fn weighs(
+    rt: &impl Abort,
+    alloc: Global,
+    app: &App,
+    state: &mut State,
+    action: Move,
+    want: (usize, usize),
+)
+    requires valid { IsValid app.now state.old }
+    requires named { IsMoveOf app.now action }
+    ensures { IsValid app.now state.new }
+{
+    app.limits();
+    match play(alloc, state, app, action) {
+        Ok(undo) => {
+            let measured = (undo.len(), undo.weight());
+            undo.retire();
+            assert_eq!(rt; measured, want);
+        }
+        Err(_) => assert!(rt; false),
+    }
+}
+
+// The bytes that a change carries are those that were there before: the data that is replaced, and
+// the item that is taken.
+fn weighs_a_receive(rt: &impl Abort, alloc: Global, app: &App, state: &mut State)
+    requires valid { IsValid app.now state.old }
+    requires named { IsMoveOf app.now (Move.Core 0) }
+    ensures { IsValid app.now state.new }
+{
+    // data: the data of no bytes, the instruction, the turn
+    weighs(rt, alloc, app, state, Move::Core { core: 0 }, (3, 3));
+    // send: the item, r0, the instruction
+    weighs(rt, alloc, app, state, Move::Core { core: 0 }, (3, 3));
+    // recv: the data of 256 bytes, the item of 3, the instruction; r0 is 1 already
+    let want = (3, 257 + 4 + 1);
+    weighs(rt, alloc, app, state, Move::Core { core: 0 }, want);
+}
+
+// A reset takes items out, and their bytes are carried.
+fn weighs_a_reset(rt: &impl Abort, alloc: Global, app: &App, state: &mut State)
+    requires valid { IsValid app.now state.old }
+    requires named { IsMoveOf app.now (Move.Core 0) }
+    ensures { IsValid app.now state.new }
+{
+    // send, twice: the item, the instruction
+    weighs(rt, alloc, app, state, Move::Core { core: 0 }, (2, 2));
+    weighs(rt, alloc, app, state, Move::Core { core: 0 }, (2, 2));
+    // qreset: the two items, the instruction
+    weighs(rt, alloc, app, state, Move::Core { core: 0 }, (2, 7 + 1));
+}
+
+// At most a record weighs 4 * tasks + 6 * cores + 528, here 538, and the bytes of the items that a
+// reset takes out.
+#[test]
+fn weights(rt: HostRuntime) -> Result<(), Fail> {
+    let alloc = rt.alloc();
+    let app = read_app(alloc, file(alloc)?.as_bytes())?;
+    assert!(rt; app.cores() == 1);
+    let mut state = State::boot(alloc, &app)?;
+    weighs_a_receive(&rt, alloc, &app, &mut state);
+    weighs_a_reset(&rt, alloc, &app, &mut state);
+    // end: the phase, the core
+    weighs(&rt, alloc, &app, &mut state, Move::Core { core: 0 }, (2, 2));
+    // the tick, the turn
+    weighs(&rt, alloc, &app, &mut state, Move::Tick, (2, 2));
+    Ok(())
+}
