@@ -46,47 +46,29 @@ fn weighs(
     }
 }
 
-// The bytes that a change carries are those that were there before: the data that is replaced, and
-// the item that is taken.
-fn weighs_a_receive(rt: &impl Abort, alloc: Global, app: &App, state: &mut State)
-    requires valid { IsValid app.now state.old }
-    requires named { IsMoveOf app.now (Move.Core 0) }
-    ensures { IsValid app.now state.new }
-{
-    // data: the data of no bytes, the instruction, the turn
-    weighs(rt, alloc, app, state, Move::Core { core: 0 }, (3, 3));
-    // send: the item, r0, the instruction
-    weighs(rt, alloc, app, state, Move::Core { core: 0 }, (3, 3));
-    // recv: the data of 256 bytes, the item of 3, the instruction; r0 is 1 already
-    let want = (3, 257 + 4 + 1);
-    weighs(rt, alloc, app, state, Move::Core { core: 0 }, want);
-}
-
-// A reset takes items out, and their bytes are carried.
-fn weighs_a_reset(rt: &impl Abort, alloc: Global, app: &App, state: &mut State)
-    requires valid { IsValid app.now state.old }
-    requires named { IsMoveOf app.now (Move.Core 0) }
-    ensures { IsValid app.now state.new }
-{
-    // send, twice: the item, the instruction
-    weighs(rt, alloc, app, state, Move::Core { core: 0 }, (2, 2));
-    weighs(rt, alloc, app, state, Move::Core { core: 0 }, (2, 2));
-    // qreset: the two items, the instruction
-    weighs(rt, alloc, app, state, Move::Core { core: 0 }, (2, 7 + 1));
-}
-
-// At most a record weighs 4 * tasks + 6 * cores + 528, here 538, and the bytes of the items that a
-// reset takes out.
+// The bytes that a change carries are those that were there before: the data that is replaced, the
+// item that is taken, and the items that a reset takes out. At most a record weighs 4 * tasks +
+// 6 * cores + 528, here 538, and the bytes of items that a reset takes out.
 #[test]
 fn weights(rt: HostRuntime) -> Result<(), Fail> {
     let alloc = rt.alloc();
     let app = read_app(alloc, file(alloc)?.as_bytes())?;
     assert!(rt; app.cores() == 1);
     let mut state = State::boot(alloc, &app)?;
-    weighs_a_receive(&rt, alloc, &app, &mut state);
-    weighs_a_reset(&rt, alloc, &app, &mut state);
+    let step = Move::Core { core: 0 };
+    // data: the data of no bytes, the instruction, the turn
+    weighs(&rt, alloc, &app, &mut state, step.copy(), (3, 3));
+    // send: the item, r0, the instruction
+    weighs(&rt, alloc, &app, &mut state, step.copy(), (3, 3));
+    // recv: the data of 256 bytes, the item of 3, the instruction; r0 is 1 already
+    weighs(&rt, alloc, &app, &mut state, step.copy(), (3, 257 + 4 + 1));
+    // send, twice: the item, the instruction
+    weighs(&rt, alloc, &app, &mut state, step.copy(), (2, 2));
+    weighs(&rt, alloc, &app, &mut state, step.copy(), (2, 2));
+    // qreset: the two items, the instruction
+    weighs(&rt, alloc, &app, &mut state, step.copy(), (2, 7 + 1));
     // end: the phase, the core
-    weighs(&rt, alloc, &app, &mut state, Move::Core { core: 0 }, (2, 2));
+    weighs(&rt, alloc, &app, &mut state, step, (2, 2));
     // the tick, the turn
     weighs(&rt, alloc, &app, &mut state, Move::Tick, (2, 2));
     Ok(())
