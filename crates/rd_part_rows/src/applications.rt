@@ -281,6 +281,7 @@ fn block_times(rt: HostRuntime) -> Result<(), Fail> {
         r#""send q0 1","recv q0 max","send q0 r3","end","front q0 2","peek q0 4","qreset q0","end""#
     );
     let app = read(rt.alloc(), text)?;
+    app.limits();
     let code = app.code(0);
     assert_eq!(rt; code.len(), 8);
     assert_eq!(rt; wait_of(&code[0]), Some(Operand::Number { value: 1 }));
@@ -299,7 +300,6 @@ fn block_times(rt: HostRuntime) -> Result<(), Fail> {
 #[test]
 fn builtin(rt: HostRuntime) -> Result<(), Fail> {
     let app = builtin_app(rt.alloc())?;
-    assert_eq!(rt; app.priorities().len(), 1);
     app.limits();
     assert_eq!(rt; app.name(Kind::Task, 0), "t0");
     assert_eq!(rt; app.code(0).len(), 5);
