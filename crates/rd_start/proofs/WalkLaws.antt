@@ -517,6 +517,7 @@ at_stop (Some p) elsewhere e some =
 
 -- Words with which nothing is wrong give a number of moves within the limits.
 pub moves_always : (words : List Text) → faults_of words ≡ [] → HasMoves (options_in words)
+unfolding faults_of options_in
 moves_always words e =
     let end = walk line.top.rules (names_of line) nothing_held words in
     let first = neither (walk_fault line.top (names_of line) (walk_from nothing_held) words) _ e in

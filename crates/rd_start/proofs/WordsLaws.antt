@@ -21,11 +21,11 @@ use Rattle.rd_start.specs.declared.options.Request.TheVariants.{Run, Help}
 -- ---- no words
 
 nothing_wrong : faults_of (codes "run" ∷ []) ≡ []
-unfolding clap_on_literals
+unfolding clap_on_literals faults_of
 nothing_wrong = refl
 
 defaults : AreSettingsIn (options_in (codes "run" ∷ [])) (record { app = None; moves = 100000 })
-unfolding clap_on_literals
+unfolding clap_on_literals options_in
 defaults = record { app = refl; moves = refl }
 
 no_words : {X : Type 0} (f : X → Text) (words : List X) → length words ≡ 0 → words_read (map f words) ≡ codes "run" ∷ []
@@ -54,12 +54,14 @@ is_plain = refl
 
 pub fails_by : (line : CommandLine) (words read : List Text) (r : Result ArgMatches Error) → line ≡ command_line → read ≡ words
     → (is_simple_and_free line ≡ true → FailsBy (fault_of line words) r) → FailsBy (faults_of read) r
+unfolding faults_of
 fails_by line words read r is same h =
     let here : FailsBy (faults_of words) r = subst (λ (l : CommandLine). FailsBy (fault_of l words) r) is (h (ap is_simple_and_free is ∙ is_exact)) in
     subst (λ (ws : List Text). FailsBy (faults_of ws) r) (sym same) here
 
 pub options_found : (line : CommandLine) (words : List Text) (m : ArgMatches) → line ≡ command_line → HasMatchesOf line words m
     → options_of (subcommand_rows_of m) ≡ options_in words
+unfolding options_in
 options_found line words m is h =
     ap options_of ((h (ap is_simple is ∙ is_plain)).1 ∙ ap (λ (l : CommandLine). subcommand_of l words) is)
 

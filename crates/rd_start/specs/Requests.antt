@@ -69,7 +69,7 @@ words_read [] = codes "run" ∷ []
 words_read (word ∷ words) = word ∷ words
 
 -- The kinds of what is wrong with the words; help is one of them.
-abbrev pub faults_of : List Text → List Refusal
+unfoldable pub faults_of : List Text → List Refusal
 faults_of words = fault_of command_line words
 
 -- What a parse found for the options of its subcommand.
@@ -78,7 +78,7 @@ options_of None = []
 options_of (Some run) = run.1
 
 -- What the words give for the options of `run`.
-abbrev pub options_in : List Text → List Row
+unfoldable pub options_in : List Text → List Row
 options_in words = options_of (subcommand_of command_line words)
 
 -- A number as it is written: decimal digits, behind a plus or not.
