@@ -3,8 +3,8 @@
 ghost use Rattle.rd_calls.specs.HandleMoves.{HandlesGoByMoves};
 
 /// Handles of queue sets come by sends into members and go by selects, and by nothing else: a move
-/// changes them as the call that it makes is written to, and no other move changes any. Ticks, local
-/// instructions, and what becomes of callers and of those who are woken change none.
+/// changes them as the call that it makes is written to, and no other move changes any. Ticks,
+/// local instructions, and what becomes of callers and of those who are woken change none.
 pub fn handles_go_by_moves()
     ensures { HandlesGoByMoves }
 {}

@@ -107,7 +107,8 @@ impl Lines {
             × Consumes (R.remaining reader.old) (R.remaining reader.new) more) }
         ensures end { IfOk result (λ count. count ≡ 0 → IsAtEnd (R.remaining reader.new)) }
         ensures err { OnErr result (self.new ≡ self.old) }
-        ensures err_reader { OnErr result (Keeps (R.remaining reader.old) (R.remaining reader.new)) }
+        ensures err_reader { OnErr result
+            (Keeps (R.remaining reader.old) (R.remaining reader.new)) }
     {
         move_to_front(&mut self.buffer, self.start, self.end);
         self.end -= self.start;

@@ -1,6 +1,6 @@
 -- What the calls of a queue do.
-use Rattle.std.specs.Prelude.{ℕ, ◌≡◌, ◌+◌, ◌-◌, ◌&&◌, ◌⊎◌, [], Bool, true, false, List, length, drop}
-use Rattle.std.specs.Prelude.{None, Some, nat_eq}
+use Rattle.std.specs.Prelude.{ℕ, ◌≡◌, ◌+◌, ◌-◌, ◌&&◌, ◌⊎◌, [], Bool, true, false, List}
+use Rattle.std.specs.Prelude.{None, Some, drop, length, nat_eq}
 use Rattle.std.specs.Prelude.{slice_index_or, slice_set, if◌then◌else◌}
 use Rattle.std.specs.List.{concat}
 use Rattle.rd_app.specs.declared.instr.Operand.{Operand}

@@ -1,6 +1,7 @@
 //! The calls of queues.
 
-ghost use Rattle.std.specs.Prelude.{◌≡◌, ◌+◌, ◌<◌, ◌&&◌, length, true, false, IfOk, IsOk, OnOk, OnErr};
+ghost use Rattle.std.specs.Prelude.{◌≡◌, ◌+◌, ◌<◌, ◌&&◌, length, true, false};
+ghost use Rattle.std.specs.Prelude.{IfOk, IsOk, OnOk, OnErr};
 ghost use Rattle.std.specs.List.{concat};
 ghost use Rattle.rd_app.specs.Application.{IsOperand, IsQueueCall, priorities_of};
 ghost use Rattle.rd_state.specs.Edit.{Reaches, KeepsBase};
@@ -255,8 +256,8 @@ fn remove_from_set(editing: &mut Editing, queue: usize, set: usize) -> Result<Ou
     Ok(Outcome::Returns(1))
 }
 
-/// Does a call of a queue. One that changes nothing, as it can't be done and may not wait, is refused,
-/// or only counts, takes no memory.
+/// Does a call of a queue. One that changes nothing takes no memory: it can't be done and may not
+/// wait, is refused, or only counts.
 pub fn call_queue(
     app: &App,
     editing: &mut Editing,
