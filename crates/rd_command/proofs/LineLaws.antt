@@ -4,8 +4,9 @@ use Rattle.std.proofs.Math.Seq.{take-append-add}
 use Rattle.std.proofs.lemmas.List.{drop-take, length-drop, length-take}
 use Rattle.std.proofs.lemmas.List.Edits.{take-paste}
 use Rattle.std.specs.Io.{ReadsAtMost}
-use Rattle.std.specs.Io.KnownBytes.{Consumes, ReadConsumes}
+use Rattle.std.specs.Io.KnownBytes.{ReadConsumes}
 use Rattle.std.specs.List.{copy_within}
+use Rattle.rd_command.specs.Lines.{AddsRead}
 
 -- what stood from `start` to `end` stands in front
 pub moved_to_front : (xs : List ℕ) (start end : ℕ) → start ≤ end → end ≤ length xs → take (end - start) (copy_within xs start end 0) ≡ drop start (take end xs)
@@ -18,11 +19,15 @@ moved_to_front xs start end le within =
     ap (λ (k : ℕ). take k (copy_within xs start end 0)) (sym none) ∙ front ∙ sym back ∙ ap (λ (k : ℕ). drop start (take k xs)) all
 
 -- a read after what was there adds what it gave
-pub read_adds : {E : Type 0} (r : Result ℕ E) (old new : Option (List ℕ)) (front buf before : List ℕ) (end : ℕ)
-    → length front ≡ end → front ≡ before → ReadsAtMost r buf → ReadConsumes old new r buf
-    → IfOk r (λ count. (more : List ℕ) × (length more ≡ count)
-    × (take (end + count) (front ++ buf) ≡ before ++ more) × Consumes old new more)
-read_adds (Ok n) old new front buf before end len is most bytes =
+pub read_adds : {E : Type 0} (r : Result ℕ E) (had has : Option (List ℕ)) (front buf before : List ℕ) (end : ℕ)
+    → length front ≡ end → front ≡ before → ReadsAtMost r buf → ReadConsumes had has r buf
+    → IfOk r (λ count. AddsRead before (take (end + count) (front ++ buf)) had has count)
+read_adds (Ok n) had has front buf before end len is most bytes =
     let joined = take-append-add front buf n in
-    (take n buf, omega (arith, length-take n buf), rw (← len) (joined ∙ ap (λ (xs : List ℕ). xs ++ take n buf) is), bytes.0)
-read_adds (Err e) old new front buf before end len is most bytes = tt
+    record {
+      bytes = take n buf;
+      len = omega (arith, length-take n buf);
+      added = rw (← len) (joined ∙ ap (λ (xs : List ℕ). xs ++ take n buf) is);
+      consumed = bytes.0;
+    }
+read_adds (Err e) had has front buf before end len is most bytes = tt

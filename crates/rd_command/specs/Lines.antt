@@ -1,9 +1,17 @@
--- How bytes that were read are cut into lines.
-use Rattle.std.specs.Prelude.{ℕ, ◌==◌, ◌-◌, ◌&&◌, Bool, List, length, take, nat_lt, slice_index}
-use Rattle.std.specs.Prelude.{if◌then◌else◌}
+-- How bytes are read, and cut into lines.
+use Rattle.std.specs.Prelude.{ℕ, ◌≡◌, ◌==◌, ◌-◌, ◌&&◌, Bool, List, ◌++◌, length, take, nat_lt}
+use Rattle.std.specs.Prelude.{slice_index, if◌then◌else◌, Option}
+use Rattle.std.specs.Io.KnownBytes.{Consumes}
 use Rattle.std.specs.List.{position_or_len}
 use Rattle.rd_command.specs.declared.lines.Front.{Front}
 use Rattle.rd_command.specs.declared.lines.Front.TheVariants.{Line, TooLong, Part}
+
+-- So many bytes of what the reader still had were put behind those that were there.
+pub record AddsRead (old new : List ℕ) (had has : Option (List ℕ)) (count : ℕ) : Type 0 where
+  pub bytes : List ℕ
+  pub len : length bytes ≡ count
+  pub added : new ≡ old ++ bytes
+  pub consumed : Consumes had has bytes
 
 abbrev pub is_feed : ℕ → Bool
 is_feed byte = byte == 10

@@ -1,5 +1,5 @@
 -- The text of replies.
-use Rattle.std.specs.Prelude.{ℕ, ◌==◌, Bool, false, codes, decimal, List, [], ◌∷◌, ◌++◌}
+use Rattle.std.specs.Prelude.{ℕ, zero, suc, ◌==◌, Bool, false, codes, decimal, List, [], ◌∷◌, ◌++◌}
 use Rattle.std.specs.Prelude.{length, Option, Some, None}
 use Rattle.std.specs.List.{flat_map}
 use Rattle.hex.specs.Hex.{encode_lower}
@@ -46,6 +46,11 @@ reply_text (Done at) = codes "ok at " ++ decimal at
 reply_text (Refused refusal) = codes "no " ++ refusal_text refusal
 
 -- ---- parts of views
+
+-- what stands before a member: a `,`, but nothing before the first
+abbrev pub comma_at : ℕ → List ℕ
+comma_at zero = []
+comma_at (suc index) = codes ","
 
 -- the members, with `,` between each two
 abbrev pub joined : {X : Type 0} → (X → List ℕ) → List X → List ℕ

@@ -3,4 +3,5 @@
 
 pub mod command;
 pub mod lines;
+mod page;
 pub mod reply;

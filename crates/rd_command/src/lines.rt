@@ -1,10 +1,10 @@
 //! Lines from a reader, without memory for each.
 
-ghost use Rattle.std.specs.Prelude.{◌≡◌, ◌+◌, ◌-◌, ◌<◌, ◌≤◌, ◌++◌, ℕ, List, [], length, take, drop};
+ghost use Rattle.std.specs.Prelude.{◌≡◌, ◌+◌, ◌-◌, ◌<◌, ◌≤◌, [], length, take, drop};
 ghost use Rattle.std.specs.Prelude.{IfOk, OnErr};
 ghost use Rattle.std.specs.List.{position_or_len};
-ghost use Rattle.std.specs.Io.KnownBytes.{Consumes, IsAtEnd, Keeps};
-ghost use Rattle.rd_command.specs.Lines.{is_feed, front_of, without_return};
+ghost use Rattle.std.specs.Io.KnownBytes.{IsAtEnd, Keeps};
+ghost use Rattle.rd_command.specs.Lines.{AddsRead, is_feed, front_of, without_return};
 
 use std::alloc::{AllocError, Global};
 use std::io;
@@ -102,9 +102,8 @@ impl Lines {
     /// they were.
     pub fn read_from<R: Read>(&mut self, reader: &mut R) -> io::Result<usize>
         requires { length self.old ≤ 1024 }
-        ensures ok { IfOk result (λ count. (more : List ℕ) × (length more ≡ count)
-            × (self.new ≡ self.old ++ more)
-            × Consumes (R.remaining reader.old) (R.remaining reader.new) more) }
+        ensures ok { IfOk result
+            (AddsRead self.old self.new (R.remaining reader.old) (R.remaining reader.new)) }
         ensures end { IfOk result (λ count. count ≡ 0 → IsAtEnd (R.remaining reader.new)) }
         ensures err { OnErr result (self.new ≡ self.old) }
         ensures err_reader { OnErr result
@@ -139,9 +138,9 @@ fn move_to_front(buffer: &mut [u8], start: usize, end: usize)
 // Reads once, after the first `end` bytes, which stay.
 fn read_after<R: Read>(reader: &mut R, buffer: &mut [u8], end: usize) -> io::Result<usize>
     requires { end < length buffer.old }
-    ensures ok { IfOk result (λ count. (more : List ℕ) × (length more ≡ count)
-        × (take (end + count) buffer.new ≡ take end buffer.old ++ more)
-        × Consumes (R.remaining reader.old) (R.remaining reader.new) more) }
+    ensures ok { IfOk result (λ count.
+        AddsRead (take end buffer.old) (take (end + count) buffer.new)
+        (R.remaining reader.old) (R.remaining reader.new) count) }
     ensures within { IfOk result (λ count. end + count ≤ length buffer.old) }
     ensures end { IfOk result (λ count. count ≡ 0 → IsAtEnd (R.remaining reader.new)) }
     ensures err { OnErr result (Keeps (R.remaining reader.old) (R.remaining reader.new)) }

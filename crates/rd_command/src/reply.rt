@@ -1,7 +1,7 @@
 //! The text of replies.
-#![tactic(auto, using(crate::proofs::PageLaws::kept_then))]
+#![tactic(auto, using(crate::proofs::PageLaws::appends_then))]
 
-ghost use Rattle.std.specs.Prelude.{◌≡◌, ◌+◌, ◌++◌, ◌≤◌, ◌∷◌, [], decimal, length, position};
+ghost use Rattle.std.specs.Prelude.{◌≡◌, ◌+◌, ◌++◌, ◌≤◌, decimal, length, position};
 ghost use Rattle.std.specs.Prelude.{All, IsOk, OnErr, OnOk, vec_capacity, vec_len};
 ghost use Rattle.rd_app.specs.Application.{names_of};
 ghost use Rattle.rd_state.specs.Waiting.{IsPlace};
@@ -9,7 +9,7 @@ ghost use Rattle.rd_command.specs.Names.{all_names, name_at, name_or_dash, numbe
 ghost use Rattle.rd_command.specs.Names.{IsNamed, IsNamedOrNone, PlaceIsNamed};
 ghost use Rattle.rd_command.specs.Names.{QueueIsNamed, SetIsNamed, SeatedAreNamed};
 ghost use Rattle.rd_command.specs.Replies.{line_of, refusal_text, reply_text, list_text};
-ghost use Rattle.rd_command.specs.Replies.{bytes_text};
+ghost use Rattle.rd_command.specs.Replies.{bytes_text, comma_at};
 ghost use Rattle.rd_command.specs.Replies.{deadline_text, list_name, place_text, cause_text};
 ghost use Rattle.rd_command.specs.Replies.{phase_text, entry_text};
 ghost use Rattle.rd_command.specs.Replies.{counts_text, contents_text, waiting_text};
@@ -17,8 +17,9 @@ ghost use Rattle.rd_command.specs.Replies.{membership_text, queue_text};
 ghost use Rattle.rd_command.specs.Replies.{handles_text, selecting_text, set_text};
 ghost use Rattle.rd_command.specs.Replies.{running_core_text, state_text, task_text, is_task};
 ghost use Rattle.rd_command.specs.Replies.{ticks_text, cores_text};
-ghost use Rattle.rd_command.specs.Pages.{IsFull, KeepsFront};
+ghost use Rattle.rd_command.specs.Pages.{Appends, IsFull, KeepsFront};
 
+use crate::page::Page;
 use itoa::{Buffer, Integer};
 use rd_app::app::{App, Kind};
 use rd_bytes::bytes::MAX_BYTES;
@@ -50,23 +51,11 @@ const MAX_DIGITS: usize = 20;
 // Whether there was memory for what is appended to a page.
 type Appended = Result<(), AllocError>;
 
-// Appends a text. The functions below append to a page in the same way what their name says. An
-// `Err` comes only where the page has no room for the whole text. Where memory runs out half-way,
-// what they appended by then stays after what the page had.
-fn append(page: &mut Vec<u8>, text: &[u8]) -> Appended
-    ensures text { OnOk result (page.new.items ≡ page.old.items ++ text.now) }
-    ensures full { OnErr result (IsFull page.old text.now) }
-    ensures kept { KeepsFront page.old page.new }
+// The functions below append to a page what their name says.
+fn append_number<I: Integer>(page: &mut Page<'_>, number: I)
+    ensures { Appends page.old page.new (I.text number) }
 {
-    page.extend_from_slice(text)
-}
-
-fn append_number<I: Integer>(page: &mut Vec<u8>, number: I) -> Appended
-    ensures text { OnOk result (page.new.items ≡ page.old.items ++ I.text number) }
-    ensures full { OnErr result (IsFull page.old (I.text number)) }
-    ensures kept { KeepsFront page.old page.new }
-{
-    append(page, Buffer::new().format(number).as_bytes())
+    page.append(Buffer::new().format(number));
 }
 
 // Appends a text that there is room for.
@@ -141,256 +130,214 @@ pub fn append_reply(page: &mut Vec<u8>, reply: Reply) -> Result<(), AllocError>
 }
 
 // Two digits a byte; `-` for none.
-fn append_bytes(page: &mut Vec<u8>, bytes: &[u8]) -> Appended
+fn append_bytes(page: &mut Page<'_>, bytes: &[u8])
     requires { length bytes.now ≤ MAX_BYTES }
-    ensures text { OnOk result (page.new.items ≡ page.old.items ++ bytes_text bytes.now) }
-    ensures full { OnErr result (IsFull page.old (bytes_text bytes.now)) }
-    ensures kept { KeepsFront page.old page.new }
+    ensures { Appends page.old page.new (bytes_text bytes.now) }
 {
     if bytes.is_empty() {
-        return append(page, b"-");
+        return page.append("-");
     }
     let mut digits = [0; 2 * MAX_BYTES];
     let digits = &mut digits[..2 * bytes.len()];
     hex::encode_to_slice(bytes, digits).unwrap();
-    append(page, digits)
+    page.append_raw(digits);
 }
 
 // A `,` before each member but the first, which has the index 0.
-fn append_comma(page: &mut Vec<u8>, index: usize) -> Appended
-    ensures first { index ≡ 0 → OnOk result (page.new.items ≡ page.old.items) }
-    ensures later { 1 ≤ index → OnOk result (page.new.items ≡ page.old.items ++ 44 ∷ []) }
-    ensures needed { OnErr result (1 ≤ index) }
-    ensures full { OnErr result (IsFull page.old (44 ∷ [])) }
-    ensures kept { KeepsFront page.old page.new }
+fn append_comma(page: &mut Page<'_>, index: usize)
+    ensures { Appends page.old page.new (comma_at index) }
 {
     if index > 0 {
-        append(page, b",")?;
+        page.append(",");
     }
-    Ok(())
 }
 
-fn append_items(page: &mut Vec<u8>, queue: &Queue) -> Appended
-    ensures text { OnOk result (page.new.items
-        ≡ page.old.items ++ list_text bytes_text queue.now.items) }
-    ensures full { OnErr result (IsFull page.old (list_text bytes_text queue.now.items)) }
-    ensures kept { KeepsFront page.old page.new }
+// The name of an object or a task.
+fn append_name(page: &mut Page<'_>, app: &App, kind: Kind, number: usize)
+    requires { IsNamed (names_of kind app.now) number }
+    ensures { Appends page.old page.new (name_at (names_of kind app.now) number) }
+{
+    page.append(app.name(kind, number));
+}
+
+fn append_items(page: &mut Page<'_>, queue: &Queue)
+    ensures { Appends page.old page.new (list_text bytes_text queue.now.items) }
 {
     if queue.count() == 0 {
-        return append(page, b"-");
+        return page.append("-");
     }
     for index in 0..queue.count() {
-        append_comma(page, index)?;
-        append_bytes(page, queue.item(index))?;
+        append_comma(page, index);
+        append_bytes(page, queue.item(index));
     }
-    Ok(())
 }
 
-fn append_number_list(page: &mut Vec<u8>, numbers: &[u32]) -> Appended
-    ensures text { OnOk result (page.new.items ≡ page.old.items ++ list_text decimal numbers.now) }
-    ensures full { OnErr result (IsFull page.old (list_text decimal numbers.now)) }
-    ensures kept { KeepsFront page.old page.new }
+fn append_number_list(page: &mut Page<'_>, numbers: &[u32])
+    ensures { Appends page.old page.new (list_text decimal numbers.now) }
 {
     if numbers.is_empty() {
-        return append(page, b"-");
+        return page.append("-");
     }
     for (index, number) in numbers.iter().enumerate() {
-        append_comma(page, index)?;
-        append_number(page, *number)?;
+        append_comma(page, index);
+        append_number(page, *number);
     }
-    Ok(())
 }
 
 // The names of tasks.
-fn append_task_names(page: &mut Vec<u8>, app: &App, tasks: &[usize]) -> Appended
+fn append_task_names(page: &mut Page<'_>, app: &App, tasks: &[usize])
     requires { All (IsNamed app.now.task_names) tasks.now }
-    ensures text { OnOk result (page.new.items
-        ≡ page.old.items ++ list_text (name_at app.now.task_names) tasks.now) }
-    ensures full { OnErr result
-        (IsFull page.old (list_text (name_at app.now.task_names) tasks.now)) }
-    ensures kept { KeepsFront page.old page.new }
+    ensures { Appends page.old page.new (list_text (name_at app.now.task_names) tasks.now) }
 {
     if tasks.is_empty() {
-        return append(page, b"-");
+        return page.append("-");
     }
     for (index, task) in tasks.iter().enumerate() {
-        append_comma(page, index)?;
-        append(page, app.name(Kind::Task, *task).as_bytes())?;
+        append_comma(page, index);
+        append_name(page, app, Kind::Task, *task);
     }
-    Ok(())
 }
 
 // The names of the queues whose handles are in a set.
-fn append_handle_names(page: &mut Vec<u8>, app: &App, set: &QueueSet) -> Appended
+fn append_handle_names(page: &mut Page<'_>, app: &App, set: &QueueSet)
     requires { All (IsNamed app.now.queue_names) set.now.handles }
-    ensures text { OnOk result (page.new.items
-        ≡ page.old.items ++ list_text (name_at app.now.queue_names) set.now.handles) }
-    ensures full { OnErr result
-        (IsFull page.old (list_text (name_at app.now.queue_names) set.now.handles)) }
-    ensures kept { KeepsFront page.old page.new }
+    ensures { Appends page.old page.new (list_text (name_at app.now.queue_names) set.now.handles) }
 {
     if set.count() == 0 {
-        return append(page, b"-");
+        return page.append("-");
     }
     for index in 0..set.count() {
-        append_comma(page, index)?;
-        append(page, app.name(Kind::Queue, set.handle(index)).as_bytes())?;
+        append_comma(page, index);
+        append_name(page, app, Kind::Queue, set.handle(index));
     }
-    Ok(())
 }
 
 // The name of an object or a task; `-` for none.
-fn append_name(page: &mut Vec<u8>, app: &App, kind: Kind, number: Option<usize>) -> Appended
+fn append_name_or_dash(page: &mut Page<'_>, app: &App, kind: Kind, number: Option<usize>)
     requires { IsNamedOrNone (names_of kind app.now) number }
-    ensures text { OnOk result (page.new.items
-        ≡ page.old.items ++ name_or_dash (names_of kind app.now) number) }
-    ensures full { OnErr result (IsFull page.old (name_or_dash (names_of kind app.now) number)) }
-    ensures kept { KeepsFront page.old page.new }
+    ensures { Appends page.old page.new (name_or_dash (names_of kind app.now) number) }
 {
     match number {
-        Some(number) => append(page, app.name(kind, number).as_bytes()),
-        None => append(page, b"-"),
+        Some(number) => append_name(page, app, kind, number),
+        None => page.append("-"),
     }
 }
 
 // The names of the tasks on the cores.
-fn append_seat_names(page: &mut Vec<u8>, app: &App, cores: &[Option<usize>]) -> Appended
+fn append_seat_names(page: &mut Page<'_>, app: &App, cores: &[Option<usize>])
     requires { All (IsNamedOrNone app.now.task_names) cores.now }
-    ensures text { OnOk result (page.new.items
-        ≡ page.old.items ++ list_text (name_or_dash app.now.task_names) cores.now) }
-    ensures full { OnErr result
-        (IsFull page.old (list_text (name_or_dash app.now.task_names) cores.now)) }
-    ensures kept { KeepsFront page.old page.new }
+    ensures { Appends page.old page.new (list_text (name_or_dash app.now.task_names) cores.now) }
 {
     if cores.is_empty() {
-        return append(page, b"-");
+        return page.append("-");
     }
     for (index, running) in cores.iter().enumerate() {
-        append_comma(page, index)?;
-        append_name(page, app, Kind::Task, *running)?;
+        append_comma(page, index);
+        append_name_or_dash(page, app, Kind::Task, *running);
     }
-    Ok(())
 }
 
-fn append_entry(page: &mut Vec<u8>, entry: Entry) -> Appended
-    ensures text { OnOk result (page.new.items ≡ page.old.items ++ entry_text entry) }
-    ensures full { OnErr result (IsFull page.old (entry_text entry)) }
-    ensures kept { KeepsFront page.old page.new }
+fn append_entry(page: &mut Page<'_>, entry: Entry)
+    ensures { Appends page.old page.new (entry_text entry) }
 {
-    append_number(page, entry.value)?;
+    append_number(page, entry.value);
     match entry.state {
-        EntryState::Idle => append(page, b":idle"),
-        EntryState::Waiting => append(page, b":waiting"),
-        EntryState::Received => append(page, b":received"),
+        EntryState::Idle => page.append(":idle"),
+        EntryState::Waiting => page.append(":waiting"),
+        EntryState::Received => page.append(":received"),
     }
 }
 
-fn append_entry_list(page: &mut Vec<u8>, entries: &[Entry]) -> Appended
-    ensures text { OnOk result (page.new.items
-        ≡ page.old.items ++ list_text entry_text entries.now) }
-    ensures full { OnErr result (IsFull page.old (list_text entry_text entries.now)) }
-    ensures kept { KeepsFront page.old page.new }
+fn append_entry_list(page: &mut Page<'_>, entries: &[Entry])
+    ensures { Appends page.old page.new (list_text entry_text entries.now) }
 {
     if entries.is_empty() {
-        return append(page, b"-");
+        return page.append("-");
     }
     for (index, entry) in entries.iter().enumerate() {
-        append_comma(page, index)?;
-        append_entry(page, *entry)?;
+        append_comma(page, index);
+        append_entry(page, *entry);
     }
-    Ok(())
 }
 
 // A deadline's tick; `max` for none.
-fn append_deadline(page: &mut Vec<u8>, deadline: Option<u64>) -> Appended
-    ensures text { OnOk result (page.new.items ≡ page.old.items ++ deadline_text deadline) }
-    ensures full { OnErr result (IsFull page.old (deadline_text deadline)) }
-    ensures kept { KeepsFront page.old page.new }
+fn append_deadline(page: &mut Page<'_>, deadline: Option<u64>)
+    ensures { Appends page.old page.new (deadline_text deadline) }
 {
     match deadline {
         Some(tick) => append_number(page, tick),
-        None => append(page, b"max"),
+        None => page.append("max"),
     }
 }
 
 // What the list of a queue where a task waits is called.
-fn list_name(list: WaitingList) -> &'static [u8]
+fn list_name(list: WaitingList) -> &'static str
     ensures { result.now ≡ list_name list }
 {
     match list {
-        WaitingList::Receiving => b"recv",
-        WaitingList::Sending => b"send",
+        WaitingList::Receiving => "recv",
+        WaitingList::Sending => "send",
     }
 }
 
 // Where a task waits.
-fn append_place(page: &mut Vec<u8>, app: &App, place: Place) -> Appended
+fn append_place(page: &mut Page<'_>, app: &App, place: Place)
     requires { IsPlace (numbers_named (all_names app.now)) place }
-    ensures text { OnOk result
-        (page.new.items ≡ page.old.items ++ place_text (all_names app.now) place) }
-    ensures full { OnErr result (IsFull page.old (place_text (all_names app.now) place)) }
-    ensures kept { KeepsFront page.old page.new }
+    ensures { Appends page.old page.new (place_text (all_names app.now) place) }
 {
     match place {
         Place::Queue { queue, list } => {
-            append(page, list_name(list))?;
-            append(page, b":")?;
-            append(page, app.name(Kind::Queue, queue).as_bytes())
+            page.append(list_name(list));
+            page.append(":");
+            append_name(page, app, Kind::Queue, queue);
         }
         Place::Set { set } => {
-            append(page, b"set:")?;
-            append(page, app.name(Kind::Set, set).as_bytes())
+            page.append("set:");
+            append_name(page, app, Kind::Set, set);
         }
     }
 }
 
 // Why a call failed.
-fn append_cause(page: &mut Vec<u8>, cause: Cause) -> Appended
-    ensures text { OnOk result (page.new.items ≡ page.old.items ++ cause_text cause) }
-    ensures full { OnErr result (IsFull page.old (cause_text cause)) }
-    ensures kept { KeepsFront page.old page.new }
+fn append_cause(page: &mut Page<'_>, cause: Cause)
+    ensures { Appends page.old page.new (cause_text cause) }
 {
     match cause {
-        Cause::SetFull => append(page, b"SetFull"),
+        Cause::SetFull => page.append("SetFull"),
     }
 }
 
-fn append_phase(page: &mut Vec<u8>, app: &App, phase: Phase) -> Appended
+fn append_phase(page: &mut Page<'_>, app: &App, phase: Phase)
     requires { PlaceIsNamed (all_names app.now) phase }
-    ensures text { OnOk result
-        (page.new.items ≡ page.old.items ++ phase_text (all_names app.now) phase) }
-    ensures full { OnErr result (IsFull page.old (phase_text (all_names app.now) phase)) }
-    ensures kept { KeepsFront page.old page.new }
+    ensures { Appends page.old page.new (phase_text (all_names app.now) phase) }
 {
     match phase {
-        Phase::Run => append(page, b"run"),
+        Phase::Run => page.append("run"),
         Phase::Again { deadline } => {
-            append(page, b"again:")?;
-            append_deadline(page, deadline)
+            page.append("again:");
+            append_deadline(page, deadline);
         }
         Phase::Wait { place, deadline } => {
-            append(page, b"wait:")?;
-            append_place(page, app, place)?;
-            append(page, b":")?;
-            append_deadline(page, deadline)
+            page.append("wait:");
+            append_place(page, app, place);
+            page.append(":");
+            append_deadline(page, deadline);
         }
-        Phase::Ended => append(page, b"ended"),
+        Phase::Ended => page.append("ended"),
         Phase::Failed { cause } => {
-            append(page, b"failed:")?;
-            append_cause(page, cause)
+            page.append("failed:");
+            append_cause(page, cause);
         }
     }
 }
 
 // The core that a task runs on; `-` for none.
-fn append_running_core(page: &mut Vec<u8>, core: Option<usize>) -> Appended
-    ensures text { OnOk result (page.new.items ≡ page.old.items ++ running_core_text core) }
-    ensures full { OnErr result (IsFull page.old (running_core_text core)) }
-    ensures kept { KeepsFront page.old page.new }
+fn append_running_core(page: &mut Page<'_>, core: Option<usize>)
+    ensures { Appends page.old page.new (running_core_text core) }
 {
     match core {
         Some(core) => append_number(page, core),
-        None => append(page, b"-"),
+        None => page.append("-"),
     }
 }
 
@@ -404,61 +351,62 @@ pub fn show_queue(page: &mut Vec<u8>, app: &App, name: &str, queue: &Queue) -> A
         (IsFull page.old (line_of (queue_text (all_names app.now) name.now queue.now))) }
     ensures kept { KeepsFront page.old page.new }
 {
-    append(page, b"queue ")?;
-    append(page, name.as_bytes())?;
-    append(page, b" ")?;
-    append_contents(page, queue)?;
-    append_waiting(page, app, queue)?;
-    append_membership(page, app, queue)?;
-    append(page, b"\n")
+    let mut line = Page::new(page);
+    append_queue(&mut line, app, name, queue);
+    line.end()
+}
+
+// The line of a queue.
+fn append_queue(page: &mut Page<'_>, app: &App, name: &str, queue: &Queue)
+    requires { QueueIsNamed (all_names app.now) queue.now }
+    ensures { Appends page.old page.new
+        (line_of (queue_text (all_names app.now) name.now queue.now)) }
+{
+    page.append("queue ");
+    page.append(name);
+    page.append(" ");
+    append_contents(page, queue);
+    append_waiting(page, app, queue);
+    append_membership(page, app, queue);
+    page.append("\n");
 }
 
 // How many there are, and how many there is room for.
-fn append_counts(page: &mut Vec<u8>, count: usize, capacity: usize) -> Appended
-    ensures text { OnOk result (page.new.items ≡ page.old.items ++ counts_text count capacity) }
-    ensures full { OnErr result (IsFull page.old (counts_text count capacity)) }
-    ensures kept { KeepsFront page.old page.new }
+fn append_counts(page: &mut Page<'_>, count: usize, capacity: usize)
+    ensures { Appends page.old page.new (counts_text count capacity) }
 {
-    append_number(page, count)?;
-    append(page, b"/")?;
-    append_number(page, capacity)
+    append_number(page, count);
+    page.append("/");
+    append_number(page, capacity);
 }
 
 // What is in a queue.
-fn append_contents(page: &mut Vec<u8>, queue: &Queue) -> Appended
-    ensures text { OnOk result (page.new.items ≡ page.old.items ++ contents_text queue.now) }
-    ensures full { OnErr result (IsFull page.old (contents_text queue.now)) }
-    ensures kept { KeepsFront page.old page.new }
+fn append_contents(page: &mut Page<'_>, queue: &Queue)
+    ensures { Appends page.old page.new (contents_text queue.now) }
 {
-    append_counts(page, queue.count(), queue.capacity())?;
-    append(page, b" items ")?;
-    append_items(page, queue)
+    append_counts(page, queue.count(), queue.capacity());
+    page.append(" items ");
+    append_items(page, queue);
 }
 
 // Who waits at a queue.
-fn append_waiting(page: &mut Vec<u8>, app: &App, queue: &Queue) -> Appended
+fn append_waiting(page: &mut Page<'_>, app: &App, queue: &Queue)
     requires { QueueIsNamed (all_names app.now) queue.now }
-    ensures text { OnOk result
-        (page.new.items ≡ page.old.items ++ waiting_text (all_names app.now) queue.now) }
-    ensures full { OnErr result (IsFull page.old (waiting_text (all_names app.now) queue.now)) }
-    ensures kept { KeepsFront page.old page.new }
+    ensures { Appends page.old page.new (waiting_text (all_names app.now) queue.now) }
 {
-    append(page, b" recv ")?;
-    append_task_names(page, app, queue.waiting(WaitingList::Receiving).as_slice())?;
-    append(page, b" send ")?;
-    append_task_names(page, app, queue.waiting(WaitingList::Sending).as_slice())
+    page.append(" recv ");
+    append_task_names(page, app, queue.waiting(WaitingList::Receiving).as_slice());
+    page.append(" send ");
+    append_task_names(page, app, queue.waiting(WaitingList::Sending).as_slice());
 }
 
 // The set that a queue is a member of.
-fn append_membership(page: &mut Vec<u8>, app: &App, queue: &Queue) -> Appended
+fn append_membership(page: &mut Page<'_>, app: &App, queue: &Queue)
     requires { QueueIsNamed (all_names app.now) queue.now }
-    ensures text { OnOk result
-        (page.new.items ≡ page.old.items ++ membership_text (all_names app.now) queue.now) }
-    ensures full { OnErr result (IsFull page.old (membership_text (all_names app.now) queue.now)) }
-    ensures kept { KeepsFront page.old page.new }
+    ensures { Appends page.old page.new (membership_text (all_names app.now) queue.now) }
 {
-    append(page, b" set ")?;
-    append_name(page, app, Kind::Set, queue.set_of())
+    page.append(" set ");
+    append_name_or_dash(page, app, Kind::Set, queue.set_of());
 }
 
 /// Appends the view of a queue set. An `Err` says that there is no memory for it, and comes only
@@ -471,37 +419,41 @@ pub fn show_set(page: &mut Vec<u8>, app: &App, name: &str, set: &QueueSet) -> Ap
         (IsFull page.old (line_of (set_text (all_names app.now) name.now set.now))) }
     ensures kept { KeepsFront page.old page.new }
 {
-    append(page, b"set ")?;
-    append(page, name.as_bytes())?;
-    append(page, b" ")?;
-    append_handles(page, app, set)?;
-    append_selecting(page, app, set)?;
-    append(page, b"\n")
+    let mut line = Page::new(page);
+    append_set(&mut line, app, name, set);
+    line.end()
+}
+
+// The line of a queue set.
+fn append_set(page: &mut Page<'_>, app: &App, name: &str, set: &QueueSet)
+    requires { SetIsNamed (all_names app.now) set.now }
+    ensures { Appends page.old page.new (line_of (set_text (all_names app.now) name.now set.now)) }
+{
+    page.append("set ");
+    page.append(name);
+    page.append(" ");
+    append_handles(page, app, set);
+    append_selecting(page, app, set);
+    page.append("\n");
 }
 
 // What is in a set.
-fn append_handles(page: &mut Vec<u8>, app: &App, set: &QueueSet) -> Appended
+fn append_handles(page: &mut Page<'_>, app: &App, set: &QueueSet)
     requires { SetIsNamed (all_names app.now) set.now }
-    ensures text { OnOk result
-        (page.new.items ≡ page.old.items ++ handles_text (all_names app.now) set.now) }
-    ensures full { OnErr result (IsFull page.old (handles_text (all_names app.now) set.now)) }
-    ensures kept { KeepsFront page.old page.new }
+    ensures { Appends page.old page.new (handles_text (all_names app.now) set.now) }
 {
-    append_counts(page, set.count(), set.capacity())?;
-    append(page, b" handles ")?;
-    append_handle_names(page, app, set)
+    append_counts(page, set.count(), set.capacity());
+    page.append(" handles ");
+    append_handle_names(page, app, set);
 }
 
 // Who waits to select from a set.
-fn append_selecting(page: &mut Vec<u8>, app: &App, set: &QueueSet) -> Appended
+fn append_selecting(page: &mut Page<'_>, app: &App, set: &QueueSet)
     requires { SetIsNamed (all_names app.now) set.now }
-    ensures text { OnOk result
-        (page.new.items ≡ page.old.items ++ selecting_text (all_names app.now) set.now) }
-    ensures full { OnErr result (IsFull page.old (selecting_text (all_names app.now) set.now)) }
-    ensures kept { KeepsFront page.old page.new }
+    ensures { Appends page.old page.new (selecting_text (all_names app.now) set.now) }
 {
-    append(page, b" wait ")?;
-    append_task_names(page, app, set.waiting().as_slice())
+    page.append(" wait ");
+    append_task_names(page, app, set.waiting().as_slice());
 }
 
 /// Appends the view of a task. An `Err` says that there is no memory for it, and comes only where
@@ -520,30 +472,39 @@ pub fn show_task(
         (IsFull page.old (line_of (task_text (all_names app.now) name.now core task.now))) }
     ensures kept { KeepsFront page.old page.new }
 {
-    append(page, b"task ")?;
-    append(page, name.as_bytes())?;
-    append(page, b" core ")?;
-    append_running_core(page, core)?;
-    append(page, b" pc ")?;
-    append_number(page, task.pc())?;
-    append(page, b" phase ")?;
-    append_phase(page, app, task.phase())?;
-    append_state(page, task)
+    let mut line = Page::new(page);
+    append_task(&mut line, app, name, core, task);
+    line.end()
+}
+
+// The line of a task.
+fn append_task(page: &mut Page<'_>, app: &App, name: &str, core: Option<usize>, task: &Task)
+    requires { PlaceIsNamed (all_names app.now) task.now.phase }
+    ensures { Appends page.old page.new
+        (line_of (task_text (all_names app.now) name.now core task.now)) }
+{
+    page.append("task ");
+    page.append(name);
+    page.append(" core ");
+    append_running_core(page, core);
+    page.append(" pc ");
+    append_number(page, task.pc());
+    page.append(" phase ");
+    append_phase(page, app, task.phase());
+    append_state(page, task);
+    page.append("\n");
 }
 
 // The rest of a task's view, from its registers on.
-fn append_state(page: &mut Vec<u8>, task: &Task) -> Appended
-    ensures text { OnOk result (page.new.items ≡ page.old.items ++ line_of (state_text task.now)) }
-    ensures full { OnErr result (IsFull page.old (line_of (state_text task.now))) }
-    ensures kept { KeepsFront page.old page.new }
+fn append_state(page: &mut Page<'_>, task: &Task)
+    ensures { Appends page.old page.new (state_text task.now) }
 {
-    append(page, b" regs ")?;
-    append_number_list(page, task.registers())?;
-    append(page, b" data ")?;
-    append_bytes(page, task.bytes())?;
-    append(page, b" notes ")?;
-    append_entry_list(page, task.notes().as_slice())?;
-    append(page, b"\n")
+    page.append(" regs ");
+    append_number_list(page, task.registers());
+    page.append(" data ");
+    append_bytes(page, task.bytes());
+    page.append(" notes ");
+    append_entry_list(page, task.notes().as_slice());
 }
 
 /// Appends the view of the cores. An `Err` says that there is no memory for it, and comes only
@@ -556,24 +517,32 @@ pub fn show_cores(page: &mut Vec<u8>, app: &App, state: &State) -> Appended
         (IsFull page.old (line_of (cores_text (all_names app.now) state.now))) }
     ensures kept { KeepsFront page.old page.new }
 {
-    append(page, b"cores ")?;
-    append_seat_names(page, app, state.cores())?;
-    append(page, b" ready ")?;
-    append_task_names(page, app, state.ready().as_slice())?;
-    append_ticks(page, state)
+    let mut line = Page::new(page);
+    append_cores(&mut line, app, state);
+    line.end()
+}
+
+// The line of the cores.
+fn append_cores(page: &mut Page<'_>, app: &App, state: &State)
+    requires { SeatedAreNamed (all_names app.now) state.now }
+    ensures { Appends page.old page.new (line_of (cores_text (all_names app.now) state.now)) }
+{
+    page.append("cores ");
+    append_seat_names(page, app, state.cores());
+    page.append(" ready ");
+    append_task_names(page, app, state.ready().as_slice());
+    append_ticks(page, state);
+    page.append("\n");
 }
 
 // The rest of the cores' view, from the tick on.
-fn append_ticks(page: &mut Vec<u8>, state: &State) -> Appended
-    ensures text { OnOk result (page.new.items ≡ page.old.items ++ line_of (ticks_text state.now)) }
-    ensures full { OnErr result (IsFull page.old (line_of (ticks_text state.now))) }
-    ensures kept { KeepsFront page.old page.new }
+fn append_ticks(page: &mut Page<'_>, state: &State)
+    ensures { Appends page.old page.new (ticks_text state.now) }
 {
-    append(page, b" tick ")?;
-    append_number(page, state.tick())?;
-    append(page, b" turn ")?;
-    append_number(page, state.turn())?;
-    append(page, b"\n")
+    page.append(" tick ");
+    append_number(page, state.tick());
+    page.append(" turn ");
+    append_number(page, state.turn());
 }
 
 /// The core that the task runs on, if it runs.

@@ -1,12 +1,9 @@
 -- What holds in each turn of append_seat_names's loop.
-use Rattle.std.proofs.Common.{◌≡◌, ◌++◌, take}
-use Rattle.rd_command.specs.Pages.{KeepsFront}
+use Rattle.std.proofs.Common.{take}
+use Rattle.rd_command.specs.Pages.{Appends}
 use Rattle.rd_command.specs.Replies.{joined}
 use Rattle.rd_command.specs.Names.{name_or_dash}
 use Rattle.rd_command.proofs.reply.append_seat_names.Given as goal
 
 abbrev pub invariant-loop-index : goal.invariant-loop-index
-invariant-loop-index l = record {
-  text : l.page.items ≡ l.fn.page.items ++ joined (name_or_dash l.app.task_names) (take l.index l.cores);
-  kept : KeepsFront l.fn.page l.page;
-}
+invariant-loop-index l = Appends l.fn.page l.page (joined (name_or_dash l.app.task_names) (take l.index l.cores))
