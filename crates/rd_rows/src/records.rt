@@ -46,29 +46,35 @@ fn weighs(
     }
 }
 
-// The bytes that a change carries are those that were there before: the data that is replaced, the
-// item that is taken, and the items that a reset takes out. At most a record weighs 4 * tasks +
-// 6 * cores + 528, here 538, and the bytes of items that a reset takes out.
+// How many changes the record of each step has, and its weight. The bytes that a change carries are
+// those that were there before: the data that is replaced, the item that is taken, and the items
+// that a reset takes out. At most a record weighs 4 * tasks + 6 * cores + 528, here 538, and the
+// bytes of items that a reset takes out.
+const STEPS: [(usize, usize); 7] = [
+    // data: the data of no bytes, the instruction, the turn
+    (3, 3),
+    // send: the item, r0, the instruction
+    (3, 3),
+    // recv: the data of 256 bytes, the item of 3, the instruction; r0 is 1 already
+    (3, 257 + 4 + 1),
+    // send, twice: the item, the instruction
+    (2, 2),
+    (2, 2),
+    // qreset: the two items, the instruction
+    (2, 7 + 1),
+    // end: the phase, the core
+    (2, 2),
+];
+
 #[test]
 fn weights(rt: HostRuntime) -> Result<(), Fail> {
     let alloc = rt.alloc();
     let app = read_app(alloc, file(alloc)?.as_bytes())?;
     assert!(rt; app.cores() == 1);
     let mut state = State::boot(alloc, &app)?;
-    let step = Move::Core { core: 0 };
-    // data: the data of no bytes, the instruction, the turn
-    weighs(&rt, alloc, &app, &mut state, step.copy(), (3, 3));
-    // send: the item, r0, the instruction
-    weighs(&rt, alloc, &app, &mut state, step.copy(), (3, 3));
-    // recv: the data of 256 bytes, the item of 3, the instruction; r0 is 1 already
-    weighs(&rt, alloc, &app, &mut state, step.copy(), (3, 257 + 4 + 1));
-    // send, twice: the item, the instruction
-    weighs(&rt, alloc, &app, &mut state, step.copy(), (2, 2));
-    weighs(&rt, alloc, &app, &mut state, step.copy(), (2, 2));
-    // qreset: the two items, the instruction
-    weighs(&rt, alloc, &app, &mut state, step.copy(), (2, 7 + 1));
-    // end: the phase, the core
-    weighs(&rt, alloc, &app, &mut state, step, (2, 2));
+    for want in STEPS {
+        weighs(&rt, alloc, &app, &mut state, Move::Core { core: 0 }, want);
+    }
     // the tick, the turn
     weighs(&rt, alloc, &app, &mut state, Move::Tick, (2, 2));
     Ok(())

@@ -1,6 +1,7 @@
 //! Runs of the parts: moves, the way back, and their limit; waiting lists.
 
 use rd_app::app::App;
+use rd_bytes::no_memory::NoMemory;
 use rd_calls::moves::Move;
 use rd_calls::play::play;
 use rd_queue::queue::Queue;
@@ -22,6 +23,16 @@ fn step_core_0(rt: &impl Abort, timeline: &mut Timeline) -> Result<usize, Refusa
     timeline.go(Move::Core { core: 0 })
 }
 
+// The state of the built-in application at boot.
+fn booted(alloc: Global) -> Result<State, NoMemory> {
+    State::boot(alloc, &App::builtin(alloc)?)
+}
+
+// A timeline of the built-in application, with room for so many moves.
+fn timeline_with(alloc: Global, moves: usize) -> Result<Timeline, NoMemory> {
+    Timeline::new(alloc, App::builtin(alloc)?, moves)
+}
+
 // The state at boot comes back whole, and the moves can be redone.
 fn goes_back_to_boot(rt: &impl Abort, alloc: Global, timeline: &mut Timeline) -> Result<(), Fail> {
     let boot = timeline.target().copy(alloc)?;
@@ -40,8 +51,8 @@ fn goes_back_to_boot(rt: &impl Abort, alloc: Global, timeline: &mut Timeline) ->
 #[test]
 fn undo_to_boot(rt: HostRuntime) -> Result<(), Fail> {
     let alloc = rt.alloc();
-    let fresh = State::boot(alloc, &App::builtin(alloc)?)?;
-    let mut timeline = Timeline::new(alloc, App::builtin(alloc)?, 100)?;
+    let fresh = booted(alloc)?;
+    let mut timeline = timeline_with(alloc, 100)?;
     let result = goes_back_to_boot(&rt, alloc, &mut timeline);
     let is_fresh = timeline.target().same(&fresh);
     timeline.close();
@@ -68,7 +79,7 @@ fn stops_at_the_limit(rt: &impl Abort, alloc: Global, timeline: &mut Timeline) -
 #[test]
 fn moves_full(rt: HostRuntime) -> Result<(), Fail> {
     let alloc = rt.alloc();
-    let mut timeline = Timeline::new(alloc, App::builtin(alloc)?, 3)?;
+    let mut timeline = timeline_with(alloc, 3)?;
     let result = stops_at_the_limit(&rt, alloc, &mut timeline);
     timeline.close();
     result
@@ -136,7 +147,7 @@ fn puts_to_wait(rt: &impl Abort, editing: &mut Editing) -> Result<(), Fail> {
 #[test]
 fn waiting_is_undone(rt: HostRuntime) -> Result<(), Fail> {
     let alloc = rt.alloc();
-    let boot = State::boot(alloc, &App::builtin(alloc)?)?;
+    let boot = booted(alloc)?;
     let mut editing = Editing::begin(boot.copy(alloc)?, Undo::new(alloc));
     let result = puts_to_wait(&rt, &mut editing);
     let differs = !editing.state().same(&boot);
