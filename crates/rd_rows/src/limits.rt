@@ -1,6 +1,7 @@
-//! Runs at the limits: 8 cores, 32 tasks, 32 queues with room for 64 items of 64 bytes, 32 queue
-//! sets with room for 2,048 handles, 4 notification entries, 256 bytes of data, 256 instructions,
-//! names of 16 characters, and the last ticks.
+//! States at the limits, copied and compared: 8 cores, 32 tasks, 32 queues with room for 64 items of
+//! 64 bytes, 32 queue sets with room for 2,048 handles, 4 notification entries, 256 bytes of data,
+//! 256 instructions, names of 16 characters, and the last ticks. `ci/limits` sees the same
+//! application through its views.
 //!
 //! The number of a task tells its priority, task 0 the first: at boot tasks 0 to 7 are on the cores
 //! of these numbers. Task 7 stays on core 7. It fills the queues, all of them members of set 31,
@@ -9,14 +10,12 @@
 //! handles. Each other task waits for a handle of set 30, for one tick, counts queue 31, and waits
 //! for room in it.
 
-use crate::programs::{assert_replies, run_file};
 use rd_calls::moves::Move;
 use rd_script::file::read_app;
 use rd_state::state::State;
 use rd_timeline::timeline::Timeline;
 use std::alloc::{AllocError, Global};
 use std::fmt::Write;
-use std::ops::Range;
 use std::process::Abort;
 use std::test::Fail;
 
@@ -60,47 +59,6 @@ impl List {
         }
         self.text.push_str(text)
     }
-
-    fn add_names(&mut self, kind: &str, numbers: Range<usize>) -> Result<(), AllocError> {
-        for number in numbers {
-            let name = name(self.alloc, kind, number)?;
-            self.add(name.as_str())?;
-        }
-        Ok(())
-    }
-}
-
-// The names of tasks: of some, and then of others. `-` for nobody.
-fn tasks(alloc: Global, some: Range<usize>, others: Range<usize>) -> Result<String, AllocError> {
-    let mut list = List::new(alloc);
-    list.add_names("task", some)?;
-    list.add_names("task", others)?;
-    if list.text.is_empty() {
-        list.add("-")?;
-    }
-    Ok(list.text)
-}
-
-// The names of the queues from that one on, and then 63 times of all.
-fn handles(alloc: Global, first: usize) -> Result<String, AllocError> {
-    let mut list = List::new(alloc);
-    list.add_names("queue", first..32)?;
-    for _ in 0..63 {
-        list.add_names("queue", 0..32)?;
-    }
-    Ok(list.text)
-}
-
-// The items of a full queue.
-fn items(alloc: Global) -> Result<String, AllocError> {
-    let mut list = List::new(alloc);
-    for _ in 0..16 {
-        for first in 0..4 {
-            let item = bytes_from(alloc, first, 64)?;
-            list.add(item.as_str())?;
-        }
-    }
-    Ok(list.text)
 }
 
 // The queues of the file.
@@ -276,181 +234,4 @@ fn states(rt: HostRuntime) -> Result<(), Fail> {
     timeline.close();
     assert!(rt; is_at_boot);
     result
-}
-
-// What the program is asked, and what it has to answer.
-#[derive(Drop)]
-struct Talk {
-    alloc: Global,
-    commands: String,
-    replies: String,
-    moves: usize,
-}
-
-impl Talk {
-    fn new(alloc: Global) -> Talk {
-        Talk {
-            alloc,
-            commands: String::new(alloc),
-            replies: String::new(alloc),
-            moves: 0,
-        }
-    }
-
-    fn ask(&mut self, command: &str, reply: &str) -> Result<(), AllocError> {
-        writeln!(self.commands, "{command}")?;
-        writeln!(self.replies, "{reply}")
-    }
-
-    // Moves of these cores.
-    fn go(&mut self, cores: &[usize]) -> Result<(), AllocError> {
-        for core in cores {
-            self.moves = self.moves.saturating_add(1);
-            let command = format!(in self.alloc; "step {core}")?;
-            let reply = format!(in self.alloc; "ok at {}", self.moves)?;
-            self.ask(command.as_str(), reply.as_str())?;
-        }
-        Ok(())
-    }
-
-    fn tick(&mut self) -> Result<(), AllocError> {
-        self.moves = self.moves.saturating_add(1);
-        let reply = format!(in self.alloc; "ok at {}", self.moves)?;
-        self.ask("tick", reply.as_str())
-    }
-
-    fn back(&mut self, count: usize, left: usize) -> Result<(), AllocError> {
-        self.moves = left;
-        let command = format!(in self.alloc; "back {count}")?;
-        let reply = format!(in self.alloc; "ok at {left}")?;
-        self.ask(command.as_str(), reply.as_str())
-    }
-
-    // On the cores are some tasks, and then others.
-    fn show_cores(
-        &mut self,
-        some: Range<usize>,
-        others: Range<usize>,
-        ready: Range<usize>,
-        times: &str,
-    ) -> Result<(), AllocError> {
-        let cores = tasks(self.alloc, some, others)?;
-        let ready = tasks(self.alloc, ready, 0..0)?;
-        let reply = format!(in self.alloc; "cores {cores} ready {ready} {times}")?;
-        self.ask("show cores", reply.as_str())
-    }
-
-    // Queue 31. Some tasks, and then others, wait for room.
-    fn show_queue(&mut self, some: Range<usize>, others: Range<usize>) -> Result<(), AllocError> {
-        let waiting = tasks(self.alloc, some, others)?;
-        let queue = name(self.alloc, "queue", 31)?;
-        let set = name(self.alloc, "set", 31)?;
-        let items = items(self.alloc)?;
-        let command = format!(in self.alloc; "show queue {queue}")?;
-        let contents = format!(in self.alloc; "queue {queue} 64/64 items {items}")?;
-        let reply = format!(in self.alloc; "{contents} recv - send {waiting} set {set}")?;
-        self.ask(command.as_str(), reply.as_str())
-    }
-
-    fn show_set(&mut self, number: usize, contents: &str) -> Result<(), AllocError> {
-        let set = name(self.alloc, "set", number)?;
-        let command = format!(in self.alloc; "show set {set}")?;
-        let reply = format!(in self.alloc; "set {set} {contents}")?;
-        self.ask(command.as_str(), reply.as_str())
-    }
-
-    // Set 31 with so many handles, the first of them this queue's.
-    fn show_handles(&mut self, count: usize, first: usize) -> Result<(), AllocError> {
-        let handles = handles(self.alloc, first)?;
-        let contents = format!(in self.alloc; "{count}/2048 handles {handles} wait -")?;
-        self.show_set(31, contents.as_str())
-    }
-
-    // A task whose data counts on from that byte.
-    fn show_task(&mut self, number: usize, state: &str, first: u8) -> Result<(), AllocError> {
-        let task = name(self.alloc, "task", number)?;
-        let data = bytes_from(self.alloc, first, 256)?;
-        let command = format!(in self.alloc; "show task {task}")?;
-        let notes = "0:idle,0:idle,0:idle,0:idle";
-        let reply = format!(in self.alloc; "task {task} {state} data {data} notes {notes}")?;
-        self.ask(command.as_str(), reply.as_str())
-    }
-}
-
-// From boot on until the queues are full.
-fn ask_until_full(alloc: Global, talk: &mut Talk) -> Result<(), AllocError> {
-    talk.show_cores(0..8, 0..0, 8..32, "tick 4294967294 turn 0")?;
-    talk.go(all_wait(alloc, 2)?.as_slice())?;
-    let waiting = tasks(alloc, 0..7, 8..32)?;
-    let contents = format!(in alloc; "0/2048 handles - wait {waiting}")?;
-    talk.show_set(30, contents.as_str())?;
-    talk.go(vec![in alloc; 7; FILLING]?.as_slice())?;
-    talk.show_queue(0..0, 0..0)?;
-    let state = "core 7 pc 253 phase run regs 0,0,0,0,0,0,0,0";
-    talk.show_task(7, state, 3)
-}
-
-// A handle is taken, and put back.
-fn ask_for_handles(talk: &mut Talk) -> Result<(), AllocError> {
-    talk.show_handles(2048, 0)?;
-    talk.go(&[7])?;
-    talk.show_handles(2047, 1)?;
-    let state = "core 7 pc 254 phase run regs 1,0,0,0,0,0,0,0";
-    talk.show_task(7, state, 3)?;
-    talk.back(1, 2339)?;
-    talk.show_handles(2048, 0)
-}
-
-// The last tick wakes all who wait.
-fn ask_for_last_tick(talk: &mut Talk) -> Result<(), AllocError> {
-    talk.tick()?;
-    talk.ask("tick", "no TickLimit")?;
-    talk.show_cores(0..8, 0..0, 8..32, "tick 4294967295 turn 0")?;
-    let state = "core - pc 1 phase again:4294967295 regs 0,0,0,0,0,0,0,0";
-    talk.show_task(31, state, 128)
-}
-
-// They wait again, for room.
-fn ask_for_waiting(alloc: Global, talk: &mut Talk) -> Result<(), AllocError> {
-    talk.go(all_wait(alloc, 4)?.as_slice())?;
-    talk.show_queue(0..7, 8..32)?;
-    let task = name(alloc, "task", 7)?;
-    let times = "tick 4294967295 turn 7";
-    let cores = format!(in alloc; "cores -,-,-,-,-,-,-,{task} ready - {times}")?;
-    talk.ask("show cores", cores.as_str())?;
-    let queue = name(alloc, "queue", 31)?;
-    let phase = format!(in alloc; "wait:send:{queue}:max")?;
-    let state = format!(in alloc; "core - pc 4 phase {phase} regs 64,0,0,0,0,0,0,64")?;
-    talk.show_task(31, state.as_str(), 128)
-}
-
-// 41 moves back are the 4 of each task on the cores 6 to 1, then the 4 of each of the tasks 31 to
-// 28, and one of task 27. It makes that again.
-fn ask_for_way_back(talk: &mut Talk) -> Result<(), AllocError> {
-    talk.back(41, 2423)?;
-    talk.show_cores(27..28, 1..8, 28..32, "tick 4294967295 turn 1")?;
-    talk.show_queue(0..1, 8..27)?;
-    talk.go(&[0])?;
-    talk.show_cores(28..29, 1..8, 29..32, "tick 4294967295 turn 1")?;
-    talk.show_queue(0..1, 8..28)
-}
-
-#[test]
-fn views(rt: HostRuntime) -> Result<(), Fail> {
-    let alloc = rt.alloc();
-    let mut talk = Talk::new(alloc);
-    ask_until_full(alloc, &mut talk)?;
-    ask_for_handles(&mut talk)?;
-    ask_for_last_tick(&mut talk)?;
-    ask_for_waiting(alloc, &mut talk)?;
-    ask_for_way_back(&mut talk)?;
-    let app = file(alloc)?;
-    let ending = run_file(
-        &rt,
-        "limits.json",
-        app.as_bytes(),
-        &[],
-        talk.commands.as_str(),
-    )?;
-    assert_replies(&rt, &ending, talk.replies.as_str())
 }
