@@ -168,7 +168,9 @@ impl QueueSet {
         ensures rest { self.new
             ≡ with_handles self.old (take (length self.old.handles - 1) self.old.handles) }
     {
-        self.handles.pop_back().unwrap()
+        let last = self.last_handle();
+        self.handles.truncate(self.handles.len() - 1);
+        last
     }
 
     /// Takes the handle at the front (`xQueueSelectFromSet`).

@@ -19,6 +19,9 @@ use std::fmt::Write;
 use std::process::Abort;
 use std::test::Fail;
 
+// Whether all went well.
+type Passed = Result<(), Fail>;
+
 // So many moves of core 7 fill the queues.
 const FILLING: usize = 2277;
 
@@ -197,7 +200,7 @@ fn copy_of(rt: &impl Abort, alloc: Global, timeline: &Timeline) -> Result<State,
 
 // The states are the same once the moves between them are taken back, and not before: a handle
 // taken, and r0 as it was, is the only difference.
-fn compares_full_sets(rt: &impl Abort, alloc: Global, timeline: &mut Timeline) -> Result<(), Fail> {
+fn compares_full_sets(rt: &impl Abort, alloc: Global, timeline: &mut Timeline) -> Passed {
     let full = copy_of(rt, alloc, timeline)?;
     go(rt, timeline, &[7, 7, 7]);
     assert!(rt; !full.same(timeline.target()));
@@ -208,16 +211,27 @@ fn compares_full_sets(rt: &impl Abort, alloc: Global, timeline: &mut Timeline) -
     Ok(())
 }
 
-fn compares_states(rt: &impl Abort, alloc: Global, timeline: &mut Timeline) -> Result<(), Fail> {
-    let boot = copy_of(rt, alloc, timeline)?;
-    go(rt, timeline, all_wait(alloc, 2)?.as_slice());
+// Makes the moves of these cores, and copies what they leave.
+fn go_and_copy(rt: &impl Abort, alloc: Global, timeline: &mut Timeline, cores: &[usize]) -> Passed {
+    go(rt, timeline, cores);
     copy_of(rt, alloc, timeline)?;
+    Ok(())
+}
+
+// All moves: the others wait, the queues fill, handles are taken and put back, and after the last
+// tick the others wait for room.
+fn make_all_moves(rt: &impl Abort, alloc: Global, timeline: &mut Timeline) -> Passed {
+    go_and_copy(rt, alloc, timeline, all_wait(alloc, 2)?.as_slice())?;
     go(rt, timeline, vec![in alloc; 7; FILLING]?.as_slice());
     compares_full_sets(rt, alloc, timeline)?;
     assert_eq!(rt; timeline.go(Move::Tick), Ok(2340));
     copy_of(rt, alloc, timeline)?;
-    go(rt, timeline, all_wait(alloc, 4)?.as_slice());
-    copy_of(rt, alloc, timeline)?;
+    go_and_copy(rt, alloc, timeline, all_wait(alloc, 4)?.as_slice())
+}
+
+fn compares_states(rt: &impl Abort, alloc: Global, timeline: &mut Timeline) -> Passed {
+    let boot = copy_of(rt, alloc, timeline)?;
+    make_all_moves(rt, alloc, timeline)?;
     assert_eq!(rt; timeline.back(2464), Ok(0));
     assert!(rt; timeline.target().same(&boot));
     Ok(())
