@@ -1,7 +1,7 @@
 -- The sizes of a state, kept by a change.
 use Rattle.std.proofs.Common.{◌≡◌, ◌∙◌, ℕ, zero, suc, ◌+◌, ◌<◌, ◌≤◌, List, [], length, get_or, map, replicate, set, Option, Some, None}
 use Rattle.std.proofs.Common.{refl, ap, sym, subst, arith}
-use Rattle.std.specs.Prelude.{All, IfSome, nat_eq, remove, slice_index}
+use Rattle.std.specs.Prelude.{All, IfSome, nat_eq, insert, remove, slice_index}
 use Rattle.std.specs.Vec.{with_item}
 use Rattle.std.specs.List.{list_any, prefix_len}
 use Rattle.std.proofs.lemmas.List.Quantifiers.{position-Some}
@@ -22,7 +22,7 @@ use Rattle.rd_app.specs.Application.{Application, IsApplication, IsQueueShape, I
 use Rattle.rd_wait.specs.Joined.{joined, is_at_least}
 use Rattle.rd_wait.specs.TaskList.{TaskList}
 use Rattle.rd_wait.proofs.ListLaws.{All-insert, All-remove}
-use Rattle.rd_state.specs.declared.change.Change.TheVariants.{Task, Queue, Set}
+use Rattle.rd_state.specs.declared.change.Change.TheVariants.{InsReady, Task, Queue, Set}
 use Rattle.rd_state.specs.declared.state.State.TheInside.{Inside}
 use Rattle.rd_state.specs.declared.task_change.TaskChange.{TaskChange}
 use Rattle.rd_state.specs.declared.task_change.TaskChange.TheVariants.{SetPc, SetReg, SetPhase, SetData}
@@ -47,6 +47,25 @@ IsKept-remove s index h kept =
           cores = scheduling.cores;
           ready = All-remove (λ task. task < length s.tasks.items) s.ready.tasks index scheduling.ready;
           room = omega (arith, length-remove s.ready.tasks index h, scheduling.room);
+        };
+        tasks = record { tasks = kept.sized.tasks.tasks; phases = kept.sized.tasks.phases };
+        objects = record { queues = kept.sized.objects.queues; sets = kept.sized.objects.sets };
+      };
+      room = kept.room;
+    }
+
+-- a task has come into the ready list
+pub IsKept-insert : (s : Inside) (index task : ℕ) → Fits (snapshot_of s) (InsReady index task) → IsKept s
+    → IsKept (record s { ready = record s.ready { tasks = insert s.ready.tasks index task } })
+IsKept-insert s index task fits kept =
+    let scheduling = kept.sized.scheduling in
+    record {
+      sized = record {
+        scheduling = record {
+          turn = scheduling.turn;
+          cores = scheduling.cores;
+          ready = All-insert (λ task. task < length s.tasks.items) s.ready.tasks index task scheduling.ready fits.2;
+          room = omega (arith, length-insert s.ready.tasks index task fits.0, fits.1);
         };
         tasks = record { tasks = kept.sized.tasks.tasks; phases = kept.sized.tasks.phases };
         objects = record { queues = kept.sized.objects.queues; sets = kept.sized.objects.sets };
