@@ -1,5 +1,6 @@
 //! Records of moves: how many changes they have, and their weight.
 
+ghost use Rattle.std.specs.Prelude.{◌≡◌};
 ghost use Rattle.rd_calls.specs.Step.{IsMoveOf};
 ghost use Rattle.rd_state.specs.Valid.{IsValid};
 
@@ -66,15 +67,23 @@ const STEPS: [(usize, usize); 7] = [
     (2, 2),
 ];
 
+fn weighs_steps(rt: &impl Abort, alloc: Global, app: &App, state: &mut State)
+    requires valid { IsValid app.now state.old }
+    requires core { app.now.cores ≡ 1 }
+    ensures { IsValid app.now state.new }
+{
+    for want in STEPS {
+        weighs(rt, alloc, app, state, Move::Core { core: 0 }, want);
+    }
+}
+
 #[test]
 fn weights(rt: HostRuntime) -> Result<(), Fail> {
     let alloc = rt.alloc();
     let app = read_app(alloc, file(alloc)?.as_bytes())?;
     assert!(rt; app.cores() == 1);
     let mut state = State::boot(alloc, &app)?;
-    for want in STEPS {
-        weighs(&rt, alloc, &app, &mut state, Move::Core { core: 0 }, want);
-    }
+    weighs_steps(&rt, alloc, &app, &mut state);
     // the tick, the turn
     weighs(&rt, alloc, &app, &mut state, Move::Tick, (2, 2));
     Ok(())
