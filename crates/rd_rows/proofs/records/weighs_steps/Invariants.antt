@@ -3,4 +3,4 @@ use Rattle.rd_state.specs.Valid.{IsValid}
 use Rattle.rd_rows.proofs.records.weighs_steps.Given as goal
 
 abbrev pub invariant-loop-want : goal.invariant-loop-want
-invariant-loop-want l = IsValid l.app l.state
+invariant-loop-want g l = IsValid l.app l.state
