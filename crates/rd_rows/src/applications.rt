@@ -1,5 +1,6 @@
 //! What no clause says of reading files: outside texts, and each public function once.
 
+use crate::asserts::assert_same;
 use rd_app::app::{App, Kind};
 use rd_app::instr::{Instr, LocalInstr, MAX_DELAY, Operand, QueueCall, SetCall};
 use rd_script::error::AppError;
@@ -136,10 +137,10 @@ fn refused_files(rt: HostRuntime) -> Result<(), Fail> {
     let alloc = rt.alloc();
     let whole = file_with_code!(r#""end""#);
     let app = read(alloc, whole)?;
-    assert_eq!(rt; app.find(Kind::Queue, "q0"), Some(0));
-    assert_eq!(rt; app.find(Kind::Task, "q0"), None);
-    assert_eq!(rt; app.queues().len(), 1);
-    assert_eq!(rt; app.notes(), 1);
+    assert_same(&rt, app.find(Kind::Queue, "q0"), Some(0));
+    assert_same(&rt, app.find(Kind::Task, "q0"), None);
+    assert_same(&rt, app.queues().len(), 1);
+    assert_same(&rt, app.notes(), 1);
     assert_refused(&rt, alloc, &REFUSED_FILES);
     Ok(())
 }
@@ -202,14 +203,25 @@ fn files_with_sets(rt: HostRuntime) -> Result<(), Fail> {
         r#"{"name":"s0","length":2048,"members":["q1"]},{"name":"q0","length":1,"members":[]}"#
     );
     let app = read(alloc, text)?;
-    assert_eq!(rt; app.find(Kind::Set, "q0"), Some(1));
-    assert_eq!(rt; app.find(Kind::Set, "q1"), None);
-    assert_eq!(rt; app.sets().len(), 2);
-    assert!(rt; app.queues().len() == 2);
-    assert_eq!(rt; app.set_of(0), None);
-    assert_eq!(rt; app.set_of(1), Some(0));
+    assert_same(&rt, app.find(Kind::Set, "q0"), Some(1));
+    assert_same(&rt, app.find(Kind::Set, "q1"), None);
+    assert_same(&rt, app.sets().len(), 2);
+    assert_same(&rt, app.queues().len(), 2);
+    assert_same(&rt, app.set_of(0), None);
+    assert_same(&rt, app.set_of(1), Some(0));
     assert_refused(&rt, alloc, &REFUSED_SETS);
     Ok(())
+}
+
+// The script and the name of the first task. What is promised of instructions isn't asked for here.
+fn first_script(app: &App) -> &[Instr] {
+    app.limits();
+    app.code(0)
+}
+
+fn first_name(app: &App) -> &str {
+    app.limits();
+    app.name(Kind::Task, 0)
 }
 
 // The instruction, if it is a local one.
@@ -227,10 +239,9 @@ fn pack_and_unpack(rt: HostRuntime) -> Result<(), Fail> {
         r#""code":["set r1 258","pack r1"," unpack  r2 ","end"]}]}"#
     );
     let app = read(rt.alloc(), text)?;
-    assert!(rt; app.priorities().len() == 1);
-    app.limits();
-    let code = app.code(0);
-    assert_eq!(rt; code.len(), 4);
+    assert_same(&rt, app.priorities().len(), 1);
+    let code = first_script(&app);
+    assert!(rt; code.len() == 4);
     assert!(rt;
         matches!(
             local(&code[0]),
@@ -281,30 +292,33 @@ fn block_times(rt: HostRuntime) -> Result<(), Fail> {
         r#""send q0 1","recv q0 max","send q0 r3","end","front q0 2","peek q0 4","qreset q0","end""#
     );
     let app = read(rt.alloc(), text)?;
-    app.limits();
-    let code = app.code(0);
-    assert_eq!(rt; code.len(), 8);
-    assert_eq!(rt; wait_of(&code[0]), Some(Operand::Number { value: 1 }));
-    assert_eq!(rt;
+    let code = first_script(&app);
+    assert!(rt; code.len() == 8);
+    assert_same(&rt, wait_of(&code[0]), Some(Operand::Number { value: 1 }));
+    assert_same(
+        &rt,
         wait_of(&code[1]),
-        Some(Operand::Number { value: MAX_DELAY })
+        Some(Operand::Number { value: MAX_DELAY }),
     );
-    assert_eq!(rt; wait_of(&code[2]), Some(Operand::Register { register: 3 }));
-    assert_eq!(rt; wait_of(&code[3]), None);
-    assert_eq!(rt; wait_of(&code[4]), Some(Operand::Number { value: 2 }));
-    assert_eq!(rt; wait_of(&code[5]), Some(Operand::Number { value: 4 }));
-    assert_eq!(rt; wait_of(&code[6]), None);
+    assert_same(
+        &rt,
+        wait_of(&code[2]),
+        Some(Operand::Register { register: 3 }),
+    );
+    assert_same(&rt, wait_of(&code[3]), None);
+    assert_same(&rt, wait_of(&code[4]), Some(Operand::Number { value: 2 }));
+    assert_same(&rt, wait_of(&code[5]), Some(Operand::Number { value: 4 }));
+    assert_same(&rt, wait_of(&code[6]), None);
     Ok(())
 }
 
 #[test]
 fn builtin(rt: HostRuntime) -> Result<(), Fail> {
     let app = builtin_app(rt.alloc())?;
-    app.limits();
-    assert_eq!(rt; app.name(Kind::Task, 0), "t0");
-    assert_eq!(rt; app.code(0).len(), 5);
-    assert_eq!(rt; app.tick(), 0);
-    assert_eq!(rt; app.cores(), 1);
+    assert_same(&rt, first_name(&app), "t0");
+    assert_same(&rt, first_script(&app).len(), 5);
+    assert_same(&rt, app.tick(), 0);
+    assert_same(&rt, app.cores(), 1);
     Ok(())
 }
 
@@ -320,7 +334,7 @@ fn texts_of_faults(rt: HostRuntime) -> Result<(), Fail> {
         (AppError::Memory, "L7 Memory"),
     ] {
         let text = fault.to_string(rt.alloc())?;
-        assert_eq!(rt; text.as_str(), want);
+        assert_same(&rt, text.as_str(), want);
     }
     Ok(())
 }

@@ -2,6 +2,7 @@
 
 ghost use Rattle.std.specs.Prelude.{◌≡◌, length};
 
+use crate::asserts::assert_same;
 use rd_queue::queue::{Empty, Full, Queue};
 use std::process::Abort;
 use std::test::Fail;
@@ -23,10 +24,10 @@ fn put_front(rt: &impl Abort, queue: &mut Queue, item: &[u8])
 
 // The queue has so many items, of which this is the first and that the last.
 fn has(rt: &impl Abort, queue: &Queue, count: usize, first: &[u8], last: &[u8]) {
-    assert_eq!(rt; queue.count(), count);
+    assert_same(rt, queue.count(), count);
     assert!(rt; queue.count() > 0);
-    assert_eq!(rt; queue.first(), first);
-    assert_eq!(rt; queue.last(), last);
+    assert_same(rt, queue.first(), first);
+    assert_same(rt, queue.last(), last);
 }
 
 // An empty queue refuses, and the first of two items is shown and left there.
@@ -38,7 +39,7 @@ fn peeks(rt: HostRuntime) -> Result<(), Fail> {
     put_back(&rt, &mut queue, b"a");
     put_back(&rt, &mut queue, b"b");
     let before = queue.copy(alloc)?;
-    assert_eq!(rt; queue.peek()?, b"a".as_slice());
+    assert_same(&rt, queue.peek()?, b"a".as_slice());
     assert!(rt; queue.same(&before));
     Ok(())
 }
@@ -64,9 +65,9 @@ fn overwrites(rt: HostRuntime) -> Result<(), Fail> {
     let mut queue = Queue::new(rt.alloc(), 1, 2, 1, 0)?;
     queue.overwrite(b"ab");
     has(&rt, &queue, 1, b"ab", b"ab");
-    assert_eq!(rt; queue.spaces(), 0);
+    assert_same(&rt, queue.spaces(), 0);
     queue.overwrite(b"cd");
     has(&rt, &queue, 1, b"cd", b"cd");
-    assert_eq!(rt; queue.spaces(), 0);
+    assert_same(&rt, queue.spaces(), 0);
     Ok(())
 }

@@ -5,6 +5,8 @@
 #[cfg(test)]
 mod applications;
 #[cfg(test)]
+mod asserts;
+#[cfg(test)]
 mod items;
 #[cfg(test)]
 mod limits;

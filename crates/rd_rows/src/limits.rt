@@ -10,6 +10,7 @@
 //! handles. Each other task waits for a handle of set 30, for one tick, counts queue 31, and waits
 //! for room in it.
 
+use crate::asserts::assert_same;
 use rd_calls::moves::Move;
 use rd_script::file::read_app;
 use rd_state::state::State;
@@ -224,7 +225,7 @@ fn make_all_moves(rt: &impl Abort, alloc: Global, timeline: &mut Timeline) -> Pa
     go_and_copy(rt, alloc, timeline, all_wait(alloc, 2)?.as_slice())?;
     go(rt, timeline, vec![in alloc; 7; FILLING]?.as_slice());
     compares_full_sets(rt, alloc, timeline)?;
-    assert_eq!(rt; timeline.go(Move::Tick), Ok(2340));
+    assert_same(rt, timeline.go(Move::Tick), Ok(2340));
     copy_of(rt, alloc, timeline)?;
     go_and_copy(rt, alloc, timeline, all_wait(alloc, 4)?.as_slice())
 }
@@ -232,7 +233,7 @@ fn make_all_moves(rt: &impl Abort, alloc: Global, timeline: &mut Timeline) -> Pa
 fn compares_states(rt: &impl Abort, alloc: Global, timeline: &mut Timeline) -> Passed {
     let boot = copy_of(rt, alloc, timeline)?;
     make_all_moves(rt, alloc, timeline)?;
-    assert_eq!(rt; timeline.back(2464), Ok(0));
+    assert_same(rt, timeline.back(2464), Ok(0));
     assert!(rt; timeline.target().same(&boot));
     Ok(())
 }

@@ -1,5 +1,6 @@
 //! Runs of the parts: moves, the way back, and their limit; waiting lists.
 
+use crate::asserts::assert_same;
 use rd_app::app::App;
 use rd_bytes::no_memory::NoMemory;
 use rd_calls::moves::Move;
@@ -37,14 +38,14 @@ fn timeline_with(alloc: Global, moves: usize) -> Result<Timeline, NoMemory> {
 fn goes_back_to_boot(rt: &impl Abort, alloc: Global, timeline: &mut Timeline) -> Result<(), Fail> {
     let boot = timeline.target().copy(alloc)?;
     for at in 1..=4 {
-        assert_eq!(rt; step_core_0(rt, timeline), Ok(at));
+        assert_same(rt, step_core_0(rt, timeline), Ok(at));
     }
     assert!(rt; !timeline.target().same(&boot));
-    assert_eq!(rt; timeline.back(4), Ok(0));
+    assert_same(rt, timeline.back(4), Ok(0));
     assert!(rt; timeline.target().same(&boot));
-    assert_eq!(rt; timeline.left(), 4);
-    assert_eq!(rt; timeline.back(1), Err(Refusal::TooFar { done: 0 }));
-    assert_eq!(rt; timeline.left(), 4);
+    assert_same(rt, timeline.left(), 4);
+    assert_same(rt, timeline.back(1), Err(Refusal::TooFar { done: 0 }));
+    assert_same(rt, timeline.left(), 4);
     Ok(())
 }
 
@@ -63,16 +64,16 @@ fn undo_to_boot(rt: HostRuntime) -> Result<(), Fail> {
 // A refused move leaves the target, the moves done and the moves undone.
 fn stops_at_the_limit(rt: &impl Abort, alloc: Global, timeline: &mut Timeline) -> Result<(), Fail> {
     for at in 1..=3 {
-        assert_eq!(rt; step_core_0(rt, timeline), Ok(at));
+        assert_same(rt, step_core_0(rt, timeline), Ok(at));
     }
     let last = timeline.target().copy(alloc)?;
-    assert_eq!(rt; step_core_0(rt, timeline), Err(Refusal::MovesFull));
+    assert_same(rt, step_core_0(rt, timeline), Err(Refusal::MovesFull));
     assert!(rt; timeline.target().same(&last));
-    assert_eq!(rt; timeline.at(), 3);
-    assert_eq!(rt; timeline.left(), 0);
-    assert_eq!(rt; timeline.back(1), Ok(2));
-    assert_eq!(rt; step_core_0(rt, timeline), Ok(3));
-    assert_eq!(rt; timeline.left(), 0);
+    assert_same(rt, timeline.at(), 3);
+    assert_same(rt, timeline.left(), 0);
+    assert_same(rt, timeline.back(1), Ok(2));
+    assert_same(rt, step_core_0(rt, timeline), Ok(3));
+    assert_same(rt, timeline.left(), 0);
     Ok(())
 }
 
@@ -105,7 +106,7 @@ fn always_out_of_memory(rt: HostRuntime) -> Result<(), Fail> {
     let records = log.len();
     log.retire();
     assert!(rt; kept);
-    assert_eq!(rt; records, 1);
+    assert_same(&rt, records, 1);
     Ok(())
 }
 
@@ -116,11 +117,11 @@ fn waiting_lists(rt: HostRuntime) -> Result<(), Fail> {
     queue.insert(WaitingList::Receiving, 0, 4);
     queue.insert(WaitingList::Receiving, 0, 7);
     let receiving = queue.waiting(WaitingList::Receiving).as_slice();
-    assert_eq!(rt; receiving, [7, 4].as_slice());
+    assert_same(&rt, receiving, [7, 4].as_slice());
     assert!(rt; queue.waiting(WaitingList::Sending).as_slice().is_empty());
-    assert_eq!(rt; queue.remove(WaitingList::Receiving, 1), 4);
+    assert_same(&rt, queue.remove(WaitingList::Receiving, 1), 4);
     let receiving = queue.waiting(WaitingList::Receiving).as_slice();
-    assert_eq!(rt; receiving, [7].as_slice());
+    assert_same(&rt, receiving, [7].as_slice());
     Ok(())
 }
 
@@ -138,7 +139,7 @@ fn puts_to_wait(rt: &impl Abort, editing: &mut Editing) -> Result<(), Fail> {
     editing.insert_waiting(place, index, task)?;
     assert!(rt; editing.state().queue_count() > 0);
     let sending = editing.state().waiting(place).as_slice();
-    assert_eq!(rt; sending, [0].as_slice());
+    assert_same(rt, sending, [0].as_slice());
     let receiving = editing.state().waiting(other);
     assert!(rt; receiving.as_slice().is_empty());
     Ok(())

@@ -1,6 +1,7 @@
 //! Runs of the program with words: its exit status, and what it writes to its reader and to its
 //! errors.
 
+use crate::asserts::assert_same;
 use crate::memory::Target;
 use rd_main::run_main;
 use std::alloc::{AllocError, AllocGlobal};
@@ -63,9 +64,9 @@ pub fn run_file<H: Files + AllocGlobal>(
 
 /// Fails unless the run ended so, and wrote nothing else.
 pub fn assert_ending(rt: &impl Abort, ending: &Ending, status: u8, output: &str, errors: &str) {
-    assert_eq!(rt; ending.status, status);
-    assert_eq!(rt; ending.output.as_slice(), output.as_bytes());
-    assert_eq!(rt; ending.errors.as_slice(), errors.as_bytes());
+    assert_same(rt, ending.status, status);
+    assert_same(rt, ending.output.as_slice(), output.as_bytes());
+    assert_same(rt, ending.errors.as_slice(), errors.as_bytes());
 }
 
 /// Fails unless the run ended with status 0 and these replies, at the first that differs. It wrote
@@ -73,10 +74,10 @@ pub fn assert_ending(rt: &impl Abort, ending: &Ending, status: u8, output: &str,
 pub fn assert_replies(rt: &impl Abort, ending: &Ending, replies: &str) -> Result<(), Fail> {
     let output = str::from_utf8(ending.output.as_slice())?;
     for (reply, want) in output.lines().zip(replies.lines()) {
-        assert_eq!(rt; reply, want);
+        assert_same(rt, reply, want);
     }
     assert!(rt; output == replies);
-    assert_eq!(rt; ending.status, 0);
+    assert_same(rt, ending.status, 0);
     assert!(rt; ending.errors.is_empty());
     Ok(())
 }

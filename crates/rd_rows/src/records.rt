@@ -4,6 +4,7 @@ ghost use Rattle.std.specs.Prelude.{◌≡◌};
 ghost use Rattle.rd_calls.specs.Step.{IsMoveOf};
 ghost use Rattle.rd_state.specs.Valid.{IsValid};
 
+use crate::asserts::assert_same;
 use rd_app::app::App;
 use rd_calls::moves::Move;
 use rd_calls::play::play;
@@ -41,7 +42,7 @@ fn weighs(
         Ok(undo) => {
             let measured = (undo.len(), undo.weight());
             undo.retire();
-            assert_eq!(rt; measured, want);
+            assert_same(rt, measured, want);
         }
         Err(_) => assert!(rt; false),
     }

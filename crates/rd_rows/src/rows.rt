@@ -1,5 +1,6 @@
 //! Runs of the program: what it is asked, and what it answers.
 
+use crate::asserts::assert_same;
 use crate::memory::{Source, Target};
 use rd_main::run_main;
 use std::alloc::{AllocError, AllocGlobal, Global};
@@ -14,7 +15,7 @@ fn run<H: Files + AllocGlobal + Abort>(rt: &H, source: &mut Source<'_>, target: 
     let words: Vec<String> = Vec::new(rt.alloc());
     let mut errors = Vec::new(rt.alloc());
     let status = run_main(rt, words.as_slice(), source, target, &mut errors);
-    assert_eq!(rt; status, 0);
+    assert_same(rt, status, 0);
     assert!(rt; errors.is_empty());
 }
 
@@ -246,7 +247,7 @@ fn one_write_for_a_read(rt: HostRuntime) -> Result<(), Fail> {
     let mut source = Source::new(b"step 0\nstep 0\nback 1\nshow queue q0\n");
     let mut target = Target::new(Vec::new(alloc));
     run(&rt, &mut source, &mut target);
-    assert_eq!(rt; target.writes, 1);
+    assert_same(&rt, target.writes, 1);
     Ok(())
 }
 
@@ -258,14 +259,14 @@ fn faults(rt: HostRuntime) -> Result<(), Fail> {
     source.step = 10;
     source.reads = 1;
     let written = answers(&rt, source);
-    assert_eq!(rt; written.as_slice(), b"ok at 1\n".as_slice());
+    assert_same(&rt, written.as_slice(), b"ok at 1\n".as_slice());
 
     let mut source = Source::new(b"step 0\nshow queue q0\nstep 0\n");
     source.step = 7;
     let mut target = Target::new(Vec::new(alloc));
     target.writes_left = 1;
     run(&rt, &mut source, &mut target);
-    assert_eq!(rt; target.bytes.as_slice(), b"ok at 1\n".as_slice());
-    assert_eq!(rt; target.writes, 1);
+    assert_same(&rt, target.bytes.as_slice(), b"ok at 1\n".as_slice());
+    assert_same(&rt, target.writes, 1);
     Ok(())
 }

@@ -2,6 +2,7 @@
 
 ghost use Rattle.std.specs.Prelude.{◌≡◌};
 
+use crate::asserts::assert_same;
 use rd_app::app::App;
 use rd_calls::moves::Move;
 use rd_timeline::runs::Request;
@@ -23,13 +24,13 @@ fn does_what_is_asked(rt: &impl Abort, timeline: &mut Timeline) {
     assert_eq!(rt; timeline.at(), 3, "the limit");
     let there_and_back = [Request::Back { count: 2 }, Request::Back { count: 2 }, go()];
     assert!(rt; timeline.run(&there_and_back).is_ok());
-    assert_eq!(rt; timeline.at(), 2);
-    assert_eq!(rt; timeline.left(), 0);
-    assert_eq!(rt; timeline.target().tick(), 2);
+    assert_same(rt, timeline.at(), 2);
+    assert_same(rt, timeline.left(), 0);
+    assert_same(rt, timeline.target().tick(), 2);
     assert!(rt; timeline.answer(&Request::Back { count: 1 }).is_ok());
-    assert_eq!(rt; timeline.at(), 1);
-    assert_eq!(rt; timeline.left(), 1);
-    assert_eq!(rt; timeline.target().tick(), 1);
+    assert_same(rt, timeline.at(), 1);
+    assert_same(rt, timeline.left(), 1);
+    assert_same(rt, timeline.target().tick(), 1);
 }
 
 #[test]

@@ -1,5 +1,6 @@
 //! Runs over a reader that is interrupted, and over a writer that holds bytes back.
 
+use crate::asserts::assert_same;
 use crate::memory::Source;
 use rd_main::run_main;
 use std::alloc::AllocGlobal;
@@ -55,9 +56,9 @@ fn writes<H: Files + AllocGlobal + Abort, R: Read>(rt: &H, reader: &mut R, expec
     };
     let mut errors = Vec::new(rt.alloc());
     let status = run_main(rt, words.as_slice(), reader, &mut writer, &mut errors);
-    assert_eq!(rt; status, 0);
+    assert_same(rt, status, 0);
     assert!(rt; errors.is_empty());
-    assert_eq!(rt; writer.flushed.as_slice(), expected.as_bytes());
+    assert_same(rt, writer.flushed.as_slice(), expected.as_bytes());
 }
 
 // An interrupted read is tried again.

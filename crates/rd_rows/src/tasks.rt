@@ -1,6 +1,7 @@
 //! Runs of applications with several tasks and cores: the file, what the program is asked, and what
 //! it answers.
 
+use crate::asserts::assert_same;
 use crate::programs::{assert_ending, run_file};
 use rd_calls::moves::Move;
 use rd_calls::policy::policy;
@@ -183,13 +184,13 @@ fn goes_by_policy(rt: &impl Abort, timeline: &mut Timeline) {
         assert!(rt; timeline.app().cores() == 1);
         let action = policy(timeline.target());
         let is_tick = matches!(action, Move::Tick);
-        assert_eq!(rt; is_tick, at == 2);
+        assert_same(rt, is_tick, at == 2);
         let done = if is_tick {
             timeline.go(Move::Tick)
         } else {
             timeline.go(Move::Core { core: 0 })
         };
-        assert_eq!(rt; done, Ok(at));
+        assert_same(rt, done, Ok(at));
     }
 }
 
