@@ -26,145 +26,95 @@ type Passed = Result<(), Fail>;
 // So many moves of core 7 fill the queues.
 const FILLING: usize = 2277;
 
-// A name of 16 characters.
-fn name(alloc: Global, kind: &str, number: usize) -> Result<String, AllocError> {
-    format!(in alloc; "{kind:_<14}{number:02}")
+// What stands before a member of a list: a comma, but nothing before the first.
+fn comma(number: usize) -> &'static str {
+    if number == 0 { "" } else { "," }
 }
 
-// So many bytes that count on from the first, in hexadecimal digits. After ff comes 00.
-fn bytes_from(alloc: Global, first: u8, count: usize) -> Result<String, AllocError> {
-    let mut digits = String::new(alloc);
+// An instruction with 256 bytes of data that count on from the first. After ff comes 00.
+fn add_data(text: &mut String, first: u8) -> Result<(), AllocError> {
+    text.push_str("\"data ")?;
     let mut byte = first;
-    for _ in 0..count {
-        write!(digits, "{byte:02x}")?;
+    for _ in 0..256 {
+        write!(text, "{byte:02x}")?;
         byte = byte.wrapping_add(1);
     }
-    Ok(digits)
+    text.push_str("\",")
 }
 
-// Texts joined by `,`.
-#[derive(Drop)]
-struct List {
-    alloc: Global,
-    text: String,
-}
-
-impl List {
-    fn new(alloc: Global) -> List {
-        List {
-            alloc,
-            text: String::new(alloc),
-        }
-    }
-
-    fn add(&mut self, text: &str) -> Result<(), AllocError> {
-        if !self.text.is_empty() {
-            self.text.push_str(",")?;
-        }
-        self.text.push_str(text)
-    }
-}
-
-// The queues of the file.
-fn queues_of_file(alloc: Global) -> Result<String, AllocError> {
-    let mut list = List::new(alloc);
+fn add_queues(text: &mut String) -> Result<(), AllocError> {
     for number in 0..32 {
-        let name = name(alloc, "queue", number)?;
-        let queue = format!(in alloc; r#"{{"name":"{name}","length":64,"item":64}}"#)?;
-        list.add(queue.as_str())?;
-    }
-    Ok(list.text)
-}
-
-// The names of all queues, each in quotes.
-fn members(alloc: Global) -> Result<String, AllocError> {
-    let mut list = List::new(alloc);
-    for number in 0..32 {
-        let name = name(alloc, "queue", number)?;
-        let member = format!(in alloc; "\"{name}\"")?;
-        list.add(member.as_str())?;
-    }
-    Ok(list.text)
-}
-
-// The queue sets of the file.
-fn sets_of_file(alloc: Global) -> Result<String, AllocError> {
-    let mut list = List::new(alloc);
-    for number in 0..32 {
-        let name = name(alloc, "set", number)?;
-        let none = String::new(alloc);
-        let members = if number == 31 { members(alloc)? } else { none };
-        let set = format!(in alloc; r#"{{"name":"{name}","length":2048,"members":[{members}]}}"#)?;
-        list.add(set.as_str())?;
-    }
-    Ok(list.text)
-}
-
-// One item for each queue.
-fn add_round(code: &mut List, first: u8) -> Result<(), AllocError> {
-    let alloc = code.alloc;
-    let data = bytes_from(alloc, first, 256)?;
-    let instr = format!(in alloc; "\"data {data}\"")?;
-    code.add(instr.as_str())?;
-    for number in 0..32 {
-        let queue = name(alloc, "queue", number)?;
-        let instr = format!(in alloc; "\"send {queue} 0\"")?;
-        code.add(instr.as_str())?;
+        let comma = comma(number);
+        let name = r#"{"name":"queue_________"#;
+        write!(text, r#"{comma}{name}{number:02}","length":64,"item":64}}"#)?;
     }
     Ok(())
 }
 
+// All queues are members of the last set.
+fn add_sets(text: &mut String) -> Result<(), AllocError> {
+    for number in 0..31 {
+        let name = r#"{"name":"set___________"#;
+        write!(text, r#"{name}{number:02}","length":2048,"members":[]}},"#)?;
+    }
+    text.push_str(r#"{"name":"set___________31","length":2048,"members":["#)?;
+    for number in 0..32 {
+        write!(text, r#"{}"queue_________{number:02}""#, comma(number))?;
+    }
+    text.push_str("]}")
+}
+
 // The script of task 7: 256 instructions.
-fn filling_code(alloc: Global) -> Result<String, AllocError> {
-    let mut code = List::new(alloc);
+fn add_filling(text: &mut String) -> Result<(), AllocError> {
     for first in 0..4 {
-        add_round(&mut code, first)?;
+        add_data(text, first)?;
+        for number in 0..32 {
+            write!(text, r#""send queue_________{number:02} 0","#)?;
+        }
     }
-    code.add(r#""jumpz r0 253","jump 0""#)?;
+    text.push_str(r#""jumpz r0 253","jump 0","#)?;
     for _ in 134..253 {
-        code.add(r#""end""#)?;
+        text.push_str(r#""end","#)?;
     }
-    let set = name(alloc, "set", 31)?;
-    let taking = format!(in alloc; r#""select {set} 0","set r0 0","jump 253""#)?;
-    code.add(taking.as_str())?;
-    Ok(code.text)
+    text.push_str(r#""select set___________31 0","set r0 0","jump 253""#)
 }
 
 // The script of each other task.
-fn waiting_code(alloc: Global) -> Result<String, AllocError> {
-    let data = bytes_from(alloc, 128, 256)?;
-    let set = name(alloc, "set", 30)?;
-    let queue = name(alloc, "queue", 31)?;
-    let first = format!(in alloc; r#""data {data}","select {set} 1""#)?;
-    let last = format!(in alloc; r#""count {queue}","move r7 r0","send {queue} max","end""#)?;
-    format!(in alloc; "{first},{last}")
+fn add_waiting(text: &mut String) -> Result<(), AllocError> {
+    add_data(text, 128)?;
+    text.push_str(r#""select set___________30 1","count queue_________31","move r7 r0","#)?;
+    text.push_str(r#""send queue_________31 max","end""#)
 }
 
-// The tasks of the file.
-fn tasks_of_file(alloc: Global) -> Result<String, AllocError> {
-    let mut list = List::new(alloc);
+fn add_tasks(text: &mut String) -> Result<(), AllocError> {
     for number in 0..32 {
-        let name = name(alloc, "task", number)?;
         let priority = 31 - number;
-        let code = if number == 7 {
-            filling_code(alloc)?
+        let name = r#"{"name":"task__________"#;
+        let comma = comma(number);
+        write!(
+            text,
+            r#"{comma}{name}{number:02}","priority":{priority},"code":["#
+        )?;
+        if number == 7 {
+            add_filling(text)?;
         } else {
-            waiting_code(alloc)?
-        };
-        let head = format!(in alloc; r#"{{"name":"{name}","priority":{priority}"#)?;
-        let task = format!(in alloc; r#"{head},"code":[{code}]}}"#)?;
-        list.add(task.as_str())?;
+            add_waiting(text)?;
+        }
+        text.push_str("]}")?;
     }
-    Ok(list.text)
+    Ok(())
 }
 
 fn file(alloc: Global) -> Result<String, AllocError> {
-    let head = r#""profile":1,"cores":8,"notes":4,"tick":4294967294"#;
-    let queues = queues_of_file(alloc)?;
-    let sets = sets_of_file(alloc)?;
-    let tasks = tasks_of_file(alloc)?;
-    let lists = format!(in alloc; r#""queues":[{queues}],"sets":[{sets}],"tasks":[{tasks}]"#)?;
-    format!(in alloc; "{{{head},{lists}}}")
+    let mut text = String::new(alloc);
+    text.push_str(r#"{"profile":1,"cores":8,"notes":4,"tick":4294967294,"queues":["#)?;
+    add_queues(&mut text)?;
+    text.push_str(r#"],"sets":["#)?;
+    add_sets(&mut text)?;
+    text.push_str(r#"],"tasks":["#)?;
+    add_tasks(&mut text)?;
+    text.push_str("]}")?;
+    Ok(text)
 }
 
 // The cores whose moves let each task but that of core 7 do so many instructions, where it waits at
