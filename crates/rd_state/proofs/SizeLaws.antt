@@ -35,43 +35,34 @@ use Rattle.rd_state.specs.TaskChanges.{task_applied}
 use Rattle.rd_state.proofs.TaskLaws as task_law
 use Rattle.rd_state.proofs.UndoLaws.{phase_sized, queue_sized, set_sized, task_sized}
 
--- a task has left the ready list
-pub IsKept-remove : (s : Inside) (index : ℕ) → index < length s.ready.tasks → IsKept s
-    → IsKept (record s { ready = record s.ready { tasks = remove s.ready.tasks index } })
-IsKept-remove s index h kept =
+-- a state with another ready list
+IsKept-ready : (s : Inside) (tasks : List ℕ) → All (λ task. task < length s.tasks.items) tasks → length tasks ≤ length s.tasks.items → IsKept s
+    → IsKept (record s { ready = record s.ready { tasks = tasks } })
+IsKept-ready s tasks among few kept =
     let scheduling = kept.sized.scheduling in
     record {
       sized = record {
-        scheduling = record {
-          turn = scheduling.turn;
-          cores = scheduling.cores;
-          ready = All-remove (λ task. task < length s.tasks.items) s.ready.tasks index scheduling.ready;
-          room = omega (arith, length-remove s.ready.tasks index h, scheduling.room);
-        };
+        scheduling = record { turn = scheduling.turn; cores = scheduling.cores; ready = among; room = few };
         tasks = record { tasks = kept.sized.tasks.tasks; phases = kept.sized.tasks.phases };
         objects = record { queues = kept.sized.objects.queues; sets = kept.sized.objects.sets };
       };
       room = kept.room;
     }
 
+-- a task has left the ready list
+pub IsKept-remove : (s : Inside) (index : ℕ) → index < length s.ready.tasks → IsKept s
+    → IsKept (record s { ready = record s.ready { tasks = remove s.ready.tasks index } })
+IsKept-remove s index h kept =
+    let scheduling = kept.sized.scheduling in
+    let among = All-remove (λ task. task < length s.tasks.items) s.ready.tasks index scheduling.ready in
+    IsKept-ready s _ among (omega (arith, length-remove s.ready.tasks index h, scheduling.room)) kept
+
 -- a task has come into the ready list
 pub IsKept-insert : (s : Inside) (index task : ℕ) → Fits (snapshot_of s) (InsReady index task) → IsKept s
     → IsKept (record s { ready = record s.ready { tasks = insert s.ready.tasks index task } })
 IsKept-insert s index task fits kept =
-    let scheduling = kept.sized.scheduling in
-    record {
-      sized = record {
-        scheduling = record {
-          turn = scheduling.turn;
-          cores = scheduling.cores;
-          ready = All-insert (λ task. task < length s.tasks.items) s.ready.tasks index task scheduling.ready fits.2;
-          room = omega (arith, length-insert s.ready.tasks index task fits.0, fits.1);
-        };
-        tasks = record { tasks = kept.sized.tasks.tasks; phases = kept.sized.tasks.phases };
-        objects = record { queues = kept.sized.objects.queues; sets = kept.sized.objects.sets };
-      };
-      room = kept.room;
-    }
+    let among = All-insert (λ task. task < length s.tasks.items) s.ready.tasks index task kept.sized.scheduling.ready fits.2 in
+    IsKept-ready s _ among (omega (arith, length-insert s.ready.tasks index task fits.0, fits.1)) kept
 
 -- a state with another task of that number
 IsSized-task : (s : Snapshot) (task : ℕ) (new : TaskSnapshot) → IsSizedTask new → IsSizedPhase (numbers_of s) new.phase → IsSized s
