@@ -1,7 +1,5 @@
-//! The lines of a session: commands, and the texts of replies.
+//! The lines of a session, and the commands that they are.
 #![tactic(auto)]
 
 pub mod command;
 pub mod lines;
-mod page;
-pub mod reply;

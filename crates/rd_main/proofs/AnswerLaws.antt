@@ -19,9 +19,9 @@ use Rattle.rd_state.specs.Valid.{IsValid, room_of, shape_of}
 use Rattle.rd_timeline.specs.Course.{Course}
 use Rattle.rd_main.specs.Answers.{Adds, IsAnswer, IsShown, IsView, no_memory, number_named, room_in}
 use Rattle.rd_command.specs.Commands.{Asked, Step, Tick, Back, ShowQueue, ShowSet, ShowTask, ShowCores}
-use Rattle.rd_command.specs.Pages.{IsFull, KeepsFront}
-use Rattle.rd_command.specs.Names.{AllNames, all_names, numbers_named, PlaceIsNamed, QueueIsNamed, SetIsNamed, SeatedAreNamed}
-use Rattle.rd_command.specs.Replies.{line_of, cores_text}
+use Rattle.rd_reply.specs.Pages.{IsFull, KeepsFront}
+use Rattle.rd_reply.specs.Names.{AllNames, all_names, numbers_named, PlaceIsNamed, QueueIsNamed, SetIsNamed, SeatedAreNamed}
+use Rattle.rd_reply.specs.Replies.{line_of, cores_text}
 
 -- Each queue, each set and each task of the state has a name.
 queues_named : (app : Application) (s : Snapshot) → IsApplication app → IsValid app s → length s.queues ≡ length app.queue_names

@@ -10,13 +10,13 @@ use Rattle.rd_state.specs.Snapshot.{queue_at, set_at, task_at}
 use Rattle.rd_timeline.specs.Course.{Course, IsWhyNot}
 use Rattle.rd_command.specs.Commands.{Asked, Step, Tick, Back, ShowQueue, ShowSet}
 use Rattle.rd_command.specs.Commands.{ShowTask, ShowCores}
-use Rattle.rd_command.specs.Names.{all_names}
-use Rattle.rd_command.specs.Replies.{line_of, reply_text, queue_text, set_text, task_text}
-use Rattle.rd_command.specs.Replies.{cores_text}
-use Rattle.rd_command.specs.Replies.{is_task}
+use Rattle.rd_reply.specs.Names.{all_names}
+use Rattle.rd_reply.specs.Replies.{line_of, reply_text, queue_text, set_text, task_text}
+use Rattle.rd_reply.specs.Replies.{cores_text}
+use Rattle.rd_reply.specs.Replies.{is_task}
 use Rattle.rd_text.specs.declared.refusal.Refusal.TheVariants.{TooFar, NoSuch, NoMemory, Syntax}
-use Rattle.rd_command.specs.declared.reply.Reply.{Reply}
-use Rattle.rd_command.specs.declared.reply.Reply.TheVariants.{Done, Refused}
+use Rattle.rd_reply.specs.declared.reply.Reply.{Reply}
+use Rattle.rd_reply.specs.declared.reply.Reply.TheVariants.{Done, Refused}
 
 -- There is room for the move, which is laid on the moves done, and the moves undone are forgotten.
 pub record Goes (old : Course) (move : Move) (new : Course) : Type 0 where

@@ -11,7 +11,7 @@ ghost use Rattle.rd_main.specs.Answers.{QueueLine, SetLine, TaskLine, CoresLine,
 use rd_app::app::Kind;
 use rd_calls::moves::Move;
 use rd_command::command::{Command, parse_line};
-use rd_command::reply::{
+use rd_reply::reply::{
     MAX_REPLY, Reply, append_reply_reserved, core_of, show_cores, show_queue, show_set, show_task,
 };
 use rd_text::refusal::Refusal;

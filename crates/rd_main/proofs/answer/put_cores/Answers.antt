@@ -2,8 +2,8 @@
 use Rattle.std.proofs.Common.{◌∙◌, ℕ, Some, refl, ap}
 use Rattle.rd_app.specs.Application.{Application}
 use Rattle.rd_state.specs.Snapshot.{Snapshot}
-use Rattle.rd_command.specs.Names.{all_names}
-use Rattle.rd_command.specs.Replies.{cores_text}
+use Rattle.rd_reply.specs.Names.{all_names}
+use Rattle.rd_reply.specs.Replies.{cores_text}
 use Rattle.rd_main.proofs.AnswerLaws.{view_added, seated_named}
 use Rattle.rd_main.proofs.answer.put_cores.Goals as goal
 

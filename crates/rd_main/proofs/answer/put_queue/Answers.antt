@@ -4,8 +4,8 @@ use Rattle.rd_queue.specs.QueueSnapshot.{QueueSnapshot}
 use Rattle.rd_app.specs.Application.{Application}
 use Rattle.rd_state.specs.Snapshot.{Snapshot, queue_at}
 use Rattle.rd_main.specs.Answers.{number_named}
-use Rattle.rd_command.specs.Names.{all_names}
-use Rattle.rd_command.specs.Replies.{queue_text}
+use Rattle.rd_reply.specs.Names.{all_names}
+use Rattle.rd_reply.specs.Replies.{queue_text}
 use Rattle.rd_main.proofs.AnswerLaws.{view_added, queue_named, queue_there}
 use Rattle.rd_main.proofs.answer.put_queue.Goals as goal
 

@@ -3,8 +3,8 @@ use Rattle.std.proofs.Common.{◌≡◌, ◌∙◌, ℕ, Option, Some, List, ap,
 use Rattle.rd_app.specs.Application.{Application}
 use Rattle.rd_state.specs.Snapshot.{Snapshot, TaskSnapshot, task_at}
 use Rattle.rd_main.specs.Answers.{number_named}
-use Rattle.rd_command.specs.Names.{all_names}
-use Rattle.rd_command.specs.Replies.{is_task, task_text}
+use Rattle.rd_reply.specs.Names.{all_names}
+use Rattle.rd_reply.specs.Replies.{is_task, task_text}
 use Rattle.rd_main.proofs.AnswerLaws.{view_added, place_named, task_there}
 use Rattle.rd_main.proofs.answer.put_task.Goals as goal
 

@@ -1,9 +1,0 @@
--- What holds in each turn of append_task_names's loop.
-use Rattle.std.proofs.Common.{take}
-use Rattle.rd_command.specs.Pages.{Appends}
-use Rattle.rd_command.specs.Replies.{joined}
-use Rattle.rd_command.specs.Names.{name_at}
-use Rattle.rd_command.proofs.reply.append_task_names.Given as goal
-
-abbrev pub invariant-loop-index : goal.invariant-loop-index
-invariant-loop-index l = Appends l.fn.page l.page (joined (name_at l.app.task_names) (take l.index l.tasks))

@@ -1,0 +1,12 @@
+-- The goals of append_place that the check left open.
+use Rattle.std.proofs.Common.{rules}
+use Rattle.rd_reply.proofs.PageLaws.{appends_as, appends_then}
+use Rattle.rd_reply.proofs.reply.append_place.Goals as goal
+
+pub returns-in-Queue : goal.returns-in-Queue
+returns-in-Queue c =
+    let all = appends_then (appends_then c.append.ensures c.append-in-Queue.ensures) c.append_name.ensures in
+    appends_as all (search rules)
+
+pub returns-in-Set : goal.returns-in-Set
+returns-in-Set c = appends_as (appends_then c.append-in-Set.ensures c.append_name-in-Set.ensures) (search rules)

@@ -1,0 +1,178 @@
+-- The text of replies.
+use Rattle.std.specs.Prelude.{ℕ, zero, suc, ◌==◌, Bool, false, codes, decimal, List, [], ◌∷◌, ◌++◌}
+use Rattle.std.specs.Prelude.{length, Option, Some, None}
+use Rattle.std.specs.List.{flat_map}
+use Rattle.hex.specs.Hex.{encode_lower}
+use Rattle.rd_text.specs.declared.refusal.Refusal.{Refusal}
+use Rattle.rd_text.specs.declared.refusal.Refusal.TheVariants.{NoTask, TickLimit, TooFar}
+use Rattle.rd_text.specs.declared.refusal.Refusal.TheVariants.{MovesFull, NoSuch, NoMemory}
+use Rattle.rd_text.specs.declared.refusal.Refusal.TheVariants.{Syntax, LineTooLong}
+use Rattle.rd_notify.specs.declared.notes.Entry.{Entry}
+use Rattle.rd_notify.specs.declared.notes.EntryState.{EntryState}
+use Rattle.rd_notify.specs.declared.notes.EntryState.TheVariants.{Idle, Waiting, Received}
+use Rattle.rd_queue.specs.declared.waiting_list.WaitingList.{WaitingList}
+use Rattle.rd_queue.specs.declared.waiting_list.WaitingList.TheVariants.{Receiving, Sending}
+use Rattle.rd_queue.specs.QueueSnapshot.{QueueSnapshot}
+use Rattle.rd_queue.specs.SetSnapshot.{SetSnapshot}
+use Rattle.rd_state.specs.declared.phase.Cause.{Cause}
+use Rattle.rd_state.specs.declared.phase.Cause.TheVariants.{SetFull}
+use Rattle.rd_state.specs.declared.phase.Phase.{Phase}
+use Rattle.rd_state.specs.declared.phase.Phase.TheVariants.{Run, Again, Wait, Ended, Failed}
+use Rattle.rd_state.specs.declared.phase.Place.{Place}
+use Rattle.rd_state.specs.declared.phase.Place.TheVariants.{Queue, Set}
+use Rattle.rd_state.specs.Snapshot.{Snapshot, TaskSnapshot}
+use Rattle.rd_reply.specs.Names.{AllNames, name_at, name_or_dash}
+use Rattle.rd_reply.specs.declared.reply.Reply.{Reply}
+use Rattle.rd_reply.specs.declared.reply.Reply.TheVariants.{Done, Refused}
+
+-- a text and its LF
+abbrev pub line_of : List ℕ → List ℕ
+line_of text = text ++ 10 ∷ []
+
+-- ---- answers to moves, and refusals
+
+abbrev pub refusal_text : Refusal → List ℕ
+refusal_text NoTask = codes "NoTask"
+refusal_text TickLimit = codes "TickLimit"
+refusal_text (TooFar done) = codes "TooFar " ++ decimal done
+refusal_text MovesFull = codes "MovesFull"
+refusal_text NoSuch = codes "NoSuch"
+refusal_text NoMemory = codes "NoMemory"
+refusal_text Syntax = codes "Syntax"
+refusal_text LineTooLong = codes "LineTooLong"
+
+abbrev pub reply_text : Reply → List ℕ
+reply_text (Done at) = codes "ok at " ++ decimal at
+reply_text (Refused refusal) = codes "no " ++ refusal_text refusal
+
+-- ---- parts of views
+
+-- what stands before a member: a `,`, but nothing before the first
+abbrev pub comma_at : ℕ → List ℕ
+comma_at zero = []
+comma_at (suc index) = codes ","
+
+-- the members, with `,` between each two
+abbrev pub joined : {X : Type 0} → (X → List ℕ) → List X → List ℕ
+joined text [] = []
+joined text (x ∷ xs) = text x ++ flat_map (λ y. 44 ∷ text y) xs
+
+-- a list; `-` where it is empty
+abbrev pub list_text : {X : Type 0} → (X → List ℕ) → List X → List ℕ
+list_text text [] = codes "-"
+list_text text (x ∷ xs) = joined text (x ∷ xs)
+
+-- two lower-case hexadecimal digits a byte; `-` for no bytes
+abbrev pub bytes_text : List ℕ → List ℕ
+bytes_text [] = codes "-"
+bytes_text (byte ∷ bytes) = encode_lower (byte ∷ bytes)
+
+-- a deadline's tick; `max` for none
+abbrev pub deadline_text : Option ℕ → List ℕ
+deadline_text None = codes "max"
+deadline_text (Some tick) = decimal tick
+
+-- what the list of a queue where a task waits is called
+abbrev pub list_name : WaitingList → List ℕ
+list_name Receiving = codes "recv"
+list_name Sending = codes "send"
+
+-- a place where tasks wait, by the name of its queue or of its set
+abbrev pub place_text : AllNames → Place → List ℕ
+place_text names (Queue queue list) = list_name list ++ codes ":" ++ name_at names.queues queue
+place_text names (Set set) = codes "set:" ++ name_at names.sets set
+
+-- why a call failed
+abbrev pub cause_text : Cause → List ℕ
+cause_text SetFull = codes "SetFull"
+
+abbrev pub phase_text : AllNames → Phase → List ℕ
+phase_text names Run = codes "run"
+phase_text names (Again deadline) = codes "again:" ++ deadline_text deadline
+phase_text names (Wait place deadline) =
+    codes "wait:" ++ place_text names place ++ codes ":" ++ deadline_text deadline
+phase_text names Ended = codes "ended"
+phase_text names (Failed cause) = codes "failed:" ++ cause_text cause
+
+abbrev pub entry_state_text : EntryState → List ℕ
+entry_state_text Idle = codes "idle"
+entry_state_text Waiting = codes "waiting"
+entry_state_text Received = codes "received"
+
+-- a notification entry
+abbrev pub entry_text : Entry → List ℕ
+entry_text entry = decimal entry.value ++ codes ":" ++ entry_state_text entry.state
+
+abbrev pub is_task : ℕ → Option ℕ → Bool
+is_task task None = false
+is_task task (Some running) = running == task
+
+-- the core's number; `-` for none
+abbrev pub running_core_text : Option ℕ → List ℕ
+running_core_text None = codes "-"
+running_core_text (Some core) = decimal core
+
+-- ---- views
+
+-- how many there are, and how many there is room for
+abbrev pub counts_text : ℕ → ℕ → List ℕ
+counts_text count capacity = decimal count ++ codes "/" ++ decimal capacity
+
+-- what is in a queue
+abbrev pub contents_text : QueueSnapshot → List ℕ
+contents_text queue =
+    counts_text (length queue.items) queue.capacity ++ codes " items "
+    ++ list_text bytes_text queue.items
+
+-- who waits to receive and to send, by the tasks' names
+abbrev pub waiting_text : AllNames → QueueSnapshot → List ℕ
+waiting_text names queue =
+    codes " recv " ++ list_text (name_at names.tasks) queue.receiving
+    ++ codes " send " ++ list_text (name_at names.tasks) queue.sending
+
+-- the set that a queue is a member of, by its name; `-` for none
+abbrev pub membership_text : AllNames → QueueSnapshot → List ℕ
+membership_text names queue = codes " set " ++ name_or_dash names.sets queue.set
+
+-- a queue of that name
+abbrev pub queue_text : AllNames → List ℕ → QueueSnapshot → List ℕ
+queue_text names name queue =
+    codes "queue " ++ name ++ codes " " ++ contents_text queue ++ waiting_text names queue
+    ++ membership_text names queue
+
+-- what is in a queue set: handles, the oldest first, by the names of their queues
+abbrev pub handles_text : AllNames → SetSnapshot → List ℕ
+handles_text names set =
+    counts_text (length set.handles) set.capacity ++ codes " handles "
+    ++ list_text (name_at names.queues) set.handles
+
+-- who waits to select, by the tasks' names
+abbrev pub selecting_text : AllNames → SetSnapshot → List ℕ
+selecting_text names set = codes " wait " ++ list_text (name_at names.tasks) set.waiting
+
+-- a queue set of that name
+abbrev pub set_text : AllNames → List ℕ → SetSnapshot → List ℕ
+set_text names name set =
+    codes "set " ++ name ++ codes " " ++ handles_text names set ++ selecting_text names set
+
+abbrev pub ticks_text : Snapshot → List ℕ
+ticks_text s = codes " tick " ++ decimal s.tick ++ codes " turn " ++ decimal s.turn
+
+-- who runs and who is ready, by the tasks' names, with the tick and the turn
+abbrev pub cores_text : AllNames → Snapshot → List ℕ
+cores_text names s =
+    codes "cores " ++ list_text (name_or_dash names.tasks) s.cores
+    ++ codes " ready " ++ list_text (name_at names.tasks) s.ready ++ ticks_text s
+
+-- what a task has, from its registers on
+abbrev pub state_text : TaskSnapshot → List ℕ
+state_text task =
+    codes " regs " ++ list_text decimal task.registers ++ codes " data " ++ bytes_text task.bytes
+    ++ codes " notes " ++ list_text entry_text task.entries
+
+-- a task of that name that runs on that core, if on any
+abbrev pub task_text : AllNames → List ℕ → Option ℕ → TaskSnapshot → List ℕ
+task_text names name core task =
+    codes "task " ++ name ++ codes " core " ++ running_core_text core
+    ++ codes " pc " ++ decimal task.pc ++ codes " phase " ++ phase_text names task.phase
+    ++ state_text task

@@ -1,0 +1,5 @@
+//! The texts of replies and views.
+#![tactic(auto)]
+
+mod page;
+pub mod reply;

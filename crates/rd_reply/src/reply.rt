@@ -1,0 +1,553 @@
+//! The text of replies.
+#![tactic(auto, using(crate::proofs::PageLaws::appends_then))]
+
+ghost use Rattle.std.specs.Prelude.{◌≡◌, ◌+◌, ◌++◌, ◌≤◌, decimal, length, position};
+ghost use Rattle.std.specs.Prelude.{All, IsOk, OnErr, OnOk, vec_capacity, vec_len};
+ghost use Rattle.rd_app.specs.Application.{names_of};
+ghost use Rattle.rd_state.specs.Waiting.{IsPlace};
+ghost use Rattle.rd_reply.specs.Names.{all_names, name_at, name_or_dash, numbers_named};
+ghost use Rattle.rd_reply.specs.Names.{IsNamed, IsNamedOrNone, PlaceIsNamed};
+ghost use Rattle.rd_reply.specs.Names.{QueueIsNamed, SetIsNamed, SeatedAreNamed};
+ghost use Rattle.rd_reply.specs.Replies.{line_of, refusal_text, reply_text, list_text};
+ghost use Rattle.rd_reply.specs.Replies.{bytes_text, comma_at};
+ghost use Rattle.rd_reply.specs.Replies.{deadline_text, list_name, place_text, cause_text};
+ghost use Rattle.rd_reply.specs.Replies.{phase_text, entry_text};
+ghost use Rattle.rd_reply.specs.Replies.{counts_text, contents_text, waiting_text};
+ghost use Rattle.rd_reply.specs.Replies.{membership_text, queue_text};
+ghost use Rattle.rd_reply.specs.Replies.{handles_text, selecting_text, set_text};
+ghost use Rattle.rd_reply.specs.Replies.{running_core_text, state_text, task_text, is_task};
+ghost use Rattle.rd_reply.specs.Replies.{ticks_text, cores_text};
+ghost use Rattle.rd_reply.specs.Pages.{Appends, IsFull, KeepsFront};
+
+use crate::page::Page;
+use itoa::{Buffer, Integer};
+use rd_app::app::{App, Kind};
+use rd_bytes::bytes::MAX_BYTES;
+use rd_notify::notes::{Entry, EntryState};
+use rd_queue::queue::Queue;
+use rd_queue::queue_set::QueueSet;
+use rd_queue::waiting_list::WaitingList;
+use rd_state::phase::{Cause, Phase, Place};
+use rd_state::state::State;
+use rd_state::task::Task;
+use rd_text::refusal::Refusal;
+use std::alloc::AllocError;
+
+/// What is answered to a command that makes moves or takes them back, or to one that is refused.
+#[derive(Clone, Copy, Debug, PartialEq, Eq)]
+pub enum Reply {
+    /// So many moves are done now.
+    Done { at: usize },
+    /// Nothing has changed.
+    Refused { refusal: Refusal },
+}
+
+/// How many bytes the line of a reply has at the most: `no TooFar 18446744073709551615` and its LF.
+pub const MAX_REPLY: usize = 31;
+
+// How many digits a `usize` has at the most.
+const MAX_DIGITS: usize = 20;
+
+// Whether there was memory for what is appended to a page.
+type Appended = Result<(), AllocError>;
+
+// The functions below append to a page what their name says.
+fn append_number<I: Integer>(page: &mut Page<'_>, number: I)
+    ensures { Appends page.old page.new (I.text number) }
+{
+    page.append(Buffer::new().format(number));
+}
+
+// Appends a text that there is room for.
+fn append_reserved(page: &mut Vec<u8>, text: &[u8])
+    requires { vec_len page.old + length text.now ≤ vec_capacity page.old }
+    ensures text { page.new.items ≡ page.old.items ++ text.now }
+    ensures len { vec_len page.new ≡ vec_len page.old + length text.now }
+    ensures room { vec_capacity page.old ≤ vec_capacity page.new }
+{
+    page.extend_from_slice(text).unwrap();
+}
+
+fn append_number_reserved(page: &mut Vec<u8>, number: usize)
+    requires { vec_len page.old + MAX_DIGITS ≤ vec_capacity page.old }
+    ensures text { page.new.items ≡ page.old.items ++ decimal number }
+    ensures len { vec_len page.new ≤ vec_len page.old + MAX_DIGITS }
+    ensures room { vec_capacity page.old ≤ vec_capacity page.new }
+{
+    append_reserved(page, Buffer::new().format(number).as_bytes());
+}
+
+// The longest refusal is `TooFar ` with its number.
+fn append_refusal_reserved(page: &mut Vec<u8>, refusal: Refusal)
+    requires { vec_len page.old + 7 + MAX_DIGITS ≤ vec_capacity page.old }
+    ensures text { page.new.items ≡ page.old.items ++ refusal_text refusal }
+    ensures len { vec_len page.new ≤ vec_len page.old + 7 + MAX_DIGITS }
+    ensures room { vec_capacity page.old ≤ vec_capacity page.new }
+{
+    match refusal {
+        Refusal::NoTask => append_reserved(page, b"NoTask"),
+        Refusal::TickLimit => append_reserved(page, b"TickLimit"),
+        Refusal::TooFar { done } => {
+            append_reserved(page, b"TooFar ");
+            append_number_reserved(page, done);
+        }
+        Refusal::MovesFull => append_reserved(page, b"MovesFull"),
+        Refusal::NoSuch => append_reserved(page, b"NoSuch"),
+        Refusal::NoMemory => append_reserved(page, b"NoMemory"),
+        Refusal::Syntax => append_reserved(page, b"Syntax"),
+        Refusal::LineTooLong => append_reserved(page, b"LineTooLong"),
+    }
+}
+
+/// Appends the line of a reply, which there is room for.
+pub fn append_reply_reserved(page: &mut Vec<u8>, reply: Reply)
+    requires { vec_len page.old + MAX_REPLY ≤ vec_capacity page.old }
+    ensures { page.new.items ≡ page.old.items ++ line_of (reply_text reply) }
+{
+    match reply {
+        Reply::Done { at } => {
+            append_reserved(page, b"ok at ");
+            append_number_reserved(page, at);
+        }
+        Reply::Refused { refusal } => {
+            append_reserved(page, b"no ");
+            append_refusal_reserved(page, refusal);
+        }
+    }
+    append_reserved(page, b"\n");
+}
+
+/// Appends the line of a reply. An `Err` says that there is no memory for it, and leaves the page
+/// as it was; it comes only where the page has no room for `MAX_REPLY` bytes more.
+pub fn append_reply(page: &mut Vec<u8>, reply: Reply) -> Result<(), AllocError>
+    ensures text { OnOk result (page.new.items ≡ page.old.items ++ line_of (reply_text reply)) }
+    ensures err { OnErr result (page.new.items ≡ page.old.items) }
+    ensures room { vec_len page.old + MAX_REPLY ≤ vec_capacity page.old → IsOk result }
+{
+    page.reserve(MAX_REPLY)?;
+    append_reply_reserved(page, reply);
+    Ok(())
+}
+
+// Two digits a byte; `-` for none.
+fn append_bytes(page: &mut Page<'_>, bytes: &[u8])
+    requires { length bytes.now ≤ MAX_BYTES }
+    ensures { Appends page.old page.new (bytes_text bytes.now) }
+{
+    if bytes.is_empty() {
+        return page.append("-");
+    }
+    let mut digits = [0; 2 * MAX_BYTES];
+    let digits = &mut digits[..2 * bytes.len()];
+    hex::encode_to_slice(bytes, digits).unwrap();
+    page.append_raw(digits);
+}
+
+// A `,` before each member but the first, which has the index 0.
+fn append_comma(page: &mut Page<'_>, index: usize)
+    ensures { Appends page.old page.new (comma_at index) }
+{
+    if index > 0 {
+        page.append(",");
+    }
+}
+
+// The name of an object or a task.
+fn append_name(page: &mut Page<'_>, app: &App, kind: Kind, number: usize)
+    requires { IsNamed (names_of kind app.now) number }
+    ensures { Appends page.old page.new (name_at (names_of kind app.now) number) }
+{
+    page.append(app.name(kind, number));
+}
+
+fn append_items(page: &mut Page<'_>, queue: &Queue)
+    ensures { Appends page.old page.new (list_text bytes_text queue.now.items) }
+{
+    if queue.count() == 0 {
+        return page.append("-");
+    }
+    for index in 0..queue.count() {
+        append_comma(page, index);
+        append_bytes(page, queue.item(index));
+    }
+}
+
+fn append_number_list(page: &mut Page<'_>, numbers: &[u32])
+    ensures { Appends page.old page.new (list_text decimal numbers.now) }
+{
+    if numbers.is_empty() {
+        return page.append("-");
+    }
+    for (index, number) in numbers.iter().enumerate() {
+        append_comma(page, index);
+        append_number(page, *number);
+    }
+}
+
+// The names of tasks.
+fn append_task_names(page: &mut Page<'_>, app: &App, tasks: &[usize])
+    requires { All (IsNamed app.now.task_names) tasks.now }
+    ensures { Appends page.old page.new (list_text (name_at app.now.task_names) tasks.now) }
+{
+    if tasks.is_empty() {
+        return page.append("-");
+    }
+    for (index, task) in tasks.iter().enumerate() {
+        append_comma(page, index);
+        append_name(page, app, Kind::Task, *task);
+    }
+}
+
+// The names of the queues whose handles are in a set.
+fn append_handle_names(page: &mut Page<'_>, app: &App, set: &QueueSet)
+    requires { All (IsNamed app.now.queue_names) set.now.handles }
+    ensures { Appends page.old page.new (list_text (name_at app.now.queue_names) set.now.handles) }
+{
+    if set.count() == 0 {
+        return page.append("-");
+    }
+    for index in 0..set.count() {
+        append_comma(page, index);
+        append_name(page, app, Kind::Queue, set.handle(index));
+    }
+}
+
+// The name of an object or a task; `-` for none.
+fn append_name_or_dash(page: &mut Page<'_>, app: &App, kind: Kind, number: Option<usize>)
+    requires { IsNamedOrNone (names_of kind app.now) number }
+    ensures { Appends page.old page.new (name_or_dash (names_of kind app.now) number) }
+{
+    match number {
+        Some(number) => append_name(page, app, kind, number),
+        None => page.append("-"),
+    }
+}
+
+// The names of the tasks on the cores.
+fn append_seat_names(page: &mut Page<'_>, app: &App, cores: &[Option<usize>])
+    requires { All (IsNamedOrNone app.now.task_names) cores.now }
+    ensures { Appends page.old page.new (list_text (name_or_dash app.now.task_names) cores.now) }
+{
+    if cores.is_empty() {
+        return page.append("-");
+    }
+    for (index, running) in cores.iter().enumerate() {
+        append_comma(page, index);
+        append_name_or_dash(page, app, Kind::Task, *running);
+    }
+}
+
+fn append_entry(page: &mut Page<'_>, entry: Entry)
+    ensures { Appends page.old page.new (entry_text entry) }
+{
+    append_number(page, entry.value);
+    match entry.state {
+        EntryState::Idle => page.append(":idle"),
+        EntryState::Waiting => page.append(":waiting"),
+        EntryState::Received => page.append(":received"),
+    }
+}
+
+fn append_entry_list(page: &mut Page<'_>, entries: &[Entry])
+    ensures { Appends page.old page.new (list_text entry_text entries.now) }
+{
+    if entries.is_empty() {
+        return page.append("-");
+    }
+    for (index, entry) in entries.iter().enumerate() {
+        append_comma(page, index);
+        append_entry(page, *entry);
+    }
+}
+
+// A deadline's tick; `max` for none.
+fn append_deadline(page: &mut Page<'_>, deadline: Option<u64>)
+    ensures { Appends page.old page.new (deadline_text deadline) }
+{
+    match deadline {
+        Some(tick) => append_number(page, tick),
+        None => page.append("max"),
+    }
+}
+
+// What the list of a queue where a task waits is called.
+fn list_name(list: WaitingList) -> &'static str
+    ensures { result.now ≡ list_name list }
+{
+    match list {
+        WaitingList::Receiving => "recv",
+        WaitingList::Sending => "send",
+    }
+}
+
+// Where a task waits.
+fn append_place(page: &mut Page<'_>, app: &App, place: Place)
+    requires { IsPlace (numbers_named (all_names app.now)) place }
+    ensures { Appends page.old page.new (place_text (all_names app.now) place) }
+{
+    match place {
+        Place::Queue { queue, list } => {
+            page.append(list_name(list));
+            page.append(":");
+            append_name(page, app, Kind::Queue, queue);
+        }
+        Place::Set { set } => {
+            page.append("set:");
+            append_name(page, app, Kind::Set, set);
+        }
+    }
+}
+
+// Why a call failed.
+fn append_cause(page: &mut Page<'_>, cause: Cause)
+    ensures { Appends page.old page.new (cause_text cause) }
+{
+    match cause {
+        Cause::SetFull => page.append("SetFull"),
+    }
+}
+
+fn append_phase(page: &mut Page<'_>, app: &App, phase: Phase)
+    requires { PlaceIsNamed (all_names app.now) phase }
+    ensures { Appends page.old page.new (phase_text (all_names app.now) phase) }
+{
+    match phase {
+        Phase::Run => page.append("run"),
+        Phase::Again { deadline } => {
+            page.append("again:");
+            append_deadline(page, deadline);
+        }
+        Phase::Wait { place, deadline } => {
+            page.append("wait:");
+            append_place(page, app, place);
+            page.append(":");
+            append_deadline(page, deadline);
+        }
+        Phase::Ended => page.append("ended"),
+        Phase::Failed { cause } => {
+            page.append("failed:");
+            append_cause(page, cause);
+        }
+    }
+}
+
+// The core that a task runs on; `-` for none.
+fn append_running_core(page: &mut Page<'_>, core: Option<usize>)
+    ensures { Appends page.old page.new (running_core_text core) }
+{
+    match core {
+        Some(core) => append_number(page, core),
+        None => page.append("-"),
+    }
+}
+
+/// Appends the view of a queue. An `Err` says that there is no memory for it, and comes only where
+/// the page has no room for it; the page may then have some part of it after what it had.
+pub fn show_queue(page: &mut Vec<u8>, app: &App, name: &str, queue: &Queue) -> Appended
+    requires { QueueIsNamed (all_names app.now) queue.now }
+    ensures text { OnOk result (page.new.items
+        ≡ page.old.items ++ line_of (queue_text (all_names app.now) name.now queue.now)) }
+    ensures full { OnErr result
+        (IsFull page.old (line_of (queue_text (all_names app.now) name.now queue.now))) }
+    ensures kept { KeepsFront page.old page.new }
+{
+    let mut line = Page::new(page);
+    append_queue(&mut line, app, name, queue);
+    line.end()
+}
+
+// The line of a queue.
+fn append_queue(page: &mut Page<'_>, app: &App, name: &str, queue: &Queue)
+    requires { QueueIsNamed (all_names app.now) queue.now }
+    ensures { Appends page.old page.new
+        (line_of (queue_text (all_names app.now) name.now queue.now)) }
+{
+    page.append("queue ");
+    page.append(name);
+    page.append(" ");
+    append_contents(page, queue);
+    append_waiting(page, app, queue);
+    append_membership(page, app, queue);
+    page.append("\n");
+}
+
+// How many there are, and how many there is room for.
+fn append_counts(page: &mut Page<'_>, count: usize, capacity: usize)
+    ensures { Appends page.old page.new (counts_text count capacity) }
+{
+    append_number(page, count);
+    page.append("/");
+    append_number(page, capacity);
+}
+
+// What is in a queue.
+fn append_contents(page: &mut Page<'_>, queue: &Queue)
+    ensures { Appends page.old page.new (contents_text queue.now) }
+{
+    append_counts(page, queue.count(), queue.capacity());
+    page.append(" items ");
+    append_items(page, queue);
+}
+
+// Who waits at a queue.
+fn append_waiting(page: &mut Page<'_>, app: &App, queue: &Queue)
+    requires { QueueIsNamed (all_names app.now) queue.now }
+    ensures { Appends page.old page.new (waiting_text (all_names app.now) queue.now) }
+{
+    page.append(" recv ");
+    append_task_names(page, app, queue.waiting(WaitingList::Receiving).as_slice());
+    page.append(" send ");
+    append_task_names(page, app, queue.waiting(WaitingList::Sending).as_slice());
+}
+
+// The set that a queue is a member of.
+fn append_membership(page: &mut Page<'_>, app: &App, queue: &Queue)
+    requires { QueueIsNamed (all_names app.now) queue.now }
+    ensures { Appends page.old page.new (membership_text (all_names app.now) queue.now) }
+{
+    page.append(" set ");
+    append_name_or_dash(page, app, Kind::Set, queue.set_of());
+}
+
+/// Appends the view of a queue set. An `Err` says that there is no memory for it, and comes only
+/// where the page has no room for it; the page may then have some part of it after what it had.
+pub fn show_set(page: &mut Vec<u8>, app: &App, name: &str, set: &QueueSet) -> Appended
+    requires { SetIsNamed (all_names app.now) set.now }
+    ensures text { OnOk result (page.new.items
+        ≡ page.old.items ++ line_of (set_text (all_names app.now) name.now set.now)) }
+    ensures full { OnErr result
+        (IsFull page.old (line_of (set_text (all_names app.now) name.now set.now))) }
+    ensures kept { KeepsFront page.old page.new }
+{
+    let mut line = Page::new(page);
+    append_set(&mut line, app, name, set);
+    line.end()
+}
+
+// The line of a queue set.
+fn append_set(page: &mut Page<'_>, app: &App, name: &str, set: &QueueSet)
+    requires { SetIsNamed (all_names app.now) set.now }
+    ensures { Appends page.old page.new (line_of (set_text (all_names app.now) name.now set.now)) }
+{
+    page.append("set ");
+    page.append(name);
+    page.append(" ");
+    append_handles(page, app, set);
+    append_selecting(page, app, set);
+    page.append("\n");
+}
+
+// What is in a set.
+fn append_handles(page: &mut Page<'_>, app: &App, set: &QueueSet)
+    requires { SetIsNamed (all_names app.now) set.now }
+    ensures { Appends page.old page.new (handles_text (all_names app.now) set.now) }
+{
+    append_counts(page, set.count(), set.capacity());
+    page.append(" handles ");
+    append_handle_names(page, app, set);
+}
+
+// Who waits to select from a set.
+fn append_selecting(page: &mut Page<'_>, app: &App, set: &QueueSet)
+    requires { SetIsNamed (all_names app.now) set.now }
+    ensures { Appends page.old page.new (selecting_text (all_names app.now) set.now) }
+{
+    page.append(" wait ");
+    append_task_names(page, app, set.waiting().as_slice());
+}
+
+/// Appends the view of a task. An `Err` says that there is no memory for it, and comes only where
+/// the page has no room for it; the page may then have some part of it after what it had.
+pub fn show_task(
+    page: &mut Vec<u8>,
+    app: &App,
+    name: &str,
+    core: Option<usize>,
+    task: &Task,
+) -> Appended
+    requires { PlaceIsNamed (all_names app.now) task.now.phase }
+    ensures text { OnOk result (page.new.items
+        ≡ page.old.items ++ line_of (task_text (all_names app.now) name.now core task.now)) }
+    ensures full { OnErr result
+        (IsFull page.old (line_of (task_text (all_names app.now) name.now core task.now))) }
+    ensures kept { KeepsFront page.old page.new }
+{
+    let mut line = Page::new(page);
+    append_task(&mut line, app, name, core, task);
+    line.end()
+}
+
+// The line of a task.
+fn append_task(page: &mut Page<'_>, app: &App, name: &str, core: Option<usize>, task: &Task)
+    requires { PlaceIsNamed (all_names app.now) task.now.phase }
+    ensures { Appends page.old page.new
+        (line_of (task_text (all_names app.now) name.now core task.now)) }
+{
+    page.append("task ");
+    page.append(name);
+    page.append(" core ");
+    append_running_core(page, core);
+    page.append(" pc ");
+    append_number(page, task.pc());
+    page.append(" phase ");
+    append_phase(page, app, task.phase());
+    append_state(page, task);
+    page.append("\n");
+}
+
+// The rest of a task's view, from its registers on.
+fn append_state(page: &mut Page<'_>, task: &Task)
+    ensures { Appends page.old page.new (state_text task.now) }
+{
+    page.append(" regs ");
+    append_number_list(page, task.registers());
+    page.append(" data ");
+    append_bytes(page, task.bytes());
+    page.append(" notes ");
+    append_entry_list(page, task.notes().as_slice());
+}
+
+/// Appends the view of the cores. An `Err` says that there is no memory for it, and comes only
+/// where the page has no room for it; the page may then have some part of it after what it had.
+pub fn show_cores(page: &mut Vec<u8>, app: &App, state: &State) -> Appended
+    requires { SeatedAreNamed (all_names app.now) state.now }
+    ensures text { OnOk result (page.new.items
+        ≡ page.old.items ++ line_of (cores_text (all_names app.now) state.now)) }
+    ensures full { OnErr result
+        (IsFull page.old (line_of (cores_text (all_names app.now) state.now))) }
+    ensures kept { KeepsFront page.old page.new }
+{
+    let mut line = Page::new(page);
+    append_cores(&mut line, app, state);
+    line.end()
+}
+
+// The line of the cores.
+fn append_cores(page: &mut Page<'_>, app: &App, state: &State)
+    requires { SeatedAreNamed (all_names app.now) state.now }
+    ensures { Appends page.old page.new (line_of (cores_text (all_names app.now) state.now)) }
+{
+    page.append("cores ");
+    append_seat_names(page, app, state.cores());
+    page.append(" ready ");
+    append_task_names(page, app, state.ready().as_slice());
+    append_ticks(page, state);
+    page.append("\n");
+}
+
+// The rest of the cores' view, from the tick on.
+fn append_ticks(page: &mut Page<'_>, state: &State)
+    ensures { Appends page.old page.new (ticks_text state.now) }
+{
+    page.append(" tick ");
+    append_number(page, state.tick());
+    page.append(" turn ");
+    append_number(page, state.turn());
+}
+
+/// The core that the task runs on, if it runs.
+pub fn core_of(cores: &[Option<usize>], task: usize) -> Option<usize>
+    ensures { result ≡ position (is_task task) cores.now }
+{
+    cores.iter().position(|running| matches!(running, Some(running) if *running == task))
+}
