@@ -33,7 +33,7 @@ use Rattle.rd_script.specs.declared.spelling.SetKeyword.{SetKeyword}
 use Rattle.rd_script.specs.declared.spelling.SetKeyword.TheVariants.{Select}
 use Rattle.rd_script.specs.Objects.{Objects, objects_of, queue_shape}
 use Rattle.rd_script.specs.Spelling.{member_text, set_text, set_form, member_call, index_of, index_named}
-use Rattle.rd_script.specs.Spelling.{◌>>=◌, local_text, queue_text, text_of, keywords, first_written, keyword_of, register_of, target_of, operand_of, time_of}
+use Rattle.rd_script.specs.Spelling.{◌>>=◌, local_text, queue_text, text_of, keywords, rows_of, first_written, keyword_of, register_of, target_of, operand_of, time_of}
 use Rattle.rd_script.specs.Spelling.{next_as, no_more_words, Form, Alone, One, Two, OfBytes, OfTime, local_form, queue_form, read_by}
 use Rattle.rd_script.specs.Spelling.{is_call_for, operation_of, instr_of, HasOne, HasTwo, IsFormed, IsOperation, Spells}
 use Rattle.rd_text.specs.Words.{bytes_of, is_some_word, name_of, number_of}
@@ -45,11 +45,11 @@ use Rattle.rd_script.proofs.Steps.{bind_ok, guard_ok, ok_or_ok, then_is}
 same_bytes : (xs ys : List ℕ) → bytes_eq xs ys ≡ true → xs ≡ ys
 same_bytes xs ys e = (bytes_eq-Decides xs ys).0 e
 
-keyword_in : (word : List ℕ) (others : List Keyword) (k : Keyword) → first_written word others ≡ Some k → word ≡ text_of k
+keyword_in : (word : List ℕ) (others : List Keyword) (k : Keyword) → first_written word (rows_of others) ≡ Some k → word ≡ text_of k
 keyword_in word [] k e = absurd cc
 keyword_in word (first ∷ others) k e =
     elim (bytes_eq word (text_of first)) as
-    (λ b. (bytes_eq word (text_of first) ≡ b) → cond b (Some first) (first_written word others) ≡ Some k → word ≡ text_of k) [
+    (λ b. (bytes_eq word (text_of first) ≡ b) → cond b (Some first) (first_written word (rows_of others)) ≡ Some k → word ≡ text_of k) [
       | true ↦ λ same. λ e. same_bytes word (text_of first) same ∙ ap text_of (let one : first ≡ k = cc in one)
       | false ↦ λ same. keyword_in word others k
     ] refl e

@@ -1,4 +1,5 @@
 -- How an instruction is spelled.
+use denote.Ref.{Bor}
 use Rattle.std.specs.Prelude.{ℕ, ◌≡◌, ◌-◌, ◌&&◌, ◌==◌, Bool, true, nat_lt, nat_le, if◌then◌else◌}
 use Rattle.std.specs.Prelude.{List, [], ◌∷◌, ◌++◌, codes, length, map, slice_index, position}
 use Rattle.std.specs.Prelude.{Option, Some, None, option_map, option_and_then}
@@ -90,14 +91,25 @@ keywords =
     ++ map kind.Member member_keywords
     ++ map kind.Set set_keywords
 
+-- keywords, each as it is written
+abbrev pub Rows : Type 0
+Rows = List (List ℕ × Keyword)
+
+abbrev pub rows_of : List Keyword → Rows
+rows_of keywords = map (λ keyword. (text_of keyword, keyword)) keywords
+
 -- the first of these that is written so
-abbrev pub first_written : List ℕ → List Keyword → Option Keyword
+abbrev pub first_written : List ℕ → Rows → Option Keyword
 first_written word [] = None
-first_written word (keyword ∷ others) =
-    if bytes_eq word (text_of keyword) then Some keyword else first_written word others
+first_written word (row ∷ others) =
+    if bytes_eq word row.0 then Some row.1 else first_written word others
 
 abbrev pub keyword_of : List ℕ → Option Keyword
-keyword_of word = first_written word keywords
+keyword_of word = first_written word (rows_of keywords)
+
+-- what a contract sees of the code's
+abbrev pub rows_view : List (Bor (List ℕ) × Keyword) → Rows
+rows_view keywords = map (λ row. (row.0.now, row.1)) keywords
 
 -- `r0` to `r7`
 abbrev pub register_of : List ℕ → Option ℕ

@@ -3,7 +3,8 @@
 ghost use Rattle.std.specs.Prelude.{◌≡◌};
 ghost use Rattle.rd_script.specs.Objects.{objects_view};
 ghost use Rattle.rd_script.specs.Spelling.{Takes, TakesBy, next_as, no_more_words};
-ghost use Rattle.rd_script.specs.Spelling.{keyword_of, register_of, target_of, operand_of, time_of};
+ghost use Rattle.rd_script.specs.Spelling.{keyword_of, first_written, rows_view};
+ghost use Rattle.rd_script.specs.Spelling.{register_of, target_of, operand_of, time_of};
 ghost use Rattle.rd_script.specs.Spelling.{index_of, is_call_for, call_of, member_call};
 ghost use Rattle.rd_script.specs.Spelling.{local_form, queue_form, set_form, read_by};
 ghost use Rattle.rd_script.specs.Spelling.{operation_of, instr_of};
@@ -66,32 +67,46 @@ enum Keyword {
     Set(SetKeyword),
 }
 
+// Each keyword as it is written.
+const KEYWORDS: [(&str, Keyword); 20] = [
+    ("set", Keyword::Local(LocalKeyword::Set)),
+    ("add", Keyword::Local(LocalKeyword::Add)),
+    ("move", Keyword::Local(LocalKeyword::Move)),
+    ("data", Keyword::Local(LocalKeyword::Data)),
+    ("pack", Keyword::Local(LocalKeyword::Pack)),
+    ("unpack", Keyword::Local(LocalKeyword::Unpack)),
+    ("jump", Keyword::Local(LocalKeyword::Jump)),
+    ("jumpz", Keyword::Local(LocalKeyword::JumpZero)),
+    ("end", Keyword::Local(LocalKeyword::End)),
+    ("send", Keyword::Queue(QueueKeyword::Send)),
+    ("front", Keyword::Queue(QueueKeyword::Front)),
+    ("recv", Keyword::Queue(QueueKeyword::Receive)),
+    ("peek", Keyword::Queue(QueueKeyword::Peek)),
+    ("over", Keyword::Queue(QueueKeyword::Overwrite)),
+    ("qreset", Keyword::Queue(QueueKeyword::Reset)),
+    ("count", Keyword::Queue(QueueKeyword::Count)),
+    ("spaces", Keyword::Queue(QueueKeyword::Spaces)),
+    ("setadd", Keyword::Member(MemberKeyword::AddToSet)),
+    ("setdel", Keyword::Member(MemberKeyword::RemoveFromSet)),
+    ("select", Keyword::Set(SetKeyword::Select)),
+];
+
 fn keyword_of(word: &[u8]) -> Option<Keyword>
     ensures { result ≡ keyword_of word.now }
 {
-    match word {
-        b"set" => Some(Keyword::Local(LocalKeyword::Set)),
-        b"add" => Some(Keyword::Local(LocalKeyword::Add)),
-        b"move" => Some(Keyword::Local(LocalKeyword::Move)),
-        b"data" => Some(Keyword::Local(LocalKeyword::Data)),
-        b"pack" => Some(Keyword::Local(LocalKeyword::Pack)),
-        b"unpack" => Some(Keyword::Local(LocalKeyword::Unpack)),
-        b"jump" => Some(Keyword::Local(LocalKeyword::Jump)),
-        b"jumpz" => Some(Keyword::Local(LocalKeyword::JumpZero)),
-        b"end" => Some(Keyword::Local(LocalKeyword::End)),
-        b"send" => Some(Keyword::Queue(QueueKeyword::Send)),
-        b"front" => Some(Keyword::Queue(QueueKeyword::Front)),
-        b"recv" => Some(Keyword::Queue(QueueKeyword::Receive)),
-        b"peek" => Some(Keyword::Queue(QueueKeyword::Peek)),
-        b"over" => Some(Keyword::Queue(QueueKeyword::Overwrite)),
-        b"qreset" => Some(Keyword::Queue(QueueKeyword::Reset)),
-        b"count" => Some(Keyword::Queue(QueueKeyword::Count)),
-        b"spaces" => Some(Keyword::Queue(QueueKeyword::Spaces)),
-        b"setadd" => Some(Keyword::Member(MemberKeyword::AddToSet)),
-        b"setdel" => Some(Keyword::Member(MemberKeyword::RemoveFromSet)),
-        b"select" => Some(Keyword::Set(SetKeyword::Select)),
-        _ => None,
+    first_written(word, &KEYWORDS)
+}
+
+// The first of these keywords that is written so.
+fn first_written(word: &[u8], keywords: &[(&str, Keyword)]) -> Option<Keyword>
+    ensures { result ≡ first_written word.now (rows_view keywords.now) }
+{
+    for (text, keyword) in keywords {
+        if word == text.as_bytes() {
+            return Some(*keyword);
+        }
     }
+    None
 }
 
 // The number of a register: `r0` to `r7`.
