@@ -43,7 +43,7 @@ IsConsistent-performed : (app : Application) (s : Snapshot) (core task : ℕ) (i
     → 1 ≤ seats_to_run (task_at s task).phase → core < length s.cores → core_at s core ≡ Some task
     → instr_at app task (task_at s task).pc ≡ instr → IsWithin app (length (code_of app task)) instr
     → (is_final instr ≡ false → (task_at s task).pc + 1 < length (code_of app task))
-    → length s.queues ≡ length app.queues → length s.sets ≡ length app.sets → IsConsistent app (all_have_time_left s.tick) (performed (priorities_of app) s core task instr)
+    → length s.objects.queues ≡ length app.queues → length s.objects.sets ≡ length app.sets → IsConsistent app (all_have_time_left s.tick) (performed (priorities_of app) s core task instr)
 IsConsistent-performed app s core task instr valid there runs has_core e is within next queues sets =
     let D = all_have_time_left s.tick in
     let at = IsConsistent-valid app s valid in
@@ -114,9 +114,9 @@ IsConsistent-next_instr app s core task limits valid has_core e =
     All-get_or (IsScript app) app.scripts task (record { priority = 0; code = [] }) (omega (arith, there, valid.in_limits.tasks)) limits.scripts in
     let within = valid.in_limits.pcs task there in
     let fits = All-get_or (IsWithin app (length script.code)) script.code pc (Local End) within ok.within in
-    let queues : length s.queues ≡ length app.queues = sym (length-map s.queues shape_of) ∙ ap length valid.in_limits.queues in
-    let sets : length s.sets ≡ length app.sets =
-    sym (length-map s.sets room_of) ∙ ap length valid.in_limits.sets ∙ length-map app.sets (λ (set : QueueSetShape). set.capacity) in
+    let queues : length s.objects.queues ≡ length app.queues = sym (length-map s.objects.queues shape_of) ∙ ap length valid.in_limits.objects.queues in
+    let sets : length s.objects.sets ≡ length app.sets =
+    sym (length-map s.objects.sets room_of) ∙ ap length valid.in_limits.objects.sets ∙ length-map app.sets (λ (set : QueueSetShape). set.capacity) in
     IsConsistent-performed app s core task (next_instr app s task) valid there (runs_on_core app s core task valid has_core e) has_core e refl fits
     (not_last app script pc ok within) queues sets
 
@@ -143,7 +143,7 @@ IsValid-step app s s' core task limits valid there e same sized =
     let at = IsConsistent-next_instr app s core task limits valid there e in
     let some : 0 < length p.cores = omega (arith, limits.some_cores, at.cores) in
     let kept : SeatsKept priorities (seating_of p) (seating_of z) = SeatsKept-settled priorities (record p { turn = core + 1 }) some in
-    let consistent_z = IsConsistent-seats app (all_have_time_left s.tick) p z kept refl refl refl at in
+    let consistent_z = IsConsistent-seats app (all_have_time_left s.tick) p z kept refl refl at in
     let tick : s.tick ≡ z.tick = sym (performed-tick priorities s core task (next_instr app s task)) in
     subst (λ (t : Snapshot). IsSized t → IsValid app t) (sym same)
     (IsValid-consistent app z (subst (λ t. IsConsistent app (all_have_time_left t) z) tick consistent_z)) sized
@@ -169,7 +169,7 @@ TimedOut-of_valid app s n valid few =
     IsConsistent-deadlines app (all_have_time_left s.tick) (have_time_left_below now.tick 0) s (λ t h was below. absurd (omega (arith, below)))
     (IsConsistent-valid app s valid) in
     TimedOut-so_far app n now few
-    (IsConsistent-seats app (have_time_left_below now.tick 0) s now (record { cores = refl; seats = λ task. refl; order = λ h. h }) refl refl refl none)
+    (IsConsistent-seats app (have_time_left_below now.tick 0) s now (record { cores = refl; seats = λ task. refl; order = λ h. h }) refl refl none)
 
 IsConsistent-ticked : (app : Application) (s : Snapshot) → IsValid app s → IsConsistent app (all_have_time_left (s.tick + 1)) (ticked (priorities_of app) s)
 IsConsistent-ticked app s valid =
@@ -191,7 +191,7 @@ IsValid-tick app s s' limits valid same sized =
     let there : core < length (settled priorities p).cores = omega (arith, by_settling.cores, at.cores, valid.in_limits.cores, mod-lt (s.tick + 1) some) in
     let by_turns : SeatsKept priorities (seating_of (settled priorities p)) (seating_of z) = SeatsKept-rotated priorities core (settled priorities p) there in
     let kept = SeatsKept-then priorities (seating_of p) (seating_of (settled priorities p)) (seating_of z) by_settling by_turns in
-    let consistent_z = IsConsistent-seats app (all_have_time_left (s.tick + 1)) p z kept refl refl refl at in
+    let consistent_z = IsConsistent-seats app (all_have_time_left (s.tick + 1)) p z kept refl refl at in
     let tick : s.tick + 1 ≡ z.tick = sym (TimedOut-of_valid app s (length s.tasks) valid (omega arith)).tick in
     subst (λ (t : Snapshot). IsSized t → IsValid app t) (sym same)
     (IsValid-consistent app z (subst (λ t. IsConsistent app (all_have_time_left t) z) tick consistent_z)) sized

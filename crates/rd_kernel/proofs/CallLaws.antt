@@ -33,7 +33,7 @@ use Rattle.rd_kernel.specs.Waking.{deadline_of, is_due, may_wait, with_waiter, w
 use Rattle.rd_kernel.proofs.ConsistentLaws.{TaskMoves, IsConsistent, IsConsistent-moved}
 use Rattle.rd_kernel.proofs.ConsistentLaws.{IsConsistent-task_replaced, IsConsistent-valid}
 use Rattle.rd_kernel.proofs.ConsistentLaws.{IsConsistentTask, all_have_time_left, same_place-self}
-use Rattle.rd_kernel.proofs.ConsistentLaws.{task_now, task_or_other, waiting_at-same_objects}
+use Rattle.rd_kernel.proofs.ConsistentLaws.{task_now, task_or_other}
 use Rattle.rd_kernel.proofs.WakingLaws.{AfterWaking, AfterWaking-woken_first}
 use Rattle.rd_kernel.proofs.WakingLaws.{has_seat, member_has, room_for, waiter_is_idle, waits_nowhere, times_waiting_at-at_most_one, woken_from-tick}
 
@@ -170,19 +170,18 @@ IsConsistent-stopped app D s core task phase there runs has_core e idle nowhere 
           task_or_other s p task now (IsConsistentTask app D) there refl
           (record { pc = was.pc; notes = was.notes; call = call; deadline = asked; entries = was.entries }) (λ t differs h. at.each t h);
       shapes = at.shapes;
-      rooms = at.rooms;
       placed_once = task_or_other s p task now (λ t x. times_in_list t s.ready + times_on_cores t (set s.cores core None) ≡ seats_to_run x.phase) there refl
           (omega (arith, times_off_core task, same_one task, at.placed_once task there, one, idle))
           (λ t differs h. omega (arith, times_off_core t, other_none t task differs, at.placed_once t h));
       waiting_lists = record {
         ready = at.waiting_lists.ready;
         waiting =
-            λ place. subst (λ list. IsInOrder (priorities_of app) list) (sym (waiting_at-same_objects s p place refl refl)) (at.waiting_lists.waiting place);
+            at.waiting_lists.waiting;
       };
       places = λ place. task_or_other s p task now (λ t x. times_in_list t (waiting_at p place) ≡ times_waiting_at place x.phase) there refl
-          (ap (times_in_list task) (waiting_at-same_objects s p place refl refl) ∙ at.places place task there
+          (at.places place task there
           ∙ waits_nowhere place (task_at s task).phase runs ∙ sym (nowhere place))
-          (λ t differs h. ap (times_in_list t) (waiting_at-same_objects s p place refl refl) ∙ at.places place t h);
+          (λ t differs h. at.places place t h);
     }
 
 -- It waits.

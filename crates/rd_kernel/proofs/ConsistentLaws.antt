@@ -1,11 +1,12 @@
 -- What makes a state valid, but for its sizes, and what keeps it.
 use Rattle.std.proofs.Common.{◌≡◌, ◌∙◌, ◌≢◌, ℕ, zero, suc, ◌+◌, ◌<◌, ◌≤◌, Bool, true, false, cond, List, [], ◌∷◌}
 use Rattle.std.proofs.Common.{length, get_or, set, map, Option, refl, ap, subst, sym, arith, inl, inr}
-use Rattle.std.specs.Prelude.{All, nat_eq, slice_set}
+use Rattle.std.specs.Prelude.{◌&&◌, All, nat_eq, slice_set}
 use Rattle.std.proofs.lemmas.Bool.{cases_eq, cases_lt, false≢true}
 use Rattle.std.proofs.lemmas.Bool.Decides.{nat_tests}
 use Rattle.std.proofs.lemmas.List.{length-set, get_or-set_same, get_or-set_other, get_or_past}
 use Rattle.std.proofs.lemmas.List.Elements.{All-get_or, All-from_get_or}
+use Rattle.rd_queue.specs.declared.waiting_list.WaitingList.{WaitingList}
 use Rattle.rd_queue.specs.declared.waiting_list.WaitingList.TheVariants.{Receiving, Sending}
 use Rattle.rd_queue.specs.QueueSnapshot.{QueueSnapshot}
 use Rattle.rd_queue.specs.SetSnapshot.{SetSnapshot}
@@ -19,10 +20,10 @@ use Rattle.rd_wait.specs.Joined.{IsInOrder}
 use Rattle.rd_state.specs.Change.{with_task, with_queue, with_set}
 use Rattle.rd_state.specs.Settled.{seating_of}
 use Rattle.rd_state.specs.Sizes.{IsSized}
-use Rattle.rd_state.specs.Snapshot.{Snapshot, TaskSnapshot, no_task, no_queue, no_set, task_at, queue_at, set_at}
-use Rattle.rd_state.specs.Valid.{IsNotWaiting, IsValid, ListsInOrder, PlacedOnce, PhaseFitsCall, HasTimeLeft, WaitsAtPlaces}
+use Rattle.rd_state.specs.Snapshot.{Objects, Snapshot, TaskSnapshot, no_task, no_queue, no_set, numbers_in, task_at, queue_at, set_at}
+use Rattle.rd_state.specs.Valid.{AreShaped, IsNotWaiting, IsValid, ListsInOrder, PlacedOnce, PhaseFitsCall, HasTimeLeft, WaitsAtPlaces}
 use Rattle.rd_state.specs.Valid.{room_of, seats_to_run, shape_of, times_in_list, times_on_cores, times_waiting_at}
-use Rattle.rd_state.specs.Waiting.{HasPlace, queues_then, same_place, sets_then, waiting_at}
+use Rattle.rd_state.specs.Waiting.{HasPlace, IsPlace, list_number, objects_then, place_kind, place_list, place_number, same_place, waiting_at, waiting_in}
 use Rattle.rd_state.proofs.ScheduleLaws.{SeatsKept}
 
 -- What holds of a task by itself. What is asked of its deadline is a parameter: in the middle of a tick it holds of
@@ -38,8 +39,7 @@ pub record IsConsistent (app : Application) (D : ℕ → Phase → Type 0) (s : 
   pub cores : length s.cores ≡ app.cores
   pub tasks : length s.tasks ≡ length app.scripts
   pub each : (task : ℕ) → task < length s.tasks → IsConsistentTask app D task (task_at s task)
-  pub shapes : map shape_of s.queues ≡ app.queues
-  pub rooms : map room_of s.sets ≡ map (λ set. set.capacity) app.sets
+  pub shapes : AreShaped app s.objects
   pub placed_once : PlacedOnce s
   pub waiting_lists : ListsInOrder (priorities_of app) s
   pub places : WaitsAtPlaces s
@@ -59,8 +59,7 @@ IsConsistent-valid app s valid = record {
     deadline = valid.deadlines task h;
     entries = All-get_or (λ (t : TaskSnapshot). All IsNotWaiting t.entries) s.tasks task no_task h valid.entries;
   };
-  shapes = valid.in_limits.queues;
-  rooms = valid.in_limits.sets;
+  shapes = valid.in_limits.objects;
   placed_once = valid.placed_once;
   waiting_lists = valid.waiting_lists;
   places = valid.places;
@@ -74,8 +73,7 @@ IsValid-consistent app s at sized = record {
     tasks = at.tasks;
     pcs = λ task h. (at.each task h).pc;
     entries = All-from_get_or (λ (t : TaskSnapshot). length t.entries ≡ app.notes) s.tasks no_task (λ task h. (at.each task h).notes);
-    queues = at.shapes;
-    sets = at.rooms;
+    objects = at.shapes;
   };
   placed_once = at.placed_once;
   waiting_lists = at.waiting_lists;
@@ -96,7 +94,6 @@ IsConsistent-deadlines app D E s gives at = record {
       λ task h. let was = at.each task h in
       record { pc = was.pc; notes = was.notes; call = was.call; deadline = gives task h was.deadline; entries = was.entries };
   shapes = at.shapes;
-  rooms = at.rooms;
   placed_once = at.placed_once;
   waiting_lists = at.waiting_lists;
   places = at.places;
@@ -130,91 +127,137 @@ map_kept f [] number now d kept = refl
 map_kept f (x ∷ xs) zero now d kept = ap (λ y. y ∷ map f xs) kept
 map_kept f (x ∷ xs) (suc number) now d kept = ap (λ rest. f x ∷ rest) (map_kept f xs number now d kept)
 
-waiting_then : (s p : Snapshot) (place other : Place) (tasks : List ℕ) → HasPlace s place → p.queues ≡ queues_then s place tasks
-    → p.sets ≡ sets_then s place tasks → waiting_at p other ≡ cond (same_place other place) tasks (waiting_at s other)
-waiting_then s p (Queue queue Receiving) (Queue other Receiving) tasks there e f =
-    ap (λ (queues : List QueueSnapshot). (get_or queues other no_queue).receiving) e
-    ∙ read_changed (λ (q : QueueSnapshot). q.receiving) s.queues queue other (with_waiting Receiving tasks (queue_at s queue)) no_queue there
-waiting_then s p (Queue queue Receiving) (Queue other Sending) tasks there e f =
-    ap (λ (queues : List QueueSnapshot). (get_or queues other no_queue).sending) e
-    ∙ read_kept (λ (q : QueueSnapshot). q.sending) s.queues queue other (with_waiting Receiving tasks (queue_at s queue)) no_queue there refl
-waiting_then s p (Queue queue Sending) (Queue other Receiving) tasks there e f =
-    ap (λ (queues : List QueueSnapshot). (get_or queues other no_queue).receiving) e
-    ∙ read_kept (λ (q : QueueSnapshot). q.receiving) s.queues queue other (with_waiting Sending tasks (queue_at s queue)) no_queue there refl
-waiting_then s p (Queue queue Sending) (Queue other Sending) tasks there e f =
-    ap (λ (queues : List QueueSnapshot). (get_or queues other no_queue).sending) e
-    ∙ read_changed (λ (q : QueueSnapshot). q.sending) s.queues queue other (with_waiting Sending tasks (queue_at s queue)) no_queue there
-waiting_then s p (Queue queue list) (Set other) tasks there e f = ap (λ (sets : List SetSnapshot). (get_or sets other no_set).waiting) f
-waiting_then s p (Set set) (Queue other list) tasks there e f = ap (λ (queues : List QueueSnapshot). tasks_in_list list (get_or queues other no_queue)) e
-waiting_then s p (Set set) (Set other) tasks there e f =
-    ap (λ (sets : List SetSnapshot). (get_or sets other no_set).waiting) f
-    ∙ read_changed (λ (q : SetSnapshot). q.waiting) s.sets set other (with_waiting_tasks (set_at s set) tasks) no_set there
+-- a queue with other tasks in one of its lists
+tasks_in_list-with : (list other : WaitingList) (tasks : List ℕ) (queue : QueueSnapshot)
+    → tasks_in_list other (with_waiting list tasks queue) ≡ cond (nat_eq (list_number other) (list_number list)) tasks (tasks_in_list other queue)
+tasks_in_list-with Receiving Receiving tasks queue = refl
+tasks_in_list-with Receiving Sending tasks queue = refl
+tasks_in_list-with Sending Receiving tasks queue = refl
+tasks_in_list-with Sending Sending tasks queue = refl
 
--- where the objects are the same, the same tasks wait
-pub waiting_at-same_objects : (s p : Snapshot) (place : Place) → p.queues ≡ s.queues → p.sets ≡ s.sets → waiting_at p place ≡ waiting_at s place
-waiting_at-same_objects s p (Queue queue list) e f = ap (λ (queues : List QueueSnapshot). tasks_in_list list (get_or queues queue no_queue)) e
-waiting_at-same_objects s p (Set set) e f = ap (λ (sets : List SetSnapshot). (get_or sets set no_set).waiting) f
+-- of two tests, the second says whether the object is the one that was changed
+by_number : {A : Type 0} (a b : Bool) (new old other : A) → (b ≡ true → old ≡ other) → cond b (cond a new old) other ≡ cond (a && b) new other
+by_number true true new old other is = refl
+by_number true false new old other is = refl
+by_number false true new old other is = is refl
+by_number false false new old other is = refl
 
--- A queue that has changed in something else has the same tasks in its lists, and so has a set.
+same_number : (a b : ℕ) → nat_eq a b ≡ true → a ≡ b
+same_number a b e = grind (arith, nat_tests, e)
+
+-- Who waits at each place, once these wait at one: a row for each kind, and one for places of two kinds.
+waiting_then : (o : Objects) (place other : Place) (tasks : List ℕ) → IsPlace (numbers_in o) place
+    → waiting_in (objects_then o place tasks) other ≡ cond (same_place other place) tasks (waiting_in o other)
+waiting_then o (Queue queue list) (Queue number other) tasks there =
+    let was = get_or o.queues queue no_queue in
+    let old = tasks_in_list other (get_or o.queues number no_queue) in
+    read_changed (tasks_in_list other) o.queues queue number (with_waiting list tasks was) no_queue there
+    ∙ ap (λ m. cond (nat_eq number queue) m old) (tasks_in_list-with list other tasks was)
+    ∙ by_number (nat_eq (list_number other) (list_number list)) (nat_eq number queue) tasks (tasks_in_list other was) old
+    (λ e. ap (λ n. tasks_in_list other (get_or o.queues n no_queue)) (sym (same_number number queue e)))
+waiting_then o (Set set) (Set number) tasks there =
+    read_changed (λ (q : SetSnapshot). q.waiting) o.sets set number (with_waiting_tasks (get_or o.sets set no_set) tasks) no_set there
+waiting_then o place other tasks there = refl
+
+-- Objects that have changed in something else than their shapes and who waits where.
+pub record ContentsChange (o n : Objects) : Type 0 where
+  pub waiting : (place : Place) → waiting_in n place ≡ waiting_in o place
+  pub shapes : (app : Application) → AreShaped app o → AreShaped app n
+
+-- A queue that has changed in something else has the same tasks in its lists.
 pub record IsSameWaiting (now was : QueueSnapshot) : Type 0 where
   pub receiving : now.receiving ≡ was.receiving
   pub sending : now.sending ≡ was.sending
 
-pub waiting_at-with_queue : (s p : Snapshot) (queue : ℕ) (now : QueueSnapshot) (place : Place) → queue < length s.queues → IsSameWaiting now (queue_at s queue)
-    → p.queues ≡ set s.queues queue now → p.sets ≡ s.sets → waiting_at p place ≡ waiting_at s place
-waiting_at-with_queue s p queue now (Queue other Receiving) there kept e f =
-    ap (λ (queues : List QueueSnapshot). (get_or queues other no_queue).receiving) e
-    ∙ read_kept (λ (q : QueueSnapshot). q.receiving) s.queues queue other now no_queue there kept.receiving
-waiting_at-with_queue s p queue now (Queue other Sending) there kept e f =
-    ap (λ (queues : List QueueSnapshot). (get_or queues other no_queue).sending) e
-    ∙ read_kept (λ (q : QueueSnapshot). q.sending) s.queues queue other now no_queue there kept.sending
-waiting_at-with_queue s p queue now (Set set) there kept e f = ap (λ (sets : List SetSnapshot). (get_or sets set no_set).waiting) f
+pub waiting_at-with_queue : (s : Snapshot) (queue : ℕ) (now : QueueSnapshot) (place : Place) → queue < length s.objects.queues
+    → IsSameWaiting now (queue_at s queue) → waiting_at (with_queue s queue now) place ≡ waiting_at s place
+waiting_at-with_queue s queue now (Queue other Receiving) there kept =
+    read_kept (λ (q : QueueSnapshot). q.receiving) s.objects.queues queue other now no_queue there kept.receiving
+waiting_at-with_queue s queue now (Queue other Sending) there kept =
+    read_kept (λ (q : QueueSnapshot). q.sending) s.objects.queues queue other now no_queue there kept.sending
+waiting_at-with_queue s queue now place there kept = refl
 
-pub waiting_at-with_set : (s p : Snapshot) (set : ℕ) (now : SetSnapshot) (place : Place) → set < length s.sets → now.waiting ≡ (set_at s set).waiting
-    → p.queues ≡ s.queues → p.sets ≡ slice_set s.sets set now → waiting_at p place ≡ waiting_at s place
-waiting_at-with_set s p set now (Queue other list) there kept e f =
-    ap (λ (queues : List QueueSnapshot). tasks_in_list list (get_or queues other no_queue)) e
-waiting_at-with_set s p set now (Set other) there kept e f =
-    ap (λ (sets : List SetSnapshot). (get_or sets other no_set).waiting) f
-    ∙ read_kept (λ (q : SetSnapshot). q.waiting) s.sets set other now no_set there kept
+pub ContentsChange-queue : (s : Snapshot) (queue : ℕ) (now : QueueSnapshot) → queue < length s.objects.queues
+    → shape_of now ≡ shape_of (queue_at s queue) → IsSameWaiting now (queue_at s queue) → ContentsChange s.objects (with_queue s queue now).objects
+ContentsChange-queue s queue now there shape kept = record {
+  waiting = λ place. waiting_at-with_queue s queue now place there kept;
+  shapes = λ app was. record { queues = map_kept shape_of s.objects.queues queue now no_queue shape ∙ was.queues; sets = was.sets };
+}
+
+pub waiting_at-with_set : (s : Snapshot) (set : ℕ) (now : SetSnapshot) (place : Place) → set < length s.objects.sets
+    → now.waiting ≡ (set_at s set).waiting → waiting_at (with_set s set now) place ≡ waiting_at s place
+waiting_at-with_set s set now (Set other) there kept = read_kept (λ (q : SetSnapshot). q.waiting) s.objects.sets set other now no_set there kept
+waiting_at-with_set s set now place there kept = refl
+
+pub ContentsChange-set : (s : Snapshot) (set : ℕ) (now : SetSnapshot) → set < length s.objects.sets
+    → room_of now ≡ room_of (set_at s set) → now.waiting ≡ (set_at s set).waiting → ContentsChange s.objects (with_set s set now).objects
+ContentsChange-set s set now there room kept = record {
+  waiting = λ place. waiting_at-with_set s set now place there kept;
+  shapes = λ app was. record { queues = was.queues; sets = map_kept room_of s.objects.sets set now no_set room ∙ was.sets };
+}
 
 -- Who waits where is none of an object's shape.
-shapes_then : (s : Snapshot) (place : Place) (tasks : List ℕ) → map shape_of (queues_then s place tasks) ≡ map shape_of s.queues
-shapes_then s (Queue queue list) tasks = map_kept shape_of s.queues queue (with_waiting list tasks (queue_at s queue)) no_queue refl
-shapes_then s (Set set) tasks = refl
-
-rooms_then : (s : Snapshot) (place : Place) (tasks : List ℕ) → map room_of (sets_then s place tasks) ≡ map room_of s.sets
-rooms_then s (Queue queue list) tasks = refl
-rooms_then s (Set set) tasks = map_kept room_of s.sets set (with_waiting_tasks (set_at s set) tasks) no_set refl
+shapes_then : (app : Application) (o : Objects) (place : Place) (tasks : List ℕ) → AreShaped app o → AreShaped app (objects_then o place tasks)
+shapes_then app o (Queue queue list) tasks was = record {
+  queues = map_kept shape_of o.queues queue (with_waiting list tasks (get_or o.queues queue no_queue)) no_queue refl ∙ was.queues;
+  sets = was.sets;
+}
+shapes_then app o (Set set) tasks was = record {
+  queues = was.queues;
+  sets = map_kept room_of o.sets set (with_waiting_tasks (get_or o.sets set no_set) tasks) no_set refl ∙ was.sets;
+}
 
 -- A place where somebody waits is there.
 pub place_there : (s : Snapshot) (place : Place) (task : ℕ) → 1 ≤ times_in_list task (waiting_at s place) → HasPlace s place
-place_there s (Queue queue Receiving) task some = elim (cases_lt queue (length s.queues)) [
+place_there s (Queue queue Receiving) task some = elim (cases_lt queue (length s.objects.queues)) [
   | inl lt ↦ lt
-  | inr ge ↦ absurd (omega (arith, some, ap (λ (q : QueueSnapshot). times_in_list task q.receiving) (get_or_past s.queues queue no_queue ge)))
+  | inr ge ↦ absurd (omega (arith, some, ap (λ (q : QueueSnapshot). times_in_list task q.receiving) (get_or_past s.objects.queues queue no_queue ge)))
 ]
-place_there s (Queue queue Sending) task some = elim (cases_lt queue (length s.queues)) [
+place_there s (Queue queue Sending) task some = elim (cases_lt queue (length s.objects.queues)) [
   | inl lt ↦ lt
-  | inr ge ↦ absurd (omega (arith, some, ap (λ (q : QueueSnapshot). times_in_list task q.sending) (get_or_past s.queues queue no_queue ge)))
+  | inr ge ↦ absurd (omega (arith, some, ap (λ (q : QueueSnapshot). times_in_list task q.sending) (get_or_past s.objects.queues queue no_queue ge)))
 ]
-place_there s (Set set) task some = elim (cases_lt set (length s.sets)) [
+place_there s (Set set) task some = elim (cases_lt set (length s.objects.sets)) [
   | inl lt ↦ lt
-  | inr ge ↦ absurd (omega (arith, some, ap (λ (q : SetSnapshot). times_in_list task q.waiting) (get_or_past s.sets set no_set ge)))
+  | inr ge ↦ absurd (omega (arith, some, ap (λ (q : SetSnapshot). times_in_list task q.waiting) (get_or_past s.objects.sets set no_set ge)))
 ]
+
+-- A place is known by its numbers.
+abbrev list_from : ℕ → WaitingList
+list_from zero = Receiving
+list_from (suc list) = Sending
+
+list_again : (list : WaitingList) → list_from (list_number list) ≡ list
+list_again Receiving = refl
+list_again Sending = refl
+
+abbrev place_from : ℕ → ℕ → ℕ → Place
+place_from zero list number = Queue number (list_from list)
+place_from (suc kind) list number = Set number
+
+place_again : (place : Place) → place_from (place_kind place) (place_list place) (place_number place) ≡ place
+place_again (Queue queue list) = ap (Queue queue) (list_again list)
+place_again (Set set) = refl
+
+both : (a b : Bool) → (a && b) ≡ true → (a ≡ true) × (b ≡ true)
+both true b e = (refl, e)
+both false b e = absurd (false≢true e)
 
 same_place-is : (place other : Place) → same_place place other ≡ true → place ≡ other
-same_place-is (Queue queue Receiving) (Queue other Receiving) e = let same : queue ≡ other = grind (arith, nat_tests, e) in ap (λ n. Queue n Receiving) same
-same_place-is (Queue queue Receiving) (Queue other Sending) e = cc
-same_place-is (Queue queue Sending) (Queue other Receiving) e = cc
-same_place-is (Queue queue Sending) (Queue other Sending) e = let same : queue ≡ other = grind (arith, nat_tests, e) in ap (λ n. Queue n Sending) same
-same_place-is (Queue queue list) (Set set) e = absurd (false≢true e)
-same_place-is (Set set) (Queue queue list) e = absurd (false≢true e)
-same_place-is (Set set) (Set other) e = let same : set ≡ other = grind (arith, nat_tests, e) in ap Set same
+same_place-is place other e =
+    let kinds = both (nat_eq (place_kind place) (place_kind other)) _ e in
+    let rest = both (nat_eq (place_list place) (place_list other)) _ kinds.1 in
+    sym (place_again place)
+    ∙ ap (λ k. place_from k (place_list place) (place_number place)) (same_number (place_kind place) (place_kind other) kinds.0)
+    ∙ ap (λ l. place_from (place_kind other) l (place_number place)) (same_number (place_list place) (place_list other) rest.0)
+    ∙ ap (place_from (place_kind other) (place_list other)) (same_number (place_number place) (place_number other) rest.1)
+    ∙ place_again other
 
 pub same_place-self : (place : Place) → same_place place place ≡ true
-same_place-self (Queue queue Receiving) = grind (arith, nat_tests)
-same_place-self (Queue queue Sending) = grind (arith, nat_tests)
-same_place-self (Set set) = grind (arith, nat_tests)
+same_place-self place =
+    let self : (n : ℕ) → nat_eq n n ≡ true = λ n. grind (arith, nat_tests) in
+    ap (λ b. b && (nat_eq (place_list place) (place_list place) && nat_eq (place_number place) (place_number place))) (self (place_kind place))
+    ∙ ap (λ b. b && nat_eq (place_number place) (place_number place)) (self (place_list place)) ∙ self (place_number place)
 
 -- ---- the rules
 
@@ -248,87 +291,66 @@ IsConsistent-task_replaced app D s task x there consistent runs waits at =
       tasks = length-set s.tasks task x ∙ at.tasks;
       each = task_or_other s p task x (IsConsistentTask app D) there refl consistent (λ t differs h. at.each t h);
       shapes = at.shapes;
-      rooms = at.rooms;
       placed_once =
           task_or_other s p task x (λ t y. times_in_list t s.ready + times_on_cores t s.cores ≡ seats_to_run y.phase) there refl
           (at.placed_once task there ∙ sym runs) (λ t differs h. at.placed_once t h);
-      waiting_lists = record {
-        ready = at.waiting_lists.ready;
-        waiting = λ place. subst (IsInOrder (priorities_of app)) (sym (waiting_at-same_objects s p place refl refl)) (at.waiting_lists.waiting place);
-      };
-      places = λ place. task_or_other s p task x (λ t y. times_in_list t (waiting_at p place) ≡ times_waiting_at place y.phase) there refl
-          (ap (times_in_list task) (waiting_at-same_objects s p place refl refl) ∙ at.places place task there ∙ sym (waits place))
-          (λ t differs h. ap (times_in_list t) (waiting_at-same_objects s p place refl refl) ∙ at.places place t h);
+      waiting_lists = record { ready = at.waiting_lists.ready; waiting = at.waiting_lists.waiting };
+      places = λ place. task_or_other s p task x (λ t y. times_in_list t (waiting_at s place) ≡ times_waiting_at place y.phase) there refl
+          (at.places place task there ∙ sym (waits place)) (λ t differs h. at.places place t h);
     }
 
--- A queue changes in something else than its shape and who waits there.
-pub IsConsistent-queue_replaced : (app : Application) (D : ℕ → Phase → Type 0) (s : Snapshot) (queue : ℕ) (now : QueueSnapshot) → queue < length s.queues
-    → shape_of now ≡ shape_of (queue_at s queue) → IsSameWaiting now (queue_at s queue)
+-- Objects change in something else than their shapes and who waits where.
+pub IsConsistent-contents : (app : Application) (D : ℕ → Phase → Type 0) (s : Snapshot) (n : Objects) → ContentsChange s.objects n
+    → IsConsistent app D s → IsConsistent app D (record s { objects = n })
+IsConsistent-contents app D s n change at = record {
+  cores = at.cores;
+  tasks = at.tasks;
+  each = at.each;
+  shapes = change.shapes app at.shapes;
+  placed_once = at.placed_once;
+  waiting_lists = record {
+    ready = at.waiting_lists.ready;
+    waiting = λ place. subst (IsInOrder (priorities_of app)) (sym (change.waiting place)) (at.waiting_lists.waiting place);
+  };
+  places = λ place t h. ap (times_in_list t) (change.waiting place) ∙ at.places place t h;
+}
+
+-- A queue, a set.
+pub IsConsistent-queue_replaced : (app : Application) (D : ℕ → Phase → Type 0) (s : Snapshot) (queue : ℕ) (now : QueueSnapshot)
+    → queue < length s.objects.queues → shape_of now ≡ shape_of (queue_at s queue) → IsSameWaiting now (queue_at s queue)
     → IsConsistent app D s → IsConsistent app D (with_queue s queue now)
-IsConsistent-queue_replaced app D s queue now there shape kept at =
-    let p = with_queue s queue now in
-    record {
-      cores = at.cores;
-      tasks = at.tasks;
-      each = at.each;
-      shapes = map_kept shape_of s.queues queue now no_queue shape ∙ at.shapes;
-      rooms = at.rooms;
-      placed_once = at.placed_once;
-      waiting_lists = record {
-        ready = at.waiting_lists.ready;
-        waiting =
-            λ place. subst (IsInOrder (priorities_of app)) (sym (waiting_at-with_queue s p queue now place there kept refl refl)) (at.waiting_lists.waiting place);
-      };
-      places = λ place t h. ap (times_in_list t) (waiting_at-with_queue s p queue now place there kept refl refl) ∙ at.places place t h;
-    }
+IsConsistent-queue_replaced app D s queue now there shape kept =
+    IsConsistent-contents app D s (with_queue s queue now).objects (ContentsChange-queue s queue now there shape kept)
 
--- It gets other items.
-pub IsConsistent-items : (app : Application) (D : ℕ → Phase → Type 0) (s : Snapshot) (queue : ℕ) (items : List (List ℕ)) → queue < length s.queues
+pub IsConsistent-items : (app : Application) (D : ℕ → Phase → Type 0) (s : Snapshot) (queue : ℕ) (items : List (List ℕ)) → queue < length s.objects.queues
     → IsConsistent app D s → IsConsistent app D (with_queue s queue (with_items (queue_at s queue) items))
 IsConsistent-items app D s queue items there =
     IsConsistent-queue_replaced app D s queue (with_items (queue_at s queue) items) there refl (record { receiving = refl; sending = refl })
 
--- A set changes in something else than its room and who waits there.
-pub IsConsistent-set_replaced : (app : Application) (D : ℕ → Phase → Type 0) (s : Snapshot) (set : ℕ) (now : SetSnapshot) → set < length s.sets
+pub IsConsistent-set_replaced : (app : Application) (D : ℕ → Phase → Type 0) (s : Snapshot) (set : ℕ) (now : SetSnapshot) → set < length s.objects.sets
     → room_of now ≡ room_of (set_at s set) → now.waiting ≡ (set_at s set).waiting
     → IsConsistent app D s → IsConsistent app D (with_set s set now)
-IsConsistent-set_replaced app D s set now there room kept at =
-    let p = with_set s set now in
-    record {
-      cores = at.cores;
-      tasks = at.tasks;
-      each = at.each;
-      shapes = at.shapes;
-      rooms = map_kept room_of s.sets set now no_set room ∙ at.rooms;
-      placed_once = at.placed_once;
-      waiting_lists = record {
-        ready = at.waiting_lists.ready;
-        waiting =
-            λ place. subst (IsInOrder (priorities_of app)) (sym (waiting_at-with_set s p set now place there kept refl refl)) (at.waiting_lists.waiting place);
-      };
-      places = λ place t h. ap (times_in_list t) (waiting_at-with_set s p set now place there kept refl refl) ∙ at.places place t h;
-    }
+IsConsistent-set_replaced app D s set now there room kept =
+    IsConsistent-contents app D s (with_set s set now).objects (ContentsChange-set s set now there room kept)
 
 -- Who is seated changes as scheduling changes it.
 pub IsConsistent-seats : (app : Application) (D : ℕ → Phase → Type 0) (s z : Snapshot) → SeatsKept (priorities_of app) (seating_of s) (seating_of z)
-    → z.tasks ≡ s.tasks → z.queues ≡ s.queues → z.sets ≡ s.sets
-    → IsConsistent app D s → IsConsistent app D z
-IsConsistent-seats app D s z kept tasks queues sets at =
+    → z.tasks ≡ s.tasks → z.objects ≡ s.objects → IsConsistent app D s → IsConsistent app D z
+IsConsistent-seats app D s z kept tasks objects at =
     let is : (t : ℕ) → task_at z t ≡ task_at s t = λ t. ap (λ (ts : List TaskSnapshot). get_or ts t no_task) tasks in
     let in_s : (t : ℕ) → t < length z.tasks → t < length s.tasks = λ t h. omega (arith, h, ap length tasks) in
     record {
       cores = kept.cores ∙ at.cores;
       tasks = ap length tasks ∙ at.tasks;
       each = λ t h. subst (IsConsistentTask app D t) (sym (is t)) (at.each t (in_s t h));
-      shapes = ap (map shape_of) queues ∙ at.shapes;
-      rooms = ap (map room_of) sets ∙ at.rooms;
+      shapes = subst (AreShaped app) (sym objects) at.shapes;
       placed_once = λ t h. kept.seats t ∙ at.placed_once t (in_s t h) ∙ ap (λ (x : TaskSnapshot). seats_to_run x.phase) (sym (is t));
       waiting_lists = record {
         ready = kept.order at.waiting_lists.ready;
-        waiting = λ place. subst (IsInOrder (priorities_of app)) (sym (waiting_at-same_objects s z place queues sets)) (at.waiting_lists.waiting place);
+        waiting = λ place. subst (λ o. IsInOrder (priorities_of app) (waiting_in o place)) (sym objects) (at.waiting_lists.waiting place);
       };
       places =
-          λ place t h. ap (times_in_list t) (waiting_at-same_objects s z place queues sets) ∙ at.places place t (in_s t h)
+          λ place t h. ap (λ o. times_in_list t (waiting_in o place)) objects ∙ at.places place t (in_s t h)
           ∙ ap (λ (x : TaskSnapshot). times_waiting_at place x.phase) (sym (is t));
     }
 
@@ -353,8 +375,7 @@ task_moved s task x place cores ready waiting = record s {
   cores = cores;
   ready = ready;
   tasks = set s.tasks task x;
-  queues = queues_then s place waiting;
-  sets = sets_then s place waiting;
+  objects = objects_then s.objects place waiting;
 }
 
 -- what holds where two places are one, and where they aren't
@@ -372,13 +393,12 @@ pub IsConsistent-moved : (app : Application) (D : ℕ → Phase → Type 0) (s :
 IsConsistent-moved app D s task x place cores ready waiting goes at =
     let p = task_moved s task x place cores ready waiting in
     let list : (other : Place) → List ℕ = λ other. cond (same_place other place) waiting (waiting_at s other) in
-    let is_list : (other : Place) → waiting_at p other ≡ list other = λ other. waiting_then s p place other waiting goes.has_place refl refl in
+    let is_list : (other : Place) → waiting_at p other ≡ list other = λ other. waiting_then s.objects place other waiting goes.has_place in
     record {
       cores = goes.same_cores ∙ at.cores;
       tasks = length-set s.tasks task x ∙ at.tasks;
       each = task_or_other s p task x (IsConsistentTask app D) goes.there refl goes.consistent (λ t differs h. at.each t h);
-      shapes = shapes_then s place waiting ∙ at.shapes;
-      rooms = rooms_then s place waiting ∙ at.rooms;
+      shapes = shapes_then app s.objects place waiting at.shapes;
       placed_once = task_or_other s p task x (λ t y. times_in_list t ready + times_on_cores t cores ≡ seats_to_run y.phase) goes.there refl goes.seats
           (λ t differs h. goes.others_seats t differs ∙ at.placed_once t h);
       waiting_lists = record {

@@ -22,7 +22,7 @@ use Rattle.rd_state.specs.Waiting.{waiting_at}
 use Rattle.rd_state.proofs.ScheduleLaws.{one_if, times_in_list-cons, times_in_list-joined}
 use Rattle.rd_app.specs.Application.{max_delay}
 use Rattle.rd_kernel.specs.Waking.{FirstTriesWait, deadline_after, value_of, is_due}
-use Rattle.rd_kernel.specs.Waking.{queues_without, sets_without, timed_out, woken, woken_at, woken_from, woken_first, woken_one}
+use Rattle.rd_kernel.specs.Waking.{objects_without, timed_out, woken, woken_at, woken_from, woken_first, woken_one}
 use Rattle.rd_kernel.proofs.ConsistentLaws.{TaskMoves, IsConsistent, IsConsistent-deadlines, IsConsistent-moved, place_there, same_place-self}
 
 -- ---- where a task stands in a list
@@ -198,7 +198,7 @@ IsConsistent-woken_at app D s task (Some place) deadline there e asked at =
     let ready = joined (priorities_of app) s.ready task in
     let x = with_phase_again (task_at s task) deadline in
     subst (λ (o : Option ℕ).
-    IsConsistent app D (record s { ready = ready; tasks = set s.tasks task x; queues = queues_without s place o; sets = sets_without s place o }))
+    IsConsistent app D (record s { ready = ready; tasks = set s.tasks task x; objects = objects_without s.objects place o }))
     (sym f.is_at)
     (IsConsistent-moved app D s task x place s.cores ready (remove (waiting_at s place) f.index)
     (TaskMoves-again app D s task place deadline f there e some asked at) at)

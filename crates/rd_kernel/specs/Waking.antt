@@ -2,8 +2,6 @@
 use Rattle.std.specs.Prelude.{ℕ, ◌≡◌, zero, suc, ◌+◌, ◌<◌, ◌&&◌, Bool, true, List, is_some}
 use Rattle.std.specs.Prelude.{length, nat_eq, nat_lt, not, position, remove, slice_get}
 use Rattle.std.specs.Prelude.{if◌then◌else◌, Option, None, Some}
-use Rattle.rd_queue.specs.QueueSnapshot.{QueueSnapshot}
-use Rattle.rd_queue.specs.SetSnapshot.{SetSnapshot}
 use Rattle.rd_app.specs.declared.instr.Operand.{Operand}
 use Rattle.rd_app.specs.declared.instr.Operand.TheVariants.{Number, Register}
 use Rattle.rd_state.specs.declared.phase.Phase.{Phase}
@@ -12,9 +10,9 @@ use Rattle.rd_state.specs.declared.phase.Place.{Place}
 use Rattle.rd_app.specs.Application.{max_delay}
 use Rattle.rd_wait.specs.Joined.{joined}
 use Rattle.rd_state.specs.Phases.{is_first, kept_deadline, waits_at}
-use Rattle.rd_state.specs.Snapshot.{Snapshot, task_at}
+use Rattle.rd_state.specs.Snapshot.{Objects, Snapshot, task_at}
 use Rattle.rd_state.specs.Valid.{is_ahead}
-use Rattle.rd_state.specs.Waiting.{waiting_at, queues_then, sets_then, with_waiting_at}
+use Rattle.rd_state.specs.Waiting.{objects_then, waiting_at, waiting_in, with_waiting_at}
 use Rattle.rd_kernel.specs.Tasks.{register_at, with_phase}
 
 -- the number that an operand stands for
@@ -48,20 +46,16 @@ abbrev pub with_waiter : List ℕ → Snapshot → Place → ℕ → Snapshot
 with_waiter priorities s place task =
     with_waiting_at s place (joined priorities (waiting_at s place) task)
 
--- the queues and the sets, once the member at that index of the list has left it
-abbrev pub queues_without : Snapshot → Place → Option ℕ → List QueueSnapshot
-queues_without s place None = s.queues
-queues_without s place (Some index) = queues_then s place (remove (waiting_at s place) index)
-
-abbrev pub sets_without : Snapshot → Place → Option ℕ → List SetSnapshot
-sets_without s place None = s.sets
-sets_without s place (Some index) = sets_then s place (remove (waiting_at s place) index)
+-- the objects, once the member at that index of the list has left it
+abbrev pub objects_without : Objects → Place → Option ℕ → Objects
+objects_without o place None = o
+objects_without o place (Some index) = objects_then o place (remove (waiting_in o place) index)
 
 -- the state once the task has left the list, if it stood there
 abbrev pub without_waiter : Snapshot → Place → ℕ → Snapshot
 without_waiter s place task = record s {
-  queues = queues_without s place (position (λ member. nat_eq member task) (waiting_at s place));
-  sets = sets_without s place (position (λ member. nat_eq member task) (waiting_at s place));
+  objects = objects_without s.objects place
+      (position (λ member. nat_eq member task) (waiting_at s place));
 }
 
 -- The ready list has room for one task more.

@@ -18,10 +18,10 @@ use Rattle.rd_state.specs.declared.phase.Place.{Place}
 use Rattle.rd_state.specs.declared.phase.Place.TheVariants.{Queue, Set}
 use Rattle.rd_state.specs.Phases.{kept_deadline, waits_at}
 use Rattle.rd_state.specs.Snapshot.{Snapshot, no_set, queue_at, set_at, task_at}
-use Rattle.rd_state.specs.Waiting.{sets_then, waiting_at}
+use Rattle.rd_state.specs.Waiting.{objects_then, waiting_at}
 use Rattle.rd_kernel.specs.Outcomes.{Called, blocked, call_answers, call_fails, call_passes, passed}
 use Rattle.rd_kernel.specs.declared.outcome.Outcome.TheVariants.{Waits}
-use Rattle.rd_kernel.specs.Waking.{deadline_of, may_wait, sets_without, with_waiter, woken_at, woken_first, woken_one}
+use Rattle.rd_kernel.specs.Waking.{deadline_of, may_wait, objects_without, with_waiter, woken_at, woken_first, woken_one}
 use Rattle.rd_queue_calls.specs.Posts.{call_breaks, is_in_full_set, is_in_no_set, is_in_set, posted, replaced, set_of, with_handle, with_member}
 use Rattle.rd_queue_calls.specs.QueueCalls.{is_empty, is_full, queue_outcome, sent_outcome, with_item_over, with_item_peeked, with_item_sent}
 use Rattle.rd_queue_calls.specs.QueueCalls.{with_item_taken, with_no_items}
@@ -45,11 +45,11 @@ handles_kept [] number tasks = refl
 handles_kept (q ∷ sets) zero tasks = refl
 handles_kept (q ∷ sets) (suc number) tasks = ap (λ rest. q.handles ∷ rest) (handles_kept sets number tasks)
 
-handles_then : (s : Snapshot) (place : Place) (tasks : List ℕ) → map (λ (q : SetSnapshot). q.handles) (sets_then s place tasks) ≡ handles_in s
+handles_then : (s : Snapshot) (place : Place) (tasks : List ℕ) → map (λ (q : SetSnapshot). q.handles) (objects_then s.objects place tasks).sets ≡ handles_in s
 handles_then s (Queue queue list) tasks = refl
-handles_then s (Set number) tasks = handles_kept s.sets number tasks
+handles_then s (Set number) tasks = handles_kept s.objects.sets number tasks
 
-handles_without : (s : Snapshot) (place : Place) (o : Option ℕ) → map (λ (q : SetSnapshot). q.handles) (sets_without s place o) ≡ handles_in s
+handles_without : (s : Snapshot) (place : Place) (o : Option ℕ) → map (λ (q : SetSnapshot). q.handles) (objects_without s.objects place o).sets ≡ handles_in s
 handles_without s place None = refl
 handles_without s place (Some index) = handles_then s place (remove (waiting_at s place) index)
 
@@ -96,7 +96,7 @@ handles_of_posts : (priorities : List ℕ) (s : Snapshot) (queue : ℕ) (member 
 handles_of_posts priorities s queue None = handles_woken_first priorities s (Queue queue Receiving)
 handles_of_posts priorities s queue (Some number) =
     handles_woken_first priorities (with_handle s number queue) (Set number)
-    ∙ handles_set s.sets number (with_handles (set_at s number) ((set_at s number).handles ++ queue ∷ []))
+    ∙ handles_set s.objects.sets number (with_handles (set_at s number) ((set_at s number).handles ++ queue ∷ []))
 
 handles_of_sends : (priorities : List ℕ) (s : Snapshot) (task queue : ℕ) (end : End)
     → handles_in (sent_outcome priorities s task queue end).state ≡ handles_sent s queue
@@ -156,7 +156,7 @@ of_sets : (priorities : List ℕ) (s : Snapshot) (task number : ℕ) (call : Set
 of_sets priorities s task number (Select wait) =
     handles_or_blocked priorities s task (Set number) wait (has_no_handle (set_at s number))
     (call_answers (with_handle_taken s number) (slice_index (set_at s number).handles 0 + 1)) (set (handles_in s) number (drop 1 (set_at s number).handles))
-    (handles_set s.sets number (with_handles (set_at s number) (drop 1 (set_at s number).handles)))
+    (handles_set s.objects.sets number (with_handles (set_at s number) (drop 1 (set_at s number).handles)))
 
 pub handles_go_by_calls : HandlesGoByCalls
 handles_go_by_calls = record { of_queues = of_queues; of_sets = of_sets }

@@ -26,7 +26,7 @@ use Rattle.rd_state.specs.Change.{with_queue, with_set, items_at}
 use Rattle.rd_state.specs.Sizes.{IsSized}
 use Rattle.rd_state.specs.Snapshot.{Snapshot, TaskSnapshot, no_task, task_at, queue_at, set_at}
 use Rattle.rd_state.specs.Valid.{seats_to_run, times_in_list}
-use Rattle.rd_state.specs.Waiting.{HasPlace, waiting_at}
+use Rattle.rd_state.specs.Waiting.{HasPlace, waiting_at, waiting_in}
 use Rattle.rd_state.proofs.UndoLaws.{queue_sized}
 use Rattle.rd_kernel.specs.Outcomes.{call_answers, call_fails, call_passes, concluded}
 use Rattle.rd_kernel.specs.Waking.{ReadyHasRoom}
@@ -49,19 +49,24 @@ room_kept s p same ready tasks room place some =
     let first = first_waits (waiting_at s place) some_before in
     omega (arith, room place (place_there s place first.0 first.1) some_before, ap length ready, tasks)
 
+-- with other objects, where the same tasks wait
+room_after : (s p q : Snapshot) → p.objects ≡ q.objects → ((place : Place) → waiting_at q place ≡ waiting_at s place) → HasRoomToWake s
+    → p.ready ≡ s.ready → length p.tasks ≡ length s.tasks → (place : Place) → 0 < length (waiting_at p place) → ReadyHasRoom p
+room_after s p q objects same room ready tasks = room_kept s p (λ place. ap (λ o. waiting_in o place) objects ∙ same place) ready tasks room
+
 -- The same of a queue that has changed in something else.
-pub room_after_queue : (s p : Snapshot) (queue : ℕ) (now : QueueSnapshot) → queue < length s.queues → IsSameWaiting now (queue_at s queue) → HasRoomToWake s
-    → p.queues ≡ set s.queues queue now → p.sets ≡ s.sets → p.ready ≡ s.ready → length p.tasks ≡ length s.tasks
+pub room_after_queue : (s p : Snapshot) (queue : ℕ) (now : QueueSnapshot) → queue < length s.objects.queues → IsSameWaiting now (queue_at s queue) → HasRoomToWake s
+    → p.objects ≡ (with_queue s queue now).objects → p.ready ≡ s.ready → length p.tasks ≡ length s.tasks
     → (place : Place) → 0 < length (waiting_at p place) → ReadyHasRoom p
-room_after_queue s p queue now there kept room queues sets ready tasks =
-    room_kept s p (λ place. waiting_at-with_queue s p queue now place there kept queues sets) ready tasks room
+room_after_queue s p queue now there kept room objects =
+    room_after s p (with_queue s queue now) objects (λ place. waiting_at-with_queue s queue now place there kept) room
 
 -- and of a set
-pub room_after_set : (s p : Snapshot) (number : ℕ) (now : SetSnapshot) → number < length s.sets → now.waiting ≡ (set_at s number).waiting → HasRoomToWake s
-    → p.queues ≡ s.queues → p.sets ≡ set s.sets number now → p.ready ≡ s.ready → length p.tasks ≡ length s.tasks
+pub room_after_set : (s p : Snapshot) (number : ℕ) (now : SetSnapshot) → number < length s.objects.sets → now.waiting ≡ (set_at s number).waiting → HasRoomToWake s
+    → p.objects ≡ (with_set s number now).objects → p.ready ≡ s.ready → length p.tasks ≡ length s.tasks
     → (place : Place) → 0 < length (waiting_at p place) → ReadyHasRoom p
-room_after_set s p number now there kept room queues sets ready tasks =
-    room_kept s p (λ place. waiting_at-with_set s p number now place there kept queues sets) ready tasks room
+room_after_set s p number now there kept room objects =
+    room_after s p (with_set s number now) objects (λ place. waiting_at-with_set s number now place there kept) room
 
 -- Other items, or another set, are none of who waits.
 pub items_keep : (queue : QueueSnapshot) (items : List (List ℕ)) → IsSameWaiting (with_items queue items) queue
@@ -72,7 +77,7 @@ put_keeps queue Back item = record { receiving = refl; sending = refl }
 put_keeps queue Front item = record { receiving = refl; sending = refl }
 
 -- The set of a queue is there.
-pub set_there : (s : Snapshot) (queue : ℕ) → IsSized s → queue < length s.queues → IfSome (set_of s queue) (λ set. set < length s.sets)
+pub set_there : (s : Snapshot) (queue : ℕ) → IsSized s → queue < length s.objects.queues → IfSome (set_of s queue) (λ set. set < length s.objects.sets)
 set_there s queue sized there =
     let here = queue_sized s queue sized there in
     subst (λ sets. IfSome (set_of s queue) (λ set. set < sets)) here.2 here.0.set
@@ -97,18 +102,18 @@ done_as app s p core task instr place calls consistent tasks has_place same =
 
 -- A queue gets other items, and who waits in one of its lists is woken.
 with_items_done : (app : Application) (s : Snapshot) (core task queue : ℕ) (list : WaitingList) (instr : Instr) (items : List (List ℕ))
-    → RunsInstr app s core task instr → queue < length s.queues
+    → RunsInstr app s core task instr → queue < length s.objects.queues
     → IsDone app s (with_queue s queue (with_items (queue_at s queue) items)) task (Queue queue list)
 with_items_done app s core task queue list instr items calls there =
     let now = with_items (queue_at s queue) items in
     let p = with_queue s queue now in
     done_as app s p core task instr (Queue queue list) calls
     (IsConsistent-items app (all_have_time_left s.tick) s queue items there (IsConsistent-valid app s calls.valid)) refl there
-    (waiting_at-with_queue s p queue now (Queue queue list) there (items_keep (queue_at s queue) items) refl refl)
+    (waiting_at-with_queue s queue now (Queue queue list) there (items_keep (queue_at s queue) items))
 
 -- A queue gets other items, and its set a handle.
 with_handle_done : (app : Application) (s : Snapshot) (core task queue number : ℕ) (instr : Instr) (items : List (List ℕ))
-    → RunsInstr app s core task instr → queue < length s.queues → number < length s.sets
+    → RunsInstr app s core task instr → queue < length s.objects.queues → number < length s.objects.sets
     → IsDone app s (with_handle (with_queue s queue (with_items (queue_at s queue) items)) number queue) task (Set number)
 with_handle_done app s core task queue number instr items calls there has_set =
     let D = all_have_time_left s.tick in
@@ -119,32 +124,32 @@ with_handle_done app s core task queue number instr items calls there has_set =
     done_as app s q core task instr (Set number) calls
     (IsConsistent-set_replaced app D p number handles has_set refl refl (IsConsistent-items app D s queue items there (IsConsistent-valid app s calls.valid)))
     refl has_set
-    (waiting_at-with_set p q number handles (Set number) has_set refl refl refl
-    ∙ waiting_at-with_queue s p queue now (Set number) there (items_keep (queue_at s queue) items) refl refl)
+    (waiting_at-with_set p number handles (Set number) has_set refl
+    ∙ waiting_at-with_queue s queue now (Set number) there (items_keep (queue_at s queue) items))
 
 -- A queue becomes a member of a set, or of none.
 with_member_done : (app : Application) (s : Snapshot) (core task queue : ℕ) (member : Option ℕ) (instr : Instr)
-    → RunsInstr app s core task instr → queue < length s.queues → IsDone app s (with_member s queue member) task (Queue queue Receiving)
+    → RunsInstr app s core task instr → queue < length s.objects.queues → IsDone app s (with_member s queue member) task (Queue queue Receiving)
 with_member_done app s core task queue member instr calls there =
     let now : QueueSnapshot = record (queue_at s queue) { set = member } in
     let p = with_queue s queue now in
     let kept : IsSameWaiting now (queue_at s queue) = record { receiving = refl; sending = refl } in
     done_as app s p core task instr (Queue queue Receiving) calls
     (IsConsistent-queue_replaced app (all_have_time_left s.tick) s queue now there refl kept (IsConsistent-valid app s calls.valid)) refl there
-    (waiting_at-with_queue s p queue now (Queue queue Receiving) there kept refl refl)
+    (waiting_at-with_queue s queue now (Queue queue Receiving) there kept)
 
 -- The first handle leaves a set.
 with_handle_taken_done : (app : Application) (s : Snapshot) (core task number : ℕ) (instr : Instr)
-    → RunsInstr app s core task instr → number < length s.sets → IsDone app s (with_handle_taken s number) task (Set number)
+    → RunsInstr app s core task instr → number < length s.objects.sets → IsDone app s (with_handle_taken s number) task (Set number)
 with_handle_taken_done app s core task number instr calls has_set =
     let now = with_handles (set_at s number) (drop 1 (set_at s number).handles) in
     let p = with_set s number now in
     done_as app s p core task instr (Set number) calls
     (IsConsistent-set_replaced app (all_have_time_left s.tick) s number now has_set refl refl (IsConsistent-valid app s calls.valid)) refl has_set
-    (waiting_at-with_set s p number now (Set number) has_set refl refl refl)
+    (waiting_at-with_set s number now (Set number) has_set refl)
 
 -- The first item becomes the caller's data, and who else waits for one is woken.
-peeked : (app : Application) (s : Snapshot) (core task queue : ℕ) (instr : Instr) → RunsInstr app s core task instr → queue < length s.queues
+peeked : (app : Application) (s : Snapshot) (core task queue : ℕ) (instr : Instr) → RunsInstr app s core task instr → queue < length s.objects.queues
     → IsDone app s (with_item_peeked s task queue) task (Queue queue Receiving)
 peeked app s core task queue instr calls there =
     let x = record (task_at s task) { bytes = get_or (items_at s queue) 0 [] } in
@@ -161,7 +166,7 @@ peeked app s core task queue instr calls there =
     }
 
 -- It leaves the queue too, and who waits for a free slot is woken.
-taken : (app : Application) (s : Snapshot) (core task queue : ℕ) (instr : Instr) → RunsInstr app s core task instr → queue < length s.queues
+taken : (app : Application) (s : Snapshot) (core task queue : ℕ) (instr : Instr) → RunsInstr app s core task instr → queue < length s.objects.queues
     → IsDone app s (with_item_taken s task queue) task (Queue queue Sending)
 taken app s core task queue instr calls there =
     let D = all_have_time_left s.tick in
@@ -180,7 +185,7 @@ taken app s core task queue instr calls there =
       runs = subst (λ (t : TaskSnapshot). 1 ≤ seats_to_run t.phase) (sym is) calls.runs;
       within = subst (λ (t : TaskSnapshot). t.pc + 1 < length (code_of app task)) (sym is) calls.within;
       waiters = λ t some.
-          let before = waiting_at-with_queue s p queue now (Queue queue Sending) there (items_keep (queue_at s queue) items) refl refl in
+          let before = waiting_at-with_queue s queue now (Queue queue Sending) there (items_keep (queue_at s queue) items) in
           subst (λ n. t < n) (sym same)
           (waits_is_task s (Queue queue Sending) t calls.valid.in_limits.sized there (omega (arith, some, ap (times_in_list t) before)));
     }
@@ -195,7 +200,7 @@ returns_done app s p core task answer place done =
 
 -- An item was put.
 posts : (app : Application) (s : Snapshot) (core task queue : ℕ) (member : Option ℕ) (instr : Instr) (items : List (List ℕ))
-    → RunsInstr app s core task instr → queue < length s.queues → IfSome member (λ set. set < length s.sets)
+    → RunsInstr app s core task instr → queue < length s.objects.queues → IfSome member (λ set. set < length s.objects.sets)
     → IsConsistent app (all_have_time_left s.tick)
     (concluded (posted (priorities_of app) (with_queue s queue (with_items (queue_at s queue) items)) queue member) core task)
 posts app s core task queue None instr items calls there has_set =
@@ -205,7 +210,7 @@ posts app s core task queue (Some number) instr items calls there has_set =
     IsConsistent-done app s (with_handle (with_queue s queue (with_items (queue_at s queue) items)) number queue) core task (Set number)
     (with_handle_done app s core task queue number instr items calls there has_set)
 
-sends : (app : Application) (s : Snapshot) (core task queue : ℕ) (end : End) (instr : Instr) → RunsInstr app s core task instr → queue < length s.queues
+sends : (app : Application) (s : Snapshot) (core task queue : ℕ) (end : End) (instr : Instr) → RunsInstr app s core task instr → queue < length s.objects.queues
     → IsConsistent app (all_have_time_left s.tick) (concluded (sent_outcome (priorities_of app) s task queue end) core task)
 sends app s core task queue end instr calls there =
     elim (is_in_full_set s (set_of s queue)) as (λ b.
@@ -226,7 +231,7 @@ sends app s core task queue end instr calls there =
 
 -- An item took the place of another.
 replaces : (app : Application) (s : Snapshot) (core task queue : ℕ) (member : Option ℕ) (instr : Instr) → RunsInstr app s core task instr
-    → queue < length s.queues
+    → queue < length s.objects.queues
     → IsConsistent app (all_have_time_left s.tick) (concluded (replaced (priorities_of app) (with_item_over s task queue) queue member) core task)
 replaces app s core task queue None instr calls there =
     IsConsistent-done app s (with_item_over s task queue) core task (Queue queue Receiving)
@@ -237,7 +242,7 @@ replaces app s core task queue (Some number) instr calls there =
 
 -- A queue joins a set or leaves it, or nothing happens.
 joins_or_not : (app : Application) (s : Snapshot) (core task queue : ℕ) (member : Option ℕ) (instr : Instr) (can : Bool) → RunsInstr app s core task instr
-    → queue < length s.queues
+    → queue < length s.objects.queues
     → IsConsistent app (all_have_time_left s.tick) (concluded (cond can (call_passes (with_member s queue member)) (call_fails s)) core task)
 joins_or_not app s core task queue member instr can calls there =
     elim can as (λ b. IsConsistent app (all_have_time_left s.tick) (concluded (cond b (call_passes (with_member s queue member)) (call_fails s)) core task)) [
@@ -249,7 +254,7 @@ joins_or_not app s core task queue member instr can calls there =
 
 -- A call of a queue leaves what stands, and the tick.
 pub IsConsistent-queue_call : (app : Application) (s : Snapshot) (core task queue : ℕ) (call : QueueCall) → RunsInstr app s core task (instr.Queue queue call)
-    → queue < length s.queues
+    → queue < length s.objects.queues
     → IsConsistent app (all_have_time_left s.tick) (concluded (queue_outcome (priorities_of app) s task queue call) core task)
 IsConsistent-queue_call app s core task queue (Send end wait) calls there =
     IsConsistent-or_blocked app s core task (instr.Queue queue (Send end wait)) (Queue queue Sending) wait (is_full (queue_at s queue))
@@ -285,7 +290,7 @@ IsConsistent-queue_call app s core task queue (RemoveFromSet number) calls there
 
 -- and so does a call of a set.
 pub IsConsistent-set_call : (app : Application) (s : Snapshot) (core task number : ℕ) (call : SetCall) → RunsInstr app s core task (instr.Set number call)
-    → number < length s.sets
+    → number < length s.objects.sets
     → IsConsistent app (all_have_time_left s.tick) (concluded (set_outcome (priorities_of app) s task number call) core task)
 IsConsistent-set_call app s core task number (Select wait) calls there =
     IsConsistent-or_blocked app s core task (instr.Set number (Select wait)) (Set number) wait (has_no_handle (set_at s number)) _ calls there refl

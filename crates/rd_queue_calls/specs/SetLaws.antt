@@ -20,7 +20,7 @@ use Rattle.rd_queue_calls.specs.SetCalls.{has_no_handle, set_outcome}
 
 -- the handles of all sets
 abbrev pub handles_in : Snapshot → List (List ℕ)
-handles_in s = map (λ set. set.handles) s.sets
+handles_in s = map (λ set. set.handles) s.objects.sets
 
 -- the handles once an item was posted: one more at the back of the queue's set, if it is in one
 abbrev pub handles_posted : Snapshot → ℕ → Option ℕ → List (List ℕ)

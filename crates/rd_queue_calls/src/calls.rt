@@ -39,7 +39,7 @@ use rd_state::transfer::Transfer;
 // The queue's first item becomes the task's data.
 fn dequeue(editing: &mut Editing, task: usize, queue: usize) -> Result<(), NoMemory>
     requires task { task < length editing.old.now.tasks }
-    requires queue { queue < length editing.old.now.queues }
+    requires queue { queue < length editing.old.now.objects.queues }
     requires some { 0 < length (queue_at editing.old.now queue).items }
     requires sized { IsSized editing.old.now }
     ensures ok { OnOk result
@@ -76,7 +76,7 @@ fn deliver(
     end: End,
 ) -> Result<Outcome, NoMemory>
     requires caller { IsCalling app.now editing.old.now task }
-    requires queue { queue < length editing.old.now.queues }
+    requires queue { queue < length editing.old.now.objects.queues }
     requires room { length (queue_at editing.old.now queue).items
         < (queue_at editing.old.now queue).capacity }
     ensures ok { IfOk result (DoesCall editing.old editing.new
@@ -105,7 +105,7 @@ fn send(
     wait: Operand,
 ) -> Result<Outcome, NoMemory>
     requires caller { IsCalling app.now editing.old.now task }
-    requires queue { queue < length editing.old.now.queues }
+    requires queue { queue < length editing.old.now.objects.queues }
     requires register { IsOperand wait }
     ensures ok { IfOk result (DoesCall editing.old editing.new
         (send_outcome (priorities_of app.now) editing.old.now task queue end wait) send_cost) }
@@ -130,7 +130,7 @@ fn receive(
     wait: Operand,
 ) -> Result<Outcome, NoMemory>
     requires caller { IsCalling app.now editing.old.now task }
-    requires queue { queue < length editing.old.now.queues }
+    requires queue { queue < length editing.old.now.objects.queues }
     requires register { IsOperand wait }
     ensures ok { IfOk result (DoesCall editing.old editing.new
         (receive_outcome (priorities_of app.now) editing.old.now task queue wait) receive_cost) }
@@ -155,7 +155,7 @@ fn peek(
     wait: Operand,
 ) -> Result<Outcome, NoMemory>
     requires caller { IsCalling app.now editing.old.now task }
-    requires queue { queue < length editing.old.now.queues }
+    requires queue { queue < length editing.old.now.objects.queues }
     requires register { IsOperand wait }
     ensures ok { IfOk result (DoesCall editing.old editing.new
         (peek_outcome (priorities_of app.now) editing.old.now task queue wait) peek_cost) }
@@ -179,7 +179,7 @@ fn overwrite(
     queue: usize,
 ) -> Result<Outcome, NoMemory>
     requires caller { IsCalling app.now editing.old.now task }
-    requires queue { queue < length editing.old.now.queues }
+    requires queue { queue < length editing.old.now.objects.queues }
     ensures ok { IfOk result (DoesCall editing.old editing.new
         (overwrite_outcome (priorities_of app.now) editing.old.now task queue) overwrite_cost) }
     ensures full_set { is_empty (queue_at editing.old.now queue) ≡ true
@@ -201,7 +201,7 @@ fn overwrite(
 // Empties the queue (`xQueueReset`).
 fn reset(app: &App, editing: &mut Editing, task: usize, queue: usize) -> Result<Outcome, NoMemory>
     requires caller { IsCalling app.now editing.old.now task }
-    requires queue { queue < length editing.old.now.queues }
+    requires queue { queue < length editing.old.now.objects.queues }
     ensures ok { IfOk result (DoesCall editing.old editing.new
         (reset_outcome (priorities_of app.now) editing.old.now queue)
         (reset_cost + length (concat (queue_at editing.old.now queue).items))) }
@@ -217,8 +217,8 @@ fn reset(app: &App, editing: &mut Editing, task: usize, queue: usize) -> Result<
 // Makes an empty queue a member of the set, if it is one of none (`xQueueAddToSet`).
 fn add_to_set(editing: &mut Editing, queue: usize, set: usize) -> Result<Outcome, NoMemory>
     requires sized { IsSized editing.old.now }
-    requires queue { queue < length editing.old.now.queues }
-    requires set { set < length editing.old.now.sets }
+    requires queue { queue < length editing.old.now.objects.queues }
+    requires set { set < length editing.old.now.objects.sets }
     ensures ok { IfOk result (DoesCall editing.old editing.new
         (add_outcome editing.old.now queue set) member_cost) }
     ensures refused { (is_empty (queue_at editing.old.now queue)
@@ -238,8 +238,8 @@ fn add_to_set(editing: &mut Editing, queue: usize, set: usize) -> Result<Outcome
 // Takes an empty queue out of the set, if it is a member of that (`xQueueRemoveFromSet`).
 fn remove_from_set(editing: &mut Editing, queue: usize, set: usize) -> Result<Outcome, NoMemory>
     requires sized { IsSized editing.old.now }
-    requires queue { queue < length editing.old.now.queues }
-    requires set { set < length editing.old.now.sets }
+    requires queue { queue < length editing.old.now.objects.queues }
+    requires set { set < length editing.old.now.objects.sets }
     ensures ok { IfOk result (DoesCall editing.old editing.new
         (remove_outcome editing.old.now queue set) member_cost) }
     ensures refused { (is_empty (queue_at editing.old.now queue)
@@ -266,8 +266,8 @@ pub fn call_queue(
     call: QueueCall,
 ) -> Result<Outcome, NoMemory>
     requires caller { IsCalling app.now editing.old.now task }
-    requires queue { queue < length editing.old.now.queues }
-    requires registers { IsQueueCall (length editing.old.now.sets) call }
+    requires queue { queue < length editing.old.now.objects.queues }
+    requires registers { IsQueueCall (length editing.old.now.objects.sets) call }
     ensures ok { IfOk result (DoesCall editing.old editing.new
         (queue_outcome (priorities_of app.now) editing.old.now task queue call)
         (queue_call_cost + dropped_by editing.old.now queue call)) }

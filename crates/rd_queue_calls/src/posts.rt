@@ -20,7 +20,7 @@ use rd_state::state::State;
 
 /// Has the set that a queue is a member of, if it is one, no room for one handle more?
 pub fn is_in_full_set(state: &State, set: Option<usize>) -> bool
-    requires { IfSome set (λ set. set < length state.now.sets) }
+    requires { IfSome set (λ set. set < length state.now.objects.sets) }
     ensures { result ≡ is_in_full_set state.now set }
 {
     match set {
@@ -37,8 +37,8 @@ pub fn post(
     queue: usize,
     set: Option<usize>,
 ) -> Result<Outcome, NoMemory>
-    requires queue { queue < length editing.old.now.queues }
-    requires set { IfSome set (λ set. set < length editing.old.now.sets) }
+    requires queue { queue < length editing.old.now.objects.queues }
+    requires set { IfSome set (λ set. set < length editing.old.now.objects.sets) }
     requires room { is_in_full_set editing.old.now set ≡ false }
     requires ready { HasRoomToWake editing.old.now }
     requires priorities { length (priorities_of app.now) ≡ length editing.old.now.tasks }

@@ -29,7 +29,7 @@ fn select(
     wait: Operand,
 ) -> Result<Outcome, NoMemory>
     requires caller { IsCalling app.now editing.old.now task }
-    requires set { set < length editing.old.now.sets }
+    requires set { set < length editing.old.now.objects.sets }
     requires register { IsOperand wait }
     ensures ok { IfOk result (DoesCall editing.old editing.new
         (select_outcome (priorities_of app.now) editing.old.now task set wait) set_call_cost) }
@@ -57,7 +57,7 @@ pub fn call_set(
     call: SetCall,
 ) -> Result<Outcome, NoMemory>
     requires caller { IsCalling app.now editing.old.now task }
-    requires set { set < length editing.old.now.sets }
+    requires set { set < length editing.old.now.objects.sets }
     requires registers { IsSetCall call }
     ensures ok { IfOk result (DoesCall editing.old editing.new
         (set_outcome (priorities_of app.now) editing.old.now task set call) set_call_cost) }

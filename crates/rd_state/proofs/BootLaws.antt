@@ -110,8 +110,10 @@ IsValid-boot app s limits sized e =
             All-get_or (IsScript app) app.scripts task (record { priority = 0; code = [] }) (omega (arith, h, tasks)) limits.scripts in
             omega (arith, ap (λ (t : TaskSnapshot). t.pc) (there task h), script.some);
         entries = All-replicate (λ (task : TaskSnapshot). length task.entries ≡ app.notes) n (fresh_task app.notes) (length-replicate app.notes idle_entry);
-        queues = shape_of-first_queues app (length app.queues) (omega arith) ∙ take_all (length app.queues) app.queues (omega arith);
-        sets = room_of-new_sets n (length app.queues) app.sets;
+        objects = record {
+          queues = shape_of-first_queues app (length app.queues) (omega arith) ∙ take_all (length app.queues) app.queues (omega arith);
+          sets = room_of-new_sets n (length app.queues) app.sets;
+        };
       };
       placed_once = λ task h.
           omega (

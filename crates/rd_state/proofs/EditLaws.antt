@@ -24,12 +24,12 @@ shape-applied s (Task task change) = record { cores = refl; tasks = length-set s
 shape-applied s (Queue queue change) = record {
   cores = refl;
   tasks = refl;
-  objects = ap (λ (queues : ℕ). record (numbers_of s) { queues = queues }) (length-set s.queues queue _);
+  objects = ap (λ (queues : ℕ). record (numbers_of s) { queues = queues }) (length-set s.objects.queues queue _);
 }
 shape-applied s (Set set change) = record {
   cores = refl;
   tasks = refl;
-  objects = ap (λ (sets : ℕ). record (numbers_of s) { sets = sets }) (length-set s.sets set _);
+  objects = ap (λ (sets : ℕ). record (numbers_of s) { sets = sets }) (length-set s.objects.sets set _);
 }
 
 abbrev base_of : Snapshot → List Change → Base

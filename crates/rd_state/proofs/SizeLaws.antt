@@ -29,8 +29,8 @@ use Rattle.rd_state.specs.declared.task_change.TaskChange.TheVariants.{SetPc, Se
 use Rattle.rd_state.specs.Boot.{all_joined, first_queues, fresh_task, new_queue, new_set}
 use Rattle.rd_state.specs.Change.{with_task, with_queue, with_set, Fits, NamesObjects}
 use Rattle.rd_state.specs.Inside.{IsKept, snapshot_of}
-use Rattle.rd_state.specs.Sizes.{IsQueueFor, IsSetFor, IsSized, IsSizedPhase, IsSizedTask, IsTaskOrIdle}
-use Rattle.rd_state.specs.Snapshot.{Numbers, Snapshot, TaskSnapshot, no_queue, no_set, no_task, numbers_of, queue_at, set_at, task_at}
+use Rattle.rd_state.specs.Sizes.{AreSizedObjects, IsQueueFor, IsSetFor, IsSized, IsSizedPhase, IsSizedTask, IsTaskOrIdle}
+use Rattle.rd_state.specs.Snapshot.{Numbers, Snapshot, TaskSnapshot, no_queue, no_set, no_task, numbers_of, queue_at, set_at, task_at, Objects, numbers_in}
 use Rattle.rd_state.specs.TaskChanges.{task_applied}
 use Rattle.rd_state.proofs.TaskLaws as task_law
 use Rattle.rd_state.proofs.UndoLaws.{phase_sized, queue_sized, set_sized, task_sized}
@@ -44,7 +44,7 @@ IsKept-ready s tasks among few kept =
       sized = record {
         scheduling = record { turn = scheduling.turn; cores = scheduling.cores; ready = among; room = few };
         tasks = record { tasks = kept.sized.tasks.tasks; phases = kept.sized.tasks.phases };
-        objects = record { queues = kept.sized.objects.queues; sets = kept.sized.objects.sets };
+        objects = kept.sized.objects;
       };
       room = kept.room;
     }
@@ -80,56 +80,44 @@ IsSized-task s task new sized phase kept =
         tasks = All-set IsSizedTask s.tasks task new sized kept.tasks.tasks;
         phases = All-set (λ (t : TaskSnapshot). IsSizedPhase (numbers_of s) t.phase) s.tasks task new phase kept.tasks.phases;
       };
-      objects = record {
-        queues = subst (λ n. All (IsQueueFor n (length s.sets)) s.queues) same kept.objects.queues;
-        sets = subst (λ n. All (IsSetFor n (length s.queues)) s.sets) same kept.objects.sets;
-      };
+      objects = subst (λ n. AreSizedObjects n s.objects) same kept.objects;
     }
 
--- and with another queue
-IsSized-queue : (s : Snapshot) (queue : ℕ) (new : QueueSnapshot) → IsQueueFor (length s.tasks) (length s.sets) new → IsSized s → IsSized (with_queue s queue new)
+-- with other objects, as many of each kind
+IsSized-objects : (s : Snapshot) (n : Objects) → numbers_of s ≡ numbers_in n → AreSizedObjects (length s.tasks) n → IsSized s
+    → IsSized (record s { objects = n })
+IsSized-objects s n same sized kept = record {
+  scheduling = record {
+    turn = kept.scheduling.turn;
+    cores = kept.scheduling.cores;
+    ready = kept.scheduling.ready;
+    room = kept.scheduling.room;
+  };
+  tasks = record {
+    tasks = kept.tasks.tasks;
+    phases = subst (λ (n : Numbers). All (λ (t : TaskSnapshot). IsSizedPhase n t.phase) s.tasks) same kept.tasks.phases;
+  };
+  objects = sized;
+}
+
+-- with another queue, with another set
+IsSized-queue : (s : Snapshot) (queue : ℕ) (new : QueueSnapshot) → IsQueueFor (length s.tasks) (length s.objects.sets) new → IsSized s
+    → IsSized (with_queue s queue new)
 IsSized-queue s queue new sized kept =
-    let longer : length s.queues ≡ length (set s.queues queue new) = sym (length-set s.queues queue new) in
-    let same : numbers_of s ≡ numbers_of (with_queue s queue new) = ap (λ (queues : ℕ). record (numbers_of s) { queues = queues }) longer in
-    record {
-      scheduling = record {
-        turn = kept.scheduling.turn;
-        cores = kept.scheduling.cores;
-        ready = kept.scheduling.ready;
-        room = kept.scheduling.room;
-      };
-      tasks = record {
-        tasks = kept.tasks.tasks;
-        phases = subst (λ (n : Numbers). All (λ (t : TaskSnapshot). IsSizedPhase n t.phase) s.tasks) same kept.tasks.phases;
-      };
-      objects = record {
-        queues = All-set (IsQueueFor (length s.tasks) (length s.sets)) s.queues queue new sized kept.objects.queues;
-        sets = subst (λ n. All (IsSetFor (length s.tasks) n) s.sets) longer kept.objects.sets;
-      };
-    }
+    let longer : length s.objects.queues ≡ length (set s.objects.queues queue new) = sym (length-set s.objects.queues queue new) in
+    IsSized-objects s (with_queue s queue new).objects (ap (λ (queues : ℕ). record (numbers_of s) { queues = queues }) longer) (record {
+      queues = All-set (IsQueueFor (length s.tasks) (length s.objects.sets)) s.objects.queues queue new sized kept.objects.queues;
+      sets = subst (λ n. All (IsSetFor (length s.tasks) n) s.objects.sets) longer kept.objects.sets;
+    }) kept
 
--- and with another set
-IsSized-set : (s : Snapshot) (number : ℕ) (new : SetSnapshot) → IsSetFor (length s.tasks) (length s.queues) new → IsSized s
+IsSized-set : (s : Snapshot) (number : ℕ) (new : SetSnapshot) → IsSetFor (length s.tasks) (length s.objects.queues) new → IsSized s
     → IsSized (with_set s number new)
 IsSized-set s number new sized kept =
-    let longer : length s.sets ≡ length (set s.sets number new) = sym (length-set s.sets number new) in
-    let same : numbers_of s ≡ numbers_of (with_set s number new) = ap (λ (sets : ℕ). record (numbers_of s) { sets = sets }) longer in
-    record {
-      scheduling = record {
-        turn = kept.scheduling.turn;
-        cores = kept.scheduling.cores;
-        ready = kept.scheduling.ready;
-        room = kept.scheduling.room;
-      };
-      tasks = record {
-        tasks = kept.tasks.tasks;
-        phases = subst (λ (n : Numbers). All (λ (t : TaskSnapshot). IsSizedPhase n t.phase) s.tasks) same kept.tasks.phases;
-      };
-      objects = record {
-        queues = subst (λ n. All (IsQueueFor (length s.tasks) n) s.queues) longer kept.objects.queues;
-        sets = All-set (IsSetFor (length s.tasks) (length s.queues)) s.sets number new sized kept.objects.sets;
-      };
-    }
+    let longer : length s.objects.sets ≡ length (set s.objects.sets number new) = sym (length-set s.objects.sets number new) in
+    IsSized-objects s (with_set s number new).objects (ap (λ (sets : ℕ). record (numbers_of s) { sets = sets }) longer) (record {
+      queues = subst (λ n. All (IsQueueFor (length s.tasks) n) s.objects.queues) longer kept.objects.queues;
+      sets = All-set (IsSetFor (length s.tasks) (length s.objects.queues)) s.objects.sets number new sized kept.objects.sets;
+    }) kept
 
 -- A task that was changed has a phase with objects that are there.
 phase_then : (s : Snapshot) (task : ℕ) (change : TaskChange) → IsSized s → task < length s.tasks → NamesObjects (numbers_of s) change
@@ -190,16 +178,16 @@ task_read s now task read e =
     let P : Snapshot → Type 0 = λ t. task < length t.tasks → read ≡ get_or s.tasks.items task read → read ≡ task_at t task in
     subst P e (λ there f. f ∙ get_or_default s.tasks.items task read no_task there)
 
-pub queue_read : (s : Inside) (now : Snapshot) (queue : ℕ) (read : QueueSnapshot) → snapshot_of s ≡ now → queue < length now.queues
+pub queue_read : (s : Inside) (now : Snapshot) (queue : ℕ) (read : QueueSnapshot) → snapshot_of s ≡ now → queue < length now.objects.queues
     → read ≡ get_or s.queues.items queue read → read ≡ queue_at now queue
 queue_read s now queue read e =
-    let P : Snapshot → Type 0 = λ t. queue < length t.queues → read ≡ get_or s.queues.items queue read → read ≡ queue_at t queue in
+    let P : Snapshot → Type 0 = λ t. queue < length t.objects.queues → read ≡ get_or s.queues.items queue read → read ≡ queue_at t queue in
     subst P e (λ there f. f ∙ get_or_default s.queues.items queue read no_queue there)
 
-pub set_read : (s : Inside) (now : Snapshot) (set : ℕ) (read : SetSnapshot) → snapshot_of s ≡ now → set < length now.sets
+pub set_read : (s : Inside) (now : Snapshot) (set : ℕ) (read : SetSnapshot) → snapshot_of s ≡ now → set < length now.objects.sets
     → read ≡ get_or s.sets.items set read → read ≡ set_at now set
 set_read s now set read e =
-    let P : Snapshot → Type 0 = λ t. set < length t.sets → read ≡ get_or s.sets.items set read → read ≡ set_at t set in
+    let P : Snapshot → Type 0 = λ t. set < length t.objects.sets → read ≡ get_or s.sets.items set read → read ≡ set_at t set in
     subst P e (λ there f. f ∙ get_or_default s.sets.items set read no_set there)
 
 -- joining a task makes a list one longer

@@ -32,7 +32,7 @@ put_fits queue Back size bytes room same = (room, length-fitted size bytes ∙ s
 put_fits queue Front size bytes room same = (room, length-fitted size bytes ∙ same)
 
 -- the item at a queue's front
-first_is_short : (s : Snapshot) (queue : ℕ) → IsSized s → queue < length s.queues → 0 < length (items_at s queue) → length (get_or (items_at s queue) 0 []) ≤ 64
+first_is_short : (s : Snapshot) (queue : ℕ) → IsSized s → queue < length s.objects.queues → 0 < length (items_at s queue) → length (get_or (items_at s queue) 0 []) ≤ 64
 first_is_short s queue sized there some =
     let here = (queue_sized s queue sized there).0 in
     omega (arith, here.small, All-get_or (λ (item : List ℕ). length item ≡ (queue_at s queue).item_size) (items_at s queue) 0 [] some here.items)

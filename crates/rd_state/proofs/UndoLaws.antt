@@ -30,11 +30,11 @@ use Rattle.rd_wait.proofs.ListLaws.{remove-insert, insert-remove, replaced_back,
 pub task_sized : (s : Snapshot) (task : ℕ) → IsSized s → task < length s.tasks → IsSizedTask (task_at s task)
 task_sized s task sized there = All-get_or IsSizedTask s.tasks task no_task there sized.tasks.tasks
 
-pub queue_sized : (s : Snapshot) (queue : ℕ) → IsSized s → queue < length s.queues → IsQueueFor (length s.tasks) (length s.sets) (queue_at s queue)
-queue_sized s queue sized there = All-get_or (IsQueueFor (length s.tasks) (length s.sets)) s.queues queue no_queue there sized.objects.queues
+pub queue_sized : (s : Snapshot) (queue : ℕ) → IsSized s → queue < length s.objects.queues → IsQueueFor (length s.tasks) (length s.objects.sets) (queue_at s queue)
+queue_sized s queue sized there = All-get_or (IsQueueFor (length s.tasks) (length s.objects.sets)) s.objects.queues queue no_queue there sized.objects.queues
 
-pub set_sized : (s : Snapshot) (set : ℕ) → IsSized s → set < length s.sets → IsSetFor (length s.tasks) (length s.queues) (set_at s set)
-set_sized s set sized there = All-get_or (IsSetFor (length s.tasks) (length s.queues)) s.sets set no_set there sized.objects.sets
+pub set_sized : (s : Snapshot) (set : ℕ) → IsSized s → set < length s.objects.sets → IsSetFor (length s.tasks) (length s.objects.queues) (set_at s set)
+set_sized s set sized there = All-get_or (IsSetFor (length s.tasks) (length s.objects.queues)) s.objects.sets set no_set there sized.objects.sets
 
 pub phase_sized : (s : Snapshot) (task : ℕ) → IsSized s → task < length s.tasks → IsSizedPhase (numbers_of s) (task_at s task).phase
 phase_sized s task sized there = All-get_or (λ (t : TaskSnapshot). IsSizedPhase (numbers_of s) t.phase) s.tasks task no_task there sized.tasks.phases
@@ -53,13 +53,13 @@ inverse_undoes s (Task task change) sized fits =
 inverse_undoes s (Queue queue change) sized fits =
     let was = queue_at s queue in
     let back = (queue_law.each_is_undone was change (queue_sized s queue sized fits.0).0 fits.1).back in
-    ap (λ (queues : List QueueSnapshot). record s { queues = queues })
-    (replaced_back s.queues queue no_queue (queue_applied was change) (λ q. queue_applied q (queue_inverse_of was change)) fits.0 back)
+    ap (λ (queues : List QueueSnapshot). record s { objects = record s.objects { queues = queues } })
+    (replaced_back s.objects.queues queue no_queue (queue_applied was change) (λ q. queue_applied q (queue_inverse_of was change)) fits.0 back)
 inverse_undoes s (Set set change) sized fits =
     let was = set_at s set in
     let back = (set_law.each_is_undone was change (set_sized s set sized fits.0).0 fits.1).back in
-    ap (λ (sets : List SetSnapshot). record s { sets = sets })
-    (replaced_back s.sets set no_set (set_applied was change) (λ q. set_applied q (set_inverse_of was change)) fits.0 back)
+    ap (λ (sets : List SetSnapshot). record s { objects = record s.objects { sets = sets } })
+    (replaced_back s.objects.sets set no_set (set_applied was change) (λ q. set_applied q (set_inverse_of was change)) fits.0 back)
 
 -- The objects that a task named before a change are there.
 names_back : (s : Snapshot) (task : ℕ) (change : TaskChange) → IsSized s → task < length s.tasks
@@ -89,15 +89,15 @@ inverse_fits s (Task task change) sized fits =
 inverse_fits s (Queue queue change) sized fits =
     let was = queue_at s queue in
     let now = queue_applied was change in (
-      omega (arith, length-set s.queues queue now, fits.0),
-      subst (λ q. QueueFits q (queue_inverse_of was change)) (sym (get_or-set_same s.queues queue now no_queue fits.0))
+      omega (arith, length-set s.objects.queues queue now, fits.0),
+      subst (λ q. QueueFits q (queue_inverse_of was change)) (sym (get_or-set_same s.objects.queues queue now no_queue fits.0))
           (queue_law.each_is_undone was change (queue_sized s queue sized fits.0).0 fits.1).fits,
     )
 inverse_fits s (Set set change) sized fits =
     let was = set_at s set in
     let now = set_applied was change in (
-      omega (arith, length-set s.sets set now, fits.0),
-      subst (λ q. SetFits q (set_inverse_of was change)) (sym (get_or-set_same s.sets set now no_set fits.0))
+      omega (arith, length-set s.objects.sets set now, fits.0),
+      subst (λ q. SetFits q (set_inverse_of was change)) (sym (get_or-set_same s.objects.sets set now no_set fits.0))
           (set_law.each_is_undone was change (set_sized s set sized fits.0).0 fits.1).fits,
     )
 

@@ -57,8 +57,10 @@ before_scheduling app = record {
   cores = replicate app.cores None;
   ready = all_joined (priorities_of app) (length app.scripts);
   tasks = replicate (length app.scripts) (fresh_task app.notes);
-  queues = first_queues app (length app.queues);
-  sets = map (new_set (length app.scripts) (length app.queues)) app.sets;
+  objects = record {
+    queues = first_queues app (length app.queues);
+    sets = map (new_set (length app.scripts) (length app.queues)) app.sets;
+  };
 }
 
 abbrev pub boot_of : Application → Snapshot

@@ -21,10 +21,10 @@ abbrev pub with_task : Snapshot → ℕ → TaskSnapshot → Snapshot
 with_task s task now = record s { tasks = slice_set s.tasks task now }
 
 abbrev pub with_queue : Snapshot → ℕ → QueueSnapshot → Snapshot
-with_queue s queue now = record s { queues = slice_set s.queues queue now }
+with_queue s queue now = record s { objects = record s.objects { queues = slice_set s.objects.queues queue now } }
 
 abbrev pub with_set : Snapshot → ℕ → SetSnapshot → Snapshot
-with_set s set now = record s { sets = slice_set s.sets set now }
+with_set s set now = record s { objects = record s.objects { sets = slice_set s.objects.sets set now } }
 
 -- the items of a queue
 abbrev pub items_at : Snapshot → ℕ → List (List ℕ)
@@ -69,8 +69,8 @@ Fits s (InsReady index task) =
 Fits s (DelReady index) = index < length s.ready
 Fits s (Task task change) =
     (task < length s.tasks) × TaskFits change × NamesObjects (numbers_of s) change
-Fits s (Queue queue change) = (queue < length s.queues) × QueueFits (queue_at s queue) change
-Fits s (Set set change) = (set < length s.sets) × SetFits (set_at s set) change
+Fits s (Queue queue change) = (queue < length s.objects.queues) × QueueFits (queue_at s queue) change
+Fits s (Set set change) = (set < length s.objects.sets) × SetFits (set_at s set) change
 
 -- the bytes that a change carries
 abbrev pub saved_bytes : Change → ℕ

@@ -11,8 +11,7 @@ snapshot_of state = record {
   cores = state.cores.items;
   ready = state.ready.tasks;
   tasks = state.tasks.items;
-  queues = state.queues.items;
-  sets = state.sets.items;
+  objects = record { queues = state.queues.items; sets = state.sets.items };
 }
 
 -- The sizes hold, and the ready list has room for every task.

@@ -7,7 +7,7 @@ use Rattle.rd_queue.specs.Sizes.{IsSizedQueue, IsSizedSet}
 use Rattle.rd_state.specs.declared.phase.Phase.{Phase}
 use Rattle.rd_state.specs.declared.phase.Place.{Place}
 use Rattle.rd_state.specs.Phases.{kept_deadline, waits_at}
-use Rattle.rd_state.specs.Snapshot.{Numbers, Snapshot, TaskSnapshot, numbers_of}
+use Rattle.rd_state.specs.Snapshot.{Numbers, Objects, Snapshot, TaskSnapshot, numbers_of}
 use Rattle.rd_state.specs.Waiting.{IsPlace}
 
 -- a core's task, if it has one, is one of that many
@@ -49,11 +49,12 @@ pub record AreSizedTasks (s : Snapshot) : Type 0 where
   pub tasks : All IsSizedTask s.tasks
   pub phases : All (λ task. IsSizedPhase (numbers_of s) task.phase) s.tasks
 
-pub record AreSizedObjects (s : Snapshot) : Type 0 where
-  pub queues : All (IsQueueFor (length s.tasks) (length s.sets)) s.queues
-  pub sets : All (IsSetFor (length s.tasks) (length s.queues)) s.sets
+-- objects at which that many tasks can wait
+pub record AreSizedObjects (tasks : ℕ) (o : Objects) : Type 0 where
+  pub queues : All (IsQueueFor tasks (length o.sets)) o.queues
+  pub sets : All (IsSetFor tasks (length o.queues)) o.sets
 
 pub record IsSized (s : Snapshot) : Type 0 where
   pub scheduling : IsSizedScheduling s
   pub tasks : AreSizedTasks s
-  pub objects : AreSizedObjects s
+  pub objects : AreSizedObjects (length s.tasks) s.objects

@@ -15,7 +15,12 @@ pub record TaskSnapshot : Type 0 where
   pub phase : Phase
   pub entries : List Entry
 
--- Cores, tasks, queues and queue sets go by number. A core has its task, or none when it is idle. The ready
+-- The objects of the kernel: a kind is one field.
+pub record Objects : Type 0 where
+  pub queues : List QueueSnapshot
+  pub sets : List SetSnapshot
+
+-- Cores, tasks and objects go by number. A core has its task, or none when it is idle. The ready
 -- list has its first task first. Two states are the same where their snapshots are equal.
 pub record Snapshot : Type 0 where
   pub tick : ℕ
@@ -23,16 +28,18 @@ pub record Snapshot : Type 0 where
   pub cores : List (Option ℕ)
   pub ready : List ℕ
   pub tasks : List TaskSnapshot
-  pub queues : List QueueSnapshot
-  pub sets : List SetSnapshot
+  pub objects : Objects
 
 -- how many objects of each kind there are
 pub record Numbers : Type 0 where
   pub queues : ℕ
   pub sets : ℕ
 
+abbrev pub numbers_in : Objects → Numbers
+numbers_in o = record { queues = length o.queues; sets = length o.sets }
+
 abbrev pub numbers_of : Snapshot → Numbers
-numbers_of s = record { queues = length s.queues; sets = length s.sets }
+numbers_of s = numbers_in s.objects
 
 -- a state with no cores, no tasks and no objects
 abbrev pub hollow_state : Snapshot
@@ -42,8 +49,7 @@ hollow_state = record {
   cores = [];
   ready = [];
   tasks = [];
-  queues = [];
-  sets = [];
+  objects = record { queues = []; sets = [] };
 }
 
 -- what stands for a task, a queue and a set that isn't there
@@ -69,10 +75,10 @@ abbrev pub task_at : Snapshot → ℕ → TaskSnapshot
 task_at s task = slice_index_or s.tasks task no_task
 
 abbrev pub queue_at : Snapshot → ℕ → QueueSnapshot
-queue_at s queue = slice_index_or s.queues queue no_queue
+queue_at s queue = slice_index_or s.objects.queues queue no_queue
 
 abbrev pub set_at : Snapshot → ℕ → SetSnapshot
-set_at s set = slice_index_or s.sets set no_set
+set_at s set = slice_index_or s.objects.sets set no_set
 
 -- the task on a core
 abbrev pub core_at : Snapshot → ℕ → Option ℕ
@@ -87,5 +93,4 @@ pub record SameScheduling (s t : Snapshot) : Type 0 where
 
 pub record SameObjects (s t : Snapshot) : Type 0 where
   pub tasks : s.tasks ≡ t.tasks
-  pub queues : s.queues ≡ t.queues
-  pub sets : s.sets ≡ t.sets
+  pub objects : s.objects ≡ t.objects

@@ -23,9 +23,9 @@ change_of s (FrontToData queue task) = Task task (SetData (slice_index_or (items
 -- Both parts are there, with room for an item or with one.
 abbrev pub CanTransfer : Snapshot → Transfer → Type 0
 CanTransfer s (DataToQueue task queue end) =
-    (task < length s.tasks) × (queue < length s.queues)
+    (task < length s.tasks) × (queue < length s.objects.queues)
     × (length (items_at s queue) < (queue_at s queue).capacity)
 CanTransfer s (DataOverFront task queue) =
-    (task < length s.tasks) × (queue < length s.queues) × (0 < length (items_at s queue))
+    (task < length s.tasks) × (queue < length s.objects.queues) × (0 < length (items_at s queue))
 CanTransfer s (FrontToData queue task) =
-    (queue < length s.queues) × (task < length s.tasks) × (0 < length (items_at s queue))
+    (queue < length s.objects.queues) × (task < length s.tasks) × (0 < length (items_at s queue))

@@ -17,7 +17,7 @@ use Rattle.rd_state.specs.declared.phase.Place.{Place}
 use Rattle.rd_state.specs.declared.phase.Place.TheVariants as place
 use Rattle.rd_app.specs.Application.{Application, code_of, instr_at, list_of_call, priorities_of}
 use Rattle.rd_wait.specs.Joined.{IsInOrder}
-use Rattle.rd_state.specs.Snapshot.{Snapshot, task_at}
+use Rattle.rd_state.specs.Snapshot.{Objects, Snapshot, task_at}
 use Rattle.rd_state.specs.Sizes.{IsSized}
 use Rattle.rd_state.specs.Waiting.{same_place, waiting_at}
 
@@ -28,6 +28,11 @@ shape_of queue = record { capacity = queue.capacity; item_size = queue.item_size
 abbrev pub room_of : SetSnapshot → ℕ
 room_of set = set.capacity
 
+-- The objects have the sizes that the application gives them.
+pub record AreShaped (app : Application) (o : Objects) : Type 0 where
+  pub queues : map shape_of o.queues ≡ app.queues
+  pub sets : map room_of o.sets ≡ map (λ set. set.capacity) app.sets
+
 -- Numbers and lengths are the application's, and each task stands at an instruction of its script.
 pub record InLimits (app : Application) (s : Snapshot) : Type 0 where
   pub sized : IsSized s
@@ -35,8 +40,7 @@ pub record InLimits (app : Application) (s : Snapshot) : Type 0 where
   pub tasks : length s.tasks ≡ length app.scripts
   pub pcs : (task : ℕ) → task < length s.tasks → (task_at s task).pc < length (code_of app task)
   pub entries : All (λ task. length task.entries ≡ app.notes) s.tasks
-  pub queues : map shape_of s.queues ≡ app.queues
-  pub sets : map room_of s.sets ≡ map (λ set. set.capacity) app.sets
+  pub objects : AreShaped app s.objects
 
 -- how often a task stands in a list, and on cores
 abbrev pub times_in_list : ℕ → List ℕ → ℕ

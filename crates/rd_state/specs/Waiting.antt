@@ -1,12 +1,12 @@
 -- The places where tasks can wait, and the list of each.
-use Rattle.std.specs.Prelude.{ℕ, ◌<◌, ◌&&◌, Bool, false, List, nat_eq, slice_set}
-use Rattle.rd_queue.specs.QueueSnapshot.{QueueSnapshot}
-use Rattle.rd_queue.specs.SetSnapshot.{SetSnapshot}
+use Rattle.std.specs.Prelude.{ℕ, ◌<◌, ◌&&◌, Bool, List, nat_eq, slice_index_or, slice_set}
+use Rattle.rd_queue.specs.declared.waiting_list.WaitingList.{WaitingList}
+use Rattle.rd_queue.specs.declared.waiting_list.WaitingList.TheVariants.{Receiving, Sending}
 use Rattle.rd_queue.specs.Sets.{with_waiting_tasks}
-use Rattle.rd_queue.specs.Queues.{same_list, tasks_in_list, with_waiting}
+use Rattle.rd_queue.specs.Queues.{tasks_in_list, with_waiting}
 use Rattle.rd_state.specs.declared.phase.Place.{Place}
 use Rattle.rd_state.specs.declared.phase.Place.TheVariants.{Queue, Set}
-use Rattle.rd_state.specs.Snapshot.{Numbers, Snapshot, numbers_of, queue_at, set_at}
+use Rattle.rd_state.specs.Snapshot.{Numbers, Objects, Snapshot, no_queue, no_set, numbers_of}
 
 -- The place is there, where there are so many objects.
 abbrev pub IsPlace : Numbers → Place → Type 0
@@ -16,32 +16,46 @@ IsPlace numbers (Set set) = set < numbers.sets
 abbrev pub HasPlace : Snapshot → Place → Type 0
 HasPlace s place = IsPlace (numbers_of s) place
 
+-- A place by numbers: its kind, which of that kind, and which of its lists.
+abbrev pub place_kind : Place → ℕ
+place_kind (Queue queue list) = 0
+place_kind (Set set) = 1
+
+abbrev pub place_number : Place → ℕ
+place_number (Queue queue list) = queue
+place_number (Set set) = set
+
+abbrev pub list_number : WaitingList → ℕ
+list_number Receiving = 0
+list_number Sending = 1
+
+abbrev pub place_list : Place → ℕ
+place_list (Queue queue list) = list_number list
+place_list (Set set) = 0
+
 -- Are they one place?
 abbrev pub same_place : Place → Place → Bool
-same_place (Queue queue list) (Queue other other_list) =
-    same_list list other_list && nat_eq queue other
-same_place (Queue queue list) (Set set) = false
-same_place (Set set) (Queue queue list) = false
-same_place (Set set) (Set other) = nat_eq set other
+same_place place other =
+    nat_eq (place_kind place) (place_kind other)
+    && (nat_eq (place_list place) (place_list other) && nat_eq (place_number place) (place_number other))
 
--- the tasks that wait at a place, the first to be served first
+-- the tasks that wait at a place of objects, the first to be served first
+abbrev pub waiting_in : Objects → Place → List ℕ
+waiting_in o (Queue queue list) = tasks_in_list list (slice_index_or o.queues queue no_queue)
+waiting_in o (Set set) = (slice_index_or o.sets set no_set).waiting
+
 abbrev pub waiting_at : Snapshot → Place → List ℕ
-waiting_at s (Queue queue list) = tasks_in_list list (queue_at s queue)
-waiting_at s (Set set) = (set_at s set).waiting
+waiting_at s place = waiting_in s.objects place
 
--- the queues, and the sets, once these tasks wait at a place and no others
-abbrev pub queues_then : Snapshot → Place → List ℕ → List QueueSnapshot
-queues_then s (Queue queue list) tasks =
-    slice_set s.queues queue (with_waiting list tasks (queue_at s queue))
-queues_then s (Set set) tasks = s.queues
-
-abbrev pub sets_then : Snapshot → Place → List ℕ → List SetSnapshot
-sets_then s (Queue queue list) tasks = s.sets
-sets_then s (Set set) tasks = slice_set s.sets set (with_waiting_tasks (set_at s set) tasks)
+-- the objects, once these tasks wait at a place and no others
+abbrev pub objects_then : Objects → Place → List ℕ → Objects
+objects_then o (Queue queue list) tasks = record o {
+  queues = slice_set o.queues queue (with_waiting list tasks (slice_index_or o.queues queue no_queue));
+}
+objects_then o (Set set) tasks = record o {
+  sets = slice_set o.sets set (with_waiting_tasks (slice_index_or o.sets set no_set) tasks);
+}
 
 -- the state with these tasks at a place, and none of those that waited there
 abbrev pub with_waiting_at : Snapshot → Place → List ℕ → Snapshot
-with_waiting_at s place tasks = record s {
-  queues = queues_then s place tasks;
-  sets = sets_then s place tasks;
-}
+with_waiting_at s place tasks = record s { objects = objects_then s.objects place tasks }

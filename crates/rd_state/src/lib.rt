@@ -11,3 +11,4 @@ pub mod task;
 pub mod task_change;
 pub mod transfer;
 pub mod undo;
+mod whole;

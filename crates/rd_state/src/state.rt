@@ -17,6 +17,7 @@ use crate::phase::{Phase, Place};
 use crate::task::Task;
 use crate::task_change::TaskChange;
 use crate::transfer::Transfer;
+use crate::whole::{all_same, copy_all};
 use rd_app::app::App;
 use rd_bytes::no_memory::NoMemory;
 use rd_bytes::saved::SavedBytes;
@@ -53,39 +54,6 @@ impl Model for State {
     ghost invariant = { IsKept };
 }
 
-// Equal tasks.
-fn copy_tasks(alloc: Global, tasks: &[Task]) -> Result<Vec<Task>, NoMemory>
-    ensures { IfOk result (λ copies. copies.items ≡ tasks.now) }
-{
-    let mut copies = Vec::with_capacity(alloc, tasks.len())?;
-    for task in tasks {
-        copies.push(task.copy())?;
-    }
-    Ok(copies)
-}
-
-// Equal queues.
-fn copy_queues(alloc: Global, queues: &[Queue]) -> Result<Vec<Queue>, NoMemory>
-    ensures { IfOk result (λ copies. copies.items ≡ queues.now) }
-{
-    let mut copies = Vec::with_capacity(alloc, queues.len())?;
-    for queue in queues {
-        copies.push(queue.copy(alloc)?)?;
-    }
-    Ok(copies)
-}
-
-// Equal sets.
-fn copy_sets(alloc: Global, sets: &[QueueSet]) -> Result<Vec<QueueSet>, NoMemory>
-    ensures { IfOk result (λ copies. copies.items ≡ sets.now) }
-{
-    let mut copies = Vec::with_capacity(alloc, sets.len())?;
-    for set in sets {
-        copies.push(set.copy(alloc)?)?;
-    }
-    Ok(copies)
-}
-
 // Whether the same tasks run on the cores, one by one.
 fn same_cores(cores: &[Option<usize>], others: &[Option<usize>]) -> bool
     ensures { IsTrue result ↔ (cores.now ≡ others.now) }
@@ -95,51 +63,6 @@ fn same_cores(cores: &[Option<usize>], others: &[Option<usize>]) -> bool
     }
     for number in 0..cores.len() {
         if cores[number] != others[number] {
-            return false;
-        }
-    }
-    true
-}
-
-// Whether the tasks are equal, one by one.
-fn same_tasks(tasks: &[Task], others: &[Task]) -> bool
-    ensures { IsTrue result ↔ (tasks.now ≡ others.now) }
-{
-    if tasks.len() != others.len() {
-        return false;
-    }
-    for number in 0..tasks.len() {
-        if !tasks[number].same(&others[number]) {
-            return false;
-        }
-    }
-    true
-}
-
-// Whether the queues are equal, one by one.
-fn same_queues(queues: &[Queue], others: &[Queue]) -> bool
-    ensures { IsTrue result ↔ (queues.now ≡ others.now) }
-{
-    if queues.len() != others.len() {
-        return false;
-    }
-    for number in 0..queues.len() {
-        if !queues[number].same(&others[number]) {
-            return false;
-        }
-    }
-    true
-}
-
-// Whether the sets are equal, one by one.
-fn same_sets(sets: &[QueueSet], others: &[QueueSet]) -> bool
-    ensures { IsTrue result ↔ (sets.now ≡ others.now) }
-{
-    if sets.len() != others.len() {
-        return false;
-    }
-    for number in 0..sets.len() {
-        if !sets[number].same(&others[number]) {
             return false;
         }
     }
@@ -189,9 +112,9 @@ impl State {
             turn: self.turn,
             cores: Vec::from_slice(alloc, self.cores.as_slice())?,
             ready: self.ready.copy(alloc)?,
-            tasks: copy_tasks(alloc, self.tasks.as_slice())?,
-            queues: copy_queues(alloc, self.queues.as_slice())?,
-            sets: copy_sets(alloc, self.sets.as_slice())?,
+            tasks: copy_all(alloc, self.tasks.as_slice())?,
+            queues: copy_all(alloc, self.queues.as_slice())?,
+            sets: copy_all(alloc, self.sets.as_slice())?,
         })
     }
 
@@ -209,9 +132,9 @@ impl State {
     fn same_objects(&self, other: &State) -> bool
         ensures { IsTrue result ↔ SameObjects self.now other.now }
     {
-        same_tasks(self.tasks.as_slice(), other.tasks.as_slice())
-            && same_queues(self.queues.as_slice(), other.queues.as_slice())
-            && same_sets(self.sets.as_slice(), other.sets.as_slice())
+        all_same(self.tasks.as_slice(), other.tasks.as_slice())
+            && all_same(self.queues.as_slice(), other.queues.as_slice())
+            && all_same(self.sets.as_slice(), other.sets.as_slice())
     }
 
     /// Whether the other state is the same, to the last field.
@@ -295,25 +218,25 @@ impl State {
 
     /// How many queues there are.
     pub fn queue_count(&self) -> usize
-        ensures { result ≡ length self.now.queues }
+        ensures { result ≡ length self.now.objects.queues }
     {
         self.queues.len()
     }
 
     /// A queue.
     pub fn queue(&self, queue: usize) -> &Queue
-        requires { queue < length self.now.queues }
+        requires { queue < length self.now.objects.queues }
         ensures queue { result.now ≡ queue_at self.now queue }
-        ensures sized { IsQueueFor (length self.now.tasks) (length self.now.sets) result.now }
+        ensures sized { IsQueueFor (length self.now.tasks) (length self.now.objects.sets) result.now }
     {
         &self.queues[queue]
     }
 
     /// A queue set.
     pub fn set(&self, set: usize) -> &QueueSet
-        requires { set < length self.now.sets }
+        requires { set < length self.now.objects.sets }
         ensures set { result.now ≡ set_at self.now set }
-        ensures sized { IsSetFor (length self.now.tasks) (length self.now.queues) result.now }
+        ensures sized { IsSetFor (length self.now.tasks) (length self.now.objects.queues) result.now }
     {
         &self.sets[set]
     }

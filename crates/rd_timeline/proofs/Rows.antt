@@ -25,7 +25,7 @@ task_of pc r0 bytes = record { pc = pc; registers = r0 ∷ 0 ∷ 0 ∷ 0 ∷ 0 �
 
 -- t0 runs on core 0
 abbrev state_of : ℕ → TaskSnapshot → List (List ℕ) → Snapshot
-state_of turn task items = record { tick = 0; turn = turn; cores = Some 0 ∷ []; ready = []; tasks = task ∷ []; queues = queue_of items ∷ []; sets = [] }
+state_of turn task items = record { tick = 0; turn = turn; cores = Some 0 ∷ []; ready = []; tasks = task ∷ []; objects = record { queues = queue_of items ∷ []; sets = [] } }
 
 abbrev one_move : Move
 one_move = Core 0

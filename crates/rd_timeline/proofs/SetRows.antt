@@ -44,7 +44,7 @@ set_of handles = record { handles = handles; capacity = 1; queues = 1; waiting =
 
 abbrev runs_with : TaskSnapshot → QueueSnapshot → SetSnapshot → Snapshot
 runs_with task queue set =
-    record { tick = 0; turn = 1; cores = Some 0 ∷ []; ready = []; tasks = task ∷ []; queues = queue ∷ []; sets = set ∷ [] }
+    record { tick = 0; turn = 1; cores = Some 0 ∷ []; ready = []; tasks = task ∷ []; objects = record { queues = queue ∷ []; sets = set ∷ [] } }
 
 abbrev one_move : Move
 one_move = Core 0
@@ -77,7 +77,6 @@ full_set : state_after sends_twice (one_move ∷ one_move ∷ [])
       cores = None ∷ [];
       ready = [];
       tasks = task_of 1 1 [] (Failed SetFull) ∷ [];
-      queues = queue_of 2 ((0 ∷ []) ∷ []) ∷ [];
-      sets = set_of (0 ∷ []) ∷ [];
+      objects = record { queues = queue_of 2 ((0 ∷ []) ∷ []) ∷ []; sets = set_of (0 ∷ []) ∷ [] };
     })
 full_set = refl

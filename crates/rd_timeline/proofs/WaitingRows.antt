@@ -60,8 +60,7 @@ item_is_sent : state_after stolen (Core 0 ∷ Core 1 ∷ Core 0 ∷ [])
       cores = Some 2 ∷ Some 1 ∷ [];
       ready = [];
       tasks = waits_for_item None ∷ task_of 0 0 [] (Again (Some 10)) ∷ task_of 1 1 [] Run ∷ [];
-      queues = queue_of ((0 ∷ []) ∷ []) (0 ∷ []) ∷ [];
-      sets = [];
+      objects = record { queues = queue_of ((0 ∷ []) ∷ []) (0 ∷ []) ∷ []; sets = [] };
     })
 item_is_sent = refl
 
@@ -73,8 +72,7 @@ item_is_lost : state_after stolen (Core 0 ∷ Core 1 ∷ Core 0 ∷ Core 0 ∷ C
       cores = Some 2 ∷ None ∷ [];
       ready = [];
       tasks = waits_for_item None ∷ waits_for_item (Some 10) ∷ task_of 2 1 (0 ∷ []) Run ∷ [];
-      queues = queue_of [] (1 ∷ 0 ∷ []) ∷ [];
-      sets = [];
+      objects = record { queues = queue_of [] (1 ∷ 0 ∷ []) ∷ []; sets = [] };
     })
 item_is_lost = refl
 
@@ -93,7 +91,6 @@ second_times_out : state_after timing_out (Core 0 ∷ Core 1 ∷ Core 2 ∷ Tick
       cores = Some 1 ∷ None ∷ None ∷ [];
       ready = [];
       tasks = waits_for_item None ∷ task_of 0 0 [] (Again (Some 1)) ∷ waits_for_item None ∷ [];
-      queues = queue_of [] (0 ∷ 2 ∷ []) ∷ [];
-      sets = [];
+      objects = record { queues = queue_of [] (0 ∷ 2 ∷ []) ∷ []; sets = [] };
     })
 second_times_out = refl

@@ -17,5 +17,5 @@ pass-requires-clause-room c =
     let now = c.in_ok-transfer.ensures.ok.now in
     rw c.receiving.ensures
     (room_after_queue s c.transfer.new.self.now queue (with_items (queue_at s queue) items) c.requires.queue (items_keep (queue_at s queue) items)
-    c.requires.caller.room_to_wake (ap (λ (t : Snapshot). t.queues) now) (ap (λ (t : Snapshot). t.sets) now) (ap (λ (t : Snapshot). t.ready) now)
+    c.requires.caller.room_to_wake (ap (λ (t : Snapshot). t.objects) now) (ap (λ (t : Snapshot). t.ready) now)
     (ap (λ (t : Snapshot). length t.tasks) now) (Queue queue Receiving))

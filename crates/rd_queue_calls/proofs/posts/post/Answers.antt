@@ -15,8 +15,8 @@ pub pass-requires-2-clause-room : goal.pass-requires-2-clause-room
 pass-requires-2-clause-room c =
     let s = c.args.editing.now.now in
     let number = c.in-Some.set in
-    let there : number < length s.sets = subst (λ o. IfSome o (λ set. set < length s.sets)) c.in-Some.is c.requires.set in
+    let there : number < length s.objects.sets = subst (λ o. IfSome o (λ set. set < length s.objects.sets)) c.in-Some.is c.requires.set in
     let now = c.in_ok-change.ensures.ok.now in
     room_after_set s c.change.new.self.now number (with_handles (set_at s number) ((set_at s number).handles ++ c.args.queue ∷ [])) there refl c.requires.ready
-    (ap (λ (t : Snapshot). t.queues) now) (ap (λ (t : Snapshot). t.sets) now) (ap (λ (t : Snapshot). t.ready) now)
+    (ap (λ (t : Snapshot). t.objects) now) (ap (λ (t : Snapshot). t.ready) now)
     (ap (λ (t : Snapshot). length t.tasks) now) (Set number)

@@ -13,9 +13,9 @@ overflow_cast-result c =
       arith,
       c.first_handle-queue.ensures.queue,
       c.set-2.ensures.sized.2,
-      ap (λ (t : Snapshot). length t.queues) c.state-2.ensures.state,
-      ap length c.requires.caller.valid.in_limits.queues,
-      length-map s.queues shape_of,
+      ap (λ (t : Snapshot). length t.objects.queues) c.state-2.ensures.state,
+      ap length c.requires.caller.valid.in_limits.objects.queues,
+      length-map s.objects.queues shape_of,
       c.limits.ensures.few_queues,
     ) in
     omega (arith, few)
@@ -28,9 +28,9 @@ overflow_add-result c =
       arith,
       c.first_handle-queue.ensures.queue,
       c.set-2.ensures.sized.2,
-      ap (λ (t : Snapshot). length t.queues) c.state-2.ensures.state,
-      ap length c.requires.caller.valid.in_limits.queues,
-      length-map s.queues shape_of,
+      ap (λ (t : Snapshot). length t.objects.queues) c.state-2.ensures.state,
+      ap length c.requires.caller.valid.in_limits.objects.queues,
+      length-map s.objects.queues shape_of,
       c.limits.ensures.few_queues,
     ) in
     omega (arith, few)
