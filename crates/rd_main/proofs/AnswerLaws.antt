@@ -1,96 +1,30 @@
 -- Answers to lines, by the command that the line spells.
-use Rattle.std.proofs.Common.{◌≡◌, ◌∙◌, ℕ, ◌<◌, ◌≤◌, List, [], ◌++◌, length, take, vec_len, Option, Some, None, Result, Ok, Err, OnOk, OnErr}
+use Rattle.std.proofs.Common.{◌≡◌, ◌∙◌, ℕ, ◌<◌, ◌≤◌, List, ◌++◌, length, take, vec_len, Option, Some, None, Result, Ok, Err, OnOk, OnErr}
 use Rattle.std.proofs.Common.{refl, ap, subst, sym, arith, inl, inr}
-use Rattle.std.specs.Str.{bytes_eq}
 use Rattle.std.specs.Prelude.{All, IfSome}
 use Rattle.std.specs.Global.{Vec}
 use Rattle.std.proofs.lemmas.List.{length-map, take_all}
-use Rattle.std.proofs.lemmas.List.Quantifiers.{position-Some}
 use Rattle.rd_app.specs.Application.{Application, IsApplication}
 use Rattle.rd_app.specs.QueueSetShape.{QueueSetShape}
-use Rattle.rd_state.specs.declared.phase.Phase.{Phase}
-use Rattle.rd_state.specs.declared.phase.Place.{Place}
-use Rattle.rd_state.specs.Phases.{kept_deadline, waits_at}
-use Rattle.rd_state.specs.Sizes.{IsSizedPhase, IsSizedWait}
-use Rattle.rd_state.specs.Snapshot.{Numbers, Snapshot, numbers_of, queue_at, set_at, task_at}
-use Rattle.rd_state.proofs.UndoLaws.{phase_sized, queue_sized, set_sized}
-use Rattle.rd_state.specs.Waiting.{IsPlace}
+use Rattle.rd_state.specs.Snapshot.{Snapshot}
 use Rattle.rd_state.specs.Valid.{IsValid, room_of, shape_of}
 use Rattle.rd_timeline.specs.Course.{Course}
 use Rattle.rd_main.specs.Answers.{Adds, IsAnswer, IsShown, IsView, no_memory, number_named, room_in}
 use Rattle.rd_command.specs.Commands.{Asked, Step, Tick, Back, ShowQueue, ShowSet, ShowTask, ShowCores}
 use Rattle.rd_reply.specs.Pages.{IsFull, KeepsFront}
-use Rattle.rd_reply.specs.Names.{AllNames, all_names, numbers_named, PlaceIsNamed, QueueIsNamed, SetIsNamed, SeatedAreNamed}
+use Rattle.rd_reply.specs.Names.{all_names, SeatedAreNamed}
 use Rattle.rd_reply.specs.Replies.{line_of, cores_text}
 
 -- Each queue, each set and each task of the state has a name.
-queues_named : (app : Application) (s : Snapshot) → IsApplication app → IsValid app s → length s.queues ≡ length app.queue_names
-queues_named app s limits valid = omega (arith, limits.queue_names, ap length valid.in_limits.queues, length-map s.queues shape_of)
+queues_named : (app : Application) (s : Snapshot) → IsApplication app → IsValid app s → length s.objects.queues ≡ length app.queue_names
+queues_named app s limits valid = omega (arith, limits.queue_names, ap length valid.in_limits.objects.queues, length-map s.objects.queues shape_of)
 
-sets_named : (app : Application) (s : Snapshot) → IsApplication app → IsValid app s → length s.sets ≡ length app.set_names
+sets_named : (app : Application) (s : Snapshot) → IsApplication app → IsValid app s → length s.objects.sets ≡ length app.set_names
 sets_named app s limits valid =
-    omega (arith, limits.set_names, ap length valid.in_limits.sets, length-map s.sets room_of, length-map app.sets (λ (set : QueueSetShape). set.capacity))
+    omega (arith, limits.set_names, ap length valid.in_limits.objects.sets, length-map s.objects.sets room_of, length-map app.sets (λ (set : QueueSetShape). set.capacity))
 
 tasks_named : (app : Application) (s : Snapshot) → IsApplication app → IsValid app s → length s.tasks ≡ length app.task_names
 tasks_named app s limits valid = omega (arith, limits.task_names, valid.in_limits.tasks)
-
--- What has a name is there.
-pub queue_there : (course : Course) (queue : ℕ) (name : List ℕ) → IsApplication course.app → IsValid course.app course.target
-    → number_named name course.app.queue_names ≡ Some queue → queue < length course.target.queues
-queue_there course queue name limits valid found =
-    let within = (position-Some (bytes_eq name) course.app.queue_names queue [] found).0 in
-    omega (arith, within, limits.queue_names, ap length valid.in_limits.queues, length-map course.target.queues shape_of)
-
-pub task_there : (course : Course) (task : ℕ) (name : List ℕ) → IsApplication course.app → IsValid course.app course.target
-    → number_named name course.app.task_names ≡ Some task → task < length course.target.tasks
-task_there course task name limits valid found =
-    omega (arith, (position-Some (bytes_eq name) course.app.task_names task [] found).0, limits.task_names, valid.in_limits.tasks)
-
-pub set_there : (course : Course) (set : ℕ) (name : List ℕ) → IsApplication course.app → IsValid course.app course.target
-    → number_named name course.app.set_names ≡ Some set → set < length course.target.sets
-set_there course set name limits valid found =
-    omega (arith, (position-Some (bytes_eq name) course.app.set_names set [] found).0, sets_named course.app course.target limits valid)
-
--- What the views show of a queue and of a set has a name.
-pub queue_named : (app : Application) (s : Snapshot) (queue : ℕ) → IsApplication app → IsValid app s
-    → queue < length s.queues → QueueIsNamed (all_names app) (queue_at s queue)
-queue_named app s queue limits valid there =
-    let here = queue_sized s queue valid.in_limits.sized there in
-    let tasks = here.1 ∙ tasks_named app s limits valid in
-    let sets = here.2 ∙ sets_named app s limits valid in
-    record {
-      receiving = subst (λ n. All (λ task. task < n) (queue_at s queue).receiving) tasks here.0.receiving.0;
-      sending = subst (λ n. All (λ task. task < n) (queue_at s queue).sending) tasks here.0.sending.0;
-      set = subst (λ n. IfSome (queue_at s queue).set (λ set. set < n)) sets here.0.set;
-    }
-
-pub set_named : (app : Application) (s : Snapshot) (set : ℕ) → IsApplication app → IsValid app s
-    → set < length s.sets → SetIsNamed (all_names app) (set_at s set)
-set_named app s set limits valid there =
-    let here = set_sized s set valid.in_limits.sized there in
-    let tasks = here.1 ∙ tasks_named app s limits valid in
-    let queues = here.2 ∙ queues_named app s limits valid in
-    record {
-      handles = subst (λ n. All (λ queue. queue < n) (set_at s set).handles) queues here.0.handles;
-      waiting = subst (λ n. All (λ task. task < n) (set_at s set).waiting) tasks here.0.waiting.0;
-    }
-
--- The place where a task waits has a name.
-pub place_named : (app : Application) (s : Snapshot) (task : ℕ) → IsApplication app → IsValid app s
-    → task < length s.tasks → PlaceIsNamed (all_names app) (task_at s task).phase
-place_named app s task limits valid there =
-    of_phase (numbers_of s) (all_names app) (task_at s task).phase same (phase_sized s task valid.in_limits.sized there)
-  where
-    same : numbers_of s ≡ numbers_named (all_names app)
-    same = ap (λ (n : ℕ). record { queues = n; sets = length s.sets }) (queues_named app s limits valid)
-        ∙ ap (λ (n : ℕ). record { queues = length app.queue_names; sets = n }) (sets_named app s limits valid)
-
-    of_phase : (numbers : Numbers) (names : AllNames) (phase : Phase) → numbers ≡ numbers_named names → IsSizedPhase numbers phase → PlaceIsNamed names phase
-    of_phase numbers names phase same = by_place (waits_at phase)
-      where
-        by_place : (o : Option Place) → IsSizedWait numbers o (kept_deadline phase) → IfSome o (IsPlace (numbers_named names))
-        by_place None sized = tt
-        by_place (Some place) sized = subst (λ n. IsPlace n place) same sized.0
 
 -- Who runs and who is ready has a name.
 pub seated_named : (app : Application) (s : Snapshot) → IsApplication app → IsValid app s → SeatedAreNamed (all_names app) s

@@ -3,6 +3,9 @@ use Rattle.std.specs.Prelude.{ℕ, ◌≡◌, ◌≢◌, ◌-◌, ◌<◌, ◌�
 use Rattle.std.specs.Prelude.{take, drop, position, vec_capacity, vec_len, Option, Some, None, Ok}
 use Rattle.std.specs.Global.{Vec}
 use Rattle.std.specs.Str.{bytes_eq}
+use Rattle.rd_app.specs.Application.{names_of}
+use Rattle.rd_app.specs.declared.app.Kind.{Kind}
+use Rattle.rd_app.specs.declared.app.Kind.TheVariants as kind
 use Rattle.rd_calls.specs.Step.{step}
 use Rattle.rd_calls.specs.declared.moves.Move.{Move}
 use Rattle.rd_calls.specs.declared.moves.Move.TheVariants as move
@@ -81,24 +84,19 @@ IsView room (Some number) view line = IsShown room (view number) line
 abbrev pub number_named : List ℕ → List (List ℕ) → Option ℕ
 number_named name names = position (bytes_eq name) names
 
-abbrev pub QueueLine : ℕ → Course → List ℕ → List ℕ → Type 0
-QueueLine room course name line =
-    IsView room (number_named name course.app.queue_names)
-    (λ queue. queue_text (all_names course.app) name (queue_at course.target queue))
-    line
+-- what a view shows of the thing of a kind with that number, which has that name
+abbrev pub view_text : Course → Kind → List ℕ → ℕ → List ℕ
+view_text course kind.Queue name queue =
+    queue_text (all_names course.app) name (queue_at course.target queue)
+view_text course kind.Set name set =
+    set_text (all_names course.app) name (set_at course.target set)
+view_text course kind.Task name task =
+    task_text (all_names course.app) name (position (is_task task) course.target.cores)
+    (task_at course.target task)
 
-abbrev pub SetLine : ℕ → Course → List ℕ → List ℕ → Type 0
-SetLine room course name line =
-    IsView room (number_named name course.app.set_names)
-    (λ set. set_text (all_names course.app) name (set_at course.target set))
-    line
-
-abbrev pub TaskLine : ℕ → Course → List ℕ → List ℕ → Type 0
-TaskLine room course name line =
-    IsView room (number_named name course.app.task_names)
-    (λ task. task_text (all_names course.app) name (position (is_task task) course.target.cores)
-    (task_at course.target task))
-    line
+abbrev pub NamedLine : ℕ → Course → Kind → List ℕ → List ℕ → Type 0
+NamedLine room course kind name line =
+    IsView room (number_named name (names_of kind course.app)) (view_text course kind name) line
 
 abbrev pub CoresLine : ℕ → Course → List ℕ → Type 0
 CoresLine room course line = IsShown room (cores_text (all_names course.app) course.target) line
@@ -113,7 +111,7 @@ IsAnswer room old None new line = (line ≡ line_of (reply_text (Refused Syntax)
 IsAnswer room old (Some (Step core)) new line = IsReplyLine (StepReply old core new) line
 IsAnswer room old (Some Tick) new line = IsReplyLine (MoveReply old move.Tick new) line
 IsAnswer room old (Some (Back count)) new line = IsReplyLine (BackReply old count new) line
-IsAnswer room old (Some (ShowQueue name)) new line = QueueLine room old name line × (new ≡ old)
-IsAnswer room old (Some (ShowSet name)) new line = SetLine room old name line × (new ≡ old)
-IsAnswer room old (Some (ShowTask name)) new line = TaskLine room old name line × (new ≡ old)
+IsAnswer room old (Some (ShowQueue name)) new line = NamedLine room old kind.Queue name line × (new ≡ old)
+IsAnswer room old (Some (ShowSet name)) new line = NamedLine room old kind.Set name line × (new ≡ old)
+IsAnswer room old (Some (ShowTask name)) new line = NamedLine room old kind.Task name line × (new ≡ old)
 IsAnswer room old (Some ShowCores) new line = CoresLine room old line × (new ≡ old)

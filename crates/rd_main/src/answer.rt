@@ -1,12 +1,15 @@
 //! The answer to each command.
 
-ghost use Rattle.std.specs.Prelude.{◌≡◌, ◌+◌, ◌++◌, ◌≤◌, take, IsOk, OnErr, OnOk};
+ghost use Rattle.std.specs.Prelude.{◌≡◌, ◌+◌, ◌++◌, ◌<◌, ◌≤◌, length, take, IsOk, OnErr, OnOk};
 ghost use Rattle.std.specs.Prelude.{vec_capacity, vec_len};
+ghost use Rattle.rd_app.specs.Application.{names_of};
 ghost use Rattle.rd_calls.specs.Step.{IsMoveOf};
 ghost use Rattle.rd_text.specs.Words.{words_of};
 ghost use Rattle.rd_command.specs.Commands.{command_of};
 ghost use Rattle.rd_main.specs.Answers.{MoveReply, StepReply, BackReply, IsAnswer, Adds, no_memory};
-ghost use Rattle.rd_main.specs.Answers.{QueueLine, SetLine, TaskLine, CoresLine, room_in};
+ghost use Rattle.rd_main.specs.Answers.{NamedLine, CoresLine, room_in, view_text};
+ghost use Rattle.rd_reply.specs.Pages.{IsFull, KeepsFront};
+ghost use Rattle.rd_reply.specs.Replies.{line_of};
 
 use rd_app::app::Kind;
 use rd_calls::moves::Move;
@@ -68,56 +71,47 @@ fn end_view(answers: &mut Vec<u8>, len: usize, shown: Result<(), AllocError>)
     }
 }
 
-// Appends the view of the queue of that name.
-fn put_queue(timeline: &Timeline, answers: &mut Vec<u8>, name: &str)
+// Appends the view of the thing of that kind and name.
+fn put_named(timeline: &Timeline, answers: &mut Vec<u8>, kind: Kind, name: &str)
     requires { vec_len answers.old + MAX_REPLY ≤ vec_capacity answers.old }
     ensures { Adds answers.old.items answers.new.items
-        (QueueLine (room_in answers.old) timeline.now name.now) }
+        (NamedLine (room_in answers.old) timeline.now kind name.now) }
 {
-    let Some(queue) = timeline.app().find(Kind::Queue, name) else {
+    let Some(number) = timeline.app().find(kind, name) else {
         return append_reply_reserved(answers, refused(Refusal::NoSuch));
     };
-    timeline.app().limits();
-    timeline.keeps();
-    let target = timeline.target();
     let len = answers.len();
-    let shown = show_queue(answers, timeline.app(), name, target.queue(queue));
+    let shown = show_named(timeline, answers, kind, number, name);
     end_view(answers, len, shown);
 }
 
-// Appends the view of the queue set of that name.
-fn put_set(timeline: &Timeline, answers: &mut Vec<u8>, name: &str)
-    requires { vec_len answers.old + MAX_REPLY ≤ vec_capacity answers.old }
-    ensures { Adds answers.old.items answers.new.items
-        (SetLine (room_in answers.old) timeline.now name.now) }
+// Appends what is shown of the thing of that kind and number, as far as there is room for it.
+fn show_named(
+    timeline: &Timeline,
+    answers: &mut Vec<u8>,
+    kind: Kind,
+    number: usize,
+    name: &str,
+) -> Result<(), AllocError>
+    requires { number < length (names_of kind timeline.now.app) }
+    ensures text { OnOk result (answers.new.items
+        ≡ answers.old.items ++ line_of (view_text timeline.now kind name.now number)) }
+    ensures full { OnErr result
+        (IsFull answers.old (line_of (view_text timeline.now kind name.now number))) }
+    ensures kept { KeepsFront answers.old answers.new }
 {
-    let Some(set) = timeline.app().find(Kind::Set, name) else {
-        return append_reply_reserved(answers, refused(Refusal::NoSuch));
-    };
-    timeline.app().limits();
-    timeline.keeps();
+    let app = timeline.app();
     let target = timeline.target();
-    let len = answers.len();
-    let shown = show_set(answers, timeline.app(), name, target.set(set));
-    end_view(answers, len, shown);
-}
-
-// Appends the view of the task of that name.
-fn put_task(timeline: &Timeline, answers: &mut Vec<u8>, name: &str)
-    requires { vec_len answers.old + MAX_REPLY ≤ vec_capacity answers.old }
-    ensures { Adds answers.old.items answers.new.items
-        (TaskLine (room_in answers.old) timeline.now name.now) }
-{
-    let Some(task) = timeline.app().find(Kind::Task, name) else {
-        return append_reply_reserved(answers, refused(Refusal::NoSuch));
-    };
-    timeline.app().limits();
+    app.limits();
     timeline.keeps();
-    let target = timeline.target();
-    let core = core_of(target.cores(), task);
-    let len = answers.len();
-    let shown = show_task(answers, timeline.app(), name, core, target.task(task));
-    end_view(answers, len, shown);
+    match kind {
+        Kind::Queue => show_queue(answers, app, name, target.queue(number)),
+        Kind::Set => show_set(answers, app, name, target.set(number)),
+        Kind::Task => {
+            let core = core_of(target.cores(), number);
+            show_task(answers, app, name, core, target.task(number))
+        }
+    }
 }
 
 // Appends the view of the cores.
@@ -145,9 +139,9 @@ fn put_reserved(timeline: &mut Timeline, answers: &mut Vec<u8>, line: &[u8])
         Ok(Command::Back { count }) => {
             append_reply_reserved(answers, back(timeline, count as usize));
         }
-        Ok(Command::ShowQueue { name }) => put_queue(timeline, answers, name),
-        Ok(Command::ShowSet { name }) => put_set(timeline, answers, name),
-        Ok(Command::ShowTask { name }) => put_task(timeline, answers, name),
+        Ok(Command::ShowQueue { name }) => put_named(timeline, answers, Kind::Queue, name),
+        Ok(Command::ShowSet { name }) => put_named(timeline, answers, Kind::Set, name),
+        Ok(Command::ShowTask { name }) => put_named(timeline, answers, Kind::Task, name),
         Ok(Command::ShowCores) => put_cores(timeline, answers),
         Err(_) => append_reply_reserved(answers, refused(Refusal::Syntax)),
     }
