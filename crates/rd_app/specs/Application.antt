@@ -3,6 +3,14 @@ use Rattle.std.specs.Prelude.{ℕ, ◌≡◌, ◌-◌, ◌^◌, ◌<◌, ◌≤�
 use Rattle.std.specs.Prelude.{List, [], length, map, slice_index_or, All, Option, None, Some}
 use Rattle.std.specs.Prelude.{nat_eq, position}
 use Rattle.std.specs.List.{IsDistinct, concat, list_any}
+use Rattle.rd_bytes.specs.declared.bytes.TheConstants.{MAX_BYTES}
+use Rattle.rd_notify.specs.declared.notes.TheConstants.{MAX_ENTRIES}
+use Rattle.rd_queue.specs.declared.item.TheConstants.{MAX_ITEM_SIZE}
+use Rattle.rd_queue.specs.declared.queue.TheConstants.{MAX_ITEMS}
+use Rattle.rd_queue.specs.declared.queue_set.TheConstants.{MAX_HANDLES}
+use Rattle.rd_app.specs.declared.app.TheConstants.{MAX_CODE, MAX_CORES, MAX_PRIORITY}
+use Rattle.rd_app.specs.declared.app.TheConstants.{MAX_QUEUES, MAX_SETS, MAX_TASKS}
+use Rattle.rd_app.specs.declared.instr.TheConstants.{REGISTERS}
 use Rattle.rd_app.specs.declared.app.QueueShape.{QueueShape}
 use Rattle.rd_app.specs.declared.app.Kind.{Kind}
 use Rattle.rd_app.specs.declared.app.Kind.TheVariants as kind
@@ -77,18 +85,18 @@ max_delay = 4294967295
 -- The register that an operand reads is there.
 abbrev pub IsOperand : Operand → Type 0
 IsOperand (Number value) = Unit {0}
-IsOperand (Register register) = register < 8
+IsOperand (Register register) = register < REGISTERS
 
 -- Registers, and instructions of a script of that length, are there.
 abbrev pub IsLocalWithin : ℕ → LocalInstr → Type 0
-IsLocalWithin len (local.Set register value) = register < 8
-IsLocalWithin len (local.Add register value) = register < 8
-IsLocalWithin len (local.Move into from) = (into < 8) × (from < 8)
-IsLocalWithin len (local.Data bytes) = length bytes ≤ 256
-IsLocalWithin len (local.Pack register) = register < 8
-IsLocalWithin len (local.Unpack register) = register < 8
+IsLocalWithin len (local.Set register value) = register < REGISTERS
+IsLocalWithin len (local.Add register value) = register < REGISTERS
+IsLocalWithin len (local.Move into from) = (into < REGISTERS) × (from < REGISTERS)
+IsLocalWithin len (local.Data bytes) = length bytes ≤ MAX_BYTES
+IsLocalWithin len (local.Pack register) = register < REGISTERS
+IsLocalWithin len (local.Unpack register) = register < REGISTERS
 IsLocalWithin len (local.Jump target) = target < len
-IsLocalWithin len (local.JumpZero register target) = (register < 8) × (target < len)
+IsLocalWithin len (local.JumpZero register target) = (register < REGISTERS) × (target < len)
 IsLocalWithin len local.End = Unit {0}
 
 -- The registers that a call of a queue names are there, and of so many sets the one that it names.
@@ -160,40 +168,40 @@ is_final (Set set call) = false
 abbrev pub IsQueueShape : QueueShape → Type 0
 IsQueueShape queue =
     (0 < queue.capacity)
-    × (queue.capacity ≤ 64)
+    × (queue.capacity ≤ MAX_ITEMS)
     × (0 < queue.item_size)
-    × (queue.item_size ≤ 64)
+    × (queue.item_size ≤ MAX_ITEM_SIZE)
 
 -- There is room for handles, and the members are queues.
 pub record IsSetShape (app : Application) (set : QueueSetShape) : Type 0 where
   pub some : 0 < set.capacity
-  pub few : set.capacity ≤ 2048
+  pub few : set.capacity ≤ MAX_HANDLES
   pub members : All (λ queue. queue < length app.queues) set.members
 
 pub record IsScript (app : Application) (script : TaskScript) : Type 0 where
-  pub priority : script.priority ≤ 31
+  pub priority : script.priority ≤ MAX_PRIORITY
   pub some : 0 < length script.code
-  pub few : length script.code ≤ 256
+  pub few : length script.code ≤ MAX_CODE
   pub within : All (IsWithin app (length script.code)) script.code
   pub ends : is_final (slice_index_or script.code (length script.code - 1) (Local local.End)) ≡ true
 
 pub record IsApplication (app : Application) : Type 0 where
   pub some_cores : 0 < app.cores
-  pub few_cores : app.cores ≤ 8
+  pub few_cores : app.cores ≤ MAX_CORES
   pub some_notes : 0 < app.notes
-  pub few_notes : app.notes ≤ 4
+  pub few_notes : app.notes ≤ MAX_ENTRIES
   pub tick : app.tick < 2 ^ 32
-  pub few_queues : length app.queues ≤ 32
+  pub few_queues : length app.queues ≤ MAX_QUEUES
   pub queues : All IsQueueShape app.queues
   pub queue_names : length app.queue_names ≡ length app.queues
   pub named_queues : AreNames app.queue_names
-  pub few_sets : length app.sets ≤ 32
+  pub few_sets : length app.sets ≤ MAX_SETS
   pub sets : All (IsSetShape app) app.sets
   pub one_set_each : IsDistinct nat_eq (members_of app.sets)
   pub set_names : length app.set_names ≡ length app.sets
   pub named_sets : AreNames app.set_names
   pub some_tasks : 0 < length app.scripts
-  pub few_tasks : length app.scripts ≤ 32
+  pub few_tasks : length app.scripts ≤ MAX_TASKS
   pub scripts : All (IsScript app) app.scripts
   pub task_names : length app.task_names ≡ length app.scripts
   pub named_tasks : AreNames app.task_names

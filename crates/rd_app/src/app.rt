@@ -15,6 +15,24 @@ use rd_text::names::Names;
 use std::alloc::{AllocError, Global};
 use std::marker::Model;
 
+/// How many cores an application has at the most (`configNUMBER_OF_CORES`).
+pub const MAX_CORES: usize = 8;
+
+/// How many queues an application has at the most.
+pub const MAX_QUEUES: usize = 32;
+
+/// How many queue sets an application has at the most.
+pub const MAX_SETS: usize = 32;
+
+/// How many tasks an application has at the most.
+pub const MAX_TASKS: usize = 32;
+
+/// The highest priority of a task (`configMAX_PRIORITIES` is one more).
+pub const MAX_PRIORITY: u8 = 31;
+
+/// How many instructions the script of a task has at the most.
+pub const MAX_CODE: usize = 256;
+
 /// What kind of thing a name stands for.
 #[derive(Clone, Copy, Debug, PartialEq, Eq)]
 pub enum Kind {
@@ -280,7 +298,7 @@ impl App {
     pub fn code(&self, task: usize) -> &[Instr]
         requires { task < length self.now.scripts }
         ensures code { result.now ≡ code_of self.now task }
-        ensures few { length result.now ≤ 256 }
+        ensures few { length result.now ≤ MAX_CODE }
         ensures within { All (IsWithin self.now (length result.now)) result.now }
     {
         let script = &self.parts.scripts[task];
@@ -294,3 +312,13 @@ impl App {
         self.priorities.as_slice()
     }
 }
+
+/// The limits of applications, as numbers.
+pub fn limits_of_applications()
+    ensures cores { MAX_CORES ≡ 8 }
+    ensures queues { MAX_QUEUES ≡ 32 }
+    ensures sets { MAX_SETS ≡ 32 }
+    ensures tasks { MAX_TASKS ≡ 32 }
+    ensures priority { MAX_PRIORITY ≡ 31 }
+    ensures code { MAX_CODE ≡ 256 }
+{}

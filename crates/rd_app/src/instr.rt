@@ -1,5 +1,7 @@
 //! The instructions of a task's script.
 
+ghost use Rattle.std.specs.Prelude.{◌≡◌};
+
 use rd_bytes::bytes::Bytes;
 use rd_queue::end::End;
 
@@ -87,3 +89,8 @@ pub enum Instr {
     /// A call of a queue set.
     Set { set: usize, call: SetCall },
 }
+
+/// How many registers a task has, as a number.
+pub fn count_of_registers()
+    ensures { REGISTERS ≡ 8 }
+{}

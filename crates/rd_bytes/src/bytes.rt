@@ -34,7 +34,7 @@ impl Bytes {
 
     /// These bytes.
     pub fn from_slice(bytes: &[u8]) -> Bytes
-        requires { length bytes.now ≤ 256 }
+        requires { length bytes.now ≤ MAX_BYTES }
         ensures { result ≡ bytes.now }
     {
         let mut made = Bytes::new();
@@ -45,7 +45,7 @@ impl Bytes {
     /// The bytes.
     pub fn as_slice(&self) -> &[u8]
         ensures bytes { result.now ≡ self.now }
-        ensures few { length result.now ≤ 256 }
+        ensures few { length result.now ≤ MAX_BYTES }
     {
         self.bytes.as_slice()
     }
@@ -59,10 +59,15 @@ impl Bytes {
 
     /// Makes them these bytes.
     pub fn replace(&mut self, bytes: &[u8])
-        requires { length bytes.now ≤ 256 }
+        requires { length bytes.now ≤ MAX_BYTES }
         ensures { self.new ≡ bytes.now }
     {
         self.bytes.clear();
         self.bytes.try_extend_from_slice(bytes).unwrap();
     }
 }
+
+/// How many bytes `Bytes` has at the most, as a number.
+pub fn limit_of_bytes()
+    ensures { MAX_BYTES ≡ 256 }
+{}

@@ -2,6 +2,8 @@
 use Rattle.std.specs.Prelude.{ℕ, ◌+◌, ◌%◌, ◌^◌, ◌<◌, ◌≤◌, length, nat_eq}
 use Rattle.std.specs.Prelude.{if◌then◌else◌}
 use Rattle.std.specs.Int.{w32, to_le_bytes, from_le_bytes}
+use Rattle.rd_bytes.specs.declared.bytes.TheConstants.{MAX_BYTES}
+use Rattle.rd_app.specs.declared.instr.TheConstants.{REGISTERS}
 use Rattle.rd_app.specs.declared.instr.LocalInstr.{LocalInstr}
 use Rattle.rd_app.specs.declared.instr.LocalInstr.TheVariants.{Set, Add, Move, Data, Pack}
 use Rattle.rd_app.specs.declared.instr.LocalInstr.TheVariants.{Unpack, Jump, JumpZero, End}
@@ -35,14 +37,14 @@ local_step s core task End = with_idle_core (with_phase s task Ended) core
 
 -- The registers that a local instruction names are there, and its bytes fit a task's data.
 abbrev pub NamesRegisters : LocalInstr → Type 0
-NamesRegisters (Set register value) = register < 8
-NamesRegisters (Add register value) = register < 8
-NamesRegisters (Move into from) = (into < 8) × (from < 8)
-NamesRegisters (Data bytes) = length bytes ≤ 256
-NamesRegisters (Pack register) = register < 8
-NamesRegisters (Unpack register) = register < 8
+NamesRegisters (Set register value) = register < REGISTERS
+NamesRegisters (Add register value) = register < REGISTERS
+NamesRegisters (Move into from) = (into < REGISTERS) × (from < REGISTERS)
+NamesRegisters (Data bytes) = length bytes ≤ MAX_BYTES
+NamesRegisters (Pack register) = register < REGISTERS
+NamesRegisters (Unpack register) = register < REGISTERS
 NamesRegisters (Jump target) = Unit {0}
-NamesRegisters (JumpZero register target) = register < 8
+NamesRegisters (JumpZero register target) = register < REGISTERS
 NamesRegisters End = Unit {0}
 
 -- what a local instruction takes in a record at the most: the data, and the next instruction

@@ -1,6 +1,9 @@
 //! The instructions that touch nothing but their own task.
 ghost use Rattle.std.specs.Prelude.{◌≡◌, ◌+◌, ◌<◌, ◌≤◌, length, slice_index, OnOk, OnErr};
 ghost use Rattle.std.specs.Int.{w32, from_le_bytes};
+ghost use Rattle.rd_bytes.specs.declared.bytes.TheConstants.{MAX_BYTES};
+ghost use Rattle.rd_app.specs.declared.app.TheConstants.{MAX_CODE};
+ghost use Rattle.rd_app.specs.declared.instr.TheConstants.{REGISTERS};
 ghost use Rattle.rd_state.specs.Edit.{Reaches, KeepsBase};
 ghost use Rattle.rd_state.specs.Snapshot.{task_at};
 ghost use Rattle.rd_kernel.specs.Costs.{data_cost};
@@ -26,7 +29,7 @@ fn unpacked(bytes: &[u8]) -> u32
 
 fn register_at(editing: &Editing, task: usize, register: usize) -> u32
     requires task { task < length editing.now.now.tasks }
-    requires register { register < 8 }
+    requires register { register < REGISTERS }
     ensures { result ≡ register_at editing.now.now task register }
 {
     editing.state().task(task).register(register)
@@ -40,8 +43,8 @@ fn put_register(
     value: u32,
 ) -> Result<(), NoMemory>
     requires task { task < length editing.old.now.tasks }
-    requires register { register < 8 }
-    requires pc { (task_at editing.old.now task).pc < 256 }
+    requires register { register < REGISTERS }
+    requires pc { (task_at editing.old.now task).pc < MAX_CODE }
     ensures ok { OnOk result (Reaches editing.old editing.new
         (advanced (with_register editing.old.now task register value) task) 2) }
     ensures err { OnErr result (KeepsBase editing.old editing.new) }
@@ -58,8 +61,8 @@ fn put_bytes(
     bytes: &[u8],
 ) -> Result<(), NoMemory>
     requires task { task < length editing.old.now.tasks }
-    requires few { length bytes.now ≤ 256 }
-    requires pc { (task_at editing.old.now task).pc < 256 }
+    requires few { length bytes.now ≤ MAX_BYTES }
+    requires pc { (task_at editing.old.now task).pc < MAX_CODE }
     ensures ok { OnOk result (Reaches editing.old editing.new
         (advanced (with_bytes editing.old.now task bytes.now) task) (data_cost + 1)) }
     ensures err { OnErr result (KeepsBase editing.old editing.new) }
@@ -90,7 +93,7 @@ pub fn do_local(
 ) -> Result<(), NoMemory>
     requires task { task < length editing.old.now.tasks }
     requires core { core < length editing.old.now.cores }
-    requires pc { (task_at editing.old.now task).pc < 256 }
+    requires pc { (task_at editing.old.now task).pc < MAX_CODE }
     requires registers { NamesRegisters instr.now }
     ensures ok { OnOk result
         (Reaches editing.old editing.new (local_step editing.old.now core task instr.now)

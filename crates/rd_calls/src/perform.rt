@@ -1,6 +1,7 @@
 //! The move of a core in the middle: the instruction, the turn, the scheduler.
 
 ghost use Rattle.std.specs.Prelude.{◌≡◌, ◌+◌, ◌*◌, ◌<◌, length, Some, OnOk, OnErr};
+ghost use Rattle.rd_app.specs.declared.app.TheConstants.{MAX_CODE};
 ghost use Rattle.rd_app.specs.Application.{priorities_of};
 ghost use Rattle.rd_state.specs.Edit.{Reaches, KeepsBase};
 ghost use Rattle.rd_state.specs.Snapshot.{core_at, numbers_of, task_at};
@@ -31,7 +32,7 @@ fn perform(
 ) -> Result<(), NoMemory>
     requires caller { IsCalling app.now editing.old.now task }
     requires core { core < length editing.old.now.cores }
-    requires pc { (task_at editing.old.now task).pc < 256 }
+    requires pc { (task_at editing.old.now task).pc < MAX_CODE }
     requires names { NamesParts (numbers_of editing.old.now) instr.now }
     ensures ok { OnOk result (Reaches editing.old editing.new
         (performed (priorities_of app.now) editing.old.now core task instr.now)

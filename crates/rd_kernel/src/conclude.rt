@@ -1,6 +1,7 @@
 //! What becomes of a caller, once its call was done.
 
 ghost use Rattle.std.specs.Prelude.{◌≡◌, ◌<◌, length, OnOk, OnErr};
+ghost use Rattle.rd_app.specs.declared.app.TheConstants.{MAX_CODE};
 ghost use Rattle.rd_state.specs.Edit.{Reaches, KeepsBase};
 ghost use Rattle.rd_state.specs.Sizes.{IsSizedPhase};
 ghost use Rattle.rd_state.specs.Snapshot.{numbers_of, task_at};
@@ -36,7 +37,7 @@ pub fn conclude(
 ) -> Result<(), NoMemory>
     requires task { task < length editing.old.now.tasks }
     requires core { core < length editing.old.now.cores }
-    requires pc { (task_at editing.old.now task).pc < 256 }
+    requires pc { (task_at editing.old.now task).pc < MAX_CODE }
     requires sized { IsSizedOutcome (numbers_of editing.old.now) outcome }
     ensures ok { OnOk result (Reaches editing.old editing.new
         (concluded (record { state = editing.old.now; outcome = outcome }) core task)

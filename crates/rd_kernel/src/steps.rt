@@ -1,5 +1,8 @@
 //! Single changes in the middle of a step.
 ghost use Rattle.std.specs.Prelude.{◌≡◌, ◌+◌, ◌<◌, ◌≤◌, length, IsOk, OnOk, OnErr};
+ghost use Rattle.rd_bytes.specs.declared.bytes.TheConstants.{MAX_BYTES};
+ghost use Rattle.rd_app.specs.declared.app.TheConstants.{MAX_CODE};
+ghost use Rattle.rd_app.specs.declared.instr.TheConstants.{REGISTERS};
 ghost use Rattle.rd_state.specs.declared.phase.Phase.TheVariants.{Run};
 ghost use Rattle.rd_state.specs.Edit.{Reaches, KeepsBase};
 ghost use Rattle.rd_state.specs.Sizes.{IsSizedPhase};
@@ -25,7 +28,7 @@ pub fn set_register(
     value: u32,
 ) -> Result<(), NoMemory>
     requires task { task < length editing.old.now.tasks }
-    requires register { register < 8 }
+    requires register { register < REGISTERS }
     ensures ok { OnOk result
         (Reaches editing.old editing.new (with_register editing.old.now task register value) 1) }
     ensures has_it { register_at editing.old.now task register ≡ value → IsOk result }
@@ -46,7 +49,7 @@ pub fn set_bytes(
     bytes: &[u8],
 ) -> Result<(), NoMemory>
     requires task { task < length editing.old.now.tasks }
-    requires few { length bytes.now ≤ 256 }
+    requires few { length bytes.now ≤ MAX_BYTES }
     ensures ok { OnOk result
         (Reaches editing.old editing.new (with_bytes editing.old.now task bytes.now) data_cost) }
     ensures err { OnErr result (KeepsBase editing.old editing.new) }
@@ -70,7 +73,7 @@ pub fn set_pc(editing: &mut Editing, task: usize, pc: usize) -> Result<(), NoMem
 /// Moves a task to its next instruction.
 pub fn advance(editing: &mut Editing, task: usize) -> Result<(), NoMemory>
     requires task { task < length editing.old.now.tasks }
-    requires pc { (task_at editing.old.now task).pc < 256 }
+    requires pc { (task_at editing.old.now task).pc < MAX_CODE }
     ensures ok { OnOk result (Reaches editing.old editing.new (advanced editing.old.now task) 1) }
     ensures err { OnErr result (KeepsBase editing.old editing.new) }
 {
@@ -98,7 +101,7 @@ pub fn set_phase(editing: &mut Editing, task: usize, phase: Phase) -> Result<(),
 /// Ends a task's call: its answer stands in r0, and its script goes on.
 pub fn return_from(editing: &mut Editing, task: usize, answer: u32) -> Result<(), NoMemory>
     requires task { task < length editing.old.now.tasks }
-    requires pc { (task_at editing.old.now task).pc < 256 }
+    requires pc { (task_at editing.old.now task).pc < MAX_CODE }
     ensures ok { OnOk result
         (Reaches editing.old editing.new (returned editing.old.now task answer) ending_cost) }
     ensures err { OnErr result (KeepsBase editing.old editing.new) }

@@ -11,7 +11,7 @@ use Rattle.rd_state.specs.Valid.{IsValid, room_of, shape_of}
 use Rattle.rd_timeline.specs.Course.{Course}
 use Rattle.rd_main.specs.Answers.{Adds, IsAnswer, IsShown, IsView, no_memory, number_named, room_in}
 use Rattle.rd_command.specs.Commands.{Asked, Step, Tick, Back, ShowQueue, ShowSet, ShowTask, ShowCores}
-use Rattle.rd_reply.specs.Pages.{IsFull, KeepsFront}
+use Rattle.rd_reply.specs.Pages.{LacksRoom, KeepsFront}
 use Rattle.rd_reply.specs.Names.{all_names, SeatedAreNamed}
 use Rattle.rd_reply.specs.Replies.{line_of, cores_text}
 
@@ -38,7 +38,7 @@ seated_named app s limits valid =
 -- A view that was appended is the answer. One that there was no room for is cut off, and `no NoMemory` is the answer.
 pub view_added : {T E : Type 0} (shown : Result T E) (number : Option ℕ) (view : ℕ → List ℕ) (n len : ℕ) (old page : Vec ℕ) (after text : List ℕ)
     → number ≡ Some n → len ≡ vec_len old → text ≡ view n → OnOk shown (page.items ≡ old.items ++ line_of text)
-    → OnErr shown (IsFull old (line_of text)) → KeepsFront old page
+    → OnErr shown (LacksRoom old (line_of text)) → KeepsFront old page
     → OnOk shown (after ≡ page.items) → OnErr shown (after ≡ take len page.items ++ no_memory) → Adds old.items after (IsView (room_in old) number view)
 view_added (Ok x) number view n len old page after text is all same appended full kept ok err = (
   line_of (view n),
@@ -47,7 +47,7 @@ view_added (Ok x) number view n len old page after text is all same appended ful
 )
 view_added (Err e) number view n len old page after text is all same appended full kept ok err =
     let front : take len page.items ≡ old.items = kept.front len (omega (arith, all)) ∙ take_all len old.items (omega (arith, all, old.ok.0)) in
-    let none : IsFull old (line_of (view n)) = subst (λ view. IsFull old (line_of view)) same full in (
+    let none : LacksRoom old (line_of (view n)) = subst (λ view. LacksRoom old (line_of view)) same full in (
       no_memory,
       err ∙ ap (λ (items : List ℕ). items ++ no_memory) front,
       subst (λ m. IsView (room_in old) m view no_memory) (sym is) (inr (refl, omega (arith, none, old.ok.1))),

@@ -8,7 +8,7 @@ ghost use Rattle.rd_text.specs.Words.{words_of};
 ghost use Rattle.rd_command.specs.Commands.{command_of};
 ghost use Rattle.rd_main.specs.Answers.{MoveReply, StepReply, BackReply, IsAnswer, Adds, no_memory};
 ghost use Rattle.rd_main.specs.Answers.{NamedLine, CoresLine, room_in, view_text};
-ghost use Rattle.rd_reply.specs.Pages.{IsFull, KeepsFront};
+ghost use Rattle.rd_reply.specs.Pages.{LacksRoom, KeepsFront};
 ghost use Rattle.rd_reply.specs.Replies.{line_of};
 
 use rd_app::app::Kind;
@@ -97,7 +97,7 @@ fn show_named(
     ensures text { OnOk result (answers.new.items
         ≡ answers.old.items ++ line_of (view_text timeline.now kind name.now number)) }
     ensures full { OnErr result
-        (IsFull answers.old (line_of (view_text timeline.now kind name.now number))) }
+        (LacksRoom answers.old (line_of (view_text timeline.now kind name.now number))) }
     ensures kept { KeepsFront answers.old answers.new }
 {
     let app = timeline.app();

@@ -62,7 +62,7 @@ fn same_entries(entries: &[Entry], others: &[Entry]) -> bool
 impl Notes {
     /// `count` entries of value 0, all idle.
     pub fn new(count: usize) -> Notes
-        requires { count ≤ 4 }
+        requires { count ≤ MAX_ENTRIES }
         ensures { result ≡ replicate count idle_entry }
     {
         let mut entries = ArrayVec::new();
@@ -96,7 +96,7 @@ impl Notes {
     /// How many entries there are.
     pub fn len(&self) -> usize
         ensures len { result ≡ length self.now }
-        ensures few { result ≤ 4 }
+        ensures few { result ≤ MAX_ENTRIES }
     {
         self.entries.len()
     }
@@ -116,3 +116,8 @@ impl Notes {
         self.entries.as_slice()
     }
 }
+
+/// How many notification entries a task has at the most, as a number.
+pub fn limit_of_entries()
+    ensures { MAX_ENTRIES ≡ 4 }
+{}

@@ -13,7 +13,7 @@ use Rattle.rd_queue.specs.declared.change.QueueChange.TheVariants.{InsWait, DelW
 use Rattle.rd_queue.specs.declared.waiting_list.WaitingList.{WaitingList}
 use Rattle.rd_queue.specs.declared.waiting_list.WaitingList.TheVariants.{Receiving, Sending}
 use Rattle.rd_queue.specs.QueueSnapshot.{QueueSnapshot}
-use Rattle.rd_queue.specs.Queues.{count_in, first_items, items_in, tasks_in_list, with_items, with_set, with_waiting}
+use Rattle.rd_queue.specs.Queues.{count_in, first_items, items_in, tasks_in_list, with_items, as_member_of, with_waiting}
 use Rattle.rd_queue.specs.Sizes.{IsSizedList, IsSizedQueue}
 use Rattle.rd_queue.specs.Changes.{queue_applied, queue_inverse_of, QueueFits, EachQueueChangeIsUndone}
 use Rattle.rd_queue.proofs.SharedLaws.{last_taken_after_push, last_pushed_after_take, inserted_sized, removed_sized, room_after}
@@ -145,7 +145,7 @@ items_sized : (queue : QueueSnapshot) (items : List (List ℕ)) → IsSizedQueue
 items_sized queue items sized few all =
     parts_sized queue items queue.receiving queue.sending queue.set sized few all sized.receiving sized.sending sized.set
 
-set_sized : (queue : QueueSnapshot) (set : Option ℕ) → IsSizedQueue queue → IfSome set (λ s. s < queue.sets) → IsSizedQueue (with_set queue set)
+set_sized : (queue : QueueSnapshot) (set : Option ℕ) → IsSizedQueue queue → IfSome set (λ s. s < queue.sets) → IsSizedQueue (as_member_of queue set)
 set_sized queue set sized there =
     parts_sized queue queue.items queue.receiving queue.sending set sized sized.room sized.items sized.receiving sized.sending there
 

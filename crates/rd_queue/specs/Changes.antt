@@ -11,7 +11,7 @@ use Rattle.rd_queue.specs.declared.end.End.{End}
 use Rattle.rd_queue.specs.declared.end.End.TheVariants.{Back, Front}
 use Rattle.rd_queue.specs.QueueSnapshot.{QueueSnapshot}
 use Rattle.rd_queue.specs.Queues.{count_in, items_in, tasks_in_list}
-use Rattle.rd_queue.specs.Queues.{with_items, with_set, with_waiting}
+use Rattle.rd_queue.specs.Queues.{with_items, as_member_of, with_waiting}
 use Rattle.rd_queue.specs.Sizes.{IsSizedQueue}
 
 -- the queue after a change
@@ -27,7 +27,7 @@ queue_applied queue TakeFront = with_items queue (drop 1 queue.items)
 queue_applied queue (SetItem index item) = with_items queue (slice_set queue.items index item)
 queue_applied queue Clear = with_items queue []
 queue_applied queue (Fill bytes) = with_items queue (items_in queue.item_size bytes)
-queue_applied queue (SetMember set) = with_set queue set
+queue_applied queue (SetMember set) = as_member_of queue set
 
 -- the change that undoes a change made at this queue
 abbrev pub queue_inverse_of : QueueSnapshot → QueueChange → QueueChange

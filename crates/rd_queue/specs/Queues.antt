@@ -34,8 +34,8 @@ abbrev pub with_items : QueueSnapshot → List (List ℕ) → QueueSnapshot
 with_items queue items = record queue { items = items }
 
 -- the queue as a member of that set, or of none, in place of its own
-abbrev pub with_set : QueueSnapshot → Option ℕ → QueueSnapshot
-with_set queue set = record queue { set = set }
+abbrev pub as_member_of : QueueSnapshot → Option ℕ → QueueSnapshot
+as_member_of queue set = record queue { set = set }
 
 -- Are they one list?
 abbrev pub same_list : WaitingList → WaitingList → Bool

@@ -26,7 +26,7 @@ impl Model for Item {
 impl Item {
     /// An item of these bytes.
     pub fn new(bytes: &[u8]) -> Item
-        requires { length bytes.now ≤ 64 }
+        requires { length bytes.now ≤ MAX_ITEM_SIZE }
         ensures { result ≡ bytes.now }
     {
         let mut item = ArrayVec::new();
@@ -36,7 +36,7 @@ impl Item {
 
     /// The item of `size` bytes that these bytes make: cut, or filled up with zero bytes.
     pub fn fitted(bytes: &[u8], size: usize) -> Item
-        requires { size ≤ 64 }
+        requires { size ≤ MAX_ITEM_SIZE }
         ensures { result ≡ fitted size bytes.now }
     {
         let mut item = ArrayVec::new();
@@ -56,8 +56,13 @@ impl Item {
     /// The item's bytes.
     pub fn as_slice(&self) -> &[u8]
         ensures bytes { result.now ≡ self.now }
-        ensures short { length result.now ≤ 64 }
+        ensures short { length result.now ≤ MAX_ITEM_SIZE }
     {
         self.bytes.as_slice()
     }
 }
+
+/// How many bytes an item has at the most, as a number.
+pub fn limit_of_item_sizes()
+    ensures { MAX_ITEM_SIZE ≡ 64 }
+{}

@@ -7,12 +7,12 @@ ghost use Rattle.rd_queue.specs.Sizes.{IsSizedQueue};
 ghost use Rattle.std.specs.List.{concat};
 ghost use Rattle.std.specs.VecDeque.{deque_capacity};
 ghost use Rattle.rd_queue.specs.Queues.{count_in, empty_queue, fitted, items_in, with_items};
-ghost use Rattle.rd_queue.specs.Queues.{tasks_in_list, with_set, with_waiting};
+ghost use Rattle.rd_queue.specs.Queues.{tasks_in_list, as_member_of, with_waiting};
 ghost use Rattle.rd_queue.specs.Changes.{HasRoomForAll, put_at, queue_applied};
 ghost use Rattle.rd_queue.specs.declared.change.QueueChange.TheVariants.{SetItem};
 
 use crate::end::End;
-use crate::item::Item;
+use crate::item::{Item, MAX_ITEM_SIZE};
 use crate::waiting_list::WaitingList;
 use rd_bytes::no_memory::NoMemory;
 use rd_bytes::saved::SavedBytes;
@@ -21,6 +21,9 @@ use std::alloc::{AllocError, Global};
 use std::collections::VecDeque;
 use std::marker::Model;
 use thiserror::Error;
+
+/// How many items a queue has room for at the most.
+pub const MAX_ITEMS: usize = 64;
 
 /// The queue has no free slot.
 #[derive(Debug, Drop, Error)]
@@ -48,6 +51,8 @@ pub struct Queue {
 impl Model for Queue {
     ghost use Rattle.std.specs.Prelude.{◌≡◌, ◌<◌, ◌≤◌, length, All, IfSome};
     ghost use Rattle.std.specs.VecDeque.{deque_capacity};
+    ghost use Rattle.rd_queue.specs.declared.item.TheConstants.{MAX_ITEM_SIZE};
+    ghost use Rattle.rd_queue.specs.declared.queue.TheConstants.{MAX_ITEMS};
     ghost use Rattle.rd_queue.specs.QueueSnapshot.{QueueSnapshot};
 
     ghost Value = { QueueSnapshot };
@@ -68,8 +73,8 @@ impl Model for Queue {
     // member of a set that is there, or of none.
     ghost invariant = { λ q. (length q.items.items ≤ q.capacity)
         × All (λ item. length item ≡ q.item_size) q.items.items
-        × (q.capacity ≤ deque_capacity q.items) × (0 < q.capacity) × (q.capacity ≤ 64)
-        × (0 < q.item_size) × (q.item_size ≤ 64)
+        × (q.capacity ≤ deque_capacity q.items) × (0 < q.capacity) × (q.capacity ≤ MAX_ITEMS)
+        × (0 < q.item_size) × (q.item_size ≤ MAX_ITEM_SIZE)
         × (q.sending.room ≡ q.receiving.room)
         × All (λ task. task < q.receiving.room) q.receiving.tasks
         × All (λ task. task < q.receiving.room) q.sending.tasks
@@ -106,7 +111,7 @@ fn bytes_of(alloc: Global, items: &VecDeque<Item>) -> Result<SavedBytes, NoMemor
 // Puts the items of that size that these bytes are, one after the other, at the back.
 fn push_all(items: &mut VecDeque<Item>, size: usize, bytes: &[u8])
     requires some { 0 < size }
-    requires small { size ≤ 64 }
+    requires small { size ≤ MAX_ITEM_SIZE }
     requires whole { length bytes.now ≡ count_in size bytes.now * size }
     requires room { length items.old.items + count_in size bytes.now ≤ deque_capacity items.old }
     ensures items { items.new.items ≡ items.old.items ++ items_in size bytes.now }
@@ -132,9 +137,9 @@ impl Queue {
         sets: usize,
     ) -> Result<Queue, AllocError>
         requires some_room { 0 < capacity }
-        requires few { capacity ≤ 64 }
+        requires few { capacity ≤ MAX_ITEMS }
         requires some_bytes { 0 < item_size }
-        requires small { item_size ≤ 64 }
+        requires small { item_size ≤ MAX_ITEM_SIZE }
         ensures { IfOk result (λ queue. queue ≡ empty_queue capacity item_size tasks sets) }
     {
         let items = VecDeque::with_capacity(alloc, capacity)?;
@@ -194,7 +199,7 @@ impl Queue {
     pub fn count(&self) -> usize
         ensures count { result ≡ length self.now.items }
         ensures within { result ≤ self.now.capacity }
-        ensures few { result ≤ 64 }
+        ensures few { result ≤ MAX_ITEMS }
     {
         self.items.len()
     }
@@ -202,7 +207,7 @@ impl Queue {
     /// How many slots are free (`uxQueueSpacesAvailable`).
     pub fn spaces(&self) -> usize
         ensures spaces { result + length self.now.items ≡ self.now.capacity }
-        ensures few { result ≤ 64 }
+        ensures few { result ≤ MAX_ITEMS }
     {
         self.capacity - self.items.len()
     }
@@ -217,7 +222,7 @@ impl Queue {
     /// How many bytes each item has.
     pub fn item_size(&self) -> usize
         ensures size { result ≡ self.now.item_size }
-        ensures small { result ≤ 64 }
+        ensures small { result ≤ MAX_ITEM_SIZE }
     {
         self.item_size
     }
@@ -226,7 +231,7 @@ impl Queue {
     pub fn item(&self, index: usize) -> &[u8]
         requires { index < length self.now.items }
         ensures item { result.now ≡ slice_index_or self.now.items index [] }
-        ensures short { length result.now ≤ 64 }
+        ensures short { length result.now ≤ MAX_ITEM_SIZE }
     {
         let item = &self.items[index];
         item.as_slice()
@@ -236,7 +241,7 @@ impl Queue {
     pub fn first(&self) -> &[u8]
         requires { 0 < length self.now.items }
         ensures item { result.now ≡ slice_index_or self.now.items 0 [] }
-        ensures short { length result.now ≤ 64 }
+        ensures short { length result.now ≤ MAX_ITEM_SIZE }
     {
         self.item(0)
     }
@@ -245,7 +250,7 @@ impl Queue {
     pub fn last(&self) -> &[u8]
         requires { 0 < length self.now.items }
         ensures item { result.now ≡ slice_index_or self.now.items (length self.now.items - 1) [] }
-        ensures short { length result.now ≤ 64 }
+        ensures short { length result.now ≤ MAX_ITEM_SIZE }
     {
         self.item(self.items.len() - 1)
     }
@@ -440,7 +445,7 @@ impl Queue {
     /// no memory.
     pub fn join_set(&mut self, set: usize)
         requires { set < self.old.sets }
-        ensures { self.new ≡ with_set self.old (Some set) }
+        ensures { self.new ≡ as_member_of self.old (Some set) }
     {
         self.set = Some(set);
     }
@@ -448,8 +453,13 @@ impl Queue {
     /// Makes the queue a member of no set (`xQueueRemoveFromSet`, but for when that is refused). It
     /// takes no memory.
     pub fn leave_set(&mut self)
-        ensures { self.new ≡ with_set self.old None }
+        ensures { self.new ≡ as_member_of self.old None }
     {
         self.set = None;
     }
 }
+
+/// How many items a queue has room for at the most, as a number.
+pub fn limit_of_items()
+    ensures { MAX_ITEMS ≡ 64 }
+{}

@@ -11,6 +11,9 @@ use std::alloc::{AllocError, Global};
 use std::collections::VecDeque;
 use std::marker::Model;
 
+/// How many handles a queue set has room for at the most.
+pub const MAX_HANDLES: usize = 2048;
+
 /// A queue set with room for `capacity` handles, each the number of a queue, and the tasks that
 /// wait to select from it. All its memory is taken by `new`.
 #[derive(Drop)]
@@ -24,6 +27,7 @@ pub struct QueueSet {
 impl Model for QueueSet {
     ghost use Rattle.std.specs.Prelude.{◌<◌, ◌≤◌, length, All};
     ghost use Rattle.std.specs.VecDeque.{deque_capacity};
+    ghost use Rattle.rd_queue.specs.declared.queue_set.TheConstants.{MAX_HANDLES};
     ghost use Rattle.rd_queue.specs.SetSnapshot.{SetSnapshot};
 
     ghost Value = { SetSnapshot };
@@ -40,7 +44,7 @@ impl Model for QueueSet {
     // them. Those that wait are tasks.
     ghost invariant = { λ s. (length s.handles.items ≤ s.capacity)
         × All (λ queue. queue < s.queues) s.handles.items
-        × (s.capacity ≤ deque_capacity s.handles) × (0 < s.capacity) × (s.capacity ≤ 2048)
+        × (s.capacity ≤ deque_capacity s.handles) × (0 < s.capacity) × (s.capacity ≤ MAX_HANDLES)
         × All (λ task. task < s.waiting.room) s.waiting.tasks };
 }
 
@@ -54,7 +58,7 @@ impl QueueSet {
         tasks: usize,
     ) -> Result<QueueSet, AllocError>
         requires some_room { 0 < capacity }
-        requires few { capacity ≤ 2048 }
+        requires few { capacity ≤ MAX_HANDLES }
         ensures { IfOk result (λ set. set ≡ empty_set capacity queues tasks) }
     {
         let handles = VecDeque::with_capacity(alloc, capacity)?;
@@ -104,7 +108,7 @@ impl QueueSet {
     pub fn count(&self) -> usize
         ensures count { result ≡ length self.now.handles }
         ensures within { result ≤ self.now.capacity }
-        ensures few { result ≤ 2048 }
+        ensures few { result ≤ MAX_HANDLES }
     {
         self.handles.len()
     }
@@ -112,7 +116,7 @@ impl QueueSet {
     /// For how many more handles there is room.
     pub fn spaces(&self) -> usize
         ensures spaces { result + length self.now.handles ≡ self.now.capacity }
-        ensures few { result ≤ 2048 }
+        ensures few { result ≤ MAX_HANDLES }
     {
         self.capacity - self.handles.len()
     }
@@ -120,7 +124,7 @@ impl QueueSet {
     /// How many handles there is room for.
     pub fn capacity(&self) -> usize
         ensures capacity { result ≡ self.now.capacity }
-        ensures few { result ≤ 2048 }
+        ensures few { result ≤ MAX_HANDLES }
     {
         self.capacity
     }
@@ -218,3 +222,8 @@ impl QueueSet {
         self.waiting.remove_at(index)
     }
 }
+
+/// How many handles a queue set has room for at the most, as a number.
+pub fn limit_of_handles()
+    ensures { MAX_HANDLES ≡ 2048 }
+{}

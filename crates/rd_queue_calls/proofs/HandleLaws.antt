@@ -22,8 +22,8 @@ use Rattle.rd_state.specs.Waiting.{objects_then, waiting_at}
 use Rattle.rd_kernel.specs.Outcomes.{Called, blocked, call_answers, call_fails, call_passes, passed}
 use Rattle.rd_kernel.specs.declared.outcome.Outcome.TheVariants.{Waits}
 use Rattle.rd_kernel.specs.Waking.{deadline_of, may_wait, objects_without, with_waiter, woken_at, woken_first, woken_one}
-use Rattle.rd_queue_calls.specs.Posts.{call_breaks, is_in_full_set, is_in_no_set, is_in_set, posted, replaced, set_of, with_handle, with_member}
-use Rattle.rd_queue_calls.specs.QueueCalls.{is_empty, is_full, queue_outcome, sent_outcome, with_item_over, with_item_peeked, with_item_sent}
+use Rattle.rd_queue_calls.specs.Posts.{call_breaks, is_in_full_set, is_in_no_set, is_in_set, posted, replaced, membership_of, with_handle, with_member}
+use Rattle.rd_queue_calls.specs.QueueCalls.{is_empty, is_full, queue_outcome, outcome_with_room, with_item_over, with_item_peeked, with_item_sent}
 use Rattle.rd_queue_calls.specs.QueueCalls.{with_item_taken, with_no_items}
 use Rattle.rd_queue_calls.specs.SetCalls.{has_no_handle, set_outcome, with_handle_taken}
 use Rattle.rd_queue_calls.specs.SetLaws.{FailedSendsLeaveAll, HandlesGoByCalls, OverwritesPostOnce, handles_after, handles_in, handles_posted, handles_selected}
@@ -99,13 +99,13 @@ handles_of_posts priorities s queue (Some number) =
     ∙ handles_set s.objects.sets number (with_handles (set_at s number) ((set_at s number).handles ++ queue ∷ []))
 
 handles_of_sends : (priorities : List ℕ) (s : Snapshot) (task queue : ℕ) (end : End)
-    → handles_in (sent_outcome priorities s task queue end).state ≡ handles_sent s queue
+    → handles_in (outcome_with_room priorities s task queue end).state ≡ handles_sent s queue
 handles_of_sends priorities s task queue end =
-    elim (is_in_full_set s (set_of s queue)) as (λ b.
-    handles_in (cond b (call_breaks s SetFull) (posted priorities (with_item_sent s task queue end) queue (set_of s queue))).state
-    ≡ cond b (handles_in s) (handles_posted s queue (set_of s queue))) [
+    elim (is_in_full_set s (membership_of s queue)) as (λ b.
+    handles_in (cond b (call_breaks s SetFull) (posted priorities (with_item_sent s task queue end) queue (membership_of s queue))).state
+    ≡ cond b (handles_in s) (handles_posted s queue (membership_of s queue))) [
       | true ↦ refl
-      | false ↦ posts (set_of s queue)
+      | false ↦ posts (membership_of s queue)
     ]
   where
     posts : (member : Option ℕ) → handles_in (posted priorities (with_item_sent s task queue end) queue member).state ≡ handles_posted s queue member
@@ -124,7 +124,7 @@ handles_of_joining s queue member can =
 of_queues : (priorities : List ℕ) (s : Snapshot) (task queue : ℕ) (call : QueueCall)
     → handles_in (queue_outcome priorities s task queue call).state ≡ handles_after s queue call
 of_queues priorities s task queue (Send end wait) =
-    handles_or_blocked priorities s task (Queue queue Sending) wait (is_full (queue_at s queue)) (sent_outcome priorities s task queue end) (handles_sent s queue)
+    handles_or_blocked priorities s task (Queue queue Sending) wait (is_full (queue_at s queue)) (outcome_with_room priorities s task queue end) (handles_sent s queue)
     (handles_of_sends priorities s task queue end)
 of_queues priorities s task queue (Receive wait) =
     handles_or_blocked priorities s task (Queue queue Receiving) wait (is_empty (queue_at s queue))
@@ -138,18 +138,18 @@ of_queues priorities s task queue (Peek wait) =
     ∙ same_either_way (is_empty (queue_at s queue)) (handles_in s)
 of_queues priorities s task queue Overwrite =
     elim (is_empty (queue_at s queue)) as (λ b.
-    handles_in (cond b (sent_outcome priorities s task queue Back) (replaced priorities (with_item_over s task queue) queue (set_of s queue))).state
+    handles_in (cond b (outcome_with_room priorities s task queue Back) (replaced priorities (with_item_over s task queue) queue (membership_of s queue))).state
     ≡ cond b (handles_sent s queue) (handles_in s)) [
       | true ↦ handles_of_sends priorities s task queue Back
-      | false ↦ handles_of_replaced priorities (with_item_over s task queue) queue (set_of s queue)
+      | false ↦ handles_of_replaced priorities (with_item_over s task queue) queue (membership_of s queue)
     ]
 of_queues priorities s task queue Reset = handles_woken_first priorities (with_no_items s queue) (Queue queue Sending)
 of_queues priorities s task queue Count = refl
 of_queues priorities s task queue Spaces = refl
 of_queues priorities s task queue (AddToSet number) =
-    handles_of_joining s queue (Some number) (is_empty (queue_at s queue) && is_in_no_set (set_of s queue))
+    handles_of_joining s queue (Some number) (is_empty (queue_at s queue) && is_in_no_set (membership_of s queue))
 of_queues priorities s task queue (RemoveFromSet number) =
-    handles_of_joining s queue None (is_empty (queue_at s queue) && is_in_set number (set_of s queue))
+    handles_of_joining s queue None (is_empty (queue_at s queue) && is_in_set number (membership_of s queue))
 
 of_sets : (priorities : List ℕ) (s : Snapshot) (task number : ℕ) (call : SetCall)
     → handles_in (set_outcome priorities s task number call).state ≡ handles_selected s number call
@@ -165,16 +165,16 @@ handles_go_by_calls = record { of_queues = of_queues; of_sets = of_sets }
 
 pub overwrites_post_once : OverwritesPostOnce
 overwrites_post_once priorities s task queue number some member =
-    ap (λ b. cond b (sent_outcome priorities s task queue Back) (replaced priorities (with_item_over s task queue) queue (set_of s queue))) some
+    ap (λ b. cond b (outcome_with_room priorities s task queue Back) (replaced priorities (with_item_over s task queue) queue (membership_of s queue))) some
     ∙ ap (replaced priorities (with_item_over s task queue) queue) member
 
 pub failed_sends_leave_all : FailedSendsLeaveAll
 failed_sends_leave_all = record {
   full = λ priorities s task queue end wait full never.
-      ap (λ b. cond b (blocked priorities s task (Queue queue Sending) wait) (sent_outcome priorities s task queue end)) full
+      ap (λ b. cond b (blocked priorities s task (Queue queue Sending) wait) (outcome_with_room priorities s task queue end)) full
       ∙ ap (λ b. cond b (record { state = with_waiter priorities s (Queue queue Sending) task; outcome = Waits (Queue queue Sending) (deadline_of s task wait) })
       (call_fails s)) never;
   full_set = λ priorities s task queue end wait room full.
-      ap (λ b. cond b (blocked priorities s task (Queue queue Sending) wait) (sent_outcome priorities s task queue end)) room
-      ∙ ap (λ b. cond b (call_breaks s SetFull) (posted priorities (with_item_sent s task queue end) queue (set_of s queue))) full;
+      ap (λ b. cond b (blocked priorities s task (Queue queue Sending) wait) (outcome_with_room priorities s task queue end)) room
+      ∙ ap (λ b. cond b (call_breaks s SetFull) (posted priorities (with_item_sent s task queue end) queue (membership_of s queue))) full;
 }

@@ -34,8 +34,8 @@ use Rattle.rd_kernel.proofs.ConsistentLaws.{IsConsistent, IsConsistent-items, Is
 use Rattle.rd_kernel.proofs.ConsistentLaws.{IsSameWaiting, all_have_time_left, place_there, task_now, waiting_at-with_queue, waiting_at-with_set}
 use Rattle.rd_kernel.proofs.CallLaws.{IsDone, RunsInstr, IsConsistent-answered, IsConsistent-done, IsConsistent-failed, IsConsistent-or_blocked}
 use Rattle.rd_kernel.proofs.CallLaws.{IsConsistent-returned, IsConsistent-with_values, first_waits, or_blocked-tick, waits_is_task, woken_first-tick}
-use Rattle.rd_queue_calls.specs.Posts.{HasRoomToWake, call_breaks, is_in_full_set, is_in_no_set, is_in_set, posted, replaced, set_of, with_handle, with_member}
-use Rattle.rd_queue_calls.specs.QueueCalls.{is_empty, is_full, queue_outcome, sent_item, sent_outcome, with_item_over, with_item_peeked, with_item_sent}
+use Rattle.rd_queue_calls.specs.Posts.{HasRoomToWake, call_breaks, is_in_full_set, is_in_no_set, is_in_set, posted, replaced, membership_of, with_handle, with_member}
+use Rattle.rd_queue_calls.specs.QueueCalls.{is_empty, is_full, queue_outcome, sent_item, outcome_with_room, with_item_over, with_item_peeked, with_item_sent}
 use Rattle.rd_queue_calls.specs.QueueCalls.{with_item_taken, with_no_items}
 use Rattle.rd_queue_calls.specs.SetCalls.{has_no_handle, set_outcome, with_handle_taken}
 
@@ -77,10 +77,10 @@ put_keeps queue Back item = record { receiving = refl; sending = refl }
 put_keeps queue Front item = record { receiving = refl; sending = refl }
 
 -- The set of a queue is there.
-pub set_there : (s : Snapshot) (queue : ℕ) → IsSized s → queue < length s.objects.queues → IfSome (set_of s queue) (λ set. set < length s.objects.sets)
+pub set_there : (s : Snapshot) (queue : ℕ) → IsSized s → queue < length s.objects.queues → IfSome (membership_of s queue) (λ set. set < length s.objects.sets)
 set_there s queue sized there =
     let here = queue_sized s queue sized there in
-    subst (λ sets. IfSome (set_of s queue) (λ set. set < sets)) here.2 here.0.set
+    subst (λ sets. IfSome (membership_of s queue) (λ set. set < sets)) here.2 here.0.set
 
 -- ---- what a call leaves
 
@@ -211,22 +211,22 @@ posts app s core task queue (Some number) instr items calls there has_set =
     (with_handle_done app s core task queue number instr items calls there has_set)
 
 sends : (app : Application) (s : Snapshot) (core task queue : ℕ) (end : End) (instr : Instr) → RunsInstr app s core task instr → queue < length s.objects.queues
-    → IsConsistent app (all_have_time_left s.tick) (concluded (sent_outcome (priorities_of app) s task queue end) core task)
+    → IsConsistent app (all_have_time_left s.tick) (concluded (outcome_with_room (priorities_of app) s task queue end) core task)
 sends app s core task queue end instr calls there =
-    elim (is_in_full_set s (set_of s queue)) as (λ b.
+    elim (is_in_full_set s (membership_of s queue)) as (λ b.
     IsConsistent app (all_have_time_left s.tick)
-    (concluded (cond b (call_breaks s SetFull) (posted (priorities_of app) (with_item_sent s task queue end) queue (set_of s queue))) core task)) [
+    (concluded (cond b (call_breaks s SetFull) (posted (priorities_of app) (with_item_sent s task queue end) queue (membership_of s queue))) core task)) [
       | true ↦ IsConsistent-failed app s core task SetFull instr calls
       | false ↦ by_end end
     ]
   where
     by_end : (end : End) → IsConsistent app (all_have_time_left s.tick)
-        (concluded (posted (priorities_of app) (with_item_sent s task queue end) queue (set_of s queue)) core task)
+        (concluded (posted (priorities_of app) (with_item_sent s task queue end) queue (membership_of s queue)) core task)
     by_end Back =
-        posts app s core task queue (set_of s queue) instr (items_at s queue ++ sent_item s task queue ∷ []) calls there
+        posts app s core task queue (membership_of s queue) instr (items_at s queue ++ sent_item s task queue ∷ []) calls there
         (set_there s queue calls.valid.in_limits.sized there)
     by_end Front =
-        posts app s core task queue (set_of s queue) instr (sent_item s task queue ∷ items_at s queue) calls there
+        posts app s core task queue (membership_of s queue) instr (sent_item s task queue ∷ items_at s queue) calls there
         (set_there s queue calls.valid.in_limits.sized there)
 
 -- An item took the place of another.
@@ -258,7 +258,7 @@ pub IsConsistent-queue_call : (app : Application) (s : Snapshot) (core task queu
     → IsConsistent app (all_have_time_left s.tick) (concluded (queue_outcome (priorities_of app) s task queue call) core task)
 IsConsistent-queue_call app s core task queue (Send end wait) calls there =
     IsConsistent-or_blocked app s core task (instr.Queue queue (Send end wait)) (Queue queue Sending) wait (is_full (queue_at s queue))
-    (sent_outcome (priorities_of app) s task queue end) calls there refl (sends app s core task queue end (instr.Queue queue (Send end wait)) calls there)
+    (outcome_with_room (priorities_of app) s task queue end) calls there refl (sends app s core task queue end (instr.Queue queue (Send end wait)) calls there)
 IsConsistent-queue_call app s core task queue (Receive wait) calls there =
     IsConsistent-or_blocked app s core task (instr.Queue queue (Receive wait)) (Queue queue Receiving) wait (is_empty (queue_at s queue)) _ calls there refl
     (IsConsistent-done app s (with_item_taken s task queue) core task (Queue queue Sending)
@@ -270,10 +270,10 @@ IsConsistent-queue_call app s core task queue (Peek wait) calls there =
 IsConsistent-queue_call app s core task queue Overwrite calls there =
     elim (is_empty (queue_at s queue)) as (λ b.
     IsConsistent app (all_have_time_left s.tick)
-    (concluded (cond b (sent_outcome (priorities_of app) s task queue Back)
-    (replaced (priorities_of app) (with_item_over s task queue) queue (set_of s queue))) core task)) [
+    (concluded (cond b (outcome_with_room (priorities_of app) s task queue Back)
+    (replaced (priorities_of app) (with_item_over s task queue) queue (membership_of s queue))) core task)) [
       | true ↦ sends app s core task queue Back (instr.Queue queue Overwrite) calls there
-      | false ↦ replaces app s core task queue (set_of s queue) (instr.Queue queue Overwrite) calls there
+      | false ↦ replaces app s core task queue (membership_of s queue) (instr.Queue queue Overwrite) calls there
     ]
 IsConsistent-queue_call app s core task queue Reset calls there =
     IsConsistent-done app s (with_no_items s queue) core task (Queue queue Sending)
@@ -283,9 +283,9 @@ IsConsistent-queue_call app s core task queue Count calls there =
 IsConsistent-queue_call app s core task queue Spaces calls there =
     IsConsistent-answered app s core task ((queue_at s queue).capacity - length (items_at s queue)) (instr.Queue queue Spaces) calls
 IsConsistent-queue_call app s core task queue (AddToSet number) calls there =
-    joins_or_not app s core task queue (Some number) (instr.Queue queue (AddToSet number)) (is_empty (queue_at s queue) && is_in_no_set (set_of s queue)) calls there
+    joins_or_not app s core task queue (Some number) (instr.Queue queue (AddToSet number)) (is_empty (queue_at s queue) && is_in_no_set (membership_of s queue)) calls there
 IsConsistent-queue_call app s core task queue (RemoveFromSet number) calls there =
-    joins_or_not app s core task queue None (instr.Queue queue (RemoveFromSet number)) (is_empty (queue_at s queue) && is_in_set number (set_of s queue)) calls
+    joins_or_not app s core task queue None (instr.Queue queue (RemoveFromSet number)) (is_empty (queue_at s queue) && is_in_set number (membership_of s queue)) calls
     there
 
 -- and so does a call of a set.
@@ -304,12 +304,12 @@ posts-tick priorities s core task queue None = woken_first-tick priorities s (Qu
 posts-tick priorities s core task queue (Some number) = woken_first-tick priorities (with_handle s number queue) (Set number)
 
 sends-tick : (priorities : List ℕ) (s : Snapshot) (core task queue : ℕ) (end : End)
-    → (concluded (sent_outcome priorities s task queue end) core task).tick ≡ s.tick
+    → (concluded (outcome_with_room priorities s task queue end) core task).tick ≡ s.tick
 sends-tick priorities s core task queue end =
-    elim (is_in_full_set s (set_of s queue)) as (λ b.
-    (concluded (cond b (call_breaks s SetFull) (posted priorities (with_item_sent s task queue end) queue (set_of s queue))) core task).tick ≡ s.tick) [
+    elim (is_in_full_set s (membership_of s queue)) as (λ b.
+    (concluded (cond b (call_breaks s SetFull) (posted priorities (with_item_sent s task queue end) queue (membership_of s queue))) core task).tick ≡ s.tick) [
       | true ↦ refl
-      | false ↦ posts-tick priorities (with_item_sent s task queue end) core task queue (set_of s queue)
+      | false ↦ posts-tick priorities (with_item_sent s task queue end) core task queue (membership_of s queue)
     ]
 
 replaces-tick : (priorities : List ℕ) (s : Snapshot) (core task queue : ℕ) (member : Option ℕ)
@@ -325,7 +325,7 @@ joins_or_not-tick s core task queue member can =
 pub queue_call-tick : (priorities : List ℕ) (s : Snapshot) (core task queue : ℕ) (call : QueueCall)
     → (concluded (queue_outcome priorities s task queue call) core task).tick ≡ s.tick
 queue_call-tick priorities s core task queue (Send end wait) =
-    or_blocked-tick priorities s core task (Queue queue Sending) wait (is_full (queue_at s queue)) (sent_outcome priorities s task queue end)
+    or_blocked-tick priorities s core task (Queue queue Sending) wait (is_full (queue_at s queue)) (outcome_with_room priorities s task queue end)
     (sends-tick priorities s core task queue end)
 queue_call-tick priorities s core task queue (Receive wait) =
     or_blocked-tick priorities s core task (Queue queue Receiving) wait (is_empty (queue_at s queue)) _
@@ -335,18 +335,18 @@ queue_call-tick priorities s core task queue (Peek wait) =
     (woken_first-tick priorities (with_item_peeked s task queue) (Queue queue Receiving))
 queue_call-tick priorities s core task queue Overwrite =
     elim (is_empty (queue_at s queue)) as (λ b.
-    (concluded (cond b (sent_outcome priorities s task queue Back) (replaced priorities (with_item_over s task queue) queue (set_of s queue))) core task).tick
+    (concluded (cond b (outcome_with_room priorities s task queue Back) (replaced priorities (with_item_over s task queue) queue (membership_of s queue))) core task).tick
     ≡ s.tick) [
       | true ↦ sends-tick priorities s core task queue Back
-      | false ↦ replaces-tick priorities (with_item_over s task queue) core task queue (set_of s queue)
+      | false ↦ replaces-tick priorities (with_item_over s task queue) core task queue (membership_of s queue)
     ]
 queue_call-tick priorities s core task queue Reset = woken_first-tick priorities (with_no_items s queue) (Queue queue Sending)
 queue_call-tick priorities s core task queue Count = refl
 queue_call-tick priorities s core task queue Spaces = refl
 queue_call-tick priorities s core task queue (AddToSet number) =
-    joins_or_not-tick s core task queue (Some number) (is_empty (queue_at s queue) && is_in_no_set (set_of s queue))
+    joins_or_not-tick s core task queue (Some number) (is_empty (queue_at s queue) && is_in_no_set (membership_of s queue))
 queue_call-tick priorities s core task queue (RemoveFromSet number) =
-    joins_or_not-tick s core task queue None (is_empty (queue_at s queue) && is_in_set number (set_of s queue))
+    joins_or_not-tick s core task queue None (is_empty (queue_at s queue) && is_in_set number (membership_of s queue))
 
 pub set_call-tick : (priorities : List ℕ) (s : Snapshot) (core task number : ℕ) (call : SetCall)
     → (concluded (set_outcome priorities s task number call) core task).tick ≡ s.tick

@@ -15,8 +15,8 @@ use Rattle.rd_kernel.specs.Outcomes.{Called, call_passes, passed}
 use Rattle.rd_kernel.specs.Waking.{ReadyHasRoom}
 
 -- the set that a queue is a member of, if it is one of any
-abbrev pub set_of : Snapshot → ℕ → Option ℕ
-set_of s queue = (queue_at s queue).set
+abbrev pub membership_of : Snapshot → ℕ → Option ℕ
+membership_of s queue = (queue_at s queue).set
 
 -- the queue as a member of that set, or of none
 abbrev pub with_member : Snapshot → ℕ → Option ℕ → Snapshot

@@ -24,7 +24,7 @@ use Rattle.rd_kernel.specs.Outcomes.{call_passes, passed}
 use Rattle.rd_kernel.specs.Tasks.{with_bytes}
 use Rattle.rd_kernel.specs.Waking.{may_wait}
 use Rattle.rd_queue_calls.specs.Posts.{call_breaks, is_in_full_set, is_in_no_set, is_in_set}
-use Rattle.rd_queue_calls.specs.Posts.{posted, replaced, set_of, with_member}
+use Rattle.rd_queue_calls.specs.Posts.{posted, replaced, membership_of, with_member}
 
 -- Is there no free slot? Is there no item?
 abbrev pub is_full : QueueSnapshot → Bool
@@ -66,16 +66,16 @@ with_no_items s queue = with_queue s queue (with_items (queue_at s queue) [])
 -- An item goes to that end, unless its queue is a member of a set that has no room for its handle:
 -- then nothing is sent, and the caller has failed. Nobody is handed the item: whoever is woken
 -- tries again when it runs.
-abbrev pub sent_outcome : List ℕ → Snapshot → ℕ → ℕ → End → Called
-sent_outcome priorities s task queue end =
-    if is_in_full_set s (set_of s queue) then call_breaks s SetFull
-    else posted priorities (with_item_sent s task queue end) queue (set_of s queue)
+abbrev pub outcome_with_room : List ℕ → Snapshot → ℕ → ℕ → End → Called
+outcome_with_room priorities s task queue end =
+    if is_in_full_set s (membership_of s queue) then call_breaks s SetFull
+    else posted priorities (with_item_sent s task queue end) queue (membership_of s queue)
 
 -- xQueueSend, xQueueSendToBack, xQueueSendToFront: where there is room, the item is sent.
 abbrev pub send_outcome : List ℕ → Snapshot → ℕ → ℕ → End → Operand → Called
 send_outcome priorities s task queue end wait =
     if is_full (queue_at s queue) then blocked priorities s task (Queue queue Sending) wait
-    else sent_outcome priorities s task queue end
+    else outcome_with_room priorities s task queue end
 
 -- xQueueReceive: where there is an item, the one at the front leaves and becomes the caller's data,
 -- and the first who waits for a free slot is woken
@@ -94,8 +94,8 @@ peek_outcome priorities s task queue wait =
 -- xQueueOverwrite: into an empty queue the item is sent; else it takes the place of the one there.
 abbrev pub overwrite_outcome : List ℕ → Snapshot → ℕ → ℕ → Called
 overwrite_outcome priorities s task queue =
-    if is_empty (queue_at s queue) then sent_outcome priorities s task queue Back
-    else replaced priorities (with_item_over s task queue) queue (set_of s queue)
+    if is_empty (queue_at s queue) then outcome_with_room priorities s task queue Back
+    else replaced priorities (with_item_over s task queue) queue (membership_of s queue)
 
 -- xQueueReset: the items are gone, and the first who waits for a free slot is woken
 abbrev pub reset_outcome : List ℕ → Snapshot → ℕ → Called
@@ -113,14 +113,14 @@ spaces_outcome s queue =
 -- xQueueAddToSet: an empty queue in no set becomes a member.
 abbrev pub add_outcome : Snapshot → ℕ → ℕ → Called
 add_outcome s queue set =
-    if is_empty (queue_at s queue) && is_in_no_set (set_of s queue)
+    if is_empty (queue_at s queue) && is_in_no_set (membership_of s queue)
     then call_passes (with_member s queue (Some set))
     else call_fails s
 
 -- xQueueRemoveFromSet: an empty queue leaves the set that it is a member of. Its handles stay.
 abbrev pub remove_outcome : Snapshot → ℕ → ℕ → Called
 remove_outcome s queue set =
-    if is_empty (queue_at s queue) && is_in_set set (set_of s queue)
+    if is_empty (queue_at s queue) && is_in_set set (membership_of s queue)
     then call_passes (with_member s queue None)
     else call_fails s
 
@@ -176,7 +176,7 @@ queue_call_cost = receive_cost
 -- The queue has room for the item that is put, and the queue's set has none for its handle.
 abbrev pub IsIntoFullSet : Snapshot → ℕ → Type 0
 IsIntoFullSet s queue =
-    (is_full (queue_at s queue) ≡ false) × (is_in_full_set s (set_of s queue) ≡ true)
+    (is_full (queue_at s queue) ≡ false) × (is_in_full_set s (membership_of s queue) ≡ true)
 
 -- The call can't be done and may not wait, is refused, or only counts: it changes nothing.
 abbrev pub ChangesNothing : Snapshot → ℕ → ℕ → QueueCall → Type 0
@@ -187,11 +187,11 @@ ChangesNothing s task queue (Receive wait) =
 ChangesNothing s task queue (Peek wait) =
     (is_empty (queue_at s queue) ≡ true) × (may_wait s task wait ≡ false)
 ChangesNothing s task queue Overwrite =
-    (is_empty (queue_at s queue) ≡ true) × (is_in_full_set s (set_of s queue) ≡ true)
+    (is_empty (queue_at s queue) ≡ true) × (is_in_full_set s (membership_of s queue) ≡ true)
 ChangesNothing s task queue Reset = ⊥
 ChangesNothing s task queue Count = Unit {0}
 ChangesNothing s task queue Spaces = Unit {0}
 ChangesNothing s task queue (AddToSet set) =
-    (is_empty (queue_at s queue) && is_in_no_set (set_of s queue)) ≡ false
+    (is_empty (queue_at s queue) && is_in_no_set (membership_of s queue)) ≡ false
 ChangesNothing s task queue (RemoveFromSet set) =
-    (is_empty (queue_at s queue) && is_in_set set (set_of s queue)) ≡ false
+    (is_empty (queue_at s queue) && is_in_set set (membership_of s queue)) ≡ false

@@ -13,7 +13,7 @@ use Rattle.rd_state.specs.declared.phase.Cause.TheVariants.{SetFull}
 use Rattle.rd_state.specs.Snapshot.{Snapshot, queue_at, set_at}
 use Rattle.rd_kernel.specs.Outcomes.{call_fails, call_passes}
 use Rattle.rd_kernel.specs.Waking.{may_wait}
-use Rattle.rd_queue_calls.specs.Posts.{call_breaks, is_in_full_set, set_of}
+use Rattle.rd_queue_calls.specs.Posts.{call_breaks, is_in_full_set, membership_of}
 use Rattle.rd_queue_calls.specs.QueueCalls.{is_empty, is_full, overwrite_outcome, queue_outcome}
 use Rattle.rd_queue_calls.specs.QueueCalls.{send_outcome, with_item_over}
 use Rattle.rd_queue_calls.specs.SetCalls.{has_no_handle, set_outcome}
@@ -31,8 +31,8 @@ handles_posted s queue (Some set) =
 -- once one was sent, unless the set is full
 abbrev pub handles_sent : Snapshot → ℕ → List (List ℕ)
 handles_sent s queue =
-    if is_in_full_set s (set_of s queue) then handles_in s
-    else handles_posted s queue (set_of s queue)
+    if is_in_full_set s (membership_of s queue) then handles_in s
+    else handles_posted s queue (membership_of s queue)
 
 -- the handles after a call: a send into a queue with room and an overwrite of an empty one add one
 -- at the most, and no other call changes any
@@ -66,7 +66,7 @@ pub record HandlesGoByCalls : Type 0 where
 abbrev pub OverwritesPostOnce : Type 0
 OverwritesPostOnce =
     (priorities : List ℕ) (s : Snapshot) (task queue set : ℕ) → is_empty (queue_at s queue) ≡ false
-    → set_of s queue ≡ Some set
+    → membership_of s queue ≡ Some set
     → overwrite_outcome priorities s task queue ≡ call_passes (with_item_over s task queue)
 
 -- A send that fails leaves everything as it was: one into a full queue that may not wait, and one
@@ -76,5 +76,5 @@ pub record FailedSendsLeaveAll : Type 0 where
       → is_full (queue_at s queue) ≡ true → may_wait s task wait ≡ false
       → send_outcome priorities s task queue end wait ≡ call_fails s
   pub full_set : (priorities : List ℕ) (s : Snapshot) (task queue : ℕ) (end : End) (wait : Operand)
-      → is_full (queue_at s queue) ≡ false → is_in_full_set s (set_of s queue) ≡ true
+      → is_full (queue_at s queue) ≡ false → is_in_full_set s (membership_of s queue) ≡ true
       → send_outcome priorities s task queue end wait ≡ call_breaks s SetFull

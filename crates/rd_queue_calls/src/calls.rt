@@ -10,9 +10,9 @@ ghost use Rattle.rd_state.specs.Snapshot.{queue_at, task_at};
 ghost use Rattle.rd_kernel.specs.Costs.{data_cost, item_cost};
 ghost use Rattle.rd_kernel.specs.Outcomes.{DoesCall, IsCalling};
 ghost use Rattle.rd_kernel.specs.Waking.{may_wait};
-ghost use Rattle.rd_queue_calls.specs.Posts.{is_in_full_set, is_in_no_set, is_in_set, set_of};
+ghost use Rattle.rd_queue_calls.specs.Posts.{is_in_full_set, is_in_no_set, is_in_set, membership_of};
 ghost use Rattle.rd_queue_calls.specs.QueueCalls.{is_empty, is_full, ChangesNothing, IsIntoFullSet};
-ghost use Rattle.rd_queue_calls.specs.QueueCalls.{with_item_taken, sent_outcome};
+ghost use Rattle.rd_queue_calls.specs.QueueCalls.{with_item_taken, outcome_with_room};
 ghost use Rattle.rd_queue_calls.specs.QueueCalls.{send_outcome, receive_outcome, peek_outcome};
 ghost use Rattle.rd_queue_calls.specs.QueueCalls.{overwrite_outcome, reset_outcome};
 ghost use Rattle.rd_queue_calls.specs.QueueCalls.{add_outcome, remove_outcome};
@@ -80,8 +80,8 @@ fn deliver(
     requires room { length (queue_at editing.old.now queue).items
         < (queue_at editing.old.now queue).capacity }
     ensures ok { IfOk result (DoesCall editing.old editing.new
-        (sent_outcome (priorities_of app.now) editing.old.now task queue end) send_cost) }
-    ensures full_set { is_in_full_set editing.old.now (set_of editing.old.now queue) ≡ true
+        (outcome_with_room (priorities_of app.now) editing.old.now task queue end) send_cost) }
+    ensures full_set { is_in_full_set editing.old.now (membership_of editing.old.now queue) ≡ true
         → IsOk result }
     ensures stays { OnOk result (KeepsPc editing.old.now editing.new.now task) }
     ensures err { OnErr result (KeepsBase editing.old editing.new) }
@@ -183,7 +183,7 @@ fn overwrite(
     ensures ok { IfOk result (DoesCall editing.old editing.new
         (overwrite_outcome (priorities_of app.now) editing.old.now task queue) overwrite_cost) }
     ensures full_set { is_empty (queue_at editing.old.now queue) ≡ true
-        → is_in_full_set editing.old.now (set_of editing.old.now queue) ≡ true → IsOk result }
+        → is_in_full_set editing.old.now (membership_of editing.old.now queue) ≡ true → IsOk result }
     ensures stays { OnOk result (KeepsPc editing.old.now editing.new.now task) }
     ensures err { OnErr result (KeepsBase editing.old editing.new) }
 {
@@ -222,7 +222,7 @@ fn add_to_set(editing: &mut Editing, queue: usize, set: usize) -> Result<Outcome
     ensures ok { IfOk result (DoesCall editing.old editing.new
         (add_outcome editing.old.now queue set) member_cost) }
     ensures refused { (is_empty (queue_at editing.old.now queue)
-        && is_in_no_set (set_of editing.old.now queue)) ≡ false → IsOk result }
+        && is_in_no_set (membership_of editing.old.now queue)) ≡ false → IsOk result }
     ensures tasks { OnOk result (editing.new.now.tasks ≡ editing.old.now.tasks) }
     ensures err { OnErr result (KeepsBase editing.old editing.new) }
 {
@@ -243,7 +243,7 @@ fn remove_from_set(editing: &mut Editing, queue: usize, set: usize) -> Result<Ou
     ensures ok { IfOk result (DoesCall editing.old editing.new
         (remove_outcome editing.old.now queue set) member_cost) }
     ensures refused { (is_empty (queue_at editing.old.now queue)
-        && is_in_set set (set_of editing.old.now queue)) ≡ false → IsOk result }
+        && is_in_set set (membership_of editing.old.now queue)) ≡ false → IsOk result }
     ensures tasks { OnOk result (editing.new.now.tasks ≡ editing.old.now.tasks) }
     ensures err { OnErr result (KeepsBase editing.old editing.new) }
 {

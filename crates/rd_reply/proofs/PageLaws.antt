@@ -2,7 +2,7 @@
 use Rattle.std.proofs.Common.{◌≡◌, ◌∙◌, refl, sym, subst, Bool, false, true, true≢false, ℕ, ◌+◌, List, ◌++◌, length, ap, arith, append_assoc, length-append}
 use Rattle.std.specs.Global.{Vec}
 use Rattle.rd_reply.specs.declared.page.Page.{Page}
-use Rattle.rd_reply.specs.Pages.{Appends, IsFull, KeepsFront}
+use Rattle.rd_reply.specs.Pages.{Appends, LacksRoom, KeepsFront}
 
 kept_then : (old between new : Vec ℕ) → KeepsFront old between → KeepsFront between new → KeepsFront old new
 kept_then old between new first second = record {
@@ -17,16 +17,16 @@ fits_before false after stays fits = refl
 fits_before true after stays fits = absurd (true≢false (sym (stays refl) ∙ fits))
 
 -- Where there is no room for a text, there is none for a longer one.
-full_at_first : (page : Vec ℕ) (s t : List ℕ) → IsFull page s → IsFull page (s ++ t)
+full_at_first : (page : Vec ℕ) (s t : List ℕ) → LacksRoom page s → LacksRoom page (s ++ t)
 full_at_first page s t full = omega (arith, full, length-append s t)
 
 full_at_second : (old between : Vec ℕ) (s t : List ℕ) → between.items ≡ old.items ++ s → KeepsFront old between
-    → IsFull between t → IsFull old (s ++ t)
+    → LacksRoom between t → LacksRoom old (s ++ t)
 full_at_second old between s t is kept full =
     omega (arith, full, kept.room, length-append s t, ap length is, length-append old.items s, old.ok.0, between.ok.0)
 
 full_then : (old between new : Page) (s t : List ℕ) → Appends old between s → Appends between new t
-    → new.is_full ≡ true → old.is_full ≡ false → (is : Bool) → between.is_full ≡ is → IsFull old.bytes.now (s ++ t)
+    → new.is_full ≡ true → old.is_full ≡ false → (is : Bool) → between.is_full ≡ is → LacksRoom old.bytes.now (s ++ t)
 full_then old between new s t first second full fits false is =
     full_at_second old.bytes.now between.bytes.now s t (first.added is) first.kept (second.full full is)
 full_then old between new s t first second full fits true is =

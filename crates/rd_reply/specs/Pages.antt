@@ -11,13 +11,13 @@ pub record KeepsFront (old new : Vec ℕ) : Type 0 where
   pub room : vec_capacity old ≤ vec_capacity new
 
 -- The page has no room for the text.
-abbrev pub IsFull : Vec ℕ → List ℕ → Type 0
-IsFull page text = vec_capacity page < vec_len page + length text
+abbrev pub LacksRoom : Vec ℕ → List ℕ → Type 0
+LacksRoom page text = vec_capacity page < vec_len page + length text
 
 -- The text was appended, unless there was no room for it, or for what would have come before it.
 pub record Appends (old new : Page) (text : List ℕ) : Type 0 where
   pub same : new.bytes.ghost_name ≡ old.bytes.ghost_name
   pub added : new.is_full ≡ false → new.bytes.now.items ≡ old.bytes.now.items ++ text
-  pub full : new.is_full ≡ true → old.is_full ≡ false → IsFull old.bytes.now text
+  pub full : new.is_full ≡ true → old.is_full ≡ false → LacksRoom old.bytes.now text
   pub stays : old.is_full ≡ true → new.is_full ≡ true
   pub kept : KeepsFront old.bytes.now new.bytes.now

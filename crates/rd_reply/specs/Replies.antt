@@ -53,14 +53,14 @@ comma_at zero = []
 comma_at (suc index) = codes ","
 
 -- the members, with `,` between each two
-abbrev pub joined : {X : Type 0} → (X → List ℕ) → List X → List ℕ
-joined text [] = []
-joined text (x ∷ xs) = text x ++ flat_map (λ y. 44 ∷ text y) xs
+abbrev pub separated : {X : Type 0} → (X → List ℕ) → List X → List ℕ
+separated text [] = []
+separated text (x ∷ xs) = text x ++ flat_map (λ y. 44 ∷ text y) xs
 
 -- a list; `-` where it is empty
 abbrev pub list_text : {X : Type 0} → (X → List ℕ) → List X → List ℕ
 list_text text [] = codes "-"
-list_text text (x ∷ xs) = joined text (x ∷ xs)
+list_text text (x ∷ xs) = separated text (x ∷ xs)
 
 -- two lower-case hexadecimal digits a byte; `-` for no bytes
 abbrev pub bytes_text : List ℕ → List ℕ

@@ -17,7 +17,7 @@ ghost use Rattle.rd_reply.specs.Replies.{membership_text, queue_text};
 ghost use Rattle.rd_reply.specs.Replies.{handles_text, selecting_text, set_text};
 ghost use Rattle.rd_reply.specs.Replies.{running_core_text, state_text, task_text, is_task};
 ghost use Rattle.rd_reply.specs.Replies.{ticks_text, cores_text};
-ghost use Rattle.rd_reply.specs.Pages.{Appends, IsFull, KeepsFront};
+ghost use Rattle.rd_reply.specs.Pages.{Appends, LacksRoom, KeepsFront};
 
 use crate::page::Page;
 use itoa::{Buffer, Integer};
@@ -348,7 +348,7 @@ pub fn show_queue(page: &mut Vec<u8>, app: &App, name: &str, queue: &Queue) -> A
     ensures text { OnOk result (page.new.items
         ≡ page.old.items ++ line_of (queue_text (all_names app.now) name.now queue.now)) }
     ensures full { OnErr result
-        (IsFull page.old (line_of (queue_text (all_names app.now) name.now queue.now))) }
+        (LacksRoom page.old (line_of (queue_text (all_names app.now) name.now queue.now))) }
     ensures kept { KeepsFront page.old page.new }
 {
     let mut line = Page::new(page);
@@ -416,7 +416,7 @@ pub fn show_set(page: &mut Vec<u8>, app: &App, name: &str, set: &QueueSet) -> Ap
     ensures text { OnOk result (page.new.items
         ≡ page.old.items ++ line_of (set_text (all_names app.now) name.now set.now)) }
     ensures full { OnErr result
-        (IsFull page.old (line_of (set_text (all_names app.now) name.now set.now))) }
+        (LacksRoom page.old (line_of (set_text (all_names app.now) name.now set.now))) }
     ensures kept { KeepsFront page.old page.new }
 {
     let mut line = Page::new(page);
@@ -469,7 +469,7 @@ pub fn show_task(
     ensures text { OnOk result (page.new.items
         ≡ page.old.items ++ line_of (task_text (all_names app.now) name.now core task.now)) }
     ensures full { OnErr result
-        (IsFull page.old (line_of (task_text (all_names app.now) name.now core task.now))) }
+        (LacksRoom page.old (line_of (task_text (all_names app.now) name.now core task.now))) }
     ensures kept { KeepsFront page.old page.new }
 {
     let mut line = Page::new(page);
@@ -514,7 +514,7 @@ pub fn show_cores(page: &mut Vec<u8>, app: &App, state: &State) -> Appended
     ensures text { OnOk result (page.new.items
         ≡ page.old.items ++ line_of (cores_text (all_names app.now) state.now)) }
     ensures full { OnErr result
-        (IsFull page.old (line_of (cores_text (all_names app.now) state.now))) }
+        (LacksRoom page.old (line_of (cores_text (all_names app.now) state.now))) }
     ensures kept { KeepsFront page.old page.new }
 {
     let mut line = Page::new(page);

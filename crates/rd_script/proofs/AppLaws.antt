@@ -17,7 +17,7 @@ use Rattle.rd_app.specs.Application.{Application, IsApplication, IsQueueShape, I
 use Rattle.rd_text.specs.Names.{AreNames}
 use Rattle.rd_script.specs.File.{TaskDraft, object_with, field, number_in, number_or, array_in, array_or_empty}
 use Rattle.rd_script.specs.File.{queue_of, queues_after, set_of, sets_after, task_of, tasks_after}
-use Rattle.rd_script.specs.File.{scripts_after, file_keys, AppDraft, draft_of, with_scripts, app_of, text_of, file_of, checked}
+use Rattle.rd_script.specs.File.{scripts_after, file_keys, AppDraft, draft_of, with_scripts, app_of, app_of_text, app_of_bytes, checked}
 use Rattle.rd_script.specs.File.{GivesFaultFirst, GivesOrNoMemory}
 use Rattle.rd_script.specs.Says.{IsNumberOr, IsArrayOrEmpty, IsQueue, AreQueues, AreSets, Says, FileSays}
 use Rattle.std.specs.List.{AllByRecursion}
@@ -303,7 +303,7 @@ app_again d app queue_items set_items task_items says limits =
 
 -- ---- the bytes of a file
 
-pub file_takes : (bytes : List ℕ) (app : Application) → file_of bytes ≡ Ok app → FileSays bytes app × IsApplication app
+pub file_takes : (bytes : List ℕ) (app : Application) → app_of_bytes bytes ≡ Ok app → FileSays bytes app × IsApplication app
 file_takes bytes app e =
     let text = chosen (is_utf8 bytes) _ _ app e in
     let d = bind_ok (ok_or (read bytes) _) _ app text.1 in
@@ -311,10 +311,10 @@ file_takes bytes app e =
     ((d.0, IsUtf8-from_is_utf8 bytes text.0, ok_or_ok (read bytes) d.0 _ d.1, taken.0, taken.1, taken.2, taken.3), taken.4)
 
 -- the JSON value of a text decides
-pub text_is_file : (text : List ℕ) (d : Data) → read text ≡ Some d → text_of text ≡ app_of d
+pub text_is_file : (text : List ℕ) (d : Data) → read text ≡ Some d → app_of_text text ≡ app_of d
 text_is_file text d is = then_is (ok_or (read text) fault.NotJson) app_of d _ (ap (λ o. ok_or o fault.NotJson) is) refl
 
-pub text_is_none : (text : List ℕ) → read text ≡ None → text_of text ≡ Err fault.NotJson
+pub text_is_none : (text : List ℕ) → read text ≡ None → app_of_text text ≡ Err fault.NotJson
 text_is_none text none = ap (λ o. ok_or o fault.NotJson >>= app_of) none
 
 -- no text is no JSON
@@ -325,13 +325,13 @@ text_is_some (byte ∷ text) d is = omega arith
 
 -- the bytes of a text
 pub utf8_read : (bytes text : List ℕ) (r : Result Application AppError) → text ≡ bytes → IsUtf8 bytes
-    → GivesOrNoMemory (λ app. app) r (text_of text) → GivesOrNoMemory (λ app. app) r (file_of bytes)
+    → GivesOrNoMemory (λ app. app) r (app_of_text text) → GivesOrNoMemory (λ app. app) r (app_of_bytes bytes)
 utf8_read bytes text r same utf8 h = rw (is_utf8-from_IsUtf8 bytes utf8, ← same) h
 
 -- bytes of no text
-pub not_utf8 : (bytes : List ℕ) → ¬ IsUtf8 bytes → file_of bytes ≡ Err fault.NotJson
+pub not_utf8 : (bytes : List ℕ) → ¬ IsUtf8 bytes → app_of_bytes bytes ≡ Err fault.NotJson
 not_utf8 bytes none =
-    elim (is_utf8 bytes) as (λ b. (is_utf8 bytes ≡ b) → cond b (text_of bytes) (Err fault.NotJson) ≡ Err fault.NotJson) [
+    elim (is_utf8 bytes) as (λ b. (is_utf8 bytes ≡ b) → cond b (app_of_text bytes) (Err fault.NotJson) ≡ Err fault.NotJson) [
       | true ↦ λ e. absurd (none (IsUtf8-from_is_utf8 bytes e))
       | false ↦ λ e. refl
     ] refl
@@ -363,11 +363,11 @@ pub fault_found : (d : Data) (draft : AppDraft) (e : AppError) → draft_of d �
     → app_of d ≡ Err e
 fault_found d draft e drafted h = then_is (draft_of d) with_scripts draft (Err e) drafted (fault_kept (scripts_after draft.objects [] draft.tasks) _ e h)
 
-pub file_again : (bytes : List ℕ) (app : Application) → FileSays bytes app → IsApplication app → file_of bytes ≡ Ok app
+pub file_again : (bytes : List ℕ) (app : Application) → FileSays bytes app → IsApplication app → app_of_bytes bytes ≡ Ok app
 file_again bytes app says limits =
     rw (is_utf8-from_IsUtf8 bytes says.1) (text_is_file bytes says.0 says.2) ∙ app_again says.0 app says.3 says.4 says.5 says.6 limits
 
-pub is_accepted : (bytes : List ℕ) (r : Result Application AppError) → GivesOrNoMemory (λ app. app) r (file_of bytes)
+pub is_accepted : (bytes : List ℕ) (r : Result Application AppError) → GivesOrNoMemory (λ app. app) r (app_of_bytes bytes)
     → IfOk r (FileSays bytes) × IfOk r IsApplication
 is_accepted bytes (Ok app) e = let taken = file_takes bytes app e in (taken.0, taken.1)
 is_accepted bytes (Err d) e = (tt, tt)

@@ -8,7 +8,7 @@ use Rattle.rd_text.specs.Names.{AreNames}
 use Rattle.rd_text.proofs.NameLaws.{AreNames-push, IsNewName, IsNewName-in}
 use Rattle.rd_script.specs.declared.error.AppError.{AppError}
 use Rattle.rd_script.specs.File.{named_after}
-use Rattle.rd_script.specs.Says.{AreNamed}
+use Rattle.rd_script.specs.Says.{SayEach}
 use Rattle.rd_script.proofs.Steps.{bind_ok, then_is}
 
 -- what holds of each, one by one
@@ -25,7 +25,7 @@ AllByRecursion-first P [] ys h = tt
 AllByRecursion-first P (x ∷ xs) ys h = (h.0, AllByRecursion-first P xs ys h.1)
 
 -- there are as many names as things
-pub length_named : {X : Type 0} (Is : Data → List ℕ → X → Type 0) (ds : Items) (names : List (List ℕ)) (things : List X) → AreNamed Is ds names things
+pub length_named : {X : Type 0} (Is : Data → List ℕ → X → Type 0) (ds : Items) (names : List (List ℕ)) (things : List X) → SayEach Is ds names things
     → (length names ≡ items_len ds) × (length things ≡ items_len ds)
 length_named Is no_items [] [] h = (refl, refl)
 length_named Is no_items [] (x ∷ things) h = absurd h
@@ -43,7 +43,7 @@ pub record Adds {X : Type 0} (Is : Data → List ℕ → X → Type 0) (InLimits
     (q : List (List ℕ) × List X) (more : List (List ℕ)) (others : List X) : Type 0 where
   pub names_are : q.0 ≡ names ++ more
   pub things_are : q.1 ≡ things ++ others
-  pub said : AreNamed Is ds more others
+  pub said : SayEach Is ds more others
   pub kept : AreKept InLimits q.0 q.1
 
 pub named_take : {X : Type 0} (read : List (List ℕ) → List X → Data → Result (List ℕ × X) AppError) (Is : Data → List ℕ → X → Type 0)
@@ -85,7 +85,7 @@ pub named_again : {X : Type 0} (read : List (List ℕ) → List X → Data → R
     (InLimits : List X → Type 0) → ((xs ys : List X) → InLimits (xs ++ ys) → InLimits xs)
     → ((names : List (List ℕ)) (things : List X) (d : Data) (name : List ℕ) (x : X) → Is d name x → IsNewName names name → InLimits (things ++ x ∷ [])
     → read names things d ≡ Ok (name, x))
-    → (ds : Items) (names : List (List ℕ)) (things : List X) (more : List (List ℕ)) (others : List X) → AreNamed Is ds more others
+    → (ds : Items) (names : List (List ℕ)) (things : List X) (more : List (List ℕ)) (others : List X) → SayEach Is ds more others
     → AreNames (names ++ more) → InLimits (things ++ others) → named_after read names things ds ≡ Ok (names ++ more, things ++ others)
 named_again read Is InLimits first again no_items names things [] [] h are limits = rw (append-nil names, append-nil things) refl
 named_again read Is InLimits first again no_items names things [] (x ∷ others) h are limits = absurd h

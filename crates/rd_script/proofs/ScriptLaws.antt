@@ -6,7 +6,7 @@ use Rattle.rd_app.specs.declared.instr.Instr.{Instr}
 use Rattle.rd_app.specs.declared.instr.Instr.TheVariants.{Local}
 use Rattle.rd_app.specs.declared.instr.LocalInstr.TheVariants as local
 use Rattle.rd_app.specs.Application.{Application, IsWithin, IsScript, is_final}
-use Rattle.rd_script.specs.Objects.{Objects, objects_of}
+use Rattle.rd_script.specs.Objects.{NamedObjects, objects_of}
 use Rattle.rd_script.specs.Spelling.{◌>>=◌}
 use Rattle.serde_json.specs.Data.{Data, null, boolean, number, string, array, object, Items, no_items, item}
 use Rattle.serde_json.specs.Events.{items_len}
@@ -15,7 +15,7 @@ use Rattle.std.specs.List.{AllByRecursion, slice_get}
 use Rattle.std.specs.Prelude.{option_map, unwrap_or, slice_index_or}
 use Rattle.std.proofs.lemmas.List.{append-nil}
 use Rattle.std.proofs.lemmas.List.Elements.{All-from_recursion}
-use Rattle.rd_script.specs.File.{TaskDraft, line_of, lines_after, ends, code_of, scripts_after}
+use Rattle.rd_script.specs.File.{TaskDraft, instr_of_line, lines_after, ends, instrs_of, scripts_after}
 use Rattle.rd_script.specs.Says.{IsLine, AreLines, IsCode}
 use Rattle.rd_app.specs.TaskScript.{TaskScript}
 use Rattle.rd_text.specs.Words.{words_of}
@@ -32,23 +32,23 @@ text_is (string s) text e = let is : s ≡ text = cc in ap string is
 text_is (array ds) text e = absurd cc
 text_is (object ms) text e = absurd cc
 
-line_takes : (objects : Objects) (len : ℕ) (d : Data) (i : Instr) → line_of objects len d ≡ Ok i → IsLine objects len d i
+line_takes : (objects : NamedObjects) (len : ℕ) (d : Data) (i : Instr) → instr_of_line objects len d ≡ Ok i → IsLine objects len d i
 line_takes objects len d i e =
     let text = bind_ok (ok_or (as_str d) _) _ i e in
     (text.0, text_is d text.0 (ok_or_ok (as_str d) text.0 _ text.1), instr_takes objects len (words_of text.0) i text.2)
 
-line_again : (objects : Objects) (len : ℕ) (d : Data) (i : Instr) → IsLine objects len d i → line_of objects len d ≡ Ok i
-line_again objects len d i h = ap (line_of objects len) h.1 ∙ instr_again objects len (words_of h.0) i h.2
+line_again : (objects : NamedObjects) (len : ℕ) (d : Data) (i : Instr) → IsLine objects len d i → instr_of_line objects len d ≡ Ok i
+line_again objects len d i h = ap (instr_of_line objects len) h.1 ∙ instr_again objects len (words_of h.0) i h.2
 
-lines_take : (objects : Objects) (len : ℕ) (ds : Items) (before code : List Instr) → lines_after objects len before ds ≡ Ok code
+lines_take : (objects : NamedObjects) (len : ℕ) (ds : Items) (before code : List Instr) → lines_after objects len before ds ≡ Ok code
     → (more : List Instr) × (code ≡ before ++ more) × AreLines objects len ds more
 lines_take objects len no_items before code e = let is : before ≡ code = cc in ([], sym is ∙ sym (append-nil before), tt)
 lines_take objects len (item d ds) before code e =
-    let first = bind_ok (line_of objects len d) _ code e in
+    let first = bind_ok (instr_of_line objects len d) _ code e in
     let rest = lines_take objects len ds (before ++ first.0 ∷ []) code first.2 in
     (first.0 ∷ rest.0, rest.1 ∙ append_assoc before (first.0 ∷ []) rest.0, (line_takes objects len d first.0 first.1, rest.2))
 
-lines_again : (objects : Objects) (len : ℕ) (ds : Items) (before more : List Instr) → AreLines objects len ds more
+lines_again : (objects : NamedObjects) (len : ℕ) (ds : Items) (before more : List Instr) → AreLines objects len ds more
     → lines_after objects len before ds ≡ Ok (before ++ more)
 lines_again objects len no_items before [] h = ap Ok (sym (append-nil before))
 lines_again objects len no_items before (i ∷ more) h = absurd h
@@ -57,7 +57,7 @@ lines_again objects len (item d ds) before (i ∷ more) h =
     ap (λ r. r >>= λ i. lines_after objects len (before ++ i ∷ []) ds) (line_again objects len d i h.0)
     ∙ lines_again objects len ds (before ++ i ∷ []) more h.1 ∙ ap Ok (append_assoc before (i ∷ []) more)
 
-pub length_lines : (objects : Objects) (len : ℕ) (ds : Items) (code : List Instr) → AreLines objects len ds code → length code ≡ items_len ds
+pub length_lines : (objects : NamedObjects) (len : ℕ) (ds : Items) (code : List Instr) → AreLines objects len ds code → length code ≡ items_len ds
 length_lines objects len no_items [] h = refl
 length_lines objects len no_items (i ∷ code) h = absurd h
 length_lines objects len (item d ds) [] h = absurd h
@@ -71,8 +71,8 @@ within_lines app len (item d ds) [] sizes h = absurd h
 within_lines app len (item d ds) (i ∷ code) sizes h =
     (spells_within app len (words_of h.0.0) i sizes h.0.2, within_lines app len ds code sizes h.1)
 
-pub code_takes : (objects : Objects) (lines : Items) (code : List Instr) → code_of objects lines ≡ Ok code → IsCode objects lines code
-unfolding code_of
+pub code_takes : (objects : NamedObjects) (lines : Items) (code : List Instr) → instrs_of objects lines ≡ Ok code → IsCode objects lines code
+unfolding instrs_of
 code_takes objects lines code e =
     let all = bind_ok (lines_after objects (items_len lines) [] lines) _ code e in
     let taken = lines_take objects (items_len lines) lines [] all.0 all.1 in
@@ -80,27 +80,27 @@ code_takes objects lines code e =
     subst (λ (code : List Instr). AreLines objects (items_len lines) lines code × (ends code ≡ true)) end.1
     (subst (AreLines objects (items_len lines) lines) (sym taken.1) taken.2, end.0)
 
-pub code_again : (objects : Objects) (lines : Items) (code : List Instr) → IsCode objects lines code → code_of objects lines ≡ Ok code
-unfolding code_of
+pub code_again : (objects : NamedObjects) (lines : Items) (code : List Instr) → IsCode objects lines code → instrs_of objects lines ≡ Ok code
+unfolding instrs_of
 code_again objects lines code h = rw (lines_again objects (items_len lines) lines [] code h.0, h.1) refl
 
 -- the scripts of drafts
-abbrev pub AreScripts : Objects → List TaskDraft → List TaskScript → Type 0
+abbrev pub AreScripts : NamedObjects → List TaskDraft → List TaskScript → Type 0
 AreScripts objects [] [] = Unit {0}
 AreScripts objects (draft ∷ drafts) (script ∷ scripts) =
     (draft.priority ≡ script.priority) × IsCode objects draft.lines script.code × AreScripts objects drafts scripts
 AreScripts objects _ _ = ⊥
 
-pub scripts_take : (objects : Objects) (drafts : List TaskDraft) (before scripts : List TaskScript) → scripts_after objects before drafts ≡ Ok scripts
+pub scripts_take : (objects : NamedObjects) (drafts : List TaskDraft) (before scripts : List TaskScript) → scripts_after objects before drafts ≡ Ok scripts
     → (more : List TaskScript) × (scripts ≡ before ++ more) × AreScripts objects drafts more
 scripts_take objects [] before scripts e = let is : before ≡ scripts = cc in ([], sym is ∙ sym (append-nil before), tt)
 scripts_take objects (draft ∷ drafts) before scripts e =
-    let code = bind_ok (code_of objects draft.lines) _ scripts e in
+    let code = bind_ok (instrs_of objects draft.lines) _ scripts e in
     let script : TaskScript = record { priority = draft.priority; code = code.0 } in
     let rest = scripts_take objects drafts (before ++ script ∷ []) scripts code.2 in
     (script ∷ rest.0, rest.1 ∙ append_assoc before (script ∷ []) rest.0, (refl, code_takes objects draft.lines code.0 code.1, rest.2))
 
-pub scripts_again : (objects : Objects) (drafts : List TaskDraft) (before more : List TaskScript) → AreScripts objects drafts more
+pub scripts_again : (objects : NamedObjects) (drafts : List TaskDraft) (before more : List TaskScript) → AreScripts objects drafts more
     → scripts_after objects before drafts ≡ Ok (before ++ more)
 scripts_again objects [] before [] h = ap Ok (sym (append-nil before))
 scripts_again objects [] before (s ∷ more) h = absurd h

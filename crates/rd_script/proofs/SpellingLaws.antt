@@ -31,9 +31,9 @@ use Rattle.rd_script.specs.declared.spelling.MemberKeyword.{MemberKeyword}
 use Rattle.rd_script.specs.declared.spelling.MemberKeyword.TheVariants.{AddToSet, RemoveFromSet}
 use Rattle.rd_script.specs.declared.spelling.SetKeyword.{SetKeyword}
 use Rattle.rd_script.specs.declared.spelling.SetKeyword.TheVariants.{Select}
-use Rattle.rd_script.specs.Objects.{Objects, objects_of, queue_shape}
-use Rattle.rd_script.specs.Spelling.{member_text, set_text, set_form, member_call, index_of, index_named}
-use Rattle.rd_script.specs.Spelling.{◌>>=◌, local_text, queue_text, text_of, keywords, rows_of, first_written, keyword_of, register_of, target_of, operand_of, time_of}
+use Rattle.rd_script.specs.Objects.{NamedObjects, objects_of, queue_shape}
+use Rattle.rd_script.specs.Spelling.{member_text, set_call_text, set_form, member_call, index_of, index_named}
+use Rattle.rd_script.specs.Spelling.{◌>>=◌, local_text, queue_call_text, keyword_text, keywords, rows_of, first_written, keyword_of, register_of, target_of, operand_of, time_of}
 use Rattle.rd_script.specs.Spelling.{next_as, no_more_words, Form, Alone, One, Two, OfBytes, OfTime, local_form, queue_form, read_by}
 use Rattle.rd_script.specs.Spelling.{is_call_for, operation_of, instr_of, HasOne, HasTwo, IsFormed, IsOperation, Spells}
 use Rattle.rd_text.specs.Words.{bytes_of, is_some_word, name_of, number_of}
@@ -45,12 +45,12 @@ use Rattle.rd_script.proofs.Steps.{bind_ok, guard_ok, ok_or_ok, then_is}
 same_bytes : (xs ys : List ℕ) → bytes_eq xs ys ≡ true → xs ≡ ys
 same_bytes xs ys e = (bytes_eq-Decides xs ys).0 e
 
-keyword_in : (word : List ℕ) (others : List Keyword) (k : Keyword) → first_written word (rows_of others) ≡ Some k → word ≡ text_of k
+keyword_in : (word : List ℕ) (others : List Keyword) (k : Keyword) → first_written word (rows_of others) ≡ Some k → word ≡ keyword_text k
 keyword_in word [] k e = absurd cc
 keyword_in word (first ∷ others) k e =
-    elim (bytes_eq word (text_of first)) as
-    (λ b. (bytes_eq word (text_of first) ≡ b) → cond b (Some first) (first_written word (rows_of others)) ≡ Some k → word ≡ text_of k) [
-      | true ↦ λ same. λ e. same_bytes word (text_of first) same ∙ ap text_of (let one : first ≡ k = cc in one)
+    elim (bytes_eq word (keyword_text first)) as
+    (λ b. (bytes_eq word (keyword_text first) ≡ b) → cond b (Some first) (first_written word (rows_of others)) ≡ Some k → word ≡ keyword_text k) [
+      | true ↦ λ same. λ e. same_bytes word (keyword_text first) same ∙ ap keyword_text (let one : first ≡ k = cc in one)
       | false ↦ λ same. keyword_in word others k
     ] refl e
 
@@ -65,7 +65,7 @@ local_keyword_again Jump = refl
 local_keyword_again JumpZero = refl
 local_keyword_again End = refl
 
-queue_keyword_again : (k : QueueKeyword) → keyword_of (queue_text k) ≡ Some (kind.Queue k)
+queue_keyword_again : (k : QueueKeyword) → keyword_of (queue_call_text k) ≡ Some (kind.Queue k)
 queue_keyword_again Send = refl
 queue_keyword_again Front = refl
 queue_keyword_again Receive = refl
@@ -79,10 +79,10 @@ member_keyword_again : (k : MemberKeyword) → keyword_of (member_text k) ≡ So
 member_keyword_again AddToSet = refl
 member_keyword_again RemoveFromSet = refl
 
-set_keyword_again : (k : SetKeyword) → keyword_of (set_text k) ≡ Some (kind.Set k)
+set_keyword_again : (k : SetKeyword) → keyword_of (set_call_text k) ≡ Some (kind.Set k)
 set_keyword_again Select = refl
 
-pub keyword_again : (k : Keyword) → keyword_of (text_of k) ≡ Some k
+pub keyword_again : (k : Keyword) → keyword_of (keyword_text k) ≡ Some k
 keyword_again (kind.Local k) = local_keyword_again k
 keyword_again (kind.Queue k) = queue_keyword_again k
 keyword_again (kind.Member k) = member_keyword_again k
@@ -163,7 +163,7 @@ named_ok names word name number is found =
     ap (λ (o : Option (List ℕ)). option_and_then (λ name. position (bytes_eq name) names) o) is
     ∙ ok_or_ok (position (bytes_eq name) names) number fault.Name found
 
-operation_takes : (objects : Objects) (len : ℕ) (k : Keyword) (words : List (List ℕ)) (i : Instr) → operation_of objects len k words ≡ Ok i
+operation_takes : (objects : NamedObjects) (len : ℕ) (k : Keyword) (words : List (List ℕ)) (i : Instr) → operation_of objects len k words ≡ Ok i
     → IsOperation objects len k words i
 operation_takes objects len (kind.Local k) words i e =
     let made = bind_ok (read_by (local_form len k) words) _ i e in
@@ -229,7 +229,7 @@ operation_takes objects len (kind.Set k) words i e =
       is,
     )
 
-pub instr_takes : (objects : Objects) (len : ℕ) (words : List (List ℕ)) (i : Instr) → instr_of objects len words ≡ Ok i → Spells objects len words i
+pub instr_takes : (objects : NamedObjects) (len : ℕ) (words : List (List ℕ)) (i : Instr) → instr_of objects len words ≡ Ok i → Spells objects len words i
 unfolding instr_of
 instr_takes objects len words i e =
     let k = bind_ok (next_as keyword_of words) _ i e in
@@ -284,7 +284,7 @@ name_again word name words is = ap (λ (o : Option (List ℕ)). ok_or (option_ma
 pub index_again : (names : List (List ℕ)) (name : List ℕ) (number : ℕ) → position (bytes_eq name) names ≡ Some number → index_of names name ≡ Ok number
 index_again names name number is = ap (λ o. ok_or o fault.Name) is
 
-operation_again : (objects : Objects) (len : ℕ) (k : Keyword) (words : List (List ℕ)) (i : Instr) → IsOperation objects len k words i
+operation_again : (objects : NamedObjects) (len : ℕ) (k : Keyword) (words : List (List ℕ)) (i : Instr) → IsOperation objects len k words i
     → operation_of objects len k words ≡ Ok i
 unfolding made_by
 operation_again objects len (kind.Local k) words i h =
@@ -312,13 +312,13 @@ operation_again objects len (kind.Set k) words i h =
     (then_is (read_by (set_form k) h.2.operands) _ (h.1, []) (Ok i) (form_again (set_form k) h.2.operands h.1 h.2.formed)
     (then_is (index_of objects.set_names name.0) _ h.0 (Ok i) (index_again objects.set_names name.0 h.0 name.2) (ap Ok h.3)))
 
-pub instr_again : (objects : Objects) (len : ℕ) (words : List (List ℕ)) (i : Instr) → Spells objects len words i → instr_of objects len words ≡ Ok i
+pub instr_again : (objects : NamedObjects) (len : ℕ) (words : List (List ℕ)) (i : Instr) → Spells objects len words i → instr_of objects len words ≡ Ok i
 unfolding instr_of
 instr_again objects len words i h =
-    let read : next_as keyword_of (text_of h.0 ∷ h.1) ≡ Ok (h.0, h.1) =
+    let read : next_as keyword_of (keyword_text h.0 ∷ h.1) ≡ Ok (h.0, h.1) =
     ap (λ o. ok_or (option_map (λ k. (k, h.1)) o) fault.Instr) (keyword_again h.0) in
     ap (instr_of objects len) h.2
-    ∙ then_is (next_as keyword_of (text_of h.0 ∷ h.1)) (λ k. operation_of objects len k.0 k.1) (h.0, h.1) (Ok i) read
+    ∙ then_is (next_as keyword_of (keyword_text h.0 ∷ h.1)) (λ k. operation_of objects len k.0 k.1) (h.0, h.1) (Ok i) read
     (operation_again objects len h.0 h.1 i h.3)
 
 -- ---- what is spelled is within its application

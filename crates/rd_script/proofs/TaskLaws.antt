@@ -6,8 +6,8 @@ use Rattle.serde_json.specs.Find.{get}
 use Rattle.std.specs.List.{AllByRecursion}
 use Rattle.rd_app.specs.declared.instr.Instr.{Instr}
 use Rattle.rd_app.specs.Application.{Application, IsScript}
-use Rattle.rd_script.specs.Objects.{Objects, objects_of}
-use Rattle.rd_script.specs.Says.{AreNamed, AreTasks, AreLines}
+use Rattle.rd_script.specs.Objects.{NamedObjects, objects_of}
+use Rattle.rd_script.specs.Says.{SayEach, AreTasks, AreLines}
 use Rattle.rd_app.specs.TaskScript.{TaskScript}
 use Rattle.rd_script.specs.File.{is_object_with, object_with, field, number_in, array_in, new_name, are_texts, TaskDraft, task_keys, task_of}
 use Rattle.rd_script.proofs.Steps.{bind_ok, guard_ok, then_is}
@@ -58,10 +58,10 @@ task_takes names d t e =
 -- ---- the tasks of an array
 
 abbrev pub AreDrafts : Items → List (List ℕ) → List TaskDraft → Type 0
-AreDrafts ds names drafts = AreNamed IsDraft ds names drafts
+AreDrafts ds names drafts = SayEach IsDraft ds names drafts
 
 -- drafts and their scripts are tasks
-pub tasks_said : (objects : Objects) (ds : Items) (names : List (List ℕ)) (drafts : List TaskDraft) (scripts : List TaskScript) → AreDrafts ds names drafts
+pub tasks_said : (objects : NamedObjects) (ds : Items) (names : List (List ℕ)) (drafts : List TaskDraft) (scripts : List TaskScript) → AreDrafts ds names drafts
     → AreScripts objects drafts scripts → AreTasks objects ds names scripts × (length names ≡ length scripts)
 tasks_said objects no_items [] [] [] a b = (tt, refl)
 tasks_said objects no_items [] [] (s ∷ scripts) a b = absurd b
@@ -123,14 +123,14 @@ pub draft_again : (names : List (List ℕ)) (d : Data) (name : List ℕ) (draft 
     → task_of names d ≡ Ok (name, draft)
 draft_again names d name draft h new ok = task_again names d name draft h new ok.in_limits ok.texts
 
-texts_said : (objects : Objects) (len : ℕ) (lines : Items) (code : List Instr) → AreLines objects len lines code → are_texts lines ≡ true
+texts_said : (objects : NamedObjects) (len : ℕ) (lines : Items) (code : List Instr) → AreLines objects len lines code → are_texts lines ≡ true
 texts_said objects len no_items [] h = refl
 texts_said objects len no_items (i ∷ code) h = absurd h
 texts_said objects len (item d ds) [] h = absurd h
 texts_said objects len (item d ds) (i ∷ code) h = rw h.0.1 (texts_said objects len ds code h.1)
 
 -- tasks are drafts and their scripts
-pub tasks_split : (app : Application) (objects : Objects) (ds : Items) (names : List (List ℕ)) (scripts : List TaskScript)
+pub tasks_split : (app : Application) (objects : NamedObjects) (ds : Items) (names : List (List ℕ)) (scripts : List TaskScript)
     → AreTasks objects ds names scripts → AllByRecursion (IsScript app) scripts
     → (drafts : List TaskDraft) × AreDrafts ds names drafts × AllByRecursion IsReadable drafts × AreScripts objects drafts scripts
 tasks_split app objects no_items [] [] h limits = ([], tt, tt, tt)

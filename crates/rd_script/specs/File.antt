@@ -10,13 +10,19 @@ use Rattle.serde_json.specs.Data.{Data, Items, no_items, item, Members, no_membe
 use Rattle.serde_json.specs.Events.{items_len}
 use Rattle.serde_json.specs.Find.{get, as_number, as_u64, as_str, as_array, as_object}
 use Rattle.serde_json.specs.Read.{read}
+use Rattle.rd_notify.specs.declared.notes.TheConstants.{MAX_ENTRIES}
+use Rattle.rd_queue.specs.declared.item.TheConstants.{MAX_ITEM_SIZE}
+use Rattle.rd_queue.specs.declared.queue.TheConstants.{MAX_ITEMS}
+use Rattle.rd_queue.specs.declared.queue_set.TheConstants.{MAX_HANDLES}
+use Rattle.rd_app.specs.declared.app.TheConstants.{MAX_CODE, MAX_CORES, MAX_PRIORITY}
+use Rattle.rd_app.specs.declared.app.TheConstants.{MAX_QUEUES, MAX_SETS, MAX_TASKS}
 use Rattle.rd_app.specs.declared.app.QueueShape.{QueueShape}
 use Rattle.rd_script.specs.declared.error.AppError.{AppError}
 use Rattle.rd_script.specs.declared.error.AppError.TheVariants as fault
 use Rattle.rd_app.specs.declared.instr.Instr.{Instr}
 use Rattle.rd_app.specs.Application.{Application, is_final, members_of}
 use Rattle.rd_app.specs.QueueSetShape.{QueueSetShape}
-use Rattle.rd_script.specs.Objects.{Objects}
+use Rattle.rd_script.specs.Objects.{NamedObjects}
 use Rattle.rd_script.specs.Spelling.{◌>>=◌, index_of, instr_of}
 use Rattle.rd_app.specs.TaskScript.{TaskScript}
 use Rattle.rd_text.specs.Words.{words_of, is_name, name_of}
@@ -96,8 +102,8 @@ queue_of names d = do
   capacity ← field (codes "length") d
   item_size ← field (codes "item") d
   name ← new_name names name
-  capacity ← number_in 1 64 capacity
-  item_size ← number_in 1 64 item_size
+  capacity ← number_in 1 MAX_ITEMS capacity
+  item_size ← number_in 1 MAX_ITEM_SIZE item_size
   Ok (name, record { capacity = capacity; item_size = item_size })
 
 abbrev pub queues_after : List (List ℕ) → List QueueShape → Items
@@ -134,7 +140,7 @@ set_of queues names sets d = do
   capacity ← field (codes "length") d
   members ← field (codes "members") d
   name ← new_name names name
-  capacity ← number_in 1 2048 capacity
+  capacity ← number_in 1 MAX_HANDLES capacity
   members ← ok_or (as_array members) fault.Shape
   members ← members_after queues (members_of sets) [] members
   Ok (name, record { capacity = capacity; members = members })
@@ -165,8 +171,8 @@ task_of names d = do
   priority ← field (codes "priority") d
   code ← field (codes "code") d
   name ← new_name names name
-  priority ← number_in 0 31 priority
-  lines ← array_in 1 256 code
+  priority ← number_in 0 MAX_PRIORITY priority
+  lines ← array_in 1 MAX_CODE code
   if are_texts lines
       then Ok (name, record { priority = priority; lines = lines })
       else Err fault.Shape
@@ -178,22 +184,22 @@ tasks_after names drafts ds = named_after (λ names drafts. task_of names) names
 -- ---- scripts
 
 -- the instruction of a value, in a script of that length
-abbrev pub line_of : Objects → ℕ → Data → Result Instr AppError
-line_of objects len d = do
+abbrev pub instr_of_line : NamedObjects → ℕ → Data → Result Instr AppError
+instr_of_line objects len d = do
   text ← ok_or (as_str d) fault.Shape
   instr_of objects len (words_of text)
 
 -- does the script never go on after the instruction of a value?
-abbrev pub line_ends : Objects → ℕ → Data → Result Bool AppError
+abbrev pub line_ends : NamedObjects → ℕ → Data → Result Bool AppError
 line_ends objects len d = do
-  instr ← line_of objects len d
+  instr ← instr_of_line objects len d
   Ok (is_final instr)
 
 -- the instructions before, and those of the values
-abbrev pub lines_after : Objects → ℕ → List Instr → Items → Result (List Instr) AppError
+abbrev pub lines_after : NamedObjects → ℕ → List Instr → Items → Result (List Instr) AppError
 lines_after objects len before no_items = Ok before
 lines_after objects len before (item d ds) = do
-  instr ← line_of objects len d
+  instr ← instr_of_line objects len d
   lines_after objects len (before ++ instr ∷ []) ds
 
 -- does the last instruction never go on at the next?
@@ -201,17 +207,17 @@ abbrev pub ends : List Instr → Bool
 ends code = unwrap_or (option_map is_final (slice_get code (length code - 1))) false
 
 -- the instructions of a task, the last of which never goes on at the next
-unfoldable pub code_of : Objects → Items → Result (List Instr) AppError
-code_of objects lines = do
+unfoldable pub instrs_of : NamedObjects → Items → Result (List Instr) AppError
+instrs_of objects lines = do
   code ← lines_after objects (items_len lines) [] lines
   if ends code then Ok code else Err fault.Instr
 
 -- the scripts before, and those of the drafts
-abbrev pub scripts_after : Objects → List TaskScript → List TaskDraft
+abbrev pub scripts_after : NamedObjects → List TaskScript → List TaskDraft
     → Result (List TaskScript) AppError
 scripts_after objects scripts [] = Ok scripts
 scripts_after objects scripts (draft ∷ drafts) = do
-  code ← code_of objects draft.lines
+  code ← instrs_of objects draft.lines
   scripts_after objects (scripts ++ record { priority = draft.priority; code = code } ∷ []) drafts
 
 -- ---- the file
@@ -227,7 +233,7 @@ pub record AppDraft : Type 0 where
   pub cores : ℕ
   pub notes : ℕ
   pub tick : ℕ
-  pub objects : Objects
+  pub objects : NamedObjects
   pub sets : List QueueSetShape
   pub tasks : List TaskDraft
   pub task_names : List (List ℕ)
@@ -239,14 +245,14 @@ draft_of d = do
   cores ← field (codes "cores") d
   tasks ← field (codes "tasks") d
   _ ← number_in 1 1 profile
-  cores ← number_in 1 8 cores
-  notes ← number_or 1 1 4 (get (codes "notes") d)
+  cores ← number_in 1 MAX_CORES cores
+  notes ← number_or 1 1 MAX_ENTRIES (get (codes "notes") d)
   tick ← number_or 0 0 (2 ^ 32 - 1) (get (codes "tick") d)
-  queues ← array_or_empty 32 (get (codes "queues") d)
+  queues ← array_or_empty MAX_QUEUES (get (codes "queues") d)
   queues ← queues_after [] [] queues
-  sets ← array_or_empty 32 (get (codes "sets") d)
+  sets ← array_or_empty MAX_SETS (get (codes "sets") d)
   sets ← sets_after queues.0 [] [] sets
-  tasks ← array_in 1 32 tasks
+  tasks ← array_in 1 MAX_TASKS tasks
   tasks ← tasks_after [] [] tasks
   Ok (record {
     cores = cores;
@@ -278,12 +284,12 @@ abbrev pub app_of : Data → Result Application AppError
 app_of d = draft_of d >>= with_scripts
 
 -- the application of a text, or the first fault
-abbrev pub text_of : List ℕ → Result Application AppError
-text_of text = ok_or (read text) fault.NotJson >>= app_of
+abbrev pub app_of_text : List ℕ → Result Application AppError
+app_of_text text = ok_or (read text) fault.NotJson >>= app_of
 
 -- the application of a file's bytes, or the first fault
-abbrev pub file_of : List ℕ → Result Application AppError
-file_of bytes = if is_utf8 bytes then text_of bytes else Err fault.NotJson
+abbrev pub app_of_bytes : List ℕ → Result Application AppError
+app_of_bytes bytes = if is_utf8 bytes then app_of_text bytes else Err fault.NotJson
 
 -- ---- what the code gives
 

@@ -2,17 +2,17 @@
 use Rattle.std.specs.Prelude.{ℕ, List, slice_index_or}
 use Rattle.rd_app.specs.declared.app.QueueShape.{QueueShape}
 use Rattle.rd_app.specs.Application.{Application}
-use Rattle.rd_script.specs.declared.objects.Objects as code
+use Rattle.rd_script.specs.declared.objects.NamedObjects as code
 use Rattle.rd_text.specs.Words.{texts}
 
--- Objects go by number: the index in these lists.
-pub record Objects : Type 0 where
+-- NamedObjects go by number: the index in these lists.
+pub record NamedObjects : Type 0 where
   pub queue_names : List (List ℕ)
   pub queues : List QueueShape
   pub set_names : List (List ℕ)
 
 -- what a contract sees of the code's
-abbrev pub objects_view : code.Objects → Objects
+abbrev pub objects_view : code.NamedObjects → NamedObjects
 objects_view objects = record {
   queue_names = texts objects.queues.names.items;
   queues = objects.queues.shapes.items;
@@ -20,7 +20,7 @@ objects_view objects = record {
 }
 
 -- those of an application
-abbrev pub objects_of : Application → Objects
+abbrev pub objects_of : Application → NamedObjects
 objects_of app = record {
   queue_names = app.queue_names;
   queues = app.queues;
@@ -28,6 +28,6 @@ objects_of app = record {
 }
 
 -- the shape of a queue
-abbrev pub queue_shape : Objects → ℕ → QueueShape
+abbrev pub queue_shape : NamedObjects → ℕ → QueueShape
 queue_shape objects queue =
     slice_index_or objects.queues queue (record { capacity = 0; item_size = 0 })

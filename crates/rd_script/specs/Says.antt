@@ -12,7 +12,7 @@ use Rattle.rd_app.specs.Application.{Application, members_of}
 use Rattle.rd_app.specs.QueueSetShape.{QueueSetShape}
 use Rattle.rd_script.specs.File.{is_object_with, queue_keys, set_keys, task_keys, file_keys}
 use Rattle.rd_script.specs.File.{ends}
-use Rattle.rd_script.specs.Objects.{Objects, objects_of}
+use Rattle.rd_script.specs.Objects.{NamedObjects, objects_of}
 use Rattle.rd_script.specs.Spelling.{Spells, index_named}
 use Rattle.rd_app.specs.TaskScript.{TaskScript}
 use Rattle.rd_text.specs.Words.{words_of}
@@ -24,15 +24,15 @@ pub record IsQueue (d : Data) (name : List ℕ) (shape : QueueShape) : Type 0 wh
   pub item_at : get (codes "item") d ≡ Some (number (unsigned shape.item_size))
 
 -- The values of an array say these things of these names, one after another.
-abbrev pub AreNamed : {X : Type 0} → (Data → List ℕ → X → Type 0) → Items → List (List ℕ) → List X
+abbrev pub SayEach : {X : Type 0} → (Data → List ℕ → X → Type 0) → Items → List (List ℕ) → List X
     → Type 0
-AreNamed Is no_items [] [] = Unit {0}
-AreNamed Is (item d ds) (name ∷ names) (thing ∷ things) =
-    Is d name thing × AreNamed Is ds names things
-AreNamed Is _ _ _ = ⊥
+SayEach Is no_items [] [] = Unit {0}
+SayEach Is (item d ds) (name ∷ names) (thing ∷ things) =
+    Is d name thing × SayEach Is ds names things
+SayEach Is _ _ _ = ⊥
 
 abbrev pub AreQueues : Items → List (List ℕ) → List QueueShape → Type 0
-AreQueues ds names shapes = AreNamed IsQueue ds names shapes
+AreQueues ds names shapes = SayEach IsQueue ds names shapes
 
 -- a text that names the queue of that number
 abbrev pub IsMember : List (List ℕ) → Data → ℕ → Type 0
@@ -61,25 +61,25 @@ pub record IsSet
 -- The first names are those of all queues.
 abbrev pub AreSets : List (List ℕ) → Items → List (List ℕ) → List QueueSetShape → Type 0
 AreSets queues ds names sets =
-    AreNamed (λ d name set. (texts : Items) × IsSet queues d name set texts) ds names sets
+    SayEach (λ d name set. (texts : Items) × IsSet queues d name set texts) ds names sets
 
 -- a text whose words spell the instruction
-abbrev pub IsLine : Objects → ℕ → Data → Instr → Type 0
+abbrev pub IsLine : NamedObjects → ℕ → Data → Instr → Type 0
 IsLine objects len d instr =
     (text : List ℕ) × (d ≡ string text) × Spells objects len (words_of text) instr
 
-abbrev pub AreLines : Objects → ℕ → Items → List Instr → Type 0
+abbrev pub AreLines : NamedObjects → ℕ → Items → List Instr → Type 0
 AreLines objects len no_items [] = Unit {0}
 AreLines objects len (item d ds) (instr ∷ code) =
     IsLine objects len d instr × AreLines objects len ds code
 AreLines objects len _ _ = ⊥
 
 -- the texts spell the script, which never goes on after its last instruction
-abbrev pub IsCode : Objects → Items → List Instr → Type 0
+abbrev pub IsCode : NamedObjects → Items → List Instr → Type 0
 IsCode objects lines code = AreLines objects (items_len lines) lines code × (ends code ≡ true)
 
 pub record IsTask
-    (objects : Objects)
+    (objects : NamedObjects)
     (d : Data)
     (name : List ℕ)
     (script : TaskScript)
@@ -91,9 +91,9 @@ pub record IsTask
   pub code_at : get (codes "code") d ≡ Some (array lines)
   pub code : IsCode objects lines script.code
 
-abbrev pub AreTasks : Objects → Items → List (List ℕ) → List TaskScript → Type 0
+abbrev pub AreTasks : NamedObjects → Items → List (List ℕ) → List TaskScript → Type 0
 AreTasks objects ds names scripts =
-    AreNamed (λ d name task. (lines : Items) × IsTask objects d name task lines) ds names scripts
+    SayEach (λ d name task. (lines : Items) × IsTask objects d name task lines) ds names scripts
 
 -- what stands at a key, or what it means to leave the key out
 abbrev pub IsNumberOr : ℕ → Option Data → ℕ → Type 0

@@ -34,7 +34,7 @@ use Rattle.rd_script.specs.declared.spelling.MemberKeyword.TheVariants.{AddToSet
 use Rattle.rd_script.specs.declared.spelling.SetKeyword.{SetKeyword}
 use Rattle.rd_script.specs.declared.spelling.SetKeyword.TheVariants.{Select}
 use Rattle.rd_app.specs.Application.{max_delay, IsCallFor}
-use Rattle.rd_script.specs.Objects.{Objects, queue_shape}
+use Rattle.rd_script.specs.Objects.{NamedObjects, queue_shape}
 use Rattle.rd_text.specs.Words.{number_of, bytes_of, name_of}
 
 -- what each keyword is written as
@@ -49,28 +49,28 @@ local_text Jump = codes "jump"
 local_text JumpZero = codes "jumpz"
 local_text End = codes "end"
 
-abbrev pub queue_text : QueueKeyword → List ℕ
-queue_text Send = codes "send"
-queue_text Front = codes "front"
-queue_text Receive = codes "recv"
-queue_text Peek = codes "peek"
-queue_text Overwrite = codes "over"
-queue_text Reset = codes "qreset"
-queue_text Count = codes "count"
-queue_text Spaces = codes "spaces"
+abbrev pub queue_call_text : QueueKeyword → List ℕ
+queue_call_text Send = codes "send"
+queue_call_text Front = codes "front"
+queue_call_text Receive = codes "recv"
+queue_call_text Peek = codes "peek"
+queue_call_text Overwrite = codes "over"
+queue_call_text Reset = codes "qreset"
+queue_call_text Count = codes "count"
+queue_call_text Spaces = codes "spaces"
 
 abbrev pub member_text : MemberKeyword → List ℕ
 member_text AddToSet = codes "setadd"
 member_text RemoveFromSet = codes "setdel"
 
-abbrev pub set_text : SetKeyword → List ℕ
-set_text Select = codes "select"
+abbrev pub set_call_text : SetKeyword → List ℕ
+set_call_text Select = codes "select"
 
-abbrev pub text_of : Keyword → List ℕ
-text_of (kind.Local keyword) = local_text keyword
-text_of (kind.Queue keyword) = queue_text keyword
-text_of (kind.Member keyword) = member_text keyword
-text_of (kind.Set keyword) = set_text keyword
+abbrev pub keyword_text : Keyword → List ℕ
+keyword_text (kind.Local keyword) = local_text keyword
+keyword_text (kind.Queue keyword) = queue_call_text keyword
+keyword_text (kind.Member keyword) = member_text keyword
+keyword_text (kind.Set keyword) = set_call_text keyword
 
 abbrev pub local_keywords : List LocalKeyword
 local_keywords = Set ∷ Add ∷ Move ∷ Data ∷ Pack ∷ Unpack ∷ Jump ∷ JumpZero ∷ End ∷ []
@@ -96,7 +96,7 @@ abbrev pub Rows : Type 0
 Rows = List (List ℕ × Keyword)
 
 abbrev pub rows_of : List Keyword → Rows
-rows_of keywords = map (λ keyword. (text_of keyword, keyword)) keywords
+rows_of keywords = map (λ keyword. (keyword_text keyword, keyword)) keywords
 
 -- the first of these that is written so
 abbrev pub first_written : List ℕ → Rows → Option Keyword
@@ -243,7 +243,7 @@ abbrev pub index_of : List (List ℕ) → List ℕ → Result ℕ AppError
 index_of names name = ok_or (position (bytes_eq name) names) fault.Name
 
 -- the call of the queue of that name, if it is one for that queue
-abbrev pub call_of : Objects → List ℕ → QueueCall → Result Instr AppError
+abbrev pub call_of : NamedObjects → List ℕ → QueueCall → Result Instr AppError
 call_of objects name made = do
   queue ← index_of objects.queue_names name
   if is_call_for (queue_shape objects queue) made
@@ -251,7 +251,7 @@ call_of objects name made = do
       else Err fault.OverwriteLength
 
 -- the instruction of a keyword and of all words after it
-abbrev pub operation_of : Objects → ℕ → Keyword → List (List ℕ) → Result Instr AppError
+abbrev pub operation_of : NamedObjects → ℕ → Keyword → List (List ℕ) → Result Instr AppError
 operation_of objects len (kind.Local keyword) words = do
   made ← read_by (local_form len keyword) words
   _ ← no_more_words made.1
@@ -277,7 +277,7 @@ operation_of objects len (kind.Set keyword) words = do
 
 -- The instruction of a text's words, or its fault. One in the form of a word comes before an
 -- unknown name, and that before a queue that the call is not for.
-unfoldable pub instr_of : Objects → ℕ → List (List ℕ) → Result Instr AppError
+unfoldable pub instr_of : NamedObjects → ℕ → List (List ℕ) → Result Instr AppError
 instr_of objects len words = do
   keyword ← next_as keyword_of words
   operation_of objects len keyword.0 keyword.1
@@ -331,7 +331,7 @@ pub record SpellsCall {X : Type 0}
 
 -- The words after a keyword make the instruction. A call of a queue is one for that queue: only a
 -- queue with room for one item is overwritten.
-abbrev pub IsOperation : Objects → ℕ → Keyword → List (List ℕ) → Instr → Type 0
+abbrev pub IsOperation : NamedObjects → ℕ → Keyword → List (List ℕ) → Instr → Type 0
 IsOperation objects len (kind.Local keyword) words instr =
     (made : LocalInstr)
     × IsFormed (local_form len keyword) words made
@@ -354,9 +354,9 @@ IsOperation objects len (kind.Set keyword) words instr =
     × (instruction.Set set made ≡ instr)
 
 -- The words are a keyword and its operands: over these objects, in a script of that length.
-abbrev pub Spells : Objects → ℕ → List (List ℕ) → Instr → Type 0
+abbrev pub Spells : NamedObjects → ℕ → List (List ℕ) → Instr → Type 0
 Spells objects len words instr =
     (keyword : Keyword)
     × (operands : List (List ℕ))
-    × (words ≡ text_of keyword ∷ operands)
+    × (words ≡ keyword_text keyword ∷ operands)
     × IsOperation objects len keyword operands instr

@@ -15,35 +15,30 @@ ghost use Rattle.rd_script.specs.File.{array_in, array_or_empty, are_texts, fiel
 ghost use Rattle.rd_script.specs.File.{in_limits, number_in, number_or, new_name, object_with};
 ghost use Rattle.rd_script.specs.File.{queue_of, queues_after, task_of, tasks_after};
 ghost use Rattle.rd_script.specs.File.{member_of, members_after, set_of, sets_after};
-ghost use Rattle.rd_script.specs.File.{line_ends, line_of, code_of, scripts_after};
-ghost use Rattle.rd_script.specs.File.{draft_of, with_scripts, app_of, text_of, file_of};
+ghost use Rattle.rd_script.specs.File.{line_ends, instr_of_line, instrs_of, scripts_after};
+ghost use Rattle.rd_script.specs.File.{draft_of, with_scripts, app_of, app_of_text, app_of_bytes};
 ghost use Rattle.rd_script.specs.Objects.{objects_view};
 ghost use Rattle.rd_script.specs.Says.{FileSays};
 ghost use Rattle.rd_text.specs.Words.{texts};
 
 use crate::error::AppError;
-use crate::objects::{Objects, Queues};
+use crate::objects::{NamedObjects, Queues};
 use crate::spelling::{index_of, read_instr};
 use arrayvec::ArrayVec;
-use rd_app::app::{App, Parts, QueueShape, Script, SetShape};
+use rd_app::app::{
+    App, MAX_CODE, MAX_CORES, MAX_PRIORITY, MAX_QUEUES, MAX_SETS, MAX_TASKS, Parts, QueueShape,
+    Script, SetShape,
+};
 use rd_app::instr::{Instr, LocalInstr};
+use rd_notify::notes::MAX_ENTRIES;
+use rd_queue::item::MAX_ITEM_SIZE;
+use rd_queue::queue::MAX_ITEMS;
+use rd_queue::queue_set::MAX_HANDLES;
 use rd_text::names::Names;
 use rd_text::words::is_name;
 use serde_json::{Map, Value};
 use std::alloc::{AllocError, Global};
 use std::marker::Model;
-
-/// How many cores an application has at the most.
-pub const MAX_CORES: u64 = 8;
-
-/// How many queues an application has at the most.
-pub const MAX_QUEUES: usize = 32;
-
-/// How many queue sets an application has at the most.
-pub const MAX_SETS: usize = 32;
-
-/// How many tasks an application has at the most.
-pub const MAX_TASKS: usize = 32;
 
 // Does the name stand among these?
 fn stands(name: &str, names: &[&str]) -> bool
@@ -154,8 +149,8 @@ fn read_queue<'a>(value: &'a Value, names: &[&str]) -> Result<(&'a str, QueueSha
     let capacity = field(value, "length")?;
     let item_size = field(value, "item")?;
     let name = new_name(name, names)?;
-    let capacity = number(capacity, 1, 64)? as usize;
-    let item_size = number(item_size, 1, 64)? as usize;
+    let capacity = number(capacity, 1, MAX_ITEMS as u64)? as usize;
+    let item_size = number(item_size, 1, MAX_ITEM_SIZE as u64)? as usize;
     Ok((
         name,
         QueueShape {
@@ -166,7 +161,7 @@ fn read_queue<'a>(value: &'a Value, names: &[&str]) -> Result<(&'a str, QueueSha
 }
 
 fn read_queues(values: &[Value]) -> Result<Queues<'_>, AppError>
-    requires { length values.now ≤ 32 }
+    requires { length values.now ≤ MAX_QUEUES }
     ensures { Gives (λ queues. (texts queues.names.items, queues.shapes.items))
         result (queues_after [] [] (items_view values.now)) }
 {
@@ -237,7 +232,7 @@ fn read_members(
     queues: &[&str],
     sets: &[SetDraft],
 ) -> Result<ArrayVec<usize, MAX_QUEUES>, AppError>
-    requires { length queues.now ≤ 32 }
+    requires { length queues.now ≤ MAX_QUEUES }
     ensures { Gives (λ members. members.items) result
         (members_after (texts queues.now) (members_of sets.now) [] (items_view values.now)) }
 {
@@ -255,7 +250,7 @@ fn read_set<'a>(
     names: &[&str],
     sets: &[SetDraft],
 ) -> Result<(&'a str, SetDraft), AppError>
-    requires { length queues.now ≤ 32 }
+    requires { length queues.now ≤ MAX_QUEUES }
     ensures { Gives (λ set. (set.0.now, set.1))
         result (set_of (texts queues.now) (texts names.now) sets.now (view value.now)) }
 {
@@ -264,7 +259,7 @@ fn read_set<'a>(
     let capacity = field(value, "length")?;
     let members = field(value, "members")?;
     let name = new_name(name, names)?;
-    let capacity = number(capacity, 1, 2048)? as usize;
+    let capacity = number(capacity, 1, MAX_HANDLES as u64)? as usize;
     let members = members.as_array().ok_or(AppError::Shape)?;
     let members = read_members(members.as_slice(), queues, sets)?;
     Ok((name, SetDraft { capacity, members }))
@@ -278,8 +273,8 @@ struct Sets<'a> {
 }
 
 fn read_sets<'a>(values: &'a [Value], queues: &[&str]) -> Result<Sets<'a>, AppError>
-    requires sets { length values.now ≤ 32 }
-    requires queues { length queues.now ≤ 32 }
+    requires sets { length values.now ≤ MAX_SETS }
+    requires queues { length queues.now ≤ MAX_QUEUES }
     ensures { Gives (λ sets. (texts sets.names.items, sets.drafts.items))
         result (sets_after (texts queues.now) [] [] (items_view values.now)) }
 {
@@ -321,8 +316,8 @@ fn read_task<'a>(value: &'a Value, names: &[&str]) -> Result<(&'a str, TaskDraft
     let priority = field(value, "priority")?;
     let code = field(value, "code")?;
     let name = new_name(name, names)?;
-    let priority = number(priority, 0, 31)? as u8;
-    let lines = array(code, 1, 256)?;
+    let priority = number(priority, 0, u64::from(MAX_PRIORITY))? as u8;
+    let lines = array(code, 1, MAX_CODE)?;
     if !are_texts(lines) {
         return Err(AppError::Shape);
     }
@@ -337,7 +332,7 @@ struct Tasks<'a> {
 }
 
 fn read_tasks(values: &[Value]) -> Result<Tasks<'_>, AppError>
-    requires { length values.now ≤ 32 }
+    requires { length values.now ≤ MAX_TASKS }
     ensures { Gives (λ tasks. (texts tasks.names.items, map task_draft_view tasks.drafts.items))
         result (tasks_after [] [] (items_view values.now)) }
 {
@@ -357,7 +352,7 @@ struct AppDraft<'a> {
     cores: usize,
     notes: usize,
     tick: u32,
-    objects: Objects<'a>,
+    objects: NamedObjects<'a>,
     sets: ArrayVec<SetDraft, MAX_SETS>,
     tasks: Tasks<'a>,
 }
@@ -376,8 +371,8 @@ fn read_draft(file: &Value) -> Result<AppDraft<'_>, AppError>
     let cores = field(file, "cores")?;
     let tasks = field(file, "tasks")?;
     number(profile, 1, 1)?;
-    let cores = number(cores, 1, MAX_CORES)? as usize;
-    let notes = number_or(file.get("notes"), 1, 1, 4)? as usize;
+    let cores = number(cores, 1, MAX_CORES as u64)? as usize;
+    let notes = number_or(file.get("notes"), 1, 1, MAX_ENTRIES as u64)? as usize;
     let tick = number_or(file.get("tick"), 0, 0, u64::from(u32::MAX))? as u32;
     let queues = read_queues(array_or_empty(file.get("queues"), MAX_QUEUES)?)?;
     let sets = array_or_empty(file.get("sets"), MAX_SETS)?;
@@ -387,7 +382,7 @@ fn read_draft(file: &Value) -> Result<AppDraft<'_>, AppError>
         cores,
         notes,
         tick,
-        objects: Objects {
+        objects: NamedObjects {
             queues,
             set_names: sets.names,
         },
@@ -422,15 +417,15 @@ fn is_final(instr: &Instr) -> bool
 }
 
 // The instruction of a value, in a script of that length.
-fn read_line(line: &Value, objects: &Objects<'_>, len: usize) -> Result<Instr, AppError>
-    ensures { result ≡ line_of (objects_view objects.now) len (view line.now) }
+fn read_line(line: &Value, objects: &NamedObjects<'_>, len: usize) -> Result<Instr, AppError>
+    ensures { result ≡ instr_of_line (objects_view objects.now) len (view line.now) }
 {
     let text = line.as_str().ok_or(AppError::Shape)?;
     read_instr(text.as_bytes(), objects, len)
 }
 
 // Whether the instruction of a value is one after which the script never goes on.
-fn line_ends(line: &Value, objects: &Objects<'_>, len: usize) -> Result<bool, AppError>
+fn line_ends(line: &Value, objects: &NamedObjects<'_>, len: usize) -> Result<bool, AppError>
     ensures { result ≡ line_ends (objects_view objects.now) len (view line.now) }
 {
     let instr = read_line(line, objects, len)?;
@@ -438,8 +433,8 @@ fn line_ends(line: &Value, objects: &Objects<'_>, len: usize) -> Result<bool, Ap
 }
 
 // Finds the first fault of a script, and keeps nothing of it.
-fn check_code(lines: &[Value], objects: &Objects<'_>) -> Result<(), AppError>
-    ensures { result ≡ checked (code_of (objects_view objects.now) (items_view lines.now)) }
+fn check_code(lines: &[Value], objects: &NamedObjects<'_>) -> Result<(), AppError>
+    ensures { result ≡ checked (instrs_of (objects_view objects.now) (items_view lines.now)) }
 {
     let mut ended = false;
     for line in lines {
@@ -449,7 +444,7 @@ fn check_code(lines: &[Value], objects: &Objects<'_>) -> Result<(), AppError>
 }
 
 // Finds the first fault of the scripts, and keeps nothing of them.
-fn check_scripts(drafts: &[TaskDraft<'_>], objects: &Objects<'_>) -> Result<(), AppError>
+fn check_scripts(drafts: &[TaskDraft<'_>], objects: &NamedObjects<'_>) -> Result<(), AppError>
     ensures { result
         ≡ checked (scripts_after (objects_view objects.now) [] (map task_draft_view drafts.now)) }
 {
@@ -463,11 +458,11 @@ fn check_scripts(drafts: &[TaskDraft<'_>], objects: &Objects<'_>) -> Result<(), 
 fn keep_code(
     alloc: Global,
     lines: &[Value],
-    objects: &Objects<'_>,
+    objects: &NamedObjects<'_>,
 ) -> Result<Vec<Instr>, AllocError>
-    requires { IsOk (code_of (objects_view objects.now) (items_view lines.now)) }
+    requires { IsOk (instrs_of (objects_view objects.now) (items_view lines.now)) }
     ensures { IfOk result
-        (λ code. code_of (objects_view objects.now) (items_view lines.now) ≡ Ok code.items) }
+        (λ code. instrs_of (objects_view objects.now) (items_view lines.now) ≡ Ok code.items) }
 {
     let mut code = Vec::new(alloc);
     for line in lines {
@@ -480,7 +475,7 @@ fn keep_code(
 fn keep_scripts(
     alloc: Global,
     drafts: &[TaskDraft<'_>],
-    objects: &Objects<'_>,
+    objects: &NamedObjects<'_>,
 ) -> Result<Vec<Script>, AllocError>
     requires { IsOk (scripts_after (objects_view objects.now) [] (map task_draft_view drafts.now)) }
     ensures { IfOk result (λ scripts.
@@ -538,7 +533,7 @@ fn read_file(alloc: Global, file: &Value) -> Result<App, AppError>
 }
 
 fn read_text(alloc: Global, text: &str) -> Result<App, AppError>
-    ensures exact { GivesOrNoMemory (λ app. app) result (text_of text.now) }
+    ensures exact { GivesOrNoMemory (λ app. app) result (app_of_text text.now) }
     ensures memory { result ≡ Err AppError.Memory → 0 < length text.now }
 {
     match Value::from_str(alloc, text) {
@@ -553,7 +548,7 @@ fn read_text(alloc: Global, text: &str) -> Result<App, AppError>
 
 // Bytes that aren't UTF-8 are refused before anything is kept.
 fn read_bytes(alloc: Global, bytes: &[u8]) -> Result<App, AppError>
-    ensures exact { GivesOrNoMemory (λ app. app) result (file_of bytes.now) }
+    ensures exact { GivesOrNoMemory (λ app. app) result (app_of_bytes bytes.now) }
     ensures memory { result ≡ Err AppError.Memory → 0 < length bytes.now }
     ensures memory_text { result ≡ Err AppError.Memory → IsUtf8 bytes.now }
 {
@@ -573,7 +568,7 @@ pub fn read_app(alloc: Global, text: &[u8]) -> Result<App, AppError>
     ensures only { (app : Application) → FileSays text.now app → IsApplication app
         → GivesOrNoMemory (λ app. app) result (Ok app) }
     // Which fault it is.
-    ensures exact { GivesOrNoMemory (λ app. app) result (file_of text.now) }
+    ensures exact { GivesOrNoMemory (λ app. app) result (app_of_bytes text.now) }
     // Memory runs out only where there is text to read as JSON.
     ensures memory { result ≡ Err AppError.Memory → 0 < length text.now }
     ensures memory_text { result ≡ Err AppError.Memory → IsUtf8 text.now }

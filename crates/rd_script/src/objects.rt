@@ -2,9 +2,8 @@
 
 ghost use Rattle.std.specs.Prelude.{◌≡◌, length};
 
-use crate::file::{MAX_QUEUES, MAX_SETS};
 use arrayvec::ArrayVec;
-use rd_app::app::QueueShape;
+use rd_app::app::{MAX_QUEUES, MAX_SETS, QueueShape};
 
 /// The queues of a file, and their names, which lie in its value.
 #[derive(Drop)]
@@ -16,7 +15,7 @@ pub(crate) struct Queues<'a> {
 
 /// What the instructions of a file name, each kind in its order.
 #[derive(Drop)]
-pub(crate) struct Objects<'a> {
+pub(crate) struct NamedObjects<'a> {
     pub(crate) queues: Queues<'a>,
     pub(crate) set_names: ArrayVec<&'a str, MAX_SETS>,
 }

@@ -11,7 +11,7 @@ ghost use Rattle.rd_script.specs.Spelling.{operation_of, instr_of};
 ghost use Rattle.rd_text.specs.Words.{words_of, texts, number_of, name_of, bytes_of};
 
 use crate::error::AppError;
-use crate::objects::Objects;
+use crate::objects::NamedObjects;
 use rd_app::app::QueueShape;
 use rd_app::instr::{Instr, LocalInstr, MAX_DELAY, Operand, QueueCall, SetCall};
 use rd_bytes::bytes::Bytes;
@@ -230,7 +230,7 @@ fn is_call_for(shape: &QueueShape, call: &QueueCall) -> bool
 }
 
 // The call of the queue of that name, if it is one for that queue.
-fn call_of(name: &str, call: QueueCall, objects: &Objects<'_>) -> Result<Instr, AppError>
+fn call_of(name: &str, call: QueueCall, objects: &NamedObjects<'_>) -> Result<Instr, AppError>
     ensures { result ≡ call_of (objects_view objects.now) name.now call }
 {
     let queue = index_of(name, objects.queues.names.as_slice())?;
@@ -337,7 +337,7 @@ fn set_call(keyword: SetKeyword, words: &mut Words<'_>) -> Result<SetCall, AppEr
 fn operation(
     keyword: Keyword,
     words: &mut Words<'_>,
-    objects: &Objects<'_>,
+    objects: &NamedObjects<'_>,
     len: usize,
 ) -> Result<Instr, AppError>
     ensures { result ≡ operation_of (objects_view objects.now) len keyword words.old }
@@ -375,7 +375,11 @@ fn operation(
 
 /// The instruction of a text, in a script of that length over those objects.
 #[tactic(auto, unfolding(crate::specs::Spelling::instr_of))]
-pub(crate) fn read_instr(text: &[u8], objects: &Objects<'_>, len: usize) -> Result<Instr, AppError>
+pub(crate) fn read_instr(
+    text: &[u8],
+    objects: &NamedObjects<'_>,
+    len: usize,
+) -> Result<Instr, AppError>
     ensures { result ≡ instr_of (objects_view objects.now) len (words_of text.now) }
 {
     let mut words = Words::new(text);

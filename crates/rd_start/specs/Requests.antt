@@ -13,7 +13,7 @@ use Rattle.clap.specs.declared.error.kind.ErrorKind.TheVariants as kind
 use Rattle.clap.specs.declared.error.kind.ErrorKind.{ErrorKind as Refusal}
 use Rattle.rd_script.specs.declared.error.AppError.TheVariants as fault
 use Rattle.rd_app.specs.Application.{Application, IsApplication}
-use Rattle.rd_script.specs.File.{file_of}
+use Rattle.rd_script.specs.File.{app_of_bytes}
 use Rattle.rd_script.specs.Says.{FileSays}
 use Rattle.rd_start.specs.declared.fault.Fault.{Fault}
 use Rattle.rd_start.specs.declared.fault.Fault.TheVariants.{BadLine, CannotRead, App, NoMemory}
@@ -82,13 +82,13 @@ unfoldable pub options_in : List Text → List Row
 options_in words = options_of (subcommand_of command_line words)
 
 -- A number as it is written: decimal digits, behind a plus or not.
-abbrev pub number_of : Text → ℕ
-number_of text = digits_value 10 (without_leading_plus text)
+abbrev pub count_of : Text → ℕ
+count_of text = digits_value 10 (without_leading_plus text)
 
 -- The settings are the values of these options.
 pub record AreSettingsIn (options : List Row) (settings : Settings) : Type 0 where
   pub app : option_map (λ path. path.now) settings.app ≡ first_of (codes "app") options
-  pub moves : Some settings.moves ≡ option_map number_of (one_of (codes "moves") options)
+  pub moves : Some settings.moves ≡ option_map count_of (one_of (codes "moves") options)
 
 -- Among these options are moves, and as many as may be.
 abbrev pub HasMoves : List Row → Type 0
@@ -152,7 +152,7 @@ pub record IsFaultOfKind (kind : ErrorKind) (fault : Fault) : Type 0 where
 abbrev pub IsRefusalOf : List ℕ → Fault → Type 0
 IsRefusalOf bytes BadLine = ⊥
 IsRefusalOf bytes CannotRead = ⊥
-IsRefusalOf bytes (App error) = error ≢ fault.Memory → file_of bytes ≡ Err error
+IsRefusalOf bytes (App error) = error ≢ fault.Memory → app_of_bytes bytes ≡ Err error
 IsRefusalOf bytes NoMemory = ⊥
 
 -- Where a fault is a refusal, it is that of bytes that a file may have.

@@ -28,7 +28,7 @@ use Rattle.rd_state.specs.declared.task_change.TaskChange.{TaskChange}
 use Rattle.rd_state.specs.declared.task_change.TaskChange.TheVariants.{SetPc, SetReg, SetPhase, SetData}
 use Rattle.rd_state.specs.Boot.{all_joined, first_queues, fresh_task, new_queue, new_set}
 use Rattle.rd_state.specs.Change.{with_task, with_queue, with_set, Fits, NamesObjects}
-use Rattle.rd_state.specs.Inside.{IsKept, snapshot_of}
+use Rattle.rd_state.specs.Inside.{HasSizes, snapshot_of}
 use Rattle.rd_state.specs.Sizes.{AreSizedObjects, IsQueueFor, IsSetFor, IsSized, IsSizedPhase, IsSizedTask, IsTaskOrIdle}
 use Rattle.rd_state.specs.Snapshot.{Numbers, Snapshot, TaskSnapshot, no_queue, no_set, no_task, numbers_of, queue_at, set_at, task_at, Objects, numbers_in}
 use Rattle.rd_state.specs.TaskChanges.{task_applied}
@@ -36,9 +36,9 @@ use Rattle.rd_state.proofs.TaskLaws as task_law
 use Rattle.rd_state.proofs.UndoLaws.{phase_sized, queue_sized, set_sized, task_sized}
 
 -- a state with another ready list
-IsKept-ready : (s : Inside) (tasks : List ℕ) → All (λ task. task < length s.tasks.items) tasks → length tasks ≤ length s.tasks.items → IsKept s
-    → IsKept (record s { ready = record s.ready { tasks = tasks } })
-IsKept-ready s tasks among few kept =
+HasSizes-ready : (s : Inside) (tasks : List ℕ) → All (λ task. task < length s.tasks.items) tasks → length tasks ≤ length s.tasks.items → HasSizes s
+    → HasSizes (record s { ready = record s.ready { tasks = tasks } })
+HasSizes-ready s tasks among few kept =
     let scheduling = kept.sized.scheduling in
     record {
       sized = record {
@@ -50,19 +50,19 @@ IsKept-ready s tasks among few kept =
     }
 
 -- a task has left the ready list
-pub IsKept-remove : (s : Inside) (index : ℕ) → index < length s.ready.tasks → IsKept s
-    → IsKept (record s { ready = record s.ready { tasks = remove s.ready.tasks index } })
-IsKept-remove s index h kept =
+pub HasSizes-remove : (s : Inside) (index : ℕ) → index < length s.ready.tasks → HasSizes s
+    → HasSizes (record s { ready = record s.ready { tasks = remove s.ready.tasks index } })
+HasSizes-remove s index h kept =
     let scheduling = kept.sized.scheduling in
     let among = All-remove (λ task. task < length s.tasks.items) s.ready.tasks index scheduling.ready in
-    IsKept-ready s _ among (omega (arith, length-remove s.ready.tasks index h, scheduling.room)) kept
+    HasSizes-ready s _ among (omega (arith, length-remove s.ready.tasks index h, scheduling.room)) kept
 
 -- a task has come into the ready list
-pub IsKept-insert : (s : Inside) (index task : ℕ) → Fits (snapshot_of s) (InsReady index task) → IsKept s
-    → IsKept (record s { ready = record s.ready { tasks = insert s.ready.tasks index task } })
-IsKept-insert s index task fits kept =
+pub HasSizes-insert : (s : Inside) (index task : ℕ) → Fits (snapshot_of s) (InsReady index task) → HasSizes s
+    → HasSizes (record s { ready = record s.ready { tasks = insert s.ready.tasks index task } })
+HasSizes-insert s index task fits kept =
     let among = All-insert (λ task. task < length s.tasks.items) s.ready.tasks index task kept.sized.scheduling.ready fits.2 in
-    IsKept-ready s _ among (omega (arith, length-insert s.ready.tasks index task fits.0, fits.1)) kept
+    HasSizes-ready s _ among (omega (arith, length-insert s.ready.tasks index task fits.0, fits.1)) kept
 
 -- a state with another task of that number
 IsSized-task : (s : Snapshot) (task : ℕ) (new : TaskSnapshot) → IsSizedTask new → IsSizedPhase (numbers_of s) new.phase → IsSized s
@@ -128,11 +128,11 @@ phase_then s task (SetPhase phase) sized there names = names
 phase_then s task (SetData bytes) sized there names = phase_sized s task sized there
 
 -- a change of a task
-pub IsKept-task : (s : Inside) (now : Snapshot) (task : ℕ) (change : TaskChange) (new : TaskSnapshot) → snapshot_of s ≡ now → Fits now (Task task change)
-    → new ≡ task_applied (task_at now task) change → IsKept s → IsKept (record s { tasks = with_item s.tasks task new })
-IsKept-task s now task change new e =
-    let P : Snapshot → Type 0 = λ t. Fits t (Task task change) → new ≡ task_applied (task_at t task) change → IsKept s
-    → IsKept (record s { tasks = with_item s.tasks task new }) in
+pub HasSizes-task : (s : Inside) (now : Snapshot) (task : ℕ) (change : TaskChange) (new : TaskSnapshot) → snapshot_of s ≡ now → Fits now (Task task change)
+    → new ≡ task_applied (task_at now task) change → HasSizes s → HasSizes (record s { tasks = with_item s.tasks task new })
+HasSizes-task s now task change new e =
+    let P : Snapshot → Type 0 = λ t. Fits t (Task task change) → new ≡ task_applied (task_at t task) change → HasSizes s
+    → HasSizes (record s { tasks = with_item s.tasks task new }) in
     subst P e (λ fits f kept.
     let all = snapshot_of s in
     let sized = (task_law.each_is_undone (task_at all task) change (task_sized all task kept.sized fits.0) fits.1).sized in
@@ -142,11 +142,11 @@ IsKept-task s now task change new e =
     }))
 
 -- a change of a queue
-pub IsKept-queue : (s : Inside) (now : Snapshot) (queue : ℕ) (change : QueueChange) (new : QueueSnapshot) → snapshot_of s ≡ now → Fits now (Queue queue change)
-    → new ≡ queue_applied (queue_at now queue) change → IsKept s → IsKept (record s { queues = with_item s.queues queue new })
-IsKept-queue s now queue change new e =
-    let P : Snapshot → Type 0 = λ t. Fits t (Queue queue change) → new ≡ queue_applied (queue_at t queue) change → IsKept s
-    → IsKept (record s { queues = with_item s.queues queue new }) in
+pub HasSizes-queue : (s : Inside) (now : Snapshot) (queue : ℕ) (change : QueueChange) (new : QueueSnapshot) → snapshot_of s ≡ now → Fits now (Queue queue change)
+    → new ≡ queue_applied (queue_at now queue) change → HasSizes s → HasSizes (record s { queues = with_item s.queues queue new })
+HasSizes-queue s now queue change new e =
+    let P : Snapshot → Type 0 = λ t. Fits t (Queue queue change) → new ≡ queue_applied (queue_at t queue) change → HasSizes s
+    → HasSizes (record s { queues = with_item s.queues queue new }) in
     subst P e (λ fits f kept.
     let all = snapshot_of s in
     let was = queue_sized all queue kept.sized fits.0 in
@@ -157,11 +157,11 @@ IsKept-queue s now queue change new e =
     }))
 
 -- a change of a set
-pub IsKept-set : (s : Inside) (now : Snapshot) (set : ℕ) (change : SetChange) (new : SetSnapshot) → snapshot_of s ≡ now → Fits now (Set set change)
-    → new ≡ set_applied (set_at now set) change → IsKept s → IsKept (record s { sets = with_item s.sets set new })
-IsKept-set s now set change new e =
-    let P : Snapshot → Type 0 = λ t. Fits t (Set set change) → new ≡ set_applied (set_at t set) change → IsKept s
-    → IsKept (record s { sets = with_item s.sets set new }) in
+pub HasSizes-set : (s : Inside) (now : Snapshot) (set : ℕ) (change : SetChange) (new : SetSnapshot) → snapshot_of s ≡ now → Fits now (Set set change)
+    → new ≡ set_applied (set_at now set) change → HasSizes s → HasSizes (record s { sets = with_item s.sets set new })
+HasSizes-set s now set change new e =
+    let P : Snapshot → Type 0 = λ t. Fits t (Set set change) → new ≡ set_applied (set_at t set) change → HasSizes s
+    → HasSizes (record s { sets = with_item s.sets set new }) in
     subst P e (λ fits f kept.
     let all = snapshot_of s in
     let was = set_sized all set kept.sized fits.0 in
@@ -264,10 +264,10 @@ IsSetFor-new_set app n queues tasks shape same limits = (
 )
 
 -- a new state
-pub IsKept-new : (app : Application) (s : Inside) (n : ℕ) → IsApplication app → s.turn ≡ 0 → s.cores.items ≡ replicate app.cores None
+pub HasSizes-new : (app : Application) (s : Inside) (n : ℕ) → IsApplication app → s.turn ≡ 0 → s.cores.items ≡ replicate app.cores None
     → s.ready ≡ record { tasks = all_joined (priorities_of app) n; room = n } → s.tasks.items ≡ replicate n (fresh_task app.notes)
-    → n ≡ length app.scripts → s.queues.items ≡ first_queues app (length app.queues) → s.sets.items ≡ map (new_set n (length app.queues)) app.sets → IsKept s
-IsKept-new app s n limits turn cores ready tasks scripts queues sets =
+    → n ≡ length app.scripts → s.queues.items ≡ first_queues app (length app.queues) → s.sets.items ≡ map (new_set n (length app.queues)) app.sets → HasSizes s
+HasSizes-new app s n limits turn cores ready tasks scripts queues sets =
     let count : length s.tasks.items ≡ n = omega (arith, ap length tasks, length-replicate n (fresh_task app.notes)) in
     let set_count : length s.sets.items ≡ length app.sets = ap length sets ∙ length-map app.sets (new_set n (length app.queues)) in
     let queue_count : length s.queues.items ≡ length app.queues = ap length queues ∙ length-first_queues app (length app.queues) in

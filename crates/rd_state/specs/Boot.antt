@@ -4,9 +4,11 @@ use Rattle.std.specs.Prelude.{ℕ, zero, suc, ◌<◌, ◌≤◌, ◌∷◌, ◌
 use Rattle.std.specs.Prelude.{replicate, None}
 use Rattle.rd_notify.specs.Entries.{idle_entry}
 use Rattle.rd_queue.specs.QueueSnapshot.{QueueSnapshot}
-use Rattle.rd_queue.specs.Queues.{empty_queue, with_set}
+use Rattle.rd_queue.specs.Queues.{empty_queue, as_member_of}
 use Rattle.rd_queue.specs.SetSnapshot.{SetSnapshot}
 use Rattle.rd_queue.specs.Sets.{empty_set}
+use Rattle.rd_queue.specs.declared.queue_set.TheConstants.{MAX_HANDLES}
+use Rattle.rd_app.specs.declared.instr.TheConstants.{REGISTERS}
 use Rattle.rd_app.specs.QueueSetShape.{QueueSetShape}
 use Rattle.rd_state.specs.declared.phase.Phase.TheVariants.{Run}
 use Rattle.rd_app.specs.Application.{Application, priorities_of, set_at_boot, shape_at}
@@ -18,7 +20,7 @@ use Rattle.rd_state.specs.Settled.{settled}
 abbrev pub fresh_task : ℕ → TaskSnapshot
 fresh_task notes = record {
   pc = 0;
-  registers = replicate 8 0;
+  registers = replicate REGISTERS 0;
   bytes = [];
   phase = Run;
   entries = replicate notes idle_entry;
@@ -27,7 +29,7 @@ fresh_task notes = record {
 -- a queue with nothing in it, at which every task can wait, in the set that has it as a member
 abbrev pub new_queue : Application → ℕ → QueueSnapshot
 new_queue app queue =
-    with_set
+    as_member_of
     (empty_queue (shape_at app queue).capacity (shape_at app queue).item_size
     (length app.scripts) (length app.sets))
     (set_at_boot app queue)
@@ -39,7 +41,7 @@ first_queues app (suc n) = first_queues app n ++ new_queue app n ∷ []
 
 -- The set can be made: it has room for 1 to 2,048 handles.
 abbrev pub HasRoomForHandles : QueueSetShape → Type 0
-HasRoomForHandles shape = (0 < shape.capacity) × (shape.capacity ≤ 2048)
+HasRoomForHandles shape = (0 < shape.capacity) × (shape.capacity ≤ MAX_HANDLES)
 
 -- a set without handles, at which that many tasks can wait, for handles of so many queues
 abbrev pub new_set : ℕ → ℕ → QueueSetShape → SetSnapshot

@@ -15,6 +15,6 @@ snapshot_of state = record {
 }
 
 -- The sizes hold, and the ready list has room for every task.
-pub record IsKept (state : Inside) : Type 0 where
+pub record HasSizes (state : Inside) : Type 0 where
   pub sized : IsSized (snapshot_of state)
   pub room : state.ready.room ≡ length state.tasks.items

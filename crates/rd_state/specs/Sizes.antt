@@ -1,6 +1,8 @@
 -- What holds of a state at any time, also in the middle of a step: members of lists are tasks, and
 -- lengths are within what there is room for.
 use Rattle.std.specs.Prelude.{ℕ, ◌≡◌, ◌<◌, ◌≤◌, ◌^◌, length, All, Option, Some, None, IfSome}
+use Rattle.rd_bytes.specs.declared.bytes.TheConstants.{MAX_BYTES}
+use Rattle.rd_app.specs.declared.instr.TheConstants.{REGISTERS}
 use Rattle.rd_queue.specs.QueueSnapshot.{QueueSnapshot}
 use Rattle.rd_queue.specs.SetSnapshot.{SetSnapshot}
 use Rattle.rd_queue.specs.Sizes.{IsSizedQueue, IsSizedSet}
@@ -15,7 +17,7 @@ abbrev pub IsTaskOrIdle : ℕ → Option ℕ → Type 0
 IsTaskOrIdle tasks running = IfSome running (λ task. task < tasks)
 
 abbrev pub IsSizedTask : TaskSnapshot → Type 0
-IsSizedTask task = (length task.registers ≡ 8) × (length task.bytes ≤ 256)
+IsSizedTask task = (length task.registers ≡ REGISTERS) × (length task.bytes ≤ MAX_BYTES)
 
 -- A deadline, where there is one, is a sum of a tick and a block time.
 abbrev pub IsDeadline : Option ℕ → Type 0

@@ -1,5 +1,7 @@
 -- The primitive changes of a task: what each does, and what undoes it.
 use Rattle.std.specs.Prelude.{ℕ, ◌≡◌, ◌<◌, ◌≤◌, length, slice_index, slice_set}
+use Rattle.rd_bytes.specs.declared.bytes.TheConstants.{MAX_BYTES}
+use Rattle.rd_app.specs.declared.instr.TheConstants.{REGISTERS}
 use Rattle.rd_state.specs.declared.task_change.TaskChange.{TaskChange}
 use Rattle.rd_state.specs.declared.task_change.TaskChange.TheVariants.{SetPc, SetReg, SetPhase}
 use Rattle.rd_state.specs.declared.task_change.TaskChange.TheVariants.{SetData}
@@ -24,9 +26,9 @@ task_inverse_of task (SetData bytes) = SetData task.bytes
 -- The register is there, and the bytes fit a task's data.
 abbrev pub TaskFits : TaskChange → Type 0
 TaskFits (SetPc pc) = Unit {0}
-TaskFits (SetReg register value) = register < 8
+TaskFits (SetReg register value) = register < REGISTERS
 TaskFits (SetPhase phase) = Unit {0}
-TaskFits (SetData bytes) = length bytes ≤ 256
+TaskFits (SetData bytes) = length bytes ≤ MAX_BYTES
 
 -- the bytes that a change carries
 abbrev pub task_saved_bytes : TaskChange → ℕ

@@ -1,6 +1,7 @@
 //! The state at boot.
 
 ghost use Rattle.std.specs.Prelude.{◌≡◌, ◌<◌, ◌≤◌, length, map, replicate, All, IfOk};
+ghost use Rattle.rd_notify.specs.declared.notes.TheConstants.{MAX_ENTRIES};
 ghost use Rattle.rd_notify.specs.Entries.{idle_entry};
 ghost use Rattle.rd_app.specs.Application.{priorities_of};
 ghost use Rattle.rd_state.specs.Boot.{all_joined, boot_of, first_queues, fresh_task, new_set};
@@ -21,7 +22,7 @@ use std::alloc::Global;
 
 // `count` tasks at their first instruction, each with `notes` notification entries.
 pub(crate) fn new_tasks(alloc: Global, count: usize, notes: usize) -> Result<Vec<Task>, NoMemory>
-    requires { notes ≤ 4 }
+    requires { notes ≤ MAX_ENTRIES }
     ensures { IfOk result (λ tasks. tasks.items ≡ replicate count (fresh_task notes)) }
 {
     let mut tasks = Vec::with_capacity(alloc, count)?;

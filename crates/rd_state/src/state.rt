@@ -47,11 +47,11 @@ impl Model for State {
 
     ghost Value = { Snapshot };
 
-    ghost use Rattle.rd_state.specs.Inside.{snapshot_of, IsKept};
+    ghost use Rattle.rd_state.specs.Inside.{snapshot_of, HasSizes};
 
     ghost view = { snapshot_of };
 
-    ghost invariant = { IsKept };
+    ghost invariant = { HasSizes };
 }
 
 // Whether the same tasks run on the cores, one by one.

@@ -2,6 +2,8 @@
 
 ghost use Rattle.std.specs.Prelude.{◌≡◌, ◌↔◌, IsTrue, ◌<◌, ◌≤◌, [], length, replicate};
 ghost use Rattle.std.specs.Prelude.{slice_index, slice_set, Some, IfOk};
+ghost use Rattle.rd_bytes.specs.declared.bytes.TheConstants.{MAX_BYTES};
+ghost use Rattle.rd_notify.specs.declared.notes.TheConstants.{MAX_ENTRIES};
 ghost use Rattle.rd_state.specs.Boot.{fresh_task};
 
 use crate::phase::Phase;
@@ -37,7 +39,7 @@ impl Model for Task {
 impl Task {
     /// A task at its first instruction, with that many idle notification entries.
     pub fn new(notes: usize) -> Task
-        requires { notes ≤ 4 }
+        requires { notes ≤ MAX_ENTRIES }
         ensures { result ≡ fresh_task notes }
     {
         Task {
@@ -83,14 +85,14 @@ impl Task {
     /// The registers.
     pub fn registers(&self) -> &[u32]
         ensures values { result.now ≡ self.now.registers }
-        ensures eight { length result.now ≡ 8 }
+        ensures eight { length result.now ≡ REGISTERS }
     {
         &self.registers
     }
 
     /// The value of a register.
     pub fn register(&self, register: usize) -> u32
-        requires { register < 8 }
+        requires { register < REGISTERS }
         ensures { result ≡ slice_index self.now.registers register }
     {
         self.registers()[register]
@@ -99,7 +101,7 @@ impl Task {
     /// The data.
     pub fn bytes(&self) -> &[u8]
         ensures bytes { result.now ≡ self.now.bytes }
-        ensures few { length result.now ≤ 256 }
+        ensures few { length result.now ≤ MAX_BYTES }
     {
         self.bytes.as_slice()
     }
@@ -127,7 +129,7 @@ impl Task {
 
     /// Sets a register.
     pub fn set_register(&mut self, register: usize, value: u32)
-        requires { register < 8 }
+        requires { register < REGISTERS }
         ensures { self.new
             ≡ record self.old { registers = slice_set self.old.registers register value } }
     {
@@ -136,7 +138,7 @@ impl Task {
 
     /// Replaces the data.
     pub fn set_bytes(&mut self, bytes: &[u8])
-        requires { length bytes.now ≤ 256 }
+        requires { length bytes.now ≤ MAX_BYTES }
         ensures { self.new ≡ record self.old { bytes = bytes.now } }
     {
         self.bytes.replace(bytes);

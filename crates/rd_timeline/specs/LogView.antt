@@ -16,7 +16,7 @@ abbrev pub last_record : List (List Change) → List Change
 last_record records = slice_index_or records (length records - 1) []
 
 -- A move is made, and its record stands after the others.
-pub record Lays (app : Application) (s : Snapshot) (move : Move) (s' : Snapshot)
+pub record RecordsMove (app : Application) (s : Snapshot) (move : Move) (s' : Snapshot)
     (old new : List (List Change)) : Type 0 where
   pub undo : List Change
   pub records : new ≡ old ++ undo ∷ []

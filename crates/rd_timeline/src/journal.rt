@@ -6,7 +6,7 @@ ghost use Rattle.rd_calls.specs.Step.{step, IsMoveOf};
 ghost use Rattle.rd_state.specs.Undoing.{undone, CanUndo};
 ghost use Rattle.rd_state.specs.Valid.{IsValid};
 ghost use Rattle.rd_timeline.specs.JournalView.{IsAsBefore, TakesBack};
-ghost use Rattle.rd_timeline.specs.LogView.{last_record, Lays};
+ghost use Rattle.rd_timeline.specs.LogView.{last_record, RecordsMove};
 
 use crate::log::Log;
 use rd_app::app::App;
@@ -95,7 +95,7 @@ impl Journal {
         requires named { IsMoveOf app.now action }
         requires room { length self.old.done < self.old.room }
         ensures lays { OnOk result
-            (Lays app.now state.old action state.new self.old.records self.new.records) }
+            (RecordsMove app.now state.old action state.new self.old.records self.new.records) }
         ensures done { OnOk result (self.new.done ≡ self.old.done ++ action ∷ []) }
         ensures undone { OnOk result (self.new.undone ≡ []) }
         ensures no_task { IsErrOf result Refusal.NoTask

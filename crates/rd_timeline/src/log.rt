@@ -5,7 +5,7 @@ ghost use Rattle.std.specs.Prelude.{Err, IfErr, IsErrOf, IsOk, OnErr, OnOk};
 ghost use Rattle.rd_calls.specs.Step.{step, IsMoveOf};
 ghost use Rattle.rd_state.specs.Undoing.{undone, CanUndo};
 ghost use Rattle.rd_state.specs.Valid.{IsValid};
-ghost use Rattle.rd_timeline.specs.LogView.{last_record, Lays};
+ghost use Rattle.rd_timeline.specs.LogView.{last_record, RecordsMove};
 
 use rd_app::app::App;
 use rd_bytes::no_memory::NoMemory;
@@ -83,7 +83,7 @@ impl Log {
         requires named { IsMoveOf app.now action }
         requires room { length self.old.records < self.old.room }
         ensures lays { OnOk result
-            (Lays app.now state.old action state.new self.old.records self.new.records) }
+            (RecordsMove app.now state.old action state.new self.old.records self.new.records) }
         ensures no_task { IsErrOf result Refusal.NoTask
             ↔ (step app.now state.old action ≡ Err Refusal.NoTask) }
         ensures tick_limit { IsErrOf result Refusal.TickLimit

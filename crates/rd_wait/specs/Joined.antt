@@ -5,8 +5,8 @@ use Rattle.std.specs.Prelude.{All, filter, nat_le, nat_lt, slice_index, insert}
 use Rattle.std.specs.List.{prefix_len, AllByRecursion}
 
 -- Each member is a task that has a priority.
-abbrev pub AreTasks : List ℕ → List ℕ → Type 0
-AreTasks priorities tasks = All (λ task. task < length priorities) tasks
+abbrev pub HavePriorities : List ℕ → List ℕ → Type 0
+HavePriorities priorities tasks = All (λ task. task < length priorities) tasks
 
 -- does the task have at least that priority?
 abbrev pub is_at_least : List ℕ → ℕ → ℕ → Bool

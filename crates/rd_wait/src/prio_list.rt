@@ -3,7 +3,7 @@
 ghost use Rattle.std.specs.Prelude.{◌≡◌, ◌↔◌, ◌+◌, ◌<◌, ◌≤◌, IsTrue, [], ◌∷◌, ◌++◌, length};
 ghost use Rattle.std.specs.Prelude.{All, IfOk, IfSome, take, drop, insert, remove, position};
 ghost use Rattle.std.specs.Prelude.{slice_get, nat_eq, slice_index_or};
-ghost use Rattle.rd_wait.specs.Joined.{index_for, AreTasks, JoiningKeepsTheOrder};
+ghost use Rattle.rd_wait.specs.Joined.{index_for, HavePriorities, JoiningKeepsTheOrder};
 
 use std::alloc::{AllocError, Global};
 use std::marker::Model;
@@ -79,7 +79,7 @@ impl PrioList {
     /// The index at which a task of priority `priority` joins: after every member of at least that
     /// priority that stands before a lower one. `priorities` are the tasks' priorities by number.
     pub fn index_for(&self, priorities: &[u8], priority: u8) -> usize
-        requires { AreTasks priorities.now self.now.tasks }
+        requires { HavePriorities priorities.now self.now.tasks }
         ensures index { result ≡ index_for priorities.now self.now.tasks priority }
         ensures within { result ≤ length self.now.tasks }
     {

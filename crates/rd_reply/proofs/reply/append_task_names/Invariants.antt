@@ -1,9 +1,9 @@
 -- What holds in each turn of append_task_names's loop.
 use Rattle.std.proofs.Common.{take}
 use Rattle.rd_reply.specs.Pages.{Appends}
-use Rattle.rd_reply.specs.Replies.{joined}
+use Rattle.rd_reply.specs.Replies.{separated}
 use Rattle.rd_reply.specs.Names.{name_at}
 use Rattle.rd_reply.proofs.reply.append_task_names.Given as goal
 
 abbrev pub invariant-loop-index : goal.invariant-loop-index
-invariant-loop-index l = Appends l.fn.page l.page (joined (name_at l.app.task_names) (take l.index l.tasks))
+invariant-loop-index l = Appends l.fn.page l.page (separated (name_at l.app.task_names) (take l.index l.tasks))

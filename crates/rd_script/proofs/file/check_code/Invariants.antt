@@ -1,7 +1,7 @@
 -- What holds in each turn of check_code's loop.
 use Rattle.std.proofs.Common.{◌≡◌, drop, length}
 use Rattle.serde_json.specs.View.{items_view}
-use Rattle.rd_script.specs.File.{checked, code_of}
+use Rattle.rd_script.specs.File.{checked, instrs_of}
 use Rattle.rd_script.specs.Objects.{objects_view}
 use Rattle.rd_script.proofs.CheckLaws.{check_lines}
 use Rattle.rd_script.proofs.file.check_code.Given as goal
@@ -10,4 +10,4 @@ use Rattle.rd_script.proofs.file.check_code.Given as goal
 abbrev pub invariant-loop-line : goal.invariant-loop-line
 invariant-loop-line l =
     check_lines (objects_view l.objects) (length l.lines) l.ended (items_view (drop l.line-index l.lines))
-    ≡ checked (code_of (objects_view l.objects) (items_view l.lines))
+    ≡ checked (instrs_of (objects_view l.objects) (items_view l.lines))

@@ -2,12 +2,12 @@
 use Rattle.std.proofs.Common.{◌∙◌, ap}
 use Rattle.rd_state.specs.Snapshot.{TaskSnapshot}
 use Rattle.rd_state.specs.TaskChanges.{task_applied}
-use Rattle.rd_state.proofs.SizeLaws.{IsKept-task, task_read}
+use Rattle.rd_state.proofs.SizeLaws.{HasSizes-task, task_read}
 use Rattle.rd_state.proofs.state.State.change_task.Goals as goal
 
 pub invariant_of-self : goal.invariant_of-self
 invariant_of-self c =
     let was =
     task_read c.self.inside c.args.self.now c.args.task c.index_mut-target.result.now c.self.view_is c.requires.0 c.index_mut-target.ensures.value in
-    IsKept-task c.self.inside _ c.args.task c.args.change.now _ c.self.view_is c.requires
+    HasSizes-task c.self.inside _ c.args.task c.args.change.now _ c.self.view_is c.requires
     (c.apply.ensures ∙ ap (λ (t : TaskSnapshot). task_applied t c.args.change.now) was) c.self.invariant

@@ -3,7 +3,7 @@ use Rattle.std.proofs.Common.{◌≤◌, ◌∙◌, ap, arith, length}
 use Rattle.rd_state.specs.declared.task_change.TaskChange.TheVariants.{SetData}
 use Rattle.rd_state.specs.Snapshot.{TaskSnapshot}
 use Rattle.rd_state.specs.TaskChanges.{task_applied}
-use Rattle.rd_state.proofs.SizeLaws.{IsKept-task, task_read}
+use Rattle.rd_state.proofs.SizeLaws.{HasSizes-task, task_read}
 use Rattle.rd_state.proofs.state.State.take_data.Goals as goal
 
 pub invariant_of-self : goal.invariant_of-self
@@ -12,5 +12,5 @@ invariant_of-self c =
     let change = SetData item in
     let few : length item ≤ 256 = omega (arith, c.first-item.ensures.short) in
     let was = task_read c.self.inside c.args.self.now c.args.task c.index_mut-target.result.now c.self.view_is c.requires.1 c.index_mut-target.ensures.value in
-    IsKept-task c.self.inside _ c.args.task change _ c.self.view_is (c.requires.1, few, tt)
+    HasSizes-task c.self.inside _ c.args.task change _ c.self.view_is (c.requires.1, few, tt)
     (c.set_bytes.ensures ∙ ap (λ (t : TaskSnapshot). task_applied t change) was) c.self.invariant
