@@ -17,7 +17,7 @@ use Rattle.rd_kernel.specs.Waking.{is_due, timed_out, woken}
 use Rattle.rd_queue_calls.specs.QueueCalls.{queue_outcome}
 use Rattle.rd_queue_calls.specs.SetCalls.{set_outcome}
 use Rattle.rd_queue_calls.specs.SetLaws.{handles_in}
-use Rattle.rd_queue_calls.proofs.HandleLaws.{handles_go_by_calls, handles_woken_at}
+use Rattle.rd_queue_calls.proofs.Offered.{handles_go_by_calls, handles_woken_at}
 use Rattle.rd_calls.specs.declared.moves.Move.TheVariants as move
 use Rattle.rd_calls.specs.HandleMoves.{HandlesGoByMoves, handles_performed, handles_run}
 use Rattle.rd_calls.specs.Local.{local_step}

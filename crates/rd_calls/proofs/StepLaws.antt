@@ -21,20 +21,13 @@ use Rattle.rd_state.specs.Snapshot.{Snapshot, task_at, core_at}
 use Rattle.rd_state.specs.Valid.{IsValid, PhaseFitsCall, place_of_call, seats_to_run}
 use Rattle.rd_state.specs.Valid.{room_of, shape_of}
 use Rattle.rd_app.specs.QueueSetShape.{QueueSetShape}
-use Rattle.rd_state.proofs.EndLaws.{scheduling_settles, stays_settled}
-use Rattle.rd_state.proofs.ScheduleLaws.{SeatsKept, SeatsKept-settled, SeatsKept-rotated, SeatsKept-then}
+use Rattle.rd_state.proofs.Offered.{scheduling_settles, stays_settled, SeatsKept, SeatsKept-settled, SeatsKept-rotated, SeatsKept-then}
 use Rattle.rd_calls.specs.Local.{unpacked}
 use Rattle.rd_calls.specs.Step.{performed, next_instr, core_step, ticked, tick_step}
 use Rattle.rd_kernel.specs.Tasks.{register_at, with_pc, advanced}
 use Rattle.rd_kernel.specs.Waking.{is_due, timed_out}
-use Rattle.rd_kernel.proofs.ConsistentLaws.{IsValid-consistent, IsConsistent, IsConsistent-deadlines}
-use Rattle.rd_kernel.proofs.ConsistentLaws.{IsConsistent-seats, IsConsistent-valid}
-use Rattle.rd_kernel.proofs.ConsistentLaws.{all_have_time_left}
-use Rattle.rd_kernel.proofs.CallLaws.{RunsInstr, IsConsistent-advanced, IsConsistent-stopped, IsConsistent-with_pc, due_idle}
-use Rattle.rd_kernel.proofs.CallLaws.{is_task_on_core, room_in_ready, runs_on_core}
-use Rattle.rd_kernel.proofs.CallLaws.{runs_outside_calls}
-use Rattle.rd_queue_calls.proofs.QueueCallLaws.{IsConsistent-queue_call, IsConsistent-set_call, queue_call-tick, set_call-tick}
-use Rattle.rd_kernel.proofs.WakingLaws.{TimedOut, TimedOut-so_far, have_time_left_below}
+use Rattle.rd_kernel.proofs.Offered.{IsValid-consistent, IsConsistent, IsConsistent-deadlines, IsConsistent-seats, IsConsistent-valid, all_have_time_left, RunsInstr, IsConsistent-advanced, IsConsistent-stopped, IsConsistent-with_pc, due_idle, is_task_on_core, room_in_ready, runs_on_core, runs_outside_calls, TimedOut, TimedOut-so_far, have_time_left_below}
+use Rattle.rd_queue_calls.proofs.Offered.{IsConsistent-queue_call, IsConsistent-set_call, queue_call-tick, set_call-tick}
 
 -- ---- a move of a core
 

@@ -15,7 +15,7 @@ use Rattle.rd_state.specs.declared.phase.Phase.TheVariants.{Run, Again, Wait, Fa
 use Rattle.rd_state.specs.declared.phase.Place.{Place}
 use Rattle.rd_app.specs.Application.{Application, code_of, instr_at, priorities_of}
 use Rattle.rd_wait.specs.Joined.{joined, IsInOrder}
-use Rattle.rd_wait.proofs.JoinedLaws.{IsInOrder-joined}
+use Rattle.rd_wait.proofs.Offered.{IsInOrder-joined}
 use Rattle.rd_state.specs.Change.{with_task}
 use Rattle.rd_state.specs.Sizes.{IsSized, IsTaskOrIdle}
 use Rattle.rd_state.specs.Phases.{can_run, kept_deadline, waits_at}
@@ -23,9 +23,7 @@ use Rattle.rd_state.specs.Snapshot.{Snapshot, TaskSnapshot, task_at, core_at}
 use Rattle.rd_state.specs.Valid.{IsValid, PhaseFitsCall, is_ahead, is_at_place, is_on, place_of_call, seats_to_run}
 use Rattle.rd_state.specs.Valid.{times_in_list, times_on_cores, times_waiting_at}
 use Rattle.rd_state.specs.Waiting.{HasPlace, waiting_at}
-use Rattle.rd_state.proofs.ScheduleLaws.{one_if}
-use Rattle.rd_state.proofs.ScheduleLaws.{times_in_list-cons, times_in_list-joined, times_on_cores-set}
-use Rattle.rd_state.proofs.UndoLaws.{IsSizedList-waiting_at}
+use Rattle.rd_state.proofs.Offered.{one_if, times_in_list-cons, times_in_list-joined, times_on_cores-set, IsSizedList-waiting_at}
 use Rattle.rd_kernel.specs.declared.outcome.Outcome.TheVariants.{Waits}
 use Rattle.rd_kernel.specs.Outcomes.{Called, IsCalling, blocked, call_answers, call_fails, concluded, passed, returned, stopped}
 use Rattle.rd_kernel.specs.Tasks.{with_idle_core, with_pc, with_phase, advanced}

@@ -24,7 +24,7 @@ use Rattle.rd_state.specs.Snapshot.{Objects, Snapshot, TaskSnapshot, no_task, no
 use Rattle.rd_state.specs.Valid.{AreShaped, IsNotWaiting, IsValid, ListsInOrder, PlacedOnce, PhaseFitsCall, HasTimeLeft, WaitsAtPlaces}
 use Rattle.rd_state.specs.Valid.{room_of, seats_to_run, shape_of, times_in_list, times_on_cores, times_waiting_at}
 use Rattle.rd_state.specs.Waiting.{HasPlace, IsPlace, list_number, objects_then, place_kind, place_list, place_number, same_place, waiting_at, waiting_in}
-use Rattle.rd_state.proofs.ScheduleLaws.{SeatsKept}
+use Rattle.rd_state.proofs.Offered.{SeatsKept}
 
 -- What holds of a task by itself. What is asked of its deadline is a parameter: in the middle of a tick it holds of
 -- some tasks alone.

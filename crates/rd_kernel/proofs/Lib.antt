@@ -2,3 +2,4 @@
 pub mod ConsistentLaws
 pub mod WakingLaws
 pub mod CallLaws
+pub mod Offered

@@ -14,12 +14,12 @@ use Rattle.rd_state.specs.declared.phase.Phase.TheVariants.{Run, Again, Wait, En
 use Rattle.rd_state.specs.declared.phase.Place.{Place}
 use Rattle.rd_app.specs.Application.{Application, instr_at, priorities_of}
 use Rattle.rd_wait.specs.Joined.{joined}
-use Rattle.rd_wait.proofs.JoinedLaws.{IsInOrder-joined, IsInOrder-remove}
+use Rattle.rd_wait.proofs.Offered.{IsInOrder-joined, IsInOrder-remove}
 use Rattle.rd_state.specs.Phases.{can_run, is_first, kept_deadline, tries_again, waits_at}
 use Rattle.rd_state.specs.Snapshot.{Snapshot, TaskSnapshot, no_task, task_at}
 use Rattle.rd_state.specs.Valid.{FitsCall, HasTimeLeft, is_ahead, is_at_place, place_of_call, seats_to_run, times_in_list, times_on_cores, times_waiting_at}
 use Rattle.rd_state.specs.Waiting.{waiting_at}
-use Rattle.rd_state.proofs.ScheduleLaws.{one_if, times_in_list-cons, times_in_list-joined}
+use Rattle.rd_state.proofs.Offered.{one_if, times_in_list-cons, times_in_list-joined}
 use Rattle.rd_app.specs.Application.{max_delay}
 use Rattle.rd_kernel.specs.Waking.{FirstTriesWait, deadline_after, value_of, is_due}
 use Rattle.rd_kernel.specs.Waking.{objects_without, timed_out, woken, woken_at, woken_from, woken_first, woken_one}

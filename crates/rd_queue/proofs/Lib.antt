@@ -2,3 +2,4 @@
 pub mod SharedLaws
 pub mod QueueLaws
 pub mod SetLaws
+pub mod Offered

@@ -17,7 +17,7 @@ use Rattle.rd_queue.specs.Queues.{count_in, first_items, items_in, tasks_in_list
 use Rattle.rd_queue.specs.Sizes.{IsSizedList, IsSizedQueue}
 use Rattle.rd_queue.specs.Changes.{queue_applied, queue_inverse_of, QueueFits, EachQueueChangeIsUndone}
 use Rattle.rd_queue.proofs.SharedLaws.{last_taken_after_push, last_pushed_after_take, inserted_sized, removed_sized, room_after}
-use Rattle.rd_wait.proofs.ListLaws.{remove-insert, insert-remove, set_back}
+use Rattle.rd_wait.proofs.Offered.{remove-insert, insert-remove, set_back}
 
 -- ---- items one after the other
 
@@ -224,8 +224,8 @@ same_numbers queue Clear = (refl, refl)
 same_numbers queue (Fill bytes) = (refl, refl)
 same_numbers queue (SetMember set) = (refl, refl)
 
-pub each_is_undone : EachQueueChangeIsUndone
-each_is_undone queue change sized fits = record {
+pub queue_change_is_undone : EachQueueChangeIsUndone
+queue_change_is_undone queue change sized fits = record {
   back = undoes queue change sized fits;
   fits = inverse_fits queue change sized fits;
   sized = sized_then queue change sized fits;

@@ -11,7 +11,7 @@ use Rattle.rd_queue.specs.Sets.{with_handles, with_waiting_tasks}
 use Rattle.rd_queue.specs.Sizes.{IsSizedList, IsSizedSet}
 use Rattle.rd_queue.specs.SetChanges.{set_applied, set_inverse_of, SetFits, EachSetChangeIsUndone}
 use Rattle.rd_queue.proofs.SharedLaws.{last_taken_after_push, last_pushed_after_take, inserted_sized, removed_sized, room_after}
-use Rattle.rd_wait.proofs.ListLaws.{remove-insert, insert-remove}
+use Rattle.rd_wait.proofs.Offered.{remove-insert, insert-remove}
 
 -- ---- what undoes a change
 
@@ -76,8 +76,8 @@ same_numbers set DropHandle = (refl, refl)
 same_numbers set TakeHandle = (refl, refl)
 same_numbers set (UntakeHandle queue) = (refl, refl)
 
-pub each_is_undone : EachSetChangeIsUndone
-each_is_undone set change sized fits = record {
+pub set_change_is_undone : EachSetChangeIsUndone
+set_change_is_undone set change sized fits = record {
   back = undoes set change fits;
   fits = inverse_fits set change sized fits;
   sized = sized_then set change sized fits;

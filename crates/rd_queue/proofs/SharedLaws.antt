@@ -5,7 +5,7 @@ use Rattle.std.proofs.lemmas.List.Edits.{length-remove, length-insert}
 use Rattle.std.proofs.lemmas.List.Elements.{All-get_or}
 use Rattle.std.specs.Prelude.{insert, remove}
 use Rattle.rd_queue.specs.Sizes.{IsSizedList}
-use Rattle.rd_wait.proofs.ListLaws.{All-insert, All-remove}
+use Rattle.rd_wait.proofs.Offered.{All-insert, All-remove}
 
 -- ---- the end of a list
 

@@ -1,3 +1,4 @@
 -- The files of lemmas of rd_queue_calls.
 pub mod QueueCallLaws
 pub mod HandleLaws
+pub mod Offered

@@ -27,13 +27,10 @@ use Rattle.rd_state.specs.Sizes.{IsSized}
 use Rattle.rd_state.specs.Snapshot.{Snapshot, TaskSnapshot, no_task, task_at, queue_at, set_at}
 use Rattle.rd_state.specs.Valid.{seats_to_run, times_in_list}
 use Rattle.rd_state.specs.Waiting.{HasPlace, waiting_at, waiting_in}
-use Rattle.rd_state.proofs.UndoLaws.{queue_sized}
+use Rattle.rd_state.proofs.Offered.{queue_sized}
 use Rattle.rd_kernel.specs.Outcomes.{call_answers, call_fails, call_passes, concluded}
 use Rattle.rd_kernel.specs.Waking.{ReadyHasRoom}
-use Rattle.rd_kernel.proofs.ConsistentLaws.{IsConsistent, IsConsistent-items, IsConsistent-queue_replaced, IsConsistent-set_replaced, IsConsistent-valid}
-use Rattle.rd_kernel.proofs.ConsistentLaws.{IsSameWaiting, all_have_time_left, place_there, task_now, waiting_at-with_queue, waiting_at-with_set}
-use Rattle.rd_kernel.proofs.CallLaws.{IsDone, RunsInstr, IsConsistent-answered, IsConsistent-done, IsConsistent-failed, IsConsistent-or_blocked}
-use Rattle.rd_kernel.proofs.CallLaws.{IsConsistent-returned, IsConsistent-with_values, first_waits, or_blocked-tick, waits_is_task, woken_first-tick}
+use Rattle.rd_kernel.proofs.Offered.{IsConsistent, IsConsistent-items, IsConsistent-queue_replaced, IsConsistent-set_replaced, IsConsistent-valid, IsSameWaiting, all_have_time_left, place_there, task_now, waiting_at-with_queue, waiting_at-with_set, IsDone, RunsInstr, IsConsistent-answered, IsConsistent-done, IsConsistent-failed, IsConsistent-or_blocked, IsConsistent-returned, IsConsistent-with_values, first_waits, or_blocked-tick, waits_is_task, woken_first-tick}
 use Rattle.rd_queue_calls.specs.Posts.{HasRoomToWake, call_breaks, is_in_full_set, is_in_no_set, is_in_set, posted, replaced, membership_of, with_handle, with_member}
 use Rattle.rd_queue_calls.specs.QueueCalls.{is_empty, is_full, queue_outcome, sent_item, outcome_with_room, with_item_over, with_item_peeked, with_item_sent}
 use Rattle.rd_queue_calls.specs.QueueCalls.{with_item_taken, with_no_items}

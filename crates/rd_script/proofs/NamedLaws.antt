@@ -5,7 +5,7 @@ use Rattle.std.proofs.lemmas.List.{append-nil}
 use Rattle.serde_json.specs.Data.{Data, Items, no_items, item}
 use Rattle.serde_json.specs.Events.{items_len}
 use Rattle.rd_text.specs.Names.{AreNames}
-use Rattle.rd_text.proofs.NameLaws.{AreNames-push, IsNewName, IsNewName-in}
+use Rattle.rd_text.proofs.Offered.{AreNames-push, IsNewName, IsNewName-in}
 use Rattle.rd_script.specs.declared.error.AppError.{AppError}
 use Rattle.rd_script.specs.File.{named_after}
 use Rattle.rd_script.specs.Says.{SayEach}

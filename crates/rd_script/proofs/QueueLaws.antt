@@ -3,7 +3,7 @@ use Rattle.std.proofs.Common.{◌≡◌, ◌∙◌, ℕ, codes, List, Some, Ok, 
 use Rattle.serde_json.specs.Data.{Data, number, unsigned, string}
 use Rattle.rd_app.specs.declared.app.QueueShape.{QueueShape}
 use Rattle.rd_app.specs.Application.{IsQueueShape}
-use Rattle.rd_text.proofs.NameLaws.{IsNewName}
+use Rattle.rd_text.proofs.Offered.{IsNewName}
 use Rattle.rd_script.specs.Says.{IsQueue}
 use Rattle.rd_script.specs.File.{object_with, field, number_in, new_name, queue_keys, queue_of}
 use Rattle.rd_script.proofs.Steps.{bind_ok, then_is}

@@ -24,7 +24,7 @@ use Rattle.rd_script.proofs.SpellingLaws.{then_some, named_ok, index_again, inde
 use Rattle.rd_script.proofs.Steps.{bind_ok, ok_or_ok, then_is}
 use Rattle.rd_script.proofs.Values.{object_again, field_again, name_again, limits_again, object_ok, field_ok, number_ok, name_ok}
 use Rattle.rd_text.specs.Words.{name_of}
-use Rattle.rd_text.proofs.NameLaws.{IsNewName}
+use Rattle.rd_text.proofs.Offered.{IsNewName}
 
 -- ---- distinct members
 

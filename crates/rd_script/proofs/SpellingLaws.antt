@@ -37,7 +37,7 @@ use Rattle.rd_script.specs.Spelling.{◌>>=◌, local_text, queue_call_text, key
 use Rattle.rd_script.specs.Spelling.{next_as, no_more_words, Form, Alone, One, Two, OfBytes, OfTime, local_form, queue_form, read_by}
 use Rattle.rd_script.specs.Spelling.{is_call_for, operation_of, instr_of, HasOne, HasTwo, IsFormed, IsOperation, Spells}
 use Rattle.rd_text.specs.Words.{bytes_of, is_some_word, name_of, number_of}
-use Rattle.rd_text.proofs.WordLemmas.{and_right}
+use Rattle.rd_text.proofs.Offered.{and_right}
 use Rattle.rd_script.proofs.Steps.{bind_ok, guard_ok, ok_or_ok, then_is}
 
 -- ---- keywords

@@ -12,7 +12,7 @@ use Rattle.rd_app.specs.TaskScript.{TaskScript}
 use Rattle.rd_script.specs.File.{is_object_with, object_with, field, number_in, array_in, new_name, are_texts, TaskDraft, task_keys, task_of}
 use Rattle.rd_script.proofs.Steps.{bind_ok, guard_ok, then_is}
 use Rattle.rd_script.proofs.Values.{object_again, field_again, name_again, array_again, limits_again, object_ok, field_ok, number_ok, array_ok, name_ok}
-use Rattle.rd_text.proofs.NameLaws.{IsNewName}
+use Rattle.rd_text.proofs.Offered.{IsNewName}
 use Rattle.rd_script.proofs.ScriptLaws.{AreScripts, is_script, length_lines}
 use Rattle.rd_script.proofs.SpellingLaws.{AreNamedObjects}
 

@@ -10,8 +10,7 @@ use Rattle.rd_script.specs.declared.error.AppError.TheVariants as fault
 use Rattle.rd_text.specs.Words.{is_name}
 use Rattle.rd_script.specs.File.{is_object_with, object_with, field, in_limits, number_in, array_in, new_name}
 use Rattle.rd_script.proofs.Steps.{bind_ok, guard_ok, ok_or_ok, then_is}
-use Rattle.rd_text.proofs.WordLemmas.{and_left, and_right}
-use Rattle.rd_text.proofs.NameLaws.{not_true}
+use Rattle.rd_text.proofs.Offered.{and_left, and_right, not_true}
 
 pub object_ok : (known : List (List ℕ)) (d : Data) (u : Unit {0}) → object_with known d ≡ Ok u → is_object_with known d ≡ true
 object_ok known d u e = (guard_ok (is_object_with known d) tt u _ e).0

@@ -16,7 +16,7 @@ use Rattle.rd_state.specs.declared.phase.Place.{Place}
 use Rattle.rd_state.specs.declared.phase.Place.TheVariants.{Queue, Set}
 use Rattle.rd_app.specs.Application.{Application, IsApplication, IsScript, instr_at, priorities_of, shape_at}
 use Rattle.rd_wait.specs.Joined.{IsInOrder}
-use Rattle.rd_wait.proofs.JoinedLaws.{IsInOrder-joined}
+use Rattle.rd_wait.proofs.Offered.{IsInOrder-joined}
 use Rattle.rd_state.specs.Boot.{all_joined, before_scheduling, boot_of, first_queues, fresh_task, new_queue, new_set}
 use Rattle.rd_state.specs.Settled.{seating_of, IsSettled}
 use Rattle.rd_state.specs.Sizes.{IsSized}

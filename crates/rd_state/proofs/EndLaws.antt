@@ -9,7 +9,7 @@ use Rattle.std.proofs.lemmas.List.Sums.{sum_by-set, sum_by-le-sum_by, get_or-le-
 use Rattle.std.proofs.lemmas.Bool.{cases_lt, le-leb}
 use Rattle.std.proofs.lemmas.Bool.Decides.{eqb_tells, leb_tells, nat_tests}
 use Rattle.rd_wait.specs.Joined.{is_at_least, IsInOrder}
-use Rattle.rd_wait.proofs.ListLaws.{All-insert, AllByRecursion-insert}
+use Rattle.rd_wait.proofs.Offered.{All-insert, AllByRecursion-insert}
 use Rattle.rd_state.specs.Settled.{Seating, running_on, rank_of, weakest_up_to, weakest_of, head_of, with_displaced, with_seats, seated_on}
 use Rattle.rd_state.specs.Settled.{after_one_round, after_rounds, seating_of, settled, rotated, IsSettled, SchedulingSettles}
 use Rattle.rd_state.specs.Snapshot.{Snapshot}

@@ -8,3 +8,4 @@ pub mod SettleLaws
 pub mod ScheduleLaws
 pub mod BootLaws
 pub mod EndLaws
+pub mod Offered

@@ -8,7 +8,7 @@ use Rattle.std.proofs.lemmas.List.{length-set}
 use Rattle.std.proofs.lemmas.List.Sums.{sum_by-cons, sum_by-insert, sum_by-set}
 use Rattle.std.proofs.lemmas.Bool.Decides.{leb_tells}
 use Rattle.rd_wait.specs.Joined.{joined, is_at_least, IsInOrder}
-use Rattle.rd_wait.proofs.JoinedLaws.{IsInOrder-joined, IsInOrder-rest}
+use Rattle.rd_wait.proofs.Offered.{IsInOrder-joined, IsInOrder-rest}
 use Rattle.rd_state.specs.Settled.{Seating, running_on, rank_of, weakest_up_to, weakest_of, head_of, with_displaced}
 use Rattle.rd_state.specs.Settled.{seated_on, after_one_round, after_rounds, seating_of, settled, rotated}
 use Rattle.rd_state.specs.Snapshot.{Snapshot}

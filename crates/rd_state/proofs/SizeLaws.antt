@@ -15,13 +15,12 @@ use Rattle.rd_queue.specs.QueueSnapshot.{QueueSnapshot}
 use Rattle.rd_queue.specs.declared.set_change.SetChange.{SetChange}
 use Rattle.rd_queue.specs.SetChanges.{set_applied}
 use Rattle.rd_queue.specs.SetSnapshot.{SetSnapshot}
-use Rattle.rd_queue.proofs.QueueLaws as queue_law
-use Rattle.rd_queue.proofs.SetLaws as set_law
+use Rattle.rd_queue.proofs.Offered.{queue_change_is_undone, set_change_is_undone}
 use Rattle.rd_app.specs.QueueSetShape.{QueueSetShape}
 use Rattle.rd_app.specs.Application.{Application, IsApplication, IsQueueShape, IsSetShape, priorities_of, set_at_boot, shape_at}
 use Rattle.rd_wait.specs.Joined.{joined, is_at_least}
 use Rattle.rd_wait.specs.TaskList.{TaskList}
-use Rattle.rd_wait.proofs.ListLaws.{All-insert, All-remove}
+use Rattle.rd_wait.proofs.Offered.{All-insert, All-remove}
 use Rattle.rd_state.specs.declared.change.Change.TheVariants.{InsReady, Task, Queue, Set}
 use Rattle.rd_state.specs.declared.state.State.TheInside.{Inside}
 use Rattle.rd_state.specs.declared.task_change.TaskChange.{TaskChange}
@@ -150,7 +149,7 @@ HasSizes-queue s now queue change new e =
     subst P e (λ fits f kept.
     let all = snapshot_of s in
     let was = queue_sized all queue kept.sized fits.0 in
-    let law = queue_law.each_is_undone (queue_at all queue) change was.0 fits.1 in
+    let law = queue_change_is_undone (queue_at all queue) change was.0 fits.1 in
     rw f (record {
       sized = IsSized-queue all queue (queue_applied (queue_at all queue) change) (law.sized, law.tasks ∙ was.1, law.sets ∙ was.2) kept.sized;
       room = kept.room;
@@ -165,7 +164,7 @@ HasSizes-set s now set change new e =
     subst P e (λ fits f kept.
     let all = snapshot_of s in
     let was = set_sized all set kept.sized fits.0 in
-    let law = set_law.each_is_undone (set_at all set) change was.0 fits.1 in
+    let law = set_change_is_undone (set_at all set) change was.0 fits.1 in
     rw f (record {
       sized = IsSized-set all set (set_applied (set_at all set) change) (law.sized, law.tasks ∙ was.1, law.queues ∙ was.2) kept.sized;
       room = kept.room;

@@ -6,7 +6,7 @@ use Rattle.rd_state.specs.declared.task_change.TaskChange.TheVariants.{SetPc, Se
 use Rattle.rd_state.specs.Sizes.{IsSizedTask}
 use Rattle.rd_state.specs.Snapshot.{TaskSnapshot}
 use Rattle.rd_state.specs.TaskChanges.{task_applied, task_inverse_of, TaskFits, EachTaskChangeIsUndone}
-use Rattle.rd_wait.proofs.ListLaws.{set_back}
+use Rattle.rd_wait.proofs.Offered.{set_back}
 
 undoes : (task : TaskSnapshot) (change : TaskChange) → task_applied (task_applied task change) (task_inverse_of task change) ≡ task
 undoes task (SetPc pc) = refl

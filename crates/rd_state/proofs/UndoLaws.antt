@@ -9,8 +9,7 @@ use Rattle.rd_queue.specs.QueueSnapshot.{QueueSnapshot}
 use Rattle.rd_queue.specs.Sizes.{IsSizedList}
 use Rattle.rd_queue.specs.SetChanges.{set_applied, set_inverse_of, SetFits}
 use Rattle.rd_queue.specs.SetSnapshot.{SetSnapshot}
-use Rattle.rd_queue.proofs.QueueLaws as queue_law
-use Rattle.rd_queue.proofs.SetLaws as set_law
+use Rattle.rd_queue.proofs.Offered.{queue_change_is_undone, set_change_is_undone}
 use Rattle.rd_state.specs.declared.change.Change.{Change}
 use Rattle.rd_state.specs.declared.change.Change.TheVariants.{SetTick, SetTurn, SetCore, InsReady, DelReady, Task, Queue, Set}
 use Rattle.rd_state.specs.declared.phase.Place.{Place}
@@ -24,7 +23,7 @@ use Rattle.rd_state.specs.TaskChanges.{task_applied, task_inverse_of}
 use Rattle.rd_state.specs.Undoing.{undone, CanUndo, EachIsUndone}
 use Rattle.rd_state.specs.Waiting.{HasPlace, waiting_at}
 use Rattle.rd_state.proofs.TaskLaws as task_law
-use Rattle.rd_wait.proofs.ListLaws.{remove-insert, insert-remove, replaced_back, set_back}
+use Rattle.rd_wait.proofs.Offered.{remove-insert, insert-remove, replaced_back, set_back}
 
 -- A task, a queue and a set of the state has its sizes.
 pub task_sized : (s : Snapshot) (task : ℕ) → IsSized s → task < length s.tasks → IsSizedTask (task_at s task)
@@ -52,12 +51,12 @@ inverse_undoes s (Task task change) sized fits =
     (replaced_back s.tasks task no_task (task_applied was change) (λ t. task_applied t (task_inverse_of was change)) fits.0 back)
 inverse_undoes s (Queue queue change) sized fits =
     let was = queue_at s queue in
-    let back = (queue_law.each_is_undone was change (queue_sized s queue sized fits.0).0 fits.1).back in
+    let back = (queue_change_is_undone was change (queue_sized s queue sized fits.0).0 fits.1).back in
     ap (λ (queues : List QueueSnapshot). record s { objects = record s.objects { queues = queues } })
     (replaced_back s.objects.queues queue no_queue (queue_applied was change) (λ q. queue_applied q (queue_inverse_of was change)) fits.0 back)
 inverse_undoes s (Set set change) sized fits =
     let was = set_at s set in
-    let back = (set_law.each_is_undone was change (set_sized s set sized fits.0).0 fits.1).back in
+    let back = (set_change_is_undone was change (set_sized s set sized fits.0).0 fits.1).back in
     ap (λ (sets : List SetSnapshot). record s { objects = record s.objects { sets = sets } })
     (replaced_back s.objects.sets set no_set (set_applied was change) (λ q. set_applied q (set_inverse_of was change)) fits.0 back)
 
@@ -91,14 +90,14 @@ inverse_fits s (Queue queue change) sized fits =
     let now = queue_applied was change in (
       omega (arith, length-set s.objects.queues queue now, fits.0),
       subst (λ q. QueueFits q (queue_inverse_of was change)) (sym (get_or-set_same s.objects.queues queue now no_queue fits.0))
-          (queue_law.each_is_undone was change (queue_sized s queue sized fits.0).0 fits.1).fits,
+          (queue_change_is_undone was change (queue_sized s queue sized fits.0).0 fits.1).fits,
     )
 inverse_fits s (Set set change) sized fits =
     let was = set_at s set in
     let now = set_applied was change in (
       omega (arith, length-set s.objects.sets set now, fits.0),
       subst (λ q. SetFits q (set_inverse_of was change)) (sym (get_or-set_same s.objects.sets set now no_set fits.0))
-          (set_law.each_is_undone was change (set_sized s set sized fits.0).0 fits.1).fits,
+          (set_change_is_undone was change (set_sized s set sized fits.0).0 fits.1).fits,
     )
 
 pub each_is_undone : EachIsUndone

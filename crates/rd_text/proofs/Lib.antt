@@ -3,3 +3,4 @@ pub mod WordLemmas
 pub mod NameLemmas
 pub mod NameLaws
 pub mod SetLemmas
+pub mod Offered

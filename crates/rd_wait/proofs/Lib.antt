@@ -1,3 +1,4 @@
 -- The files of lemmas of rd_wait.
 pub mod ListLaws
 pub mod JoinedLaws
+pub mod Offered

@@ -2,7 +2,7 @@
 use Rattle.std.proofs.Common.{arith, length, ◌<◌, ℕ}
 use Rattle.std.proofs.lemmas.Grind.{common_steps}
 use Rattle.std.proofs.lemmas.List.Edits.{length-insert}
-use Rattle.rd_wait.proofs.ListLaws.{All-insert}
+use Rattle.rd_wait.proofs.Offered.{All-insert}
 use Rattle.rd_state.proofs.boot.all_ready.Goals as goal
 
 pub loop-task-preserved : goal.loop-task-preserved

@@ -1,6 +1,6 @@
 -- The goals of `Queue::insert` that a search finds late.
 use Rattle.std.proofs.Common.{◌<◌, ap, arith}
-use Rattle.rd_wait.proofs.ListLaws.{All-insert}
+use Rattle.rd_wait.proofs.Offered.{All-insert}
 use Rattle.rd_queue.specs.QueueSnapshot.{QueueSnapshot}
 use Rattle.rd_queue.proofs.queue.Queue.insert.Goals as goal
 

@@ -1,6 +1,6 @@
 -- The goals of `QueueSet::remove` that the check left open.
 use Rattle.std.proofs.Common.{◌<◌}
-use Rattle.rd_wait.proofs.ListLaws.{All-remove}
+use Rattle.rd_wait.proofs.Offered.{All-remove}
 use Rattle.rd_queue.proofs.queue_set.QueueSet.remove.Goals as goal
 
 pub invariant_of-self : goal.invariant_of-self
