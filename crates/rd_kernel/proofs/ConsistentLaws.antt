@@ -20,7 +20,7 @@ use Rattle.rd_wait.specs.Joined.{IsInOrder}
 use Rattle.rd_state.specs.Change.{with_task, with_queue, with_set}
 use Rattle.rd_state.specs.Settled.{seating_of}
 use Rattle.rd_state.specs.Sizes.{IsSized}
-use Rattle.rd_state.specs.Snapshot.{Objects, Snapshot, TaskSnapshot, no_task, no_queue, no_set, numbers_in, task_at, queue_at, set_at}
+use Rattle.rd_state.specs.Snapshot.{ObjectsSnapshot, Snapshot, TaskSnapshot, no_task, no_queue, no_set, numbers_in, task_at, queue_at, set_at}
 use Rattle.rd_state.specs.Valid.{AreShaped, IsNotWaiting, IsValid, ListsInOrder, PlacedOnce, PhaseFitsCall, HasTimeLeft, WaitsAtPlaces}
 use Rattle.rd_state.specs.Valid.{room_of, seats_to_run, shape_of, times_in_list, times_on_cores, times_waiting_at}
 use Rattle.rd_state.specs.Waiting.{HasPlace, IsPlace, list_number, objects_then, place_kind, place_list, place_number, same_place, waiting_at, waiting_in}
@@ -146,7 +146,7 @@ same_number : (a b : ℕ) → nat_eq a b ≡ true → a ≡ b
 same_number a b e = grind (arith, nat_tests, e)
 
 -- Who waits at each place, once these wait at one: a row for each kind, and one for places of two kinds.
-waiting_then : (o : Objects) (place other : Place) (tasks : List ℕ) → IsPlace (numbers_in o) place
+waiting_then : (o : ObjectsSnapshot) (place other : Place) (tasks : List ℕ) → IsPlace (numbers_in o) place
     → waiting_in (objects_then o place tasks) other ≡ cond (same_place other place) tasks (waiting_in o other)
 waiting_then o (Queue queue list) (Queue number other) tasks there =
     let was = get_or o.queues queue no_queue in
@@ -159,8 +159,8 @@ waiting_then o (Set set) (Set number) tasks there =
     read_changed (λ (q : SetSnapshot). q.waiting) o.sets set number (with_waiting_tasks (get_or o.sets set no_set) tasks) no_set there
 waiting_then o place other tasks there = refl
 
--- Objects that have changed in something else than their shapes and who waits where.
-pub record ContentsChange (o n : Objects) : Type 0 where
+-- ObjectsSnapshot that have changed in something else than their shapes and who waits where.
+pub record ContentsChange (o n : ObjectsSnapshot) : Type 0 where
   pub waiting : (place : Place) → waiting_in n place ≡ waiting_in o place
   pub shapes : (app : Application) → AreShaped app o → AreShaped app n
 
@@ -197,7 +197,7 @@ ContentsChange-set s set now there room kept = record {
 }
 
 -- Who waits where is none of an object's shape.
-shapes_then : (app : Application) (o : Objects) (place : Place) (tasks : List ℕ) → AreShaped app o → AreShaped app (objects_then o place tasks)
+shapes_then : (app : Application) (o : ObjectsSnapshot) (place : Place) (tasks : List ℕ) → AreShaped app o → AreShaped app (objects_then o place tasks)
 shapes_then app o (Queue queue list) tasks was = record {
   queues = map_kept shape_of o.queues queue (with_waiting list tasks (get_or o.queues queue no_queue)) no_queue refl ∙ was.queues;
   sets = was.sets;
@@ -299,8 +299,8 @@ IsConsistent-task_replaced app D s task x there consistent runs waits at =
           (at.places place task there ∙ sym (waits place)) (λ t differs h. at.places place t h);
     }
 
--- Objects change in something else than their shapes and who waits where.
-pub IsConsistent-contents : (app : Application) (D : ℕ → Phase → Type 0) (s : Snapshot) (n : Objects) → ContentsChange s.objects n
+-- ObjectsSnapshot change in something else than their shapes and who waits where.
+pub IsConsistent-contents : (app : Application) (D : ℕ → Phase → Type 0) (s : Snapshot) (n : ObjectsSnapshot) → ContentsChange s.objects n
     → IsConsistent app D s → IsConsistent app D (record s { objects = n })
 IsConsistent-contents app D s n change at = record {
   cores = at.cores;

@@ -10,7 +10,7 @@ use Rattle.rd_state.specs.declared.phase.Place.{Place}
 use Rattle.rd_app.specs.Application.{max_delay}
 use Rattle.rd_wait.specs.Joined.{joined}
 use Rattle.rd_state.specs.Phases.{is_first, kept_deadline, waits_at}
-use Rattle.rd_state.specs.Snapshot.{Objects, Snapshot, task_at}
+use Rattle.rd_state.specs.Snapshot.{ObjectsSnapshot, Snapshot, task_at}
 use Rattle.rd_state.specs.Valid.{is_ahead}
 use Rattle.rd_state.specs.Waiting.{objects_then, waiting_at, waiting_in, with_waiting_at}
 use Rattle.rd_kernel.specs.Tasks.{register_at, with_phase}
@@ -47,7 +47,7 @@ with_waiter priorities s place task =
     with_waiting_at s place (joined priorities (waiting_at s place) task)
 
 -- the objects, once the member at that index of the list has left it
-abbrev pub objects_without : Objects → Place → Option ℕ → Objects
+abbrev pub objects_without : ObjectsSnapshot → Place → Option ℕ → ObjectsSnapshot
 objects_without o place None = o
 objects_without o place (Some index) = objects_then o place (remove (waiting_in o place) index)
 

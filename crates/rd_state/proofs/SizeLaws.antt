@@ -25,11 +25,11 @@ use Rattle.rd_state.specs.declared.change.Change.TheVariants.{InsReady, Task, Qu
 use Rattle.rd_state.specs.declared.state.State.TheInside.{Inside}
 use Rattle.rd_state.specs.declared.task_change.TaskChange.{TaskChange}
 use Rattle.rd_state.specs.declared.task_change.TaskChange.TheVariants.{SetPc, SetReg, SetPhase, SetData}
-use Rattle.rd_state.specs.Boot.{all_joined, first_queues, fresh_task, new_queue, new_set}
-use Rattle.rd_state.specs.Change.{with_task, with_queue, with_set, Fits, NamesObjects}
+use Rattle.rd_state.specs.Boot.{all_joined, first_queues, fresh_task, new_objects, new_queue, new_set}
+use Rattle.rd_state.specs.Change.{objects_with_queue, objects_with_set, with_task, with_queue, with_set, Fits, NamesObjects}
 use Rattle.rd_state.specs.Inside.{HasSizes, snapshot_of}
 use Rattle.rd_state.specs.Sizes.{AreSizedObjects, IsQueueFor, IsSetFor, IsSized, IsSizedPhase, IsSizedTask, IsTaskOrIdle}
-use Rattle.rd_state.specs.Snapshot.{Numbers, Snapshot, TaskSnapshot, no_queue, no_set, no_task, numbers_of, queue_at, set_at, task_at, Objects, numbers_in}
+use Rattle.rd_state.specs.Snapshot.{Numbers, Snapshot, TaskSnapshot, no_queue, no_set, no_task, numbers_of, queue_at, queue_in, set_at, set_in, task_at, ObjectsSnapshot, numbers_in}
 use Rattle.rd_state.specs.TaskChanges.{task_applied}
 use Rattle.rd_state.proofs.TaskLaws as task_law
 use Rattle.rd_state.proofs.UndoLaws.{phase_sized, queue_sized, set_sized, task_sized}
@@ -83,7 +83,7 @@ IsSized-task s task new sized phase kept =
     }
 
 -- with other objects, as many of each kind
-IsSized-objects : (s : Snapshot) (n : Objects) → numbers_of s ≡ numbers_in n → AreSizedObjects (length s.tasks) n → IsSized s
+IsSized-objects : (s : Snapshot) (n : ObjectsSnapshot) → numbers_of s ≡ numbers_in n → AreSizedObjects (length s.tasks) n → IsSized s
     → IsSized (record s { objects = n })
 IsSized-objects s n same sized kept = record {
   scheduling = record {
@@ -141,53 +141,41 @@ HasSizes-task s now task change new e =
     }))
 
 -- a change of a queue
-pub HasSizes-queue : (s : Inside) (now : Snapshot) (queue : ℕ) (change : QueueChange) (new : QueueSnapshot) → snapshot_of s ≡ now → Fits now (Queue queue change)
-    → new ≡ queue_applied (queue_at now queue) change → HasSizes s → HasSizes (record s { queues = with_item s.queues queue new })
-HasSizes-queue s now queue change new e =
-    let P : Snapshot → Type 0 = λ t. Fits t (Queue queue change) → new ≡ queue_applied (queue_at t queue) change → HasSizes s
-    → HasSizes (record s { queues = with_item s.queues queue new }) in
-    subst P e (λ fits f kept.
+pub HasSizes-queue : (s : Inside) (now : Snapshot) (queue : ℕ) (change : QueueChange) → snapshot_of s ≡ now → Fits now (Queue queue change) → HasSizes s
+    → HasSizes (record s { objects = objects_with_queue s.objects queue (queue_applied (queue_in s.objects queue) change) })
+HasSizes-queue s now queue change e =
+    let P : Snapshot → Type 0 = λ t. Fits t (Queue queue change) → HasSizes s
+    → HasSizes (record s { objects = objects_with_queue s.objects queue (queue_applied (queue_in s.objects queue) change) }) in
+    subst P e (λ fits kept.
     let all = snapshot_of s in
     let was = queue_sized all queue kept.sized fits.0 in
     let law = queue_change_is_undone (queue_at all queue) change was.0 fits.1 in
-    rw f (record {
+    record {
       sized = IsSized-queue all queue (queue_applied (queue_at all queue) change) (law.sized, law.tasks ∙ was.1, law.sets ∙ was.2) kept.sized;
       room = kept.room;
-    }))
+    })
 
 -- a change of a set
-pub HasSizes-set : (s : Inside) (now : Snapshot) (set : ℕ) (change : SetChange) (new : SetSnapshot) → snapshot_of s ≡ now → Fits now (Set set change)
-    → new ≡ set_applied (set_at now set) change → HasSizes s → HasSizes (record s { sets = with_item s.sets set new })
-HasSizes-set s now set change new e =
-    let P : Snapshot → Type 0 = λ t. Fits t (Set set change) → new ≡ set_applied (set_at t set) change → HasSizes s
-    → HasSizes (record s { sets = with_item s.sets set new }) in
-    subst P e (λ fits f kept.
+pub HasSizes-set : (s : Inside) (now : Snapshot) (set : ℕ) (change : SetChange) → snapshot_of s ≡ now → Fits now (Set set change) → HasSizes s
+    → HasSizes (record s { objects = objects_with_set s.objects set (set_applied (set_in s.objects set) change) })
+HasSizes-set s now set change e =
+    let P : Snapshot → Type 0 = λ t. Fits t (Set set change) → HasSizes s
+    → HasSizes (record s { objects = objects_with_set s.objects set (set_applied (set_in s.objects set) change) }) in
+    subst P e (λ fits kept.
     let all = snapshot_of s in
     let was = set_sized all set kept.sized fits.0 in
     let law = set_change_is_undone (set_at all set) change was.0 fits.1 in
-    rw f (record {
+    record {
       sized = IsSized-set all set (set_applied (set_at all set) change) (law.sized, law.tasks ∙ was.1, law.queues ∙ was.2) kept.sized;
       room = kept.room;
-    }))
+    })
 
--- the task, the queue and the set that stands at an index of the vector
+-- the task that stands at an index of the vector
 pub task_read : (s : Inside) (now : Snapshot) (task : ℕ) (read : TaskSnapshot) → snapshot_of s ≡ now → task < length now.tasks
     → read ≡ get_or s.tasks.items task read → read ≡ task_at now task
 task_read s now task read e =
     let P : Snapshot → Type 0 = λ t. task < length t.tasks → read ≡ get_or s.tasks.items task read → read ≡ task_at t task in
     subst P e (λ there f. f ∙ get_or_default s.tasks.items task read no_task there)
-
-pub queue_read : (s : Inside) (now : Snapshot) (queue : ℕ) (read : QueueSnapshot) → snapshot_of s ≡ now → queue < length now.objects.queues
-    → read ≡ get_or s.queues.items queue read → read ≡ queue_at now queue
-queue_read s now queue read e =
-    let P : Snapshot → Type 0 = λ t. queue < length t.objects.queues → read ≡ get_or s.queues.items queue read → read ≡ queue_at t queue in
-    subst P e (λ there f. f ∙ get_or_default s.queues.items queue read no_queue there)
-
-pub set_read : (s : Inside) (now : Snapshot) (set : ℕ) (read : SetSnapshot) → snapshot_of s ≡ now → set < length now.objects.sets
-    → read ≡ get_or s.sets.items set read → read ≡ set_at now set
-set_read s now set read e =
-    let P : Snapshot → Type 0 = λ t. set < length t.objects.sets → read ≡ get_or s.sets.items set read → read ≡ set_at t set in
-    subst P e (λ there f. f ∙ get_or_default s.sets.items set read no_set there)
 
 -- joining a task makes a list one longer
 pub length-joined : (priorities tasks : List ℕ) (task : ℕ) → length (joined priorities tasks task) ≡ length tasks + 1
@@ -262,18 +250,28 @@ IsSetFor-new_set app n queues tasks shape same limits = (
   refl,
 )
 
+-- the objects of a new state, at which so many tasks can wait
+AreSizedObjects-new : (app : Application) (tasks : ℕ) → IsApplication app → tasks ≡ length app.scripts → AreSizedObjects tasks (new_objects app)
+AreSizedObjects-new app tasks limits same =
+    let n = length app.queues in
+    let made = new_set (length app.scripts) n in
+    let SetFits : SetSnapshot → Type 0 = IsSetFor tasks n in
+    let sets : All SetFits (map made app.sets) =
+    All-map SetFits made app.sets
+    (All-weaker (IsSetShape app) (λ q. SetFits (made q)) (λ q h. IsSetFor-new_set app (length app.scripts) n tasks q (sym same) h) app.sets limits.sets) in
+    record {
+      queues = IsQueueFor-first_queues app n tasks (length (map made app.sets)) limits (omega arith) same (length-map app.sets made);
+      sets = subst (λ q. All (IsSetFor tasks q) (map made app.sets)) (sym (length-first_queues app n)) sets;
+    }
+
 -- a new state
 pub HasSizes-new : (app : Application) (s : Inside) (n : ℕ) → IsApplication app → s.turn ≡ 0 → s.cores.items ≡ replicate app.cores None
     → s.ready ≡ record { tasks = all_joined (priorities_of app) n; room = n } → s.tasks.items ≡ replicate n (fresh_task app.notes)
-    → n ≡ length app.scripts → s.queues.items ≡ first_queues app (length app.queues) → s.sets.items ≡ map (new_set n (length app.queues)) app.sets → HasSizes s
-HasSizes-new app s n limits turn cores ready tasks scripts queues sets =
+    → n ≡ length app.scripts → s.objects ≡ new_objects app → HasSizes s
+HasSizes-new app s n limits turn cores ready tasks scripts objects =
     let count : length s.tasks.items ≡ n = omega (arith, ap length tasks, length-replicate n (fresh_task app.notes)) in
-    let set_count : length s.sets.items ≡ length app.sets = ap length sets ∙ length-map app.sets (new_set n (length app.queues)) in
-    let queue_count : length s.queues.items ≡ length app.queues = ap length queues ∙ length-first_queues app (length app.queues) in
     let listed : s.ready.tasks ≡ all_joined (priorities_of app) n = ap (λ (l : TaskList). l.tasks) ready in
     let HasPhase : TaskSnapshot → Type 0 = λ task. IsSizedPhase (numbers_of (snapshot_of s)) task.phase in
-    let QueueFits : QueueSnapshot → Type 0 = IsQueueFor (length s.tasks.items) (length s.sets.items) in
-    let SetFits : SetSnapshot → Type 0 = IsSetFor (length s.tasks.items) (length app.queues) in
     record {
       sized = record {
         scheduling = record {
@@ -293,15 +291,8 @@ HasSizes-new app s n limits turn cores ready tasks scripts queues sets =
           phases =
               All-same HasPhase s.tasks.items (replicate n (fresh_task app.notes)) tasks (All-replicate HasPhase n (fresh_task app.notes) tt);
         };
-        objects = record {
-          queues = All-same QueueFits s.queues.items (first_queues app (length app.queues)) queues
-              (IsQueueFor-first_queues app (length app.queues) (length s.tasks.items) (length s.sets.items) limits (omega arith) (count ∙ scripts) set_count);
-          sets = subst (λ q. All (IsSetFor (length s.tasks.items) q) s.sets.items) (sym queue_count)
-              (All-same SetFits s.sets.items (map (new_set n (length app.queues)) app.sets) sets
-              (All-map SetFits (new_set n (length app.queues)) app.sets
-              (All-weaker (IsSetShape app) (λ q. SetFits (new_set n (length app.queues) q))
-              (λ q h. IsSetFor-new_set app n (length app.queues) (length s.tasks.items) q (sym count) h) app.sets limits.sets)));
-        };
+        objects =
+            subst (AreSizedObjects (length s.tasks.items)) (sym objects) (AreSizedObjects-new app (length s.tasks.items) limits (count ∙ scripts));
       };
       room = ap (λ (l : TaskList). l.room) ready ∙ sym count;
     }

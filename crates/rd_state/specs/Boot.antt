@@ -13,7 +13,7 @@ use Rattle.rd_app.specs.QueueSetShape.{QueueSetShape}
 use Rattle.rd_state.specs.declared.phase.Phase.TheVariants.{Run}
 use Rattle.rd_app.specs.Application.{Application, priorities_of, set_at_boot, shape_at}
 use Rattle.rd_wait.specs.Joined.{joined}
-use Rattle.rd_state.specs.Snapshot.{Snapshot, TaskSnapshot}
+use Rattle.rd_state.specs.Snapshot.{ObjectsSnapshot, Snapshot, TaskSnapshot}
 use Rattle.rd_state.specs.Settled.{settled}
 
 -- a task at its first instruction, with that many notification entries
@@ -47,6 +47,12 @@ HasRoomForHandles shape = (0 < shape.capacity) × (shape.capacity ≤ MAX_HANDLE
 abbrev pub new_set : ℕ → ℕ → QueueSetShape → SetSnapshot
 new_set tasks queues shape = empty_set shape.capacity queues tasks
 
+abbrev pub new_objects : Application → ObjectsSnapshot
+new_objects app = record {
+  queues = first_queues app (length app.queues);
+  sets = map (new_set (length app.scripts) (length app.queues)) app.sets;
+}
+
 -- the first n tasks, joined by rising number
 abbrev pub all_joined : List ℕ → ℕ → List ℕ
 all_joined priorities zero = []
@@ -59,10 +65,7 @@ before_scheduling app = record {
   cores = replicate app.cores None;
   ready = all_joined (priorities_of app) (length app.scripts);
   tasks = replicate (length app.scripts) (fresh_task app.notes);
-  objects = record {
-    queues = first_queues app (length app.queues);
-    sets = map (new_set (length app.scripts) (length app.queues)) app.sets;
-  };
+  objects = new_objects app;
 }
 
 abbrev pub boot_of : Application → Snapshot

@@ -12,19 +12,26 @@ use Rattle.rd_state.specs.declared.task_change.TaskChange.{TaskChange}
 use Rattle.rd_state.specs.declared.task_change.TaskChange.TheVariants.{SetPc, SetReg, SetPhase}
 use Rattle.rd_state.specs.declared.task_change.TaskChange.TheVariants.{SetData}
 use Rattle.rd_state.specs.Sizes.{IsSizedPhase}
-use Rattle.rd_state.specs.Snapshot.{Numbers, Snapshot, TaskSnapshot}
+use Rattle.rd_state.specs.Snapshot.{Numbers, ObjectsSnapshot, Snapshot, TaskSnapshot}
 use Rattle.rd_state.specs.Snapshot.{numbers_of, task_at, queue_at, set_at, core_at}
 use Rattle.rd_state.specs.TaskChanges.{task_applied, task_inverse_of, task_saved_bytes, TaskFits}
+
+-- objects with another queue and another set of that number
+abbrev pub objects_with_queue : ObjectsSnapshot → ℕ → QueueSnapshot → ObjectsSnapshot
+objects_with_queue o queue now = record o { queues = slice_set o.queues queue now }
+
+abbrev pub objects_with_set : ObjectsSnapshot → ℕ → SetSnapshot → ObjectsSnapshot
+objects_with_set o set now = record o { sets = slice_set o.sets set now }
 
 -- the state with another task, another queue and another set of that number
 abbrev pub with_task : Snapshot → ℕ → TaskSnapshot → Snapshot
 with_task s task now = record s { tasks = slice_set s.tasks task now }
 
 abbrev pub with_queue : Snapshot → ℕ → QueueSnapshot → Snapshot
-with_queue s queue now = record s { objects = record s.objects { queues = slice_set s.objects.queues queue now } }
+with_queue s queue now = record s { objects = objects_with_queue s.objects queue now }
 
 abbrev pub with_set : Snapshot → ℕ → SetSnapshot → Snapshot
-with_set s set now = record s { objects = record s.objects { sets = slice_set s.objects.sets set now } }
+with_set s set now = record s { objects = objects_with_set s.objects set now }
 
 -- the items of a queue
 abbrev pub items_at : Snapshot → ℕ → List (List ℕ)

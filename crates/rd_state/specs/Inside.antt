@@ -11,7 +11,7 @@ snapshot_of state = record {
   cores = state.cores.items;
   ready = state.ready.tasks;
   tasks = state.tasks.items;
-  objects = record { queues = state.queues.items; sets = state.sets.items };
+  objects = state.objects;
 }
 
 -- The sizes hold, and the ready list has room for every task.

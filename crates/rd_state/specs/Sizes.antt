@@ -9,7 +9,7 @@ use Rattle.rd_queue.specs.Sizes.{IsSizedQueue, IsSizedSet}
 use Rattle.rd_state.specs.declared.phase.Phase.{Phase}
 use Rattle.rd_state.specs.declared.phase.Place.{Place}
 use Rattle.rd_state.specs.Phases.{kept_deadline, waits_at}
-use Rattle.rd_state.specs.Snapshot.{Numbers, Objects, Snapshot, TaskSnapshot, numbers_of}
+use Rattle.rd_state.specs.Snapshot.{Numbers, ObjectsSnapshot, Snapshot, TaskSnapshot, numbers_of}
 use Rattle.rd_state.specs.Waiting.{IsPlace}
 
 -- a core's task, if it has one, is one of that many
@@ -52,7 +52,7 @@ pub record AreSizedTasks (s : Snapshot) : Type 0 where
   pub phases : All (λ task. IsSizedPhase (numbers_of s) task.phase) s.tasks
 
 -- objects at which that many tasks can wait
-pub record AreSizedObjects (tasks : ℕ) (o : Objects) : Type 0 where
+pub record AreSizedObjects (tasks : ℕ) (o : ObjectsSnapshot) : Type 0 where
   pub queues : All (IsQueueFor tasks (length o.sets)) o.queues
   pub sets : All (IsSetFor tasks (length o.queues)) o.sets
 

@@ -16,7 +16,7 @@ pub record TaskSnapshot : Type 0 where
   pub entries : List Entry
 
 -- The objects of the kernel: a kind is one field.
-pub record Objects : Type 0 where
+pub record ObjectsSnapshot : Type 0 where
   pub queues : List QueueSnapshot
   pub sets : List SetSnapshot
 
@@ -28,18 +28,21 @@ pub record Snapshot : Type 0 where
   pub cores : List (Option ℕ)
   pub ready : List ℕ
   pub tasks : List TaskSnapshot
-  pub objects : Objects
+  pub objects : ObjectsSnapshot
 
 -- how many objects of each kind there are
 pub record Numbers : Type 0 where
   pub queues : ℕ
   pub sets : ℕ
 
-abbrev pub numbers_in : Objects → Numbers
+abbrev pub numbers_in : ObjectsSnapshot → Numbers
 numbers_in o = record { queues = length o.queues; sets = length o.sets }
 
 abbrev pub numbers_of : Snapshot → Numbers
 numbers_of s = numbers_in s.objects
+
+abbrev pub no_objects : ObjectsSnapshot
+no_objects = record { queues = []; sets = [] }
 
 -- a state with no cores, no tasks and no objects
 abbrev pub hollow_state : Snapshot
@@ -49,7 +52,7 @@ hollow_state = record {
   cores = [];
   ready = [];
   tasks = [];
-  objects = record { queues = []; sets = [] };
+  objects = no_objects;
 }
 
 -- what stands for a task, a queue and a set that isn't there
@@ -74,11 +77,18 @@ no_set = record { handles = []; capacity = 0; queues = 0; waiting = []; tasks = 
 abbrev pub task_at : Snapshot → ℕ → TaskSnapshot
 task_at s task = slice_index_or s.tasks task no_task
 
+-- a queue and a set of objects
+abbrev pub queue_in : ObjectsSnapshot → ℕ → QueueSnapshot
+queue_in o queue = slice_index_or o.queues queue no_queue
+
+abbrev pub set_in : ObjectsSnapshot → ℕ → SetSnapshot
+set_in o set = slice_index_or o.sets set no_set
+
 abbrev pub queue_at : Snapshot → ℕ → QueueSnapshot
-queue_at s queue = slice_index_or s.objects.queues queue no_queue
+queue_at s queue = queue_in s.objects queue
 
 abbrev pub set_at : Snapshot → ℕ → SetSnapshot
-set_at s set = slice_index_or s.objects.sets set no_set
+set_at s set = set_in s.objects set
 
 -- the task on a core
 abbrev pub core_at : Snapshot → ℕ → Option ℕ

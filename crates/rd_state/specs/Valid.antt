@@ -17,7 +17,7 @@ use Rattle.rd_state.specs.declared.phase.Place.{Place}
 use Rattle.rd_state.specs.declared.phase.Place.TheVariants as place
 use Rattle.rd_app.specs.Application.{Application, code_of, instr_at, list_of_call, priorities_of}
 use Rattle.rd_wait.specs.Joined.{IsInOrder}
-use Rattle.rd_state.specs.Snapshot.{Objects, Snapshot, task_at}
+use Rattle.rd_state.specs.Snapshot.{ObjectsSnapshot, Snapshot, task_at}
 use Rattle.rd_state.specs.Sizes.{IsSized}
 use Rattle.rd_state.specs.Waiting.{same_place, waiting_at}
 
@@ -29,7 +29,7 @@ abbrev pub room_of : SetSnapshot → ℕ
 room_of set = set.capacity
 
 -- The objects have the sizes that the application gives them.
-pub record AreShaped (app : Application) (o : Objects) : Type 0 where
+pub record AreShaped (app : Application) (o : ObjectsSnapshot) : Type 0 where
   pub queues : map shape_of o.queues ≡ app.queues
   pub sets : map room_of o.sets ≡ map (λ set. set.capacity) app.sets
 

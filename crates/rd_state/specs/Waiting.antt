@@ -6,7 +6,7 @@ use Rattle.rd_queue.specs.Sets.{with_waiting_tasks}
 use Rattle.rd_queue.specs.Queues.{tasks_in_list, with_waiting}
 use Rattle.rd_state.specs.declared.phase.Place.{Place}
 use Rattle.rd_state.specs.declared.phase.Place.TheVariants.{Queue, Set}
-use Rattle.rd_state.specs.Snapshot.{Numbers, Objects, Snapshot, no_queue, no_set, numbers_of}
+use Rattle.rd_state.specs.Snapshot.{Numbers, ObjectsSnapshot, Snapshot, no_queue, no_set, numbers_of}
 
 -- The place is there, where there are so many objects.
 abbrev pub IsPlace : Numbers → Place → Type 0
@@ -40,7 +40,7 @@ same_place place other =
     && (nat_eq (place_list place) (place_list other) && nat_eq (place_number place) (place_number other))
 
 -- the tasks that wait at a place of objects, the first to be served first
-abbrev pub waiting_in : Objects → Place → List ℕ
+abbrev pub waiting_in : ObjectsSnapshot → Place → List ℕ
 waiting_in o (Queue queue list) = tasks_in_list list (slice_index_or o.queues queue no_queue)
 waiting_in o (Set set) = (slice_index_or o.sets set no_set).waiting
 
@@ -48,7 +48,7 @@ abbrev pub waiting_at : Snapshot → Place → List ℕ
 waiting_at s place = waiting_in s.objects place
 
 -- the objects, once these tasks wait at a place and no others
-abbrev pub objects_then : Objects → Place → List ℕ → Objects
+abbrev pub objects_then : ObjectsSnapshot → Place → List ℕ → ObjectsSnapshot
 objects_then o (Queue queue list) tasks = record o {
   queues = slice_set o.queues queue (with_waiting list tasks (slice_index_or o.queues queue no_queue));
 }

@@ -1,11 +1,10 @@
 //! The state at boot.
 
-ghost use Rattle.std.specs.Prelude.{◌≡◌, ◌<◌, ◌≤◌, length, map, replicate, All, IfOk};
+ghost use Rattle.std.specs.Prelude.{◌≡◌, ◌≤◌, length, replicate, IfOk};
 ghost use Rattle.rd_notify.specs.declared.notes.TheConstants.{MAX_ENTRIES};
 ghost use Rattle.rd_notify.specs.Entries.{idle_entry};
 ghost use Rattle.rd_app.specs.Application.{priorities_of};
-ghost use Rattle.rd_state.specs.Boot.{all_joined, boot_of, first_queues, fresh_task, new_set};
-ghost use Rattle.rd_state.specs.Boot.{new_queue, HasRoomForHandles};
+ghost use Rattle.rd_state.specs.Boot.{all_joined, boot_of, fresh_task};
 ghost use Rattle.rd_state.specs.Settled.{IsSettled};
 ghost use Rattle.rd_state.specs.Valid.{IsValid};
 
@@ -13,10 +12,8 @@ use crate::editing::Editing;
 use crate::state::State;
 use crate::task::Task;
 use crate::undo::Undo;
-use rd_app::app::{App, SetShape};
+use rd_app::app::App;
 use rd_bytes::no_memory::NoMemory;
-use rd_queue::queue::Queue;
-use rd_queue::queue_set::QueueSet;
 use rd_wait::prio_list::PrioList;
 use std::alloc::Global;
 
@@ -45,51 +42,6 @@ pub(crate) fn all_ready(alloc: Global, priorities: &[u8]) -> Result<PrioList, No
         ready.insert_at(index, task);
     }
     Ok(ready)
-}
-
-// An empty queue of an application, in its set.
-fn new_queue(alloc: Global, app: &App, queue: usize) -> Result<Queue, NoMemory>
-    requires { queue < length app.now.queues }
-    ensures { IfOk result (λ made. made ≡ new_queue app.now queue) }
-{
-    app.limits();
-    let shape = &app.queues()[queue];
-    let tasks = app.priorities().len();
-    let sets = app.sets().len();
-    let mut made = Queue::new(alloc, shape.capacity, shape.item_size, tasks, sets)?;
-    if let Some(set) = app.set_of(queue) {
-        made.join_set(set);
-    }
-    Ok(made)
-}
-
-// The empty queues of an application.
-pub(crate) fn new_queues(alloc: Global, app: &App) -> Result<Vec<Queue>, NoMemory>
-    ensures { IfOk result (λ queues. queues.items ≡ first_queues app.now (length app.now.queues)) }
-{
-    let mut queues = Vec::with_capacity(alloc, app.queues().len())?;
-    for number in 0..app.queues().len() {
-        queues.push(new_queue(alloc, app, number)?)?;
-    }
-    Ok(queues)
-}
-
-// Sets of these shapes without handles, for so many queues and tasks.
-pub(crate) fn new_sets(
-    alloc: Global,
-    shapes: &[SetShape],
-    queues: usize,
-    tasks: usize,
-) -> Result<Vec<QueueSet>, NoMemory>
-    requires { All HasRoomForHandles shapes.now }
-    ensures { IfOk result (λ sets. sets.items ≡ map (new_set tasks queues) shapes.now) }
-{
-    let mut sets = Vec::with_capacity(alloc, shapes.len())?;
-    for shape in shapes {
-        let shape: &SetShape = shape;
-        sets.push(QueueSet::new(alloc, shape.capacity(), queues, tasks)?)?;
-    }
-    Ok(sets)
 }
 
 impl State {

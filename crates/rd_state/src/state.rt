@@ -11,8 +11,9 @@ ghost use Rattle.rd_state.specs.Snapshot.{SameScheduling, SameObjects};
 ghost use Rattle.rd_state.specs.Transfers.{change_of, CanTransfer};
 ghost use Rattle.rd_state.specs.Waiting.{HasPlace, waiting_at};
 
-use crate::boot::{all_ready, new_queues, new_sets, new_tasks};
+use crate::boot::{all_ready, new_tasks};
 use crate::change::Change;
+use crate::objects::Objects;
 use crate::phase::{Phase, Place};
 use crate::task::Task;
 use crate::task_change::TaskChange;
@@ -38,8 +39,7 @@ pub struct State {
     cores: Vec<Option<usize>>,
     ready: PrioList,
     tasks: Vec<Task>,
-    queues: Vec<Queue>,
-    sets: Vec<QueueSet>,
+    objects: Objects,
 }
 
 impl Model for State {
@@ -81,8 +81,7 @@ impl State {
             cores: Vec::new(alloc),
             ready: PrioList::without_room(alloc),
             tasks: Vec::new(alloc),
-            queues: Vec::new(alloc),
-            sets: Vec::new(alloc),
+            objects: Objects::none(alloc),
         }
     }
 
@@ -98,8 +97,7 @@ impl State {
             cores: vec![in alloc; None; app.cores()]?,
             ready: all_ready(alloc, priorities)?,
             tasks: new_tasks(alloc, priorities.len(), app.notes())?,
-            queues: new_queues(alloc, app)?,
-            sets: new_sets(alloc, app.sets(), app.queues().len(), priorities.len())?,
+            objects: Objects::new(alloc, app)?,
         })
     }
 
@@ -113,8 +111,7 @@ impl State {
             cores: Vec::from_slice(alloc, self.cores.as_slice())?,
             ready: self.ready.copy(alloc)?,
             tasks: copy_all(alloc, self.tasks.as_slice())?,
-            queues: copy_all(alloc, self.queues.as_slice())?,
-            sets: copy_all(alloc, self.sets.as_slice())?,
+            objects: self.objects.copy(alloc)?,
         })
     }
 
@@ -128,13 +125,11 @@ impl State {
             && self.ready.as_slice() == other.ready.as_slice()
     }
 
-    // Whether the tasks, the queues and the sets are equal.
+    // Whether the tasks and the objects are equal.
     fn same_objects(&self, other: &State) -> bool
         ensures { IsTrue result ↔ SameObjects self.now other.now }
     {
-        all_same(self.tasks.as_slice(), other.tasks.as_slice())
-            && all_same(self.queues.as_slice(), other.queues.as_slice())
-            && all_same(self.sets.as_slice(), other.sets.as_slice())
+        all_same(self.tasks.as_slice(), other.tasks.as_slice()) && self.objects.same(&other.objects)
     }
 
     /// Whether the other state is the same, to the last field.
@@ -220,7 +215,7 @@ impl State {
     pub fn queue_count(&self) -> usize
         ensures { result ≡ length self.now.objects.queues }
     {
-        self.queues.len()
+        self.objects.queue_count()
     }
 
     /// A queue.
@@ -229,7 +224,7 @@ impl State {
         ensures queue { result.now ≡ queue_at self.now queue }
         ensures sized { IsQueueFor (length self.now.tasks) (length self.now.objects.sets) result.now }
     {
-        &self.queues[queue]
+        self.objects.queue(queue)
     }
 
     /// A queue set.
@@ -238,7 +233,7 @@ impl State {
         ensures set { result.now ≡ set_at self.now set }
         ensures sized { IsSetFor (length self.now.tasks) (length self.now.objects.queues) result.now }
     {
-        &self.sets[set]
+        self.objects.set(set)
     }
 
     /// The tasks that wait at a place, the first to be served first.
@@ -249,8 +244,8 @@ impl State {
         ensures room { result.now.room ≡ length self.now.tasks }
     {
         match place {
-            Place::Queue { queue, list } => self.queues[queue].waiting(list),
-            Place::Set { set } => self.sets[set].waiting(),
+            Place::Queue { queue, list } => self.queue(queue).waiting(list),
+            Place::Set { set } => self.set(set).waiting(),
         }
     }
 
@@ -301,16 +296,14 @@ impl State {
         requires { Fits self.old (Change.Queue queue change.now) }
         ensures { self.new ≡ applied self.old (Change.Queue queue change.now) }
     {
-        let target = &mut self.queues[queue];
-        target.apply(change);
+        self.objects.change_queue(queue, change);
     }
 
     fn change_set(&mut self, set: usize, change: &SetChange)
         requires { Fits self.old (Change.Set set change.now) }
         ensures { self.new ≡ applied self.old (Change.Set set change.now) }
     {
-        let target = &mut self.sets[set];
-        target.apply(change);
+        self.objects.change_set(set, change);
     }
 
     /// Makes a change. It takes no memory.
@@ -336,8 +329,7 @@ impl State {
             ≡ applied self.old (change_of self.old (Transfer.DataToQueue task queue end)) }
     {
         let bytes = self.tasks[task].bytes();
-        let target = &mut self.queues[queue];
-        target.put_fitted(end, bytes);
+        self.objects.put_fitted(queue, end, bytes);
     }
 
     fn put_over(&mut self, task: usize, queue: usize)
@@ -346,8 +338,7 @@ impl State {
             ≡ applied self.old (change_of self.old (Transfer.DataOverFront task queue)) }
     {
         let bytes = self.tasks[task].bytes();
-        let target = &mut self.queues[queue];
-        target.set_fitted(0, bytes);
+        self.objects.set_first_fitted(queue, bytes);
     }
 
     fn take_data(&mut self, queue: usize, task: usize)
@@ -355,7 +346,7 @@ impl State {
         ensures { self.new
             ≡ applied self.old (change_of self.old (Transfer.FrontToData queue task)) }
     {
-        let item = self.queues[queue].first();
+        let item = self.objects.queue(queue).first();
         let target = &mut self.tasks[task];
         target.set_bytes(item);
     }

@@ -1,0 +1,193 @@
+//! The objects of the target.
+
+ghost use Rattle.std.specs.Prelude.{◌≡◌, ◌↔◌, ◌<◌, length, map, All, IfOk, IsTrue};
+ghost use Rattle.rd_queue.specs.Changes.{put_at, queue_applied, QueueFits};
+ghost use Rattle.rd_queue.specs.Queues.{fitted};
+ghost use Rattle.rd_queue.specs.SetChanges.{set_applied, SetFits};
+ghost use Rattle.rd_queue.specs.declared.change.QueueChange.TheVariants.{SetItem};
+ghost use Rattle.rd_state.specs.Boot.{first_queues, new_objects, new_queue, new_set};
+ghost use Rattle.rd_state.specs.Boot.{HasRoomForHandles};
+ghost use Rattle.rd_state.specs.Change.{objects_with_queue, objects_with_set};
+ghost use Rattle.rd_state.specs.Snapshot.{no_objects, queue_in, set_in};
+
+use crate::whole::{all_same, copy_all};
+use rd_app::app::{App, SetShape};
+use rd_bytes::no_memory::NoMemory;
+use rd_queue::change::QueueChange;
+use rd_queue::end::End;
+use rd_queue::queue::Queue;
+use rd_queue::queue_set::QueueSet;
+use rd_queue::set_change::SetChange;
+use std::alloc::Global;
+use std::marker::Model;
+
+/// The objects of the target, each kind by number.
+#[derive(Drop)]
+pub(crate) struct Objects {
+    queues: Vec<Queue>,
+    sets: Vec<QueueSet>,
+}
+
+impl Model for Objects {
+    ghost use Rattle.rd_state.specs.Snapshot.{ObjectsSnapshot};
+
+    ghost Value = { ObjectsSnapshot };
+
+    ghost view = { λ o. record { queues = o.queues.items; sets = o.sets.items } };
+}
+
+// An empty queue of an application, in its set.
+fn new_queue(alloc: Global, app: &App, queue: usize) -> Result<Queue, NoMemory>
+    requires { queue < length app.now.queues }
+    ensures { IfOk result (λ made. made ≡ new_queue app.now queue) }
+{
+    app.limits();
+    let shape = &app.queues()[queue];
+    let tasks = app.priorities().len();
+    let sets = app.sets().len();
+    let mut made = Queue::new(alloc, shape.capacity, shape.item_size, tasks, sets)?;
+    if let Some(set) = app.set_of(queue) {
+        made.join_set(set);
+    }
+    Ok(made)
+}
+
+// The empty queues of an application.
+fn new_queues(alloc: Global, app: &App) -> Result<Vec<Queue>, NoMemory>
+    ensures { IfOk result (λ queues. queues.items ≡ first_queues app.now (length app.now.queues)) }
+{
+    let mut queues = Vec::with_capacity(alloc, app.queues().len())?;
+    for number in 0..app.queues().len() {
+        queues.push(new_queue(alloc, app, number)?)?;
+    }
+    Ok(queues)
+}
+
+// Sets of these shapes without handles, for so many queues and tasks.
+fn new_sets(
+    alloc: Global,
+    shapes: &[SetShape],
+    queues: usize,
+    tasks: usize,
+) -> Result<Vec<QueueSet>, NoMemory>
+    requires { All HasRoomForHandles shapes.now }
+    ensures { IfOk result (λ sets. sets.items ≡ map (new_set tasks queues) shapes.now) }
+{
+    let mut sets = Vec::with_capacity(alloc, shapes.len())?;
+    for shape in shapes {
+        let shape: &SetShape = shape;
+        sets.push(QueueSet::new(alloc, shape.capacity(), queues, tasks)?)?;
+    }
+    Ok(sets)
+}
+
+impl Objects {
+    /// No objects, which takes no memory.
+    pub(crate) fn none(alloc: Global) -> Objects
+        ensures { result ≡ no_objects }
+    {
+        Objects {
+            queues: Vec::new(alloc),
+            sets: Vec::new(alloc),
+        }
+    }
+
+    /// The objects of an application at boot, all empty.
+    pub(crate) fn new(alloc: Global, app: &App) -> Result<Objects, NoMemory>
+        ensures { IfOk result (λ objects. objects ≡ new_objects app.now) }
+    {
+        app.limits();
+        let tasks = app.priorities().len();
+        Ok(Objects {
+            queues: new_queues(alloc, app)?,
+            sets: new_sets(alloc, app.sets(), app.queues().len(), tasks)?,
+        })
+    }
+
+    /// Equal objects.
+    pub(crate) fn copy(&self, alloc: Global) -> Result<Objects, NoMemory>
+        ensures { IfOk result (λ objects. objects ≡ self.now) }
+    {
+        Ok(Objects {
+            queues: copy_all(alloc, self.queues.as_slice())?,
+            sets: copy_all(alloc, self.sets.as_slice())?,
+        })
+    }
+
+    /// Whether the other objects are the same, to the last field.
+    pub(crate) fn same(&self, other: &Objects) -> bool
+        ensures { IsTrue result ↔ (self.now ≡ other.now) }
+    {
+        all_same(self.queues.as_slice(), other.queues.as_slice())
+            && all_same(self.sets.as_slice(), other.sets.as_slice())
+    }
+
+    /// How many queues there are.
+    pub(crate) fn queue_count(&self) -> usize
+        ensures { result ≡ length self.now.queues }
+    {
+        self.queues.len()
+    }
+
+    /// A queue.
+    pub(crate) fn queue(&self, queue: usize) -> &Queue
+        requires { queue < length self.now.queues }
+        ensures { result.now ≡ queue_in self.now queue }
+    {
+        &self.queues[queue]
+    }
+
+    /// A queue set.
+    pub(crate) fn set(&self, set: usize) -> &QueueSet
+        requires { set < length self.now.sets }
+        ensures { result.now ≡ set_in self.now set }
+    {
+        &self.sets[set]
+    }
+
+    /// Changes a queue.
+    pub(crate) fn change_queue(&mut self, queue: usize, change: &QueueChange)
+        requires there { queue < length self.old.queues }
+        requires fits { QueueFits (queue_in self.old queue) change.now }
+        ensures { self.new ≡ objects_with_queue self.old queue
+            (queue_applied (queue_in self.old queue) change.now) }
+    {
+        let target = &mut self.queues[queue];
+        target.apply(change);
+    }
+
+    /// Changes a queue set.
+    pub(crate) fn change_set(&mut self, set: usize, change: &SetChange)
+        requires there { set < length self.old.sets }
+        requires fits { SetFits (set_in self.old set) change.now }
+        ensures { self.new ≡ objects_with_set self.old set
+            (set_applied (set_in self.old set) change.now) }
+    {
+        let target = &mut self.sets[set];
+        target.apply(change);
+    }
+
+    /// Puts the item that these bytes make at an end of a queue that has room.
+    pub(crate) fn put_fitted(&mut self, queue: usize, end: End, bytes: &[u8])
+        requires there { queue < length self.old.queues }
+        requires room { length (queue_in self.old queue).items < (queue_in self.old queue).capacity }
+        ensures { self.new ≡ objects_with_queue self.old queue
+            (queue_applied (queue_in self.old queue)
+            (put_at end (fitted (queue_in self.old queue).item_size bytes.now))) }
+    {
+        let target = &mut self.queues[queue];
+        target.put_fitted(end, bytes);
+    }
+
+    /// Puts the item that these bytes make in the place of a queue's first.
+    pub(crate) fn set_first_fitted(&mut self, queue: usize, bytes: &[u8])
+        requires there { queue < length self.old.queues }
+        requires some { 0 < length (queue_in self.old queue).items }
+        ensures { self.new ≡ objects_with_queue self.old queue
+            (queue_applied (queue_in self.old queue)
+            (SetItem 0 (fitted (queue_in self.old queue).item_size bytes.now))) }
+    {
+        let target = &mut self.queues[queue];
+        target.set_fitted(0, bytes);
+    }
+}
