@@ -26,7 +26,10 @@ use Rattle.rd_calls.specs.Local.{unpacked}
 use Rattle.rd_calls.specs.Step.{performed, next_instr, core_step, ticked, tick_step}
 use Rattle.rd_kernel.specs.Tasks.{register_at, with_pc, advanced}
 use Rattle.rd_kernel.specs.Waking.{is_due, timed_out}
-use Rattle.rd_kernel.proofs.Offered.{IsValid-consistent, IsConsistent, IsConsistent-deadlines, IsConsistent-seats, IsConsistent-valid, all_have_time_left, RunsInstr, IsConsistent-advanced, IsConsistent-stopped, IsConsistent-with_pc, due_idle, is_task_on_core, room_in_ready, runs_on_core, runs_outside_calls, TimedOut, TimedOut-so_far, have_time_left_below}
+use Rattle.rd_kernel.proofs.Offered.{IsValid-consistent, IsConsistent, IsConsistent-deadlines, IsConsistent-seats, IsConsistent-valid}
+use Rattle.rd_kernel.proofs.Offered.{all_have_time_left, RunsInstr, IsConsistent-advanced, IsConsistent-stopped, IsConsistent-with_pc, due_idle}
+use Rattle.rd_kernel.proofs.Offered.{is_task_on_core, room_in_ready, runs_on_core, runs_outside_calls, TimedOut, TimedOut-so_far}
+use Rattle.rd_kernel.proofs.Offered.{have_time_left_below}
 use Rattle.rd_queue_calls.proofs.Offered.{IsConsistent-queue_call, IsConsistent-set_call, queue_call-tick, set_call-tick}
 
 -- ---- a move of a core

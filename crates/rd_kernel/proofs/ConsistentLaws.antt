@@ -23,7 +23,8 @@ use Rattle.rd_state.specs.Sizes.{IsSized}
 use Rattle.rd_state.specs.Snapshot.{ObjectsSnapshot, Snapshot, TaskSnapshot, no_task, no_queue, no_set, numbers_in, task_at, queue_at, set_at}
 use Rattle.rd_state.specs.Valid.{AreShaped, IsNotWaiting, IsValid, ListsInOrder, PlacedOnce, PhaseFitsCall, HasTimeLeft, WaitsAtPlaces}
 use Rattle.rd_state.specs.Valid.{room_of, seats_to_run, shape_of, times_in_list, times_on_cores, times_waiting_at}
-use Rattle.rd_state.specs.Waiting.{HasPlace, IsPlace, list_number, objects_then, place_kind, place_list, place_number, same_place, waiting_at, waiting_in}
+use Rattle.rd_state.specs.Waiting.{HasPlace, IsPlace, list_number, objects_then, place_kind, place_list, place_number, same_place, waiting_at}
+use Rattle.rd_state.specs.Waiting.{waiting_in}
 use Rattle.rd_state.proofs.Offered.{SeatsKept}
 
 -- What holds of a task by itself. What is asked of its deadline is a parameter: in the middle of a tick it holds of
@@ -159,7 +160,7 @@ waiting_then o (Set set) (Set number) tasks there =
     read_changed (λ (q : SetSnapshot). q.waiting) o.sets set number (with_waiting_tasks (get_or o.sets set no_set) tasks) no_set there
 waiting_then o place other tasks there = refl
 
--- ObjectsSnapshot that have changed in something else than their shapes and who waits where.
+-- Objects that have changed in something else than their shapes and who waits where.
 pub record ContentsChange (o n : ObjectsSnapshot) : Type 0 where
   pub waiting : (place : Place) → waiting_in n place ≡ waiting_in o place
   pub shapes : (app : Application) → AreShaped app o → AreShaped app n
@@ -299,7 +300,7 @@ IsConsistent-task_replaced app D s task x there consistent runs waits at =
           (at.places place task there ∙ sym (waits place)) (λ t differs h. at.places place t h);
     }
 
--- ObjectsSnapshot change in something else than their shapes and who waits where.
+-- Objects change in something else than their shapes and who waits where.
 pub IsConsistent-contents : (app : Application) (D : ℕ → Phase → Type 0) (s : Snapshot) (n : ObjectsSnapshot) → ContentsChange s.objects n
     → IsConsistent app D s → IsConsistent app D (record s { objects = n })
 IsConsistent-contents app D s n change at = record {

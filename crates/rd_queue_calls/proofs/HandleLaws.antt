@@ -1,5 +1,6 @@
 -- Laws of queue sets.
-use Rattle.std.proofs.Common.{◌≡◌, ◌∙◌, ℕ, zero, suc, ◌++◌, ◌∷◌, [], ◌&&◌, Bool, true, false, cond, List, Option, None, Some, get_or, set, slice_index, map, drop}
+use Rattle.std.proofs.Common.{◌≡◌, ◌∙◌, ℕ, zero, suc, ◌++◌, ◌∷◌, [], ◌&&◌, Bool, true, false, cond, List, Option, None, Some, get_or, set}
+use Rattle.std.proofs.Common.{slice_index, map, drop}
 use Rattle.std.proofs.Common.{refl, ap}
 use Rattle.std.specs.Prelude.{◌+◌, nat_eq, position, remove, slice_get}
 use Rattle.rd_wait.specs.Joined.{joined}
@@ -22,11 +23,13 @@ use Rattle.rd_state.specs.Waiting.{objects_then, waiting_at}
 use Rattle.rd_kernel.specs.Outcomes.{Called, blocked, call_answers, call_fails, call_passes, passed}
 use Rattle.rd_kernel.specs.declared.outcome.Outcome.TheVariants.{Waits}
 use Rattle.rd_kernel.specs.Waking.{deadline_of, may_wait, objects_without, with_waiter, woken_at, woken_first, woken_one}
-use Rattle.rd_queue_calls.specs.Posts.{call_breaks, is_in_full_set, is_in_no_set, is_in_set, posted, replaced, membership_of, with_handle, with_member}
+use Rattle.rd_queue_calls.specs.Posts.{call_breaks, is_in_full_set, is_in_no_set, is_in_set, posted, replaced, membership_of, with_handle}
+use Rattle.rd_queue_calls.specs.Posts.{with_member}
 use Rattle.rd_queue_calls.specs.QueueCalls.{is_empty, is_full, queue_outcome, outcome_with_room, with_item_over, with_item_peeked, with_item_sent}
 use Rattle.rd_queue_calls.specs.QueueCalls.{with_item_taken, with_no_items}
 use Rattle.rd_queue_calls.specs.SetCalls.{has_no_handle, set_outcome, with_handle_taken}
-use Rattle.rd_queue_calls.specs.SetLaws.{FailedSendsLeaveAll, HandlesGoByCalls, OverwritesPostOnce, handles_after, handles_in, handles_posted, handles_selected}
+use Rattle.rd_queue_calls.specs.SetLaws.{FailedSendsLeaveAll, HandlesGoByCalls, OverwritesPostOnce, handles_after, handles_in, handles_posted}
+use Rattle.rd_queue_calls.specs.SetLaws.{handles_selected}
 use Rattle.rd_queue_calls.specs.SetLaws.{handles_sent}
 
 -- ---- who waits is none of the handles

@@ -1,5 +1,6 @@
 -- What the calls of a queue and of a set keep of what makes a state valid.
-use Rattle.std.proofs.Common.{◌≡◌, ◌∙◌, ℕ, ◌+◌, ◌-◌, ◌<◌, ◌≤◌, ◌&&◌, Bool, true, false, cond, [], ◌∷◌, ◌++◌, List, length, get_or, set, slice_index, drop}
+use Rattle.std.proofs.Common.{◌≡◌, ◌∙◌, ℕ, ◌+◌, ◌-◌, ◌<◌, ◌≤◌, ◌&&◌, Bool, true, false, cond, [], ◌∷◌, ◌++◌, List, length, get_or, set, slice_index}
+use Rattle.std.proofs.Common.{drop}
 use Rattle.std.proofs.Common.{Option, Some, None, refl, ap, subst, sym, arith}
 use Rattle.std.specs.Prelude.{IfSome}
 use Rattle.std.proofs.lemmas.List.{length-set}
@@ -30,9 +31,14 @@ use Rattle.rd_state.specs.Waiting.{HasPlace, waiting_at, waiting_in}
 use Rattle.rd_state.proofs.Offered.{queue_sized}
 use Rattle.rd_kernel.specs.Outcomes.{call_answers, call_fails, call_passes, concluded}
 use Rattle.rd_kernel.specs.Waking.{ReadyHasRoom}
-use Rattle.rd_kernel.proofs.Offered.{IsConsistent, IsConsistent-items, IsConsistent-queue_replaced, IsConsistent-set_replaced, IsConsistent-valid, IsSameWaiting, all_have_time_left, place_there, task_now, waiting_at-with_queue, waiting_at-with_set, IsDone, RunsInstr, IsConsistent-answered, IsConsistent-done, IsConsistent-failed, IsConsistent-or_blocked, IsConsistent-returned, IsConsistent-with_values, first_waits, or_blocked-tick, waits_is_task, woken_first-tick}
-use Rattle.rd_queue_calls.specs.Posts.{HasRoomToWake, call_breaks, is_in_full_set, is_in_no_set, is_in_set, posted, replaced, membership_of, with_handle, with_member}
-use Rattle.rd_queue_calls.specs.QueueCalls.{is_empty, is_full, queue_outcome, sent_item, outcome_with_room, with_item_over, with_item_peeked, with_item_sent}
+use Rattle.rd_kernel.proofs.Offered.{IsConsistent, IsConsistent-items, IsConsistent-queue_replaced, IsConsistent-set_replaced, IsConsistent-valid}
+use Rattle.rd_kernel.proofs.Offered.{IsSameWaiting, all_have_time_left, place_there, task_now, waiting_at-with_queue, waiting_at-with_set, IsDone}
+use Rattle.rd_kernel.proofs.Offered.{RunsInstr, IsConsistent-answered, IsConsistent-done, IsConsistent-failed, IsConsistent-or_blocked}
+use Rattle.rd_kernel.proofs.Offered.{IsConsistent-returned, IsConsistent-with_values, first_waits, or_blocked-tick, waits_is_task, woken_first-tick}
+use Rattle.rd_queue_calls.specs.Posts.{HasRoomToWake, call_breaks, is_in_full_set, is_in_no_set, is_in_set, posted, replaced, membership_of}
+use Rattle.rd_queue_calls.specs.Posts.{with_handle, with_member}
+use Rattle.rd_queue_calls.specs.QueueCalls.{is_empty, is_full, queue_outcome, sent_item, outcome_with_room, with_item_over, with_item_peeked}
+use Rattle.rd_queue_calls.specs.QueueCalls.{with_item_sent}
 use Rattle.rd_queue_calls.specs.QueueCalls.{with_item_taken, with_no_items}
 use Rattle.rd_queue_calls.specs.SetCalls.{has_no_handle, set_outcome, with_handle_taken}
 

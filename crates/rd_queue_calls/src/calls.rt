@@ -10,7 +10,8 @@ ghost use Rattle.rd_state.specs.Snapshot.{queue_at, task_at};
 ghost use Rattle.rd_kernel.specs.Costs.{data_cost, item_cost};
 ghost use Rattle.rd_kernel.specs.Outcomes.{DoesCall, IsCalling};
 ghost use Rattle.rd_kernel.specs.Waking.{may_wait};
-ghost use Rattle.rd_queue_calls.specs.Posts.{is_in_full_set, is_in_no_set, is_in_set, membership_of};
+ghost use Rattle.rd_queue_calls.specs.Posts.{is_in_full_set, is_in_no_set, is_in_set};
+ghost use Rattle.rd_queue_calls.specs.Posts.{membership_of};
 ghost use Rattle.rd_queue_calls.specs.QueueCalls.{is_empty, is_full, ChangesNothing, IsIntoFullSet};
 ghost use Rattle.rd_queue_calls.specs.QueueCalls.{with_item_taken, outcome_with_room};
 ghost use Rattle.rd_queue_calls.specs.QueueCalls.{send_outcome, receive_outcome, peek_outcome};
@@ -183,7 +184,8 @@ fn overwrite(
     ensures ok { IfOk result (DoesCall editing.old editing.new
         (overwrite_outcome (priorities_of app.now) editing.old.now task queue) overwrite_cost) }
     ensures full_set { is_empty (queue_at editing.old.now queue) ≡ true
-        → is_in_full_set editing.old.now (membership_of editing.old.now queue) ≡ true → IsOk result }
+        → is_in_full_set editing.old.now (membership_of editing.old.now queue) ≡ true
+        → IsOk result }
     ensures stays { OnOk result (KeepsPc editing.old.now editing.new.now task) }
     ensures err { OnErr result (KeepsBase editing.old editing.new) }
 {

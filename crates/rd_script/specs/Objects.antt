@@ -5,7 +5,7 @@ use Rattle.rd_app.specs.Application.{Application}
 use Rattle.rd_script.specs.declared.objects.NamedObjects as code
 use Rattle.rd_text.specs.Words.{texts}
 
--- NamedObjects go by number: the index in these lists.
+-- Objects go by number: the index in these lists.
 pub record NamedObjects : Type 0 where
   pub queue_names : List (List ℕ)
   pub queues : List QueueShape

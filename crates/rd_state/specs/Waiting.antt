@@ -6,7 +6,8 @@ use Rattle.rd_queue.specs.Sets.{with_waiting_tasks}
 use Rattle.rd_queue.specs.Queues.{tasks_in_list, with_waiting}
 use Rattle.rd_state.specs.declared.phase.Place.{Place}
 use Rattle.rd_state.specs.declared.phase.Place.TheVariants.{Queue, Set}
-use Rattle.rd_state.specs.Snapshot.{Numbers, ObjectsSnapshot, Snapshot, no_queue, no_set, numbers_of}
+use Rattle.rd_state.specs.Snapshot.{Numbers, ObjectsSnapshot, Snapshot, no_queue, no_set}
+use Rattle.rd_state.specs.Snapshot.{numbers_of}
 
 -- The place is there, where there are so many objects.
 abbrev pub IsPlace : Numbers → Place → Type 0

@@ -170,7 +170,8 @@ impl Objects {
     /// Puts the item that these bytes make at an end of a queue that has room.
     pub(crate) fn put_fitted(&mut self, queue: usize, end: End, bytes: &[u8])
         requires there { queue < length self.old.queues }
-        requires room { length (queue_in self.old queue).items < (queue_in self.old queue).capacity }
+        requires room { length (queue_in self.old queue).items
+            < (queue_in self.old queue).capacity }
         ensures { self.new ≡ objects_with_queue self.old queue
             (queue_applied (queue_in self.old queue)
             (put_at end (fitted (queue_in self.old queue).item_size bytes.now))) }
