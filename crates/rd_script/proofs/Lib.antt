@@ -1,6 +1,7 @@
 -- The lemmas of this crate.
 pub mod FileLemmas
 pub mod Steps
+pub mod KeywordLaws
 pub mod SpellingLaws
 pub mod Values
 pub mod NamedLaws

@@ -1,148 +1,47 @@
 -- An instruction that is read is spelled by its words, what spells an instruction is read, and what is spelled is within its application.
-use Rattle.std.proofs.Common.{◌≡◌, ◌∙◌, ℕ, ◌-◌, ◌<◌, ◌≤◌, ◌&&◌, ◌==◌, Bool, true, false, cond, codes, List, [], ◌∷◌, length, slice_index}
-use Rattle.std.proofs.Common.{Option, Some, None, Result, Ok, Err, ok_or, nat_le, nat_lt, option_map, option_and_then, position, refl, ap, subst, arith}
+use Rattle.std.proofs.Common.{◌≡◌, ◌∙◌, ℕ, zero, suc, drop, ◌-◌, ◌<◌, ◌≤◌, ◌&&◌, ◌==◌, Bool, true, false, cond, codes, List, [], ◌∷◌, length, slice_index}
+use Rattle.std.proofs.Common.{Option, Some, None, Result, Ok, Err, ok_or, nat_le, nat_lt, option_map, option_and_then, position, refl, sym, ap, subst, arith}
+use Rattle.std.specs.Prelude.{is_some}
 use Rattle.std.specs.Option.{option_or}
 use Rattle.std.specs.Result.{result_ok}
 use Rattle.std.specs.Str.{bytes_eq}
 use Rattle.std.proofs.lemmas.Bool.Decides.{nat_tests}
 use Rattle.std.proofs.lemmas.List.Quantifiers.{position-Some}
-use Rattle.std.proofs.lemmas.Slice.Eq.{bytes_eq-Decides}
 use Rattle.hex.specs.Hex.{decode_of}
 use Rattle.hex.proofs.HexLemmas.{decode_of-ok}
 use Rattle.rd_app.specs.declared.app.QueueShape.{QueueShape}
 use Rattle.rd_app.specs.declared.instr.Instr.{Instr}
 use Rattle.rd_app.specs.declared.instr.Instr.TheVariants as instruction
-use Rattle.rd_app.specs.declared.instr.LocalInstr.{LocalInstr}
 use Rattle.rd_app.specs.declared.instr.QueueCall.{QueueCall}
 use Rattle.rd_app.specs.declared.instr.QueueCall.TheVariants as call
-use Rattle.rd_app.specs.declared.instr.SetCall.{SetCall}
 use Rattle.rd_app.specs.declared.instr.Operand.{Operand}
 use Rattle.rd_app.specs.declared.instr.Operand.TheVariants as operand
-use Rattle.rd_app.specs.Application.{Application, IsOperand, IsLocalWithin, IsQueueCall, IsSetCall, IsCallFor, IsWithin, shape_at, max_delay}
-use Rattle.rd_script.specs.declared.error.AppError.{AppError}
+use Rattle.rd_app.specs.Application.{Application, IsOperand, IsCallFor, IsWithin, max_delay}
 use Rattle.rd_script.specs.declared.error.AppError.TheVariants as fault
-use Rattle.rd_script.specs.declared.spelling.Keyword.{Keyword}
-use Rattle.rd_script.specs.declared.spelling.Keyword.TheVariants as kind
-use Rattle.rd_script.specs.declared.spelling.LocalKeyword.{LocalKeyword}
-use Rattle.rd_script.specs.declared.spelling.LocalKeyword.TheVariants.{Set, Add, Move, Data, Pack, Unpack, Jump, JumpZero, End}
-use Rattle.rd_script.specs.declared.spelling.QueueKeyword.{QueueKeyword}
-use Rattle.rd_script.specs.declared.spelling.QueueKeyword.TheVariants.{Send, Front, Receive, Peek, Overwrite, Reset, Count, Spaces}
-use Rattle.rd_script.specs.declared.spelling.MemberKeyword.{MemberKeyword}
-use Rattle.rd_script.specs.declared.spelling.MemberKeyword.TheVariants.{AddToSet, RemoveFromSet}
-use Rattle.rd_script.specs.declared.spelling.SetKeyword.{SetKeyword}
-use Rattle.rd_script.specs.declared.spelling.SetKeyword.TheVariants.{Select}
-use Rattle.rd_script.specs.Objects.{NamedObjects, objects_of, queue_shape}
-use Rattle.rd_script.specs.Spelling.{member_text, set_call_text, set_form, member_call, index_of, index_named}
-use Rattle.rd_script.specs.Spelling.{◌>>=◌, local_text, queue_call_text, keyword_text, keywords, rows_of, first_written, keyword_of, register_of, target_of, operand_of, time_of}
-use Rattle.rd_script.specs.Spelling.{next_as, no_more_words, Form, Alone, One, Two, OfBytes, OfTime, local_form, queue_form, read_by}
-use Rattle.rd_script.specs.Spelling.{is_call_for, operation_of, instr_of, HasOne, HasTwo, IsFormed, IsOperation, Spells}
-use Rattle.rd_text.specs.Words.{bytes_of, is_some_word, name_of, number_of}
+use Rattle.rd_script.specs.declared.keyword.Parameter.{Parameter}
+use Rattle.rd_script.specs.declared.keyword.Parameter.TheVariants.{Register, Number, Target, Data, Time, Name}
+use Rattle.rd_script.specs.declared.keyword.Keyword.{Keyword}
+use Rattle.rd_script.specs.declared.keyword.Keyword.TheVariants as keyword
+use Rattle.rd_script.specs.declared.keyword.LocalKeyword.{LocalKeyword}
+use Rattle.rd_script.specs.declared.keyword.LocalKeyword.TheVariants as of
+use Rattle.rd_script.specs.declared.keyword.QueueKeyword.{QueueKeyword}
+use Rattle.rd_script.specs.declared.keyword.QueueKeyword.TheVariants.{Send, Front, Receive, Peek, Overwrite, Reset, Count, Spaces, AddToSet, RemoveFromSet}
+use Rattle.rd_script.specs.declared.keyword.SetKeyword.{SetKeyword}
+use Rattle.rd_script.specs.declared.keyword.SetKeyword.TheVariants.{Select}
+use Rattle.rd_script.specs.Keywords.{Makes, Row, Value, keywords, keyword_of, local_row, operands_of, queue_row, row_of, set_row, text_of, Written}
+use Rattle.rd_script.specs.Objects.{NamedObjects, names_in, objects_of, queue_shape}
+use Rattle.rd_script.specs.Spelling.{register_of, target_of, operand_of, time_of, index_named, index_of, value_of, is_formed, are_formed}
+use Rattle.rd_script.specs.Spelling.{made_of, instr_made, is_call_for, is_for_queue, instr_named, instr_of, next_value, Reading, AreOperands, IsForQueue, Spells, SpellsRow}
+use Rattle.rd_text.specs.Words.{bytes_of, is_name, is_some_word, name_of, number_of}
 use Rattle.rd_text.proofs.Offered.{and_right}
-use Rattle.rd_script.proofs.Steps.{bind_ok, guard_ok, ok_or_ok, then_is}
-
--- ---- keywords
-
-same_bytes : (xs ys : List ℕ) → bytes_eq xs ys ≡ true → xs ≡ ys
-same_bytes xs ys e = (bytes_eq-Decides xs ys).0 e
-
-keyword_in : (word : List ℕ) (others : List Keyword) (k : Keyword) → first_written word (rows_of others) ≡ Some k → word ≡ keyword_text k
-keyword_in word [] k e = absurd cc
-keyword_in word (first ∷ others) k e =
-    elim (bytes_eq word (keyword_text first)) as
-    (λ b. (bytes_eq word (keyword_text first) ≡ b) → cond b (Some first) (first_written word (rows_of others)) ≡ Some k → word ≡ keyword_text k) [
-      | true ↦ λ same. λ e. same_bytes word (keyword_text first) same ∙ ap keyword_text (let one : first ≡ k = cc in one)
-      | false ↦ λ same. keyword_in word others k
-    ] refl e
-
-local_keyword_again : (k : LocalKeyword) → keyword_of (local_text k) ≡ Some (kind.Local k)
-local_keyword_again Set = refl
-local_keyword_again Add = refl
-local_keyword_again Move = refl
-local_keyword_again Data = refl
-local_keyword_again Pack = refl
-local_keyword_again Unpack = refl
-local_keyword_again Jump = refl
-local_keyword_again JumpZero = refl
-local_keyword_again End = refl
-
-queue_keyword_again : (k : QueueKeyword) → keyword_of (queue_call_text k) ≡ Some (kind.Queue k)
-queue_keyword_again Send = refl
-queue_keyword_again Front = refl
-queue_keyword_again Receive = refl
-queue_keyword_again Peek = refl
-queue_keyword_again Overwrite = refl
-queue_keyword_again Reset = refl
-queue_keyword_again Count = refl
-queue_keyword_again Spaces = refl
-
-member_keyword_again : (k : MemberKeyword) → keyword_of (member_text k) ≡ Some (kind.Member k)
-member_keyword_again AddToSet = refl
-member_keyword_again RemoveFromSet = refl
-
-set_keyword_again : (k : SetKeyword) → keyword_of (set_call_text k) ≡ Some (kind.Set k)
-set_keyword_again Select = refl
-
-pub keyword_again : (k : Keyword) → keyword_of (keyword_text k) ≡ Some k
-keyword_again (kind.Local k) = local_keyword_again k
-keyword_again (kind.Queue k) = queue_keyword_again k
-keyword_again (kind.Member k) = member_keyword_again k
-keyword_again (kind.Set k) = set_keyword_again k
+use Rattle.rd_script.proofs.KeywordLaws.{keyword_again, text_found}
+use Rattle.rd_script.proofs.Steps.{bind_ok, chosen, guard_ok, ok_or_ok, then_is}
 
 -- ---- what is read is spelled
 
-operand_read : {X : Type 0} (o : Option X) (words : List (List ℕ)) (x : X × List (List ℕ)) → ok_or (option_map (λ x. (x, words)) o) fault.Instr ≡ Ok x
-    → (words ≡ x.1) × (o ≡ Some x.0)
-operand_read (Some y) words x e = let is : (y, words) ≡ x = cc in (ap (λ p. p.1) is, ap (λ p. Some p.0) is)
-operand_read None words x e = absurd cc
-
-next_as_ok : {X : Type 0} (read : List ℕ → Option X) (words : List (List ℕ)) (x : X × List (List ℕ)) → next_as read words ≡ Ok x
-    → (word : List ℕ) × (words ≡ word ∷ x.1) × (read word ≡ Some x.0)
-next_as_ok read [] x e = absurd cc
-next_as_ok read (word ∷ words) x e = let r = operand_read (read word) words x e in (word, ap (λ (ws : List (List ℕ)). word ∷ ws) r.0, r.1)
-
-no_more_ok : (words : List (List ℕ)) (u : Unit {0}) → no_more_words words ≡ Ok u → words ≡ []
-no_more_ok [] u e = refl
-no_more_ok (word ∷ words) u e = absurd cc
-
-one_ok : {X A : Type 0} (read : List ℕ → Option X) (make : X → A) (words : List (List ℕ)) (y : A × List (List ℕ))
-    → (next_as read words >>= λ x. let made : A × List (List ℕ) = (make x.0, x.1) in Ok made) ≡ Ok y → y.1 ≡ []
-    → (x : X) × HasOne read words x × (make x ≡ y.0)
-one_ok {A = A} read make words y e end =
-    let x = bind_ok (next_as read words) _ y e in
-    let word = next_as_ok read words x.0 x.1 in
-    let made : A × List (List ℕ) = (make x.0.0, x.0.1) in
-    let is : made ≡ y = cc in
-    let last = ap (λ (p : A × List (List ℕ)). p.1) is ∙ end in
-    (x.0.0, (word.0, word.1 ∙ ap (λ (ws : List (List ℕ)). word.0 ∷ ws) last, word.2), ap (λ (p : A × List (List ℕ)). p.0) is)
-
-two_ok : {X Y A : Type 0} (read : List ℕ → Option X) (also : List ℕ → Option Y) (make : X → Y → A) (words : List (List ℕ)) (z : A × List (List ℕ))
-    → (next_as read words >>= λ x. next_as also x.1 >>= λ y. let made : A × List (List ℕ) = (make x.0 y.0, y.1) in Ok made) ≡ Ok z → z.1 ≡ []
-    → (x : X) × (y : Y) × HasTwo read also words x y × (make x y ≡ z.0)
-two_ok {A = A} read also make words z e end =
-    let x = bind_ok (next_as read words) _ z e in
-    let y = bind_ok (next_as also x.0.1) _ z x.2 in
-    let first = next_as_ok read words x.0 x.1 in
-    let second = next_as_ok also x.0.1 y.0 y.1 in
-    let made : A × List (List ℕ) = (make x.0.0 y.0.0, y.0.1) in
-    let is : made ≡ z = cc in
-    let last = second.1 ∙ ap (λ (ws : List (List ℕ)). second.0 ∷ ws) (ap (λ (p : A × List (List ℕ)). p.1) is ∙ end) in (
-      x.0.0,
-      y.0.0,
-      (first.0, second.0, first.1 ∙ ap (λ (ws : List (List ℕ)). first.0 ∷ ws) last, first.2, second.2),
-      ap (λ (p : A × List (List ℕ)). p.0) is,
-    )
-
--- what a form reads to the last word
-form_takes : {X : Type 0} (form : Form X) (words : List (List ℕ)) (y : X × List (List ℕ)) → read_by form words ≡ Ok y → y.1 ≡ [] → IsFormed form words y.0
-unfolding read_by
-form_takes {X = X} (Alone made) words y e end =
-    let done : X × List (List ℕ) = (made, words) in
-    let is : done ≡ y = cc in
-    (ap (λ (p : X × List (List ℕ)). p.1) is ∙ end, ap (λ (p : X × List (List ℕ)). p.0) is)
-form_takes (One read make) words y e end = one_ok read make words y e end
-form_takes (Two read also make) words y e end = two_ok read also make words y e end
-form_takes (OfBytes make) words y e end = one_ok bytes_of make words y e end
-form_takes (OfTime make) words y e end = one_ok time_of make words y e end
+pub then_some : {X Y : Type 0} (f : X → Option Y) (o : Option X) (y : Y) → option_and_then f o ≡ Some y → (x : X) × (o ≡ Some x) × (f x ≡ Some y)
+then_some f (Some x) y e = (x, refl, e)
+then_some f None y e = absurd cc
 
 -- the call is one for the queue
 call_takes : (shape : QueueShape) (made : QueueCall) → is_call_for shape made ≡ true → IsCallFor shape made
@@ -163,108 +62,61 @@ named_ok names word name number is found =
     ap (λ (o : Option (List ℕ)). option_and_then (λ name. position (bytes_eq name) names) o) is
     ∙ ok_or_ok (position (bytes_eq name) names) number fault.Name found
 
-operation_takes : (objects : NamedObjects) (len : ℕ) (k : Keyword) (words : List (List ℕ)) (i : Instr) → operation_of objects len k words ≡ Ok i
-    → IsOperation objects len k words i
-operation_takes objects len (kind.Local k) words i e =
-    let made = bind_ok (read_by (local_form len k) words) _ i e in
-    let end = bind_ok (no_more_words made.0.1) _ i made.2 in
-    let is : instruction.Local made.0.0 ≡ i = cc in
-    (made.0.0, form_takes (local_form len k) words made.0 made.1 (no_more_ok made.0.1 end.0 end.1), is)
-operation_takes objects len (kind.Queue k) words i e =
-    let name = bind_ok (next_as name_of words) _ i e in
-    let made = bind_ok (read_by (queue_form k) name.0.1) _ i name.2 in
-    let end = bind_ok (no_more_words made.0.1) _ i made.2 in
-    let queue = bind_ok (index_of objects.queue_names name.0.0) _ i end.2 in
-    let word = next_as_ok name_of words name.0 name.1 in
-    let test = guard_ok (is_call_for (queue_shape objects queue.0) made.0.0) (instruction.Queue queue.0 made.0.0) i _ queue.2 in (
-      queue.0,
-      made.0.0,
-      record {
-        name = word.0;
-        operands = name.0.1;
-        words_are = word.1;
-        named = named_ok objects.queue_names word.0 name.0.0 queue.0 word.2 queue.1;
-        formed = form_takes (queue_form k) name.0.1 made.0 made.1 (no_more_ok made.0.1 end.0 end.1);
-      },
-      call_takes (queue_shape objects queue.0) made.0.0 test.0,
-      test.1,
-    )
-operation_takes objects len (kind.Member k) words i e =
-    let first = bind_ok (next_as name_of words) _ i e in
-    let second = bind_ok (next_as name_of first.0.1) _ i first.2 in
-    let end = bind_ok (no_more_words second.0.1) _ i second.2 in
-    let queue = bind_ok (index_of objects.queue_names first.0.0) _ i end.2 in
-    let set = bind_ok (index_of objects.set_names second.0.0) _ i queue.2 in
-    let is : instruction.Queue queue.0 (member_call k set.0) ≡ i = cc in
-    let word = next_as_ok name_of words first.0 first.1 in
-    let last = next_as_ok name_of first.0.1 second.0 second.1 in
-    let rest = last.1 ∙ ap (λ (ws : List (List ℕ)). last.0 ∷ ws) (no_more_ok second.0.1 end.0 end.1) in (
-      queue.0,
-      set.0,
-      (
-        word.0,
-        last.0,
-        word.1 ∙ ap (λ (ws : List (List ℕ)). word.0 ∷ ws) rest,
-        named_ok objects.queue_names word.0 first.0.0 queue.0 word.2 queue.1,
-        named_ok objects.set_names last.0 second.0.0 set.0 last.2 set.1,
-      ),
-      is,
-    )
-operation_takes objects len (kind.Set k) words i e =
-    let name = bind_ok (next_as name_of words) _ i e in
-    let made = bind_ok (read_by (set_form k) name.0.1) _ i name.2 in
-    let end = bind_ok (no_more_words made.0.1) _ i made.2 in
-    let set = bind_ok (index_of objects.set_names name.0.0) _ i end.2 in
-    let is : instruction.Set set.0 made.0.0 ≡ i = cc in
-    let word = next_as_ok name_of words name.0 name.1 in (
-      set.0,
-      made.0.0,
-      record {
-        name = word.0;
-        operands = name.0.1;
-        words_are = word.1;
-        named = named_ok objects.set_names word.0 name.0.0 set.0 word.2 set.1;
-        formed = form_takes (set_form k) name.0.1 made.0 made.1 (no_more_ok made.0.1 end.0 end.1);
-      },
-      is,
-    )
+for_queue_takes : (objects : NamedObjects) (i : Instr) → is_for_queue objects i ≡ true → IsForQueue objects i
+for_queue_takes objects (instruction.Local instr) e = tt
+for_queue_takes objects (instruction.Queue queue made) e = call_takes (queue_shape objects queue) made e
+for_queue_takes objects (instruction.Set set made) e = tt
+
+-- where no word is left, none is in the form of an operand that is
+pub no_words : (len : ℕ) (parameters : List Parameter) (index : ℕ) → index < length parameters → are_formed len (drop index parameters) [] ≡ false
+no_words len [] index there = absurd (omega (arith, there))
+no_words len (parameter ∷ others) zero there = refl
+no_words len (parameter ∷ others) (suc index) there = no_words len others index (omega (arith, there))
+
+-- the words that are left
+reading : NamedObjects → ℕ → List (List ℕ) → Reading
+reading objects len words = record { objects = objects; len = len; words = words }
+
+mapped : {X Y : Type 0} (f : X → Y) (o : Option X) (y : Y) → option_map f o ≡ Some y → (x : X) × (o ≡ Some x) × (f x ≡ y)
+mapped f (Some x) y e = (x, refl, cc)
+mapped f None y e = absurd cc
+
+made_takes : (objects : NamedObjects) (len : ℕ) (parameters : List Parameter) (make : Makes parameters) (words : List (List ℕ)) (i : Instr)
+    → are_formed len parameters words ≡ true → made_of parameters make (reading objects len words) ≡ Some i
+    → AreOperands objects len parameters make words i
+unfolding next_value reading
+made_takes objects len [] make [] i formed e = (refl, cc)
+made_takes objects len [] make (word ∷ words) i formed e = absurd cc
+made_takes objects len (parameter ∷ others) make [] i formed e = absurd cc
+made_takes objects len (parameter ∷ others) make (word ∷ words) i formed e =
+    let next = then_some (λ next. made_of others (make next.0) next.1) (next_value parameter (reading objects len (word ∷ words))) i e in
+    let value = mapped (λ value. (value, reading objects len words)) (value_of objects len parameter word) next.0 next.1 in
+    let rest = and_right (is_formed len parameter word) (are_formed len others words) formed in
+    let made = subst (λ (next : Value parameter × Reading). made_of others (make next.0) next.1 ≡ Some i) (sym value.2) next.2 in
+    (word, words, value.0, refl, value.1, made_takes objects len others (make value.0) words i rest made)
+
+row_takes : (objects : NamedObjects) (len : ℕ) (of : Row) (words : List (List ℕ)) (i : Instr)
+    → are_formed len (operands_of of) words ≡ true → instr_made of (reading objects len words) ≡ Some i
+    → SpellsRow objects len of (text_of of ∷ words) i
+row_takes objects len (Written text operands make) words i formed made = (words, refl, made_takes objects len operands make words i formed made)
 
 pub instr_takes : (objects : NamedObjects) (len : ℕ) (words : List (List ℕ)) (i : Instr) → instr_of objects len words ≡ Ok i → Spells objects len words i
-unfolding instr_of
-instr_takes objects len words i e =
-    let k = bind_ok (next_as keyword_of words) _ i e in
-    let word = next_as_ok keyword_of words k.0 k.1 in
-    let is = word.1 ∙ ap (λ (w : List ℕ). w ∷ k.0.1) (keyword_in word.0 keywords k.0.0 word.2) in
-    (k.0.0, k.0.1, is, operation_takes objects len k.0.0 k.0.1 i k.2)
+unfolding instr_of reading
+instr_takes objects len [] i e = absurd cc
+instr_takes objects len (word ∷ words) i e =
+    let k = bind_ok (ok_or (keyword_of word) fault.Instr) _ i e in
+    let of = row_of k.0 in
+    let formed = chosen (are_formed len (operands_of of) words) (instr_named of (reading objects len words)) fault.Instr i k.2 in
+    let made = bind_ok (ok_or (instr_made of (reading objects len words)) fault.Name) _ i formed.1 in
+    let fits = guard_ok (is_for_queue objects made.0) made.0 i fault.OverwriteLength made.2 in
+    let spelled = row_takes objects len of words made.0 formed.0 (ok_or_ok (instr_made of (reading objects len words)) made.0 fault.Name made.1) in
+    let text = text_found word keywords k.0 (ok_or_ok (keyword_of word) k.0 fault.Instr k.1) in (
+      k.0,
+      subst (λ word. SpellsRow objects len of (word ∷ words) i) (sym text) (subst (SpellsRow objects len of (text_of of ∷ words)) fits.1 spelled),
+      subst (IsForQueue objects) fits.1 (for_queue_takes objects made.0 fits.0),
+    )
 
 -- ---- what spells an instruction is read
-
-one_again : {X A : Type 0} (read : List ℕ → Option X) (word : List ℕ) (make : X → A) (x : X) → read word ≡ Some x
-    → (next_as read (word ∷ []) >>= λ x. let made : A × List (List ℕ) = (make x.0, x.1) in Ok made) ≡ Ok (make x, [])
-one_again read word make x e = rw e refl
-
-two_again : {X Y A : Type 0} (read : List ℕ → Option X) (also : List ℕ → Option Y) (first second : List ℕ) (make : X → Y → A) (x : X) (y : Y)
-    → read first ≡ Some x → also second ≡ Some y
-    → (next_as read (first ∷ second ∷ []) >>= λ x. next_as also x.1 >>= λ y. let made : A × List (List ℕ) = (make x.0 y.0, y.1) in Ok made)
-    ≡ Ok (make x y, [])
-two_again read also first second make x y e f = rw (e, f) refl
-
--- what a form makes, and no words are left
-made_by : {X : Type 0} → X → Result (X × List (List ℕ)) AppError
-made_by x = Ok (x, [])
-
-form_again : {X : Type 0} (form : Form X) (words : List (List ℕ)) (x : X) → IsFormed form words x → read_by form words ≡ made_by x
-unfolding read_by made_by
-form_again (Alone made) words x h = ap (read_by (Alone made)) h.0 ∙ ap made_by h.1
-form_again (One read make) words x h = ap (read_by (One read make)) h.1.1 ∙ one_again read h.1.0 make h.0 h.1.2 ∙ ap made_by h.2
-form_again (Two read also make) words x h =
-    ap (read_by (Two read also make)) h.2.2 ∙ two_again read also h.2.0 h.2.1 make h.0 h.1 h.2.3 h.2.4 ∙ ap made_by h.3
-form_again (OfBytes make) words x h = ap (read_by (OfBytes make)) h.1.1 ∙ one_again bytes_of h.1.0 make h.0 h.1.2 ∙ ap made_by h.2
-form_again (OfTime make) words x h = ap (read_by (OfTime make)) h.1.1 ∙ one_again time_of h.1.0 make h.0 h.1.2 ∙ ap made_by h.2
-
-pub then_some : {X Y : Type 0} (f : X → Option Y) (o : Option X) (y : Y) → option_and_then f o ≡ Some y → (x : X) × (o ≡ Some x) × (f x ≡ Some y)
-then_some f (Some x) y e = (x, refl, e)
-then_some f None y e = absurd cc
 
 call_again : (shape : QueueShape) (made : QueueCall) → IsCallFor shape made → is_call_for shape made ≡ true
 call_again shape (call.Send end wait) h = refl
@@ -277,49 +129,72 @@ call_again shape call.Spaces h = refl
 call_again shape (call.AddToSet set) h = refl
 call_again shape (call.RemoveFromSet set) h = refl
 
--- the next word is a name
-name_again : (word name : List ℕ) (words : List (List ℕ)) → name_of word ≡ Some name → next_as name_of (word ∷ words) ≡ Ok (name, words)
-name_again word name words is = ap (λ (o : Option (List ℕ)). ok_or (option_map (λ x. (x, words)) o) fault.Instr) is
-
 pub index_again : (names : List (List ℕ)) (name : List ℕ) (number : ℕ) → position (bytes_eq name) names ≡ Some number → index_of names name ≡ Ok number
 index_again names name number is = ap (λ o. ok_or o fault.Name) is
 
-operation_again : (objects : NamedObjects) (len : ℕ) (k : Keyword) (words : List (List ℕ)) (i : Instr) → IsOperation objects len k words i
-    → operation_of objects len k words ≡ Ok i
-unfolding made_by
-operation_again objects len (kind.Local k) words i h =
-    then_is (read_by (local_form len k) words) _ (h.0, []) (Ok i) (form_again (local_form len k) words h.0 h.1) (ap Ok h.2)
-operation_again objects len (kind.Queue k) words i h =
-    let name = then_some (λ name. position (bytes_eq name) objects.queue_names) (name_of h.2.name) h.0 h.2.named in
-    ap (operation_of objects len (kind.Queue k)) h.2.words_are
-    ∙ then_is (next_as name_of (h.2.name ∷ h.2.operands)) _ (name.0, h.2.operands) (Ok i) (name_again h.2.name name.0 h.2.operands name.1)
-    (then_is (read_by (queue_form k) h.2.operands) _ (h.1, []) (Ok i) (form_again (queue_form k) h.2.operands h.1 h.2.formed)
-    (then_is (index_of objects.queue_names name.0) _ h.0 (Ok i) (index_again objects.queue_names name.0 h.0 name.2)
-    (ap (λ b. cond b (Ok (instruction.Queue h.0 h.1)) (Err fault.OverwriteLength)) (call_again (queue_shape objects h.0) h.1 h.3) ∙ ap Ok h.4)))
-operation_again objects len (kind.Member k) words i h =
-    let two = h.2 in
-    let queue = then_some (λ name. position (bytes_eq name) objects.queue_names) (name_of two.0) h.0 two.3 in
-    let set = then_some (λ name. position (bytes_eq name) objects.set_names) (name_of two.1) h.1 two.4 in
-    ap (operation_of objects len (kind.Member k)) two.2
-    ∙ then_is (next_as name_of (two.0 ∷ two.1 ∷ [])) _ (queue.0, two.1 ∷ []) (Ok i) (name_again two.0 queue.0 (two.1 ∷ []) queue.1)
-    (then_is (next_as name_of (two.1 ∷ [])) _ (set.0, []) (Ok i) (name_again two.1 set.0 [] set.1)
-    (then_is (index_of objects.queue_names queue.0) _ h.0 (Ok i) (index_again objects.queue_names queue.0 h.0 queue.2)
-    (then_is (index_of objects.set_names set.0) _ h.1 (Ok i) (index_again objects.set_names set.0 h.1 set.2) (ap Ok h.3))))
-operation_again objects len (kind.Set k) words i h =
-    let name = then_some (λ name. position (bytes_eq name) objects.set_names) (name_of h.2.name) h.0 h.2.named in
-    ap (operation_of objects len (kind.Set k)) h.2.words_are
-    ∙ then_is (next_as name_of (h.2.name ∷ h.2.operands)) _ (name.0, h.2.operands) (Ok i) (name_again h.2.name name.0 h.2.operands name.1)
-    (then_is (read_by (set_form k) h.2.operands) _ (h.1, []) (Ok i) (form_again (set_form k) h.2.operands h.1 h.2.formed)
-    (then_is (index_of objects.set_names name.0) _ h.0 (Ok i) (index_again objects.set_names name.0 h.0 name.2) (ap Ok h.3)))
+for_queue_again : (objects : NamedObjects) (i : Instr) → IsForQueue objects i → is_for_queue objects i ≡ true
+for_queue_again objects (instruction.Local instr) h = refl
+for_queue_again objects (instruction.Queue queue made) h = call_again (queue_shape objects queue) made h
+for_queue_again objects (instruction.Set set made) h = refl
+
+-- what names a thing is a name
+name_formed : (names : List (List ℕ)) (word : List ℕ) (number : ℕ) → index_named names word ≡ Some number → is_name word ≡ true
+name_formed names word number =
+    elim (is_name word) as (λ b. option_and_then (λ name. position (bytes_eq name) names) (cond b (Some word) None) ≡ Some number → b ≡ true) [
+      | true ↦ λ e. refl
+      | false ↦ λ e. absurd cc
+    ]
+
+formed_again : (objects : NamedObjects) (len : ℕ) (parameter : Parameter) (word : List ℕ) (value : Value parameter)
+    → value_of objects len parameter word ≡ Some value → is_formed len parameter word ≡ true
+formed_again objects len Register word value e = ap is_some e
+formed_again objects len Number word value e = ap is_some e
+formed_again objects len Target word value e = ap is_some e
+formed_again objects len Data word value e = ap is_some e
+formed_again objects len Time word value e = ap is_some e
+formed_again objects len (Name kind) word value e = name_formed (names_in objects kind) word value e
+
+both_true : (a b : Bool) → a ≡ true → b ≡ true → (a && b) ≡ true
+both_true a b e f = rw (e, f) refl
+
+operands_formed : (objects : NamedObjects) (len : ℕ) (parameters : List Parameter) (make : Makes parameters) (words : List (List ℕ)) (i : Instr)
+    → AreOperands objects len parameters make words i → are_formed len parameters words ≡ true
+operands_formed objects len [] make words i h = ap (are_formed len []) h.0
+operands_formed objects len (parameter ∷ others) make words i h =
+    ap (are_formed len (parameter ∷ others)) h.3
+    ∙ both_true (is_formed len parameter h.0) (are_formed len others h.1) (formed_again objects len parameter h.0 h.2 h.4)
+    (operands_formed objects len others (make h.2) h.1 i h.5)
+
+then_some_is : {X Y : Type 0} (f : X → Option Y) (o : Option X) (x : X) (y : Option Y) → o ≡ Some x → f x ≡ y → option_and_then f o ≡ y
+then_some_is f o x y e h = ap (option_and_then f) e ∙ h
+
+made_again : (objects : NamedObjects) (len : ℕ) (parameters : List Parameter) (make : Makes parameters) (words : List (List ℕ)) (i : Instr)
+    → AreOperands objects len parameters make words i → made_of parameters make (reading objects len words) ≡ Some i
+unfolding next_value reading
+made_again objects len [] make words i h = ap Some h.1
+made_again objects len (parameter ∷ others) make words i h =
+    let next : next_value parameter (reading objects len (h.0 ∷ h.1)) ≡ Some (h.2, reading objects len h.1) =
+    ap (option_map (λ value. (value, reading objects len h.1))) h.4 in
+    ap (λ words. made_of (parameter ∷ others) make (reading objects len words)) h.3
+    ∙ then_some_is (λ next. made_of others (make next.0) next.1) (next_value parameter (reading objects len (h.0 ∷ h.1))) (h.2, reading objects len h.1) (Some i)
+    next (made_again objects len others (make h.2) h.1 i h.5)
+
+row_formed : (objects : NamedObjects) (len : ℕ) (of : Row) (words : List (List ℕ)) (i : Instr) → SpellsRow objects len of words i
+    → (left : List (List ℕ)) × (words ≡ text_of of ∷ left) × (are_formed len (operands_of of) left ≡ true)
+    × (instr_made of (reading objects len left) ≡ Some i)
+row_formed objects len (Written text operands make) words i h =
+    (h.0, h.1, operands_formed objects len operands make h.0 i h.2, made_again objects len operands make h.0 i h.2)
 
 pub instr_again : (objects : NamedObjects) (len : ℕ) (words : List (List ℕ)) (i : Instr) → Spells objects len words i → instr_of objects len words ≡ Ok i
-unfolding instr_of
+unfolding instr_of reading
 instr_again objects len words i h =
-    let read : next_as keyword_of (keyword_text h.0 ∷ h.1) ≡ Ok (h.0, h.1) =
-    ap (λ o. ok_or (option_map (λ k. (k, h.1)) o) fault.Instr) (keyword_again h.0) in
-    ap (instr_of objects len) h.2
-    ∙ then_is (next_as keyword_of (keyword_text h.0 ∷ h.1)) (λ k. operation_of objects len k.0 k.1) (h.0, h.1) (Ok i) read
-    (operation_again objects len h.0 h.1 i h.3)
+    let of = row_of h.0 in
+    let read = row_formed objects len of words i h.1 in
+    ap (instr_of objects len) read.1
+    ∙ then_is (ok_or (keyword_of (text_of of)) fault.Instr) _ h.0 (Ok i) (ap (λ o. ok_or o fault.Instr) (keyword_again h.0))
+    (ap (λ b. cond b (instr_named of (reading objects len read.0)) (Err fault.Instr)) read.2
+    ∙ then_is (ok_or (instr_made of (reading objects len read.0)) fault.Name) _ i (Ok i) (ap (λ o. ok_or o fault.Name) read.3)
+    (ap (λ b. cond b (Ok i) (Err fault.OverwriteLength)) (for_queue_again objects i h.2)))
 
 -- ---- what is spelled is within its application
 
@@ -394,57 +269,79 @@ time_there word wait =
       | false ↦ either_there (register_of word) (number_of word) wait (register_small word)
     ]
 
-local_within : (len : ℕ) (k : LocalKeyword) (words : List (List ℕ)) (made : LocalInstr) → IsFormed (local_form len k) words made → IsLocalWithin len made
-local_within len Set words made h = subst (IsLocalWithin len) h.3 (register_small h.2.0 h.0 h.2.3)
-local_within len Add words made h = subst (IsLocalWithin len) h.3 (register_small h.2.0 h.0 h.2.3)
-local_within len Move words made h = subst (IsLocalWithin len) h.3 (register_small h.2.0 h.0 h.2.3, register_small h.2.1 h.1 h.2.4)
-local_within len Data words made h = subst (IsLocalWithin len) h.2 (bytes_few h.1.0 h.0 h.1.2)
-local_within len Pack words made h = subst (IsLocalWithin len) h.2 (register_small h.1.0 h.0 h.1.2)
-local_within len Unpack words made h = subst (IsLocalWithin len) h.2 (register_small h.1.0 h.0 h.1.2)
-local_within len Jump words made h = subst (IsLocalWithin len) h.2 (target_small len h.1.0 h.0 h.1.2)
-local_within len JumpZero words made h = subst (IsLocalWithin len) h.3 (register_small h.2.0 h.0 h.2.3, target_small len h.2.1 h.1 h.2.4)
-local_within len End words made h = subst (IsLocalWithin len) h.1 tt
-
-call_within : (sets : ℕ) (k : QueueKeyword) (words : List (List ℕ)) (made : QueueCall) → IsFormed (queue_form k) words made → IsQueueCall sets made
-call_within sets Send words made h = subst (IsQueueCall sets) h.2 (time_there h.1.0 h.0 h.1.2)
-call_within sets Front words made h = subst (IsQueueCall sets) h.2 (time_there h.1.0 h.0 h.1.2)
-call_within sets Receive words made h = subst (IsQueueCall sets) h.2 (time_there h.1.0 h.0 h.1.2)
-call_within sets Peek words made h = subst (IsQueueCall sets) h.2 (time_there h.1.0 h.0 h.1.2)
-call_within sets Overwrite words made h = subst (IsQueueCall sets) h.1 tt
-call_within sets Reset words made h = subst (IsQueueCall sets) h.1 tt
-call_within sets Count words made h = subst (IsQueueCall sets) h.1 tt
-call_within sets Spaces words made h = subst (IsQueueCall sets) h.1 tt
-
-member_within : (sets : ℕ) (k : MemberKeyword) (set : ℕ) → set < sets → IsQueueCall sets (member_call k set)
-member_within sets AddToSet set there = there
-member_within sets RemoveFromSet set there = there
-
-member_fits : (shape : QueueShape) (k : MemberKeyword) (set : ℕ) → IsCallFor shape (member_call k set)
-member_fits shape AddToSet set = tt
-member_fits shape RemoveFromSet set = tt
-
-set_call_within : (k : SetKeyword) (words : List (List ℕ)) (made : SetCall) → IsFormed (set_form k) words made → IsSetCall made
-set_call_within Select words made h = subst IsSetCall h.2 (time_there h.1.0 h.0 h.1.2)
-
 -- there are as many names as objects
 pub record AreNamedObjects (app : Application) : Type 0 where
   pub queues : length app.queues ≡ length app.queue_names
   pub sets : length app.sets ≡ length app.set_names
 
-operation_within : (app : Application) (len : ℕ) (k : Keyword) (words : List (List ℕ)) (i : Instr) → AreNamedObjects app
-    → IsOperation (objects_of app) len k words i → IsWithin app len i
-operation_within app len (kind.Local k) words i sizes h = subst (IsWithin app len) h.2 (local_within len k words h.0 h.1)
-operation_within app len (kind.Queue k) words i sizes h =
-    let there = index_there app.queue_names h.2.name h.0 h.2.named in
-    subst (IsWithin app len) h.4 (rw sizes.queues there, call_within (length app.sets) k h.2.operands h.1 h.2.formed, h.3)
-operation_within app len (kind.Member k) words i sizes h =
-    let queue_there = index_there app.queue_names h.2.0 h.0 h.2.3 in
-    let set_there : h.1 < length app.sets = rw sizes.sets (index_there app.set_names h.2.1 h.1 h.2.4) in
-    subst (IsWithin app len) h.3 (rw sizes.queues queue_there, member_within (length app.sets) k h.1 set_there, member_fits (shape_at app h.0) k h.1)
-operation_within app len (kind.Set k) words i sizes h =
-    let there = index_there app.set_names h.2.name h.0 h.2.named in
-    subst (IsWithin app len) h.3 (rw sizes.sets there, set_call_within k h.2.operands h.1 h.2.formed)
+-- what an operand of that kind may stand for
+abbrev IsValue : Application → ℕ → (parameter : Parameter) → Value parameter → Type 0
+IsValue app len Register register = register < 8
+IsValue app len Number value = Unit {0}
+IsValue app len Target target = target < len
+IsValue app len Data bytes = length bytes ≤ 256
+IsValue app len Time wait = IsOperand wait
+IsValue app len (Name kind) number = number < length (names_in (objects_of app) kind)
+
+value_there : (app : Application) (len : ℕ) (parameter : Parameter) (word : List ℕ) (value : Value parameter)
+    → value_of (objects_of app) len parameter word ≡ Some value → IsValue app len parameter value
+value_there app len Register word value e = register_small word value e
+value_there app len Number word value e = tt
+value_there app len Target word value e = target_small len word value e
+value_there app len Data word value e = bytes_few word value e
+value_there app len Time word value e = time_there word value e
+value_there app len (Name kind) word value e = index_there (names_in (objects_of app) kind) word value e
+
+-- Whatever its operands stand for, what a keyword makes is within the application.
+abbrev MakesWithin : Application → ℕ → (parameters : List Parameter) → Makes parameters → Type 0
+MakesWithin app len [] made = IsForQueue (objects_of app) made → IsWithin app len made
+MakesWithin app len (parameter ∷ others) make = (value : Value parameter) → IsValue app len parameter value → MakesWithin app len others (make value)
+
+abbrev RowWithin : Application → ℕ → Row → Type 0
+RowWithin app len (Written text operands make) = MakesWithin app len operands make
+
+local_within : (app : Application) (len : ℕ) (k : LocalKeyword) → RowWithin app len (local_row k)
+local_within app len of.Set = λ register there value _ fits. there
+local_within app len of.Add = λ register there value _ fits. there
+local_within app len of.Move = λ into there from also_there fits. (there, also_there)
+local_within app len of.Data = λ bytes few fits. few
+local_within app len of.Pack = λ register there fits. there
+local_within app len of.Unpack = λ register there fits. there
+local_within app len of.Jump = λ target there fits. there
+local_within app len of.JumpZero = λ register there target also_there fits. (there, also_there)
+local_within app len of.End = λ fits. tt
+
+queue_within : (app : Application) (len : ℕ) → AreNamedObjects app → (k : QueueKeyword) → RowWithin app len (queue_row k)
+queue_within app len sizes Send = λ queue named wait there fits. (rw sizes.queues named, there, fits)
+queue_within app len sizes Front = λ queue named wait there fits. (rw sizes.queues named, there, fits)
+queue_within app len sizes Receive = λ queue named wait there fits. (rw sizes.queues named, there, fits)
+queue_within app len sizes Peek = λ queue named wait there fits. (rw sizes.queues named, there, fits)
+queue_within app len sizes Overwrite = λ queue named fits. (rw sizes.queues named, tt, fits)
+queue_within app len sizes Reset = λ queue named fits. (rw sizes.queues named, tt, fits)
+queue_within app len sizes Count = λ queue named fits. (rw sizes.queues named, tt, fits)
+queue_within app len sizes Spaces = λ queue named fits. (rw sizes.queues named, tt, fits)
+queue_within app len sizes AddToSet = λ queue named set also_named fits. (rw sizes.queues named, rw sizes.sets also_named, fits)
+queue_within app len sizes RemoveFromSet = λ queue named set also_named fits. (rw sizes.queues named, rw sizes.sets also_named, fits)
+
+set_within : (app : Application) (len : ℕ) → AreNamedObjects app → (k : SetKeyword) → RowWithin app len (set_row k)
+set_within app len sizes Select = λ set named wait there fits. (rw sizes.sets named, there)
+
+row_within : (app : Application) (len : ℕ) → AreNamedObjects app → (k : Keyword) → RowWithin app len (row_of k)
+row_within app len sizes (keyword.Local k) = local_within app len k
+row_within app len sizes (keyword.Queue k) = queue_within app len sizes k
+row_within app len sizes (keyword.Set k) = set_within app len sizes k
+
+operands_within : (app : Application) (len : ℕ) (parameters : List Parameter) (make : Makes parameters) (words : List (List ℕ)) (i : Instr)
+    → MakesWithin app len parameters make → AreOperands (objects_of app) len parameters make words i → IsForQueue (objects_of app) i → IsWithin app len i
+operands_within app len [] make words i within h fits = subst (λ i. IsForQueue (objects_of app) i → IsWithin app len i) h.1 within fits
+operands_within app len (parameter ∷ others) make words i within h fits =
+    let there = value_there app len parameter h.0 h.2 h.4 in
+    operands_within app len others (make h.2) h.1 i (within h.2 there) h.5 fits
+
+spelled_within : (app : Application) (len : ℕ) (of : Row) (words : List (List ℕ)) (i : Instr)
+    → RowWithin app len of → SpellsRow (objects_of app) len of words i → IsForQueue (objects_of app) i → IsWithin app len i
+spelled_within app len (Written text operands make) words i within h fits = operands_within app len operands make h.0 i within h.2 fits
 
 pub spells_within : (app : Application) (len : ℕ) (words : List (List ℕ)) (i : Instr) → AreNamedObjects app
     → Spells (objects_of app) len words i → IsWithin app len i
-spells_within app len words i sizes h = operation_within app len h.0 h.1 i sizes h.3
+spells_within app len words i sizes h = spelled_within app len (row_of h.0) words i (row_within app len sizes h.0) h.1 h.2

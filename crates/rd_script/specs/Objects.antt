@@ -1,5 +1,7 @@
 -- The objects that instructions name.
-use Rattle.std.specs.Prelude.{ℕ, List, slice_index_or}
+use Rattle.std.specs.Prelude.{ℕ, List, [], slice_index_or}
+use Rattle.rd_app.specs.declared.app.Kind.{Kind}
+use Rattle.rd_app.specs.declared.app.Kind.TheVariants as kind
 use Rattle.rd_app.specs.declared.app.QueueShape.{QueueShape}
 use Rattle.rd_app.specs.Application.{Application}
 use Rattle.rd_script.specs.declared.objects.NamedObjects as code
@@ -31,3 +33,9 @@ objects_of app = record {
 abbrev pub queue_shape : NamedObjects → ℕ → QueueShape
 queue_shape objects queue =
     slice_index_or objects.queues queue (record { capacity = 0; item_size = 0 })
+
+-- the names of a kind; instructions name no tasks
+abbrev pub names_in : NamedObjects → Kind → List (List ℕ)
+names_in objects kind.Queue = objects.queue_names
+names_in objects kind.Set = objects.set_names
+names_in objects kind.Task = []

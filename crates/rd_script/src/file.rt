@@ -23,7 +23,8 @@ ghost use Rattle.rd_text.specs.Words.{texts};
 
 use crate::error::AppError;
 use crate::objects::{NamedObjects, Queues};
-use crate::spelling::{index_of, read_instr};
+use crate::reader::index_of;
+use crate::spelling::read_instr;
 use arrayvec::ArrayVec;
 use rd_app::app::{
     App, MAX_CODE, MAX_CORES, MAX_PRIORITY, MAX_QUEUES, MAX_SETS, MAX_TASKS, Parts, QueueShape,

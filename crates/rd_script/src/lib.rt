@@ -3,5 +3,7 @@
 
 pub mod error;
 pub mod file;
+mod keyword;
 mod objects;
+mod reader;
 mod spelling;

@@ -41,6 +41,13 @@ impl<'a> Words<'a> {
     {
         Words { rest: line }
     }
+
+    /// The same words, to be read a second time.
+    pub fn copy(&self) -> Words<'a>
+        ensures { result ≡ self.now }
+    {
+        Words { rest: self.rest }
+    }
 }
 
 impl<'a> Iterator for Words<'a> {

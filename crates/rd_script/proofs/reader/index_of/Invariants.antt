@@ -5,7 +5,7 @@ use Rattle.std.specs.Str.{bytes_eq}
 use Rattle.rd_script.specs.declared.error.AppError.TheVariants as fault
 use Rattle.rd_script.specs.Spelling.{index_of}
 use Rattle.rd_text.specs.Words.{texts}
-use Rattle.rd_script.proofs.spelling.index_of.Given as goal
+use Rattle.rd_script.proofs.reader.index_of.Given as goal
 
 -- the names that are left decide
 abbrev pub invariant-loop-index : goal.invariant-loop-index

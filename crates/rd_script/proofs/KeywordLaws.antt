@@ -1,0 +1,94 @@
+-- The keyword of a word is written so, and each keyword is found by how it is written.
+use denote.Ref.{Bor}
+use Rattle.std.proofs.Common.{◌≡◌, ◌∙◌, ℕ, true, false, cond, List, [], ◌∷◌, Option, Some, None, option_map, refl, sym, ap, subst}
+use Rattle.std.specs.Prelude.{IfSome}
+use Rattle.std.specs.List.{find}
+use Rattle.std.specs.Str.{bytes_eq}
+use Rattle.std.proofs.lemmas.Slice.Eq.{bytes_eq-Decides}
+use Rattle.rd_script.specs.declared.keyword.Parameter.{Parameter}
+use Rattle.rd_script.specs.declared.keyword.Keyword.{Keyword}
+use Rattle.rd_script.specs.declared.keyword.Keyword.TheVariants as keyword
+use Rattle.rd_script.specs.declared.keyword.LocalKeyword.{LocalKeyword}
+use Rattle.rd_script.specs.declared.keyword.LocalKeyword.TheVariants as of
+use Rattle.rd_script.specs.declared.keyword.QueueKeyword.{QueueKeyword}
+use Rattle.rd_script.specs.declared.keyword.QueueKeyword.TheVariants.{Send, Front, Receive, Peek, Overwrite, Reset, Count, Spaces, AddToSet, RemoveFromSet}
+use Rattle.rd_script.specs.declared.keyword.SetKeyword.{SetKeyword}
+use Rattle.rd_script.specs.declared.keyword.SetKeyword.TheVariants.{Select}
+use Rattle.rd_script.specs.Keywords.{first_written, keyword_of, local_row, operands_of, queue_row, row_of, set_row, text_of, texts_of}
+
+same_bytes : (xs ys : List ℕ) → bytes_eq xs ys ≡ true → xs ≡ ys
+same_bytes xs ys e = (bytes_eq-Decides xs ys).0 e
+
+pub text_found : (word : List ℕ) (others : List Keyword) (k : Keyword) → find (λ k. bytes_eq word (text_of (row_of k))) others ≡ Some k → word ≡ (text_of (row_of k))
+text_found word [] k e = absurd cc
+text_found word (first ∷ others) k e =
+    elim (bytes_eq word (text_of (row_of first))) as
+    (λ b. (bytes_eq word (text_of (row_of first)) ≡ b) → cond b (Some first) (find (λ k. bytes_eq word (text_of (row_of k))) others) ≡ Some k → word ≡ (text_of (row_of k))) [
+      | true ↦ λ same. λ e. same_bytes word (text_of (row_of first)) same ∙ ap (λ (k : Keyword). (text_of (row_of k))) (let one : first ≡ k = cc in one)
+      | false ↦ λ same. text_found word others k
+    ] refl e
+
+-- what the code's table has at a word
+pub keyword_found : (word : List ℕ) (others : List Keyword)
+    → option_map (λ found. found.1) (first_written word (texts_of others)) ≡ find (λ k. bytes_eq word (text_of (row_of k))) others
+keyword_found word [] = refl
+keyword_found word (first ∷ others) =
+    elim (bytes_eq word (text_of (row_of first))) as
+    (λ b. option_map (λ found. found.1) (cond b (Some (operands_of (row_of first), first)) (first_written word (texts_of others)))
+    ≡ cond b (Some first) (find (λ k. bytes_eq word (text_of (row_of k))) others)) [
+      | true ↦ refl
+      | false ↦ keyword_found word others
+    ]
+
+pub operands_found : (word : List ℕ) (others : List Keyword) → IfSome (first_written word (texts_of others)) (λ found. found.0 ≡ operands_of (row_of found.1))
+operands_found word [] = tt
+operands_found word (first ∷ others) =
+    elim (bytes_eq word (text_of (row_of first))) as
+    (λ b. IfSome (cond b (Some (operands_of (row_of first), first)) (first_written word (texts_of others))) (λ found. found.0 ≡ operands_of (row_of found.1))) [
+      | true ↦ refl
+      | false ↦ operands_found word others
+    ]
+
+-- the same of a row as a contract sees it
+pub keyword_shown : (row : Option (Bor (List Parameter) × Keyword))
+    → option_map (λ found. found.1) row ≡ option_map (λ found. found.1) (option_map {U = List Parameter × Keyword} (λ found. (found.0.now, found.1)) row)
+keyword_shown (Some found) = refl
+keyword_shown None = refl
+
+pub operands_shown : (row : Option (Bor (List Parameter) × Keyword)) (found : Option (List Parameter × Keyword))
+    → option_map (λ found. (found.0.now, found.1)) row ≡ found → IfSome found (λ found. found.0 ≡ operands_of (row_of found.1))
+    → IfSome row (λ found. found.0.now ≡ operands_of (row_of found.1))
+operands_shown (Some row) found e h = subst (λ found. IfSome found (λ found. found.0 ≡ operands_of (row_of found.1))) (sym e) h
+operands_shown None found e h = tt
+
+-- no keyword is written as another
+local_again : (k : LocalKeyword) → keyword_of (text_of (local_row k)) ≡ Some (keyword.Local k)
+local_again of.Set = refl
+local_again of.Add = refl
+local_again of.Move = refl
+local_again of.Data = refl
+local_again of.Pack = refl
+local_again of.Unpack = refl
+local_again of.Jump = refl
+local_again of.JumpZero = refl
+local_again of.End = refl
+
+queue_again : (k : QueueKeyword) → keyword_of (text_of (queue_row k)) ≡ Some (keyword.Queue k)
+queue_again Send = refl
+queue_again Front = refl
+queue_again Receive = refl
+queue_again Peek = refl
+queue_again Overwrite = refl
+queue_again Reset = refl
+queue_again Count = refl
+queue_again Spaces = refl
+queue_again AddToSet = refl
+queue_again RemoveFromSet = refl
+
+set_again : (k : SetKeyword) → keyword_of (text_of (set_row k)) ≡ Some (keyword.Set k)
+set_again Select = refl
+
+pub keyword_again : (k : Keyword) → keyword_of (text_of (row_of k)) ≡ Some k
+keyword_again (keyword.Local k) = local_again k
+keyword_again (keyword.Queue k) = queue_again k
+keyword_again (keyword.Set k) = set_again k

@@ -1,0 +1,161 @@
+-- The keywords: how each is written, what its operands are, and the instruction that they make.
+use denote.Ref.{Bor}
+use Rattle.std.specs.Prelude.{ℕ, List, [], ◌∷◌, ◌++◌, codes, map, Option, Some, None}
+use Rattle.std.specs.Prelude.{if◌then◌else◌}
+use Rattle.std.specs.List.{find}
+use Rattle.std.specs.Str.{bytes_eq}
+use Rattle.rd_queue.specs.declared.end.End.TheVariants as end
+use Rattle.rd_app.specs.declared.app.Kind.TheVariants as kind
+use Rattle.rd_app.specs.declared.instr.Operand.{Operand}
+use Rattle.rd_app.specs.declared.instr.Instr.{Instr}
+use Rattle.rd_app.specs.declared.instr.Instr.TheVariants as instruction
+use Rattle.rd_app.specs.declared.instr.LocalInstr.TheVariants as local
+use Rattle.rd_app.specs.declared.instr.QueueCall.TheVariants as call
+use Rattle.rd_app.specs.declared.instr.SetCall.TheVariants as set_call
+use Rattle.rd_script.specs.declared.keyword.Parameter.{Parameter}
+use Rattle.rd_script.specs.declared.keyword.Parameter.TheVariants.{Register, Number, Target}
+use Rattle.rd_script.specs.declared.keyword.Parameter.TheVariants.{Data, Time, Name}
+use Rattle.rd_script.specs.declared.keyword.Keyword.{Keyword}
+use Rattle.rd_script.specs.declared.keyword.Keyword.TheVariants as keyword
+use Rattle.rd_script.specs.declared.keyword.LocalKeyword.{LocalKeyword}
+use Rattle.rd_script.specs.declared.keyword.LocalKeyword.TheVariants as of
+use Rattle.rd_script.specs.declared.keyword.QueueKeyword.{QueueKeyword}
+use Rattle.rd_script.specs.declared.keyword.QueueKeyword.TheVariants.{Send, Front, Receive, Peek}
+use Rattle.rd_script.specs.declared.keyword.QueueKeyword.TheVariants.{Overwrite, Reset, Count}
+use Rattle.rd_script.specs.declared.keyword.QueueKeyword.TheVariants.{Spaces, AddToSet}
+use Rattle.rd_script.specs.declared.keyword.QueueKeyword.TheVariants.{RemoveFromSet}
+use Rattle.rd_script.specs.declared.keyword.SetKeyword.{SetKeyword}
+use Rattle.rd_script.specs.declared.keyword.SetKeyword.TheVariants.{Select}
+
+-- what an operand stands for; a name is that of the object with this number
+abbrev pub Value : Parameter → Type 0
+Value Register = ℕ
+Value Number = ℕ
+Value Target = ℕ
+Value Data = List ℕ
+Value Time = Operand
+Value (Name kind) = ℕ
+
+-- the instruction for each choice of values
+abbrev pub Makes : List Parameter → Type 0
+Makes [] = Instr
+Makes (parameter ∷ others) = Value parameter → Makes others
+
+-- how a keyword is written, its operands, and what they make
+pub data Row : Type 0 where
+  Written : List ℕ → (operands : List Parameter) → Makes operands → Row
+
+abbrev pub text_of : Row → List ℕ
+text_of (Written text operands make) = text
+
+abbrev pub operands_of : Row → List Parameter
+operands_of (Written text operands make) = operands
+
+abbrev queue_name : Parameter
+queue_name = Name kind.Queue
+
+abbrev set_name : Parameter
+set_name = Name kind.Set
+
+-- ---- the rows
+
+abbrev pub local_row : LocalKeyword → Row
+local_row of.Set =
+    Written (codes "set") (Register ∷ Number ∷ [])
+    (λ register value. instruction.Local (local.Set register value))
+local_row of.Add =
+    Written (codes "add") (Register ∷ Number ∷ [])
+    (λ register value. instruction.Local (local.Add register value))
+local_row of.Move =
+    Written (codes "move") (Register ∷ Register ∷ [])
+    (λ into from. instruction.Local (local.Move into from))
+local_row of.Data =
+    Written (codes "data") (Data ∷ []) (λ bytes. instruction.Local (local.Data bytes))
+local_row of.Pack =
+    Written (codes "pack") (Register ∷ []) (λ register. instruction.Local (local.Pack register))
+local_row of.Unpack =
+    Written (codes "unpack") (Register ∷ []) (λ register. instruction.Local (local.Unpack register))
+local_row of.Jump =
+    Written (codes "jump") (Target ∷ []) (λ target. instruction.Local (local.Jump target))
+local_row of.JumpZero =
+    Written (codes "jumpz") (Register ∷ Target ∷ [])
+    (λ register target. instruction.Local (local.JumpZero register target))
+local_row of.End = Written (codes "end") [] (instruction.Local local.End)
+
+abbrev pub queue_row : QueueKeyword → Row
+queue_row Send =
+    Written (codes "send") (queue_name ∷ Time ∷ [])
+    (λ queue wait. instruction.Queue queue (call.Send end.Back wait))
+queue_row Front =
+    Written (codes "front") (queue_name ∷ Time ∷ [])
+    (λ queue wait. instruction.Queue queue (call.Send end.Front wait))
+queue_row Receive =
+    Written (codes "recv") (queue_name ∷ Time ∷ [])
+    (λ queue wait. instruction.Queue queue (call.Receive wait))
+queue_row Peek =
+    Written (codes "peek") (queue_name ∷ Time ∷ [])
+    (λ queue wait. instruction.Queue queue (call.Peek wait))
+queue_row Overwrite =
+    Written (codes "over") (queue_name ∷ []) (λ queue. instruction.Queue queue call.Overwrite)
+queue_row Reset =
+    Written (codes "qreset") (queue_name ∷ []) (λ queue. instruction.Queue queue call.Reset)
+queue_row Count =
+    Written (codes "count") (queue_name ∷ []) (λ queue. instruction.Queue queue call.Count)
+queue_row Spaces =
+    Written (codes "spaces") (queue_name ∷ []) (λ queue. instruction.Queue queue call.Spaces)
+queue_row AddToSet =
+    Written (codes "setadd") (queue_name ∷ set_name ∷ [])
+    (λ queue set. instruction.Queue queue (call.AddToSet set))
+queue_row RemoveFromSet =
+    Written (codes "setdel") (queue_name ∷ set_name ∷ [])
+    (λ queue set. instruction.Queue queue (call.RemoveFromSet set))
+
+abbrev pub set_row : SetKeyword → Row
+set_row Select =
+    Written (codes "select") (set_name ∷ Time ∷ [])
+    (λ set wait. instruction.Set set (set_call.Select wait))
+
+abbrev pub row_of : Keyword → Row
+row_of (keyword.Local of) = local_row of
+row_of (keyword.Queue of) = queue_row of
+row_of (keyword.Set of) = set_row of
+
+abbrev pub local_keywords : List LocalKeyword
+local_keywords =
+    of.Set ∷ of.Add ∷ of.Move ∷ of.Data ∷ of.Pack ∷ of.Unpack ∷ of.Jump ∷ of.JumpZero ∷ of.End ∷ []
+
+abbrev pub queue_keywords : List QueueKeyword
+queue_keywords =
+    Send ∷ Front ∷ Receive ∷ Peek ∷ Overwrite ∷ Reset ∷ Count ∷ Spaces ∷ AddToSet ∷ RemoveFromSet
+    ∷ []
+
+abbrev pub set_keywords : List SetKeyword
+set_keywords = Select ∷ []
+
+abbrev pub keywords : List Keyword
+keywords =
+    map keyword.Local local_keywords
+    ++ map keyword.Queue queue_keywords
+    ++ map keyword.Set set_keywords
+
+-- the keyword that is written so
+abbrev pub keyword_of : List ℕ → Option Keyword
+keyword_of word = find (λ k. bytes_eq word (text_of (row_of k))) keywords
+
+-- ---- the code's table
+
+-- the text of each, its operands, and the keyword
+abbrev pub Texts : Type 0
+Texts = List (List ℕ × List Parameter × Keyword)
+
+abbrev pub texts_of : List Keyword → Texts
+texts_of keywords = map (λ k. (text_of (row_of k), operands_of (row_of k), k)) keywords
+
+abbrev pub texts_view : List (Bor (List ℕ) × Bor (List Parameter) × Keyword) → Texts
+texts_view rows = map (λ row. (row.0.now, row.1.now, row.2)) rows
+
+-- the first of these that is written so, with its operands
+abbrev pub first_written : List ℕ → Texts → Option (List Parameter × Keyword)
+first_written word [] = None
+first_written word (row ∷ others) =
+    if bytes_eq word row.0 then Some (row.1, row.2) else first_written word others

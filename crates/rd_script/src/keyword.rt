@@ -1,0 +1,130 @@
+//! The keywords: how each is written, and what its operands are.
+
+ghost use Rattle.std.specs.Prelude.{◌≡◌, IfSome, option_map};
+ghost use Rattle.rd_script.specs.Keywords.{keyword_of, row_of, operands_of};
+ghost use Rattle.rd_script.specs.Keywords.{first_written, texts_view};
+
+use Keyword::{Local, Queue, Set};
+use rd_app::app::Kind;
+
+/// What an operand of an instruction is.
+#[derive(Clone, Copy, Debug, PartialEq, Eq)]
+pub(crate) enum Parameter {
+    /// A register, `r0` to `r7`.
+    Register,
+    /// A number below 2^32.
+    Number,
+    /// The number of an instruction of the script.
+    Target,
+    /// Bytes in hexadecimal digits, or `-`.
+    Data,
+    /// A block time: `max`, a number of ticks, or the value of a register.
+    Time,
+    /// The name of a thing of that kind.
+    Name(Kind),
+}
+
+/// The first word of an instruction that touches nothing but its own task.
+#[derive(Clone, Copy, Debug, PartialEq, Eq)]
+pub(crate) enum LocalKeyword {
+    Set,
+    Add,
+    Move,
+    Data,
+    Pack,
+    Unpack,
+    Jump,
+    JumpZero,
+    End,
+}
+
+/// The first word of a call of a queue.
+#[derive(Clone, Copy, Debug, PartialEq, Eq)]
+pub(crate) enum QueueKeyword {
+    Send,
+    Front,
+    Receive,
+    Peek,
+    Overwrite,
+    Reset,
+    Count,
+    Spaces,
+    AddToSet,
+    RemoveFromSet,
+}
+
+/// The first word of a call of a queue set.
+#[derive(Clone, Copy, Debug, PartialEq, Eq)]
+pub(crate) enum SetKeyword {
+    Select,
+}
+
+/// The first word of an instruction.
+#[derive(Clone, Copy, Debug, PartialEq, Eq)]
+pub(crate) enum Keyword {
+    Local(LocalKeyword),
+    Queue(QueueKeyword),
+    Set(SetKeyword),
+}
+
+const REGISTER: Parameter = Parameter::Register;
+
+const NUMBER: Parameter = Parameter::Number;
+
+const TARGET: Parameter = Parameter::Target;
+
+const DATA: Parameter = Parameter::Data;
+
+const TIME: Parameter = Parameter::Time;
+
+const QUEUE: Parameter = Parameter::Name(Kind::Queue);
+
+const SET: Parameter = Parameter::Name(Kind::Set);
+
+// Each keyword: as it is written, and its operands.
+const KEYWORDS: [(&str, &[Parameter], Keyword); 20] = [
+    ("set", &[REGISTER, NUMBER], Local(LocalKeyword::Set)),
+    ("add", &[REGISTER, NUMBER], Local(LocalKeyword::Add)),
+    ("move", &[REGISTER, REGISTER], Local(LocalKeyword::Move)),
+    ("data", &[DATA], Local(LocalKeyword::Data)),
+    ("pack", &[REGISTER], Local(LocalKeyword::Pack)),
+    ("unpack", &[REGISTER], Local(LocalKeyword::Unpack)),
+    ("jump", &[TARGET], Local(LocalKeyword::Jump)),
+    ("jumpz", &[REGISTER, TARGET], Local(LocalKeyword::JumpZero)),
+    ("end", &[], Local(LocalKeyword::End)),
+    ("send", &[QUEUE, TIME], Queue(QueueKeyword::Send)),
+    ("front", &[QUEUE, TIME], Queue(QueueKeyword::Front)),
+    ("recv", &[QUEUE, TIME], Queue(QueueKeyword::Receive)),
+    ("peek", &[QUEUE, TIME], Queue(QueueKeyword::Peek)),
+    ("over", &[QUEUE], Queue(QueueKeyword::Overwrite)),
+    ("qreset", &[QUEUE], Queue(QueueKeyword::Reset)),
+    ("count", &[QUEUE], Queue(QueueKeyword::Count)),
+    ("spaces", &[QUEUE], Queue(QueueKeyword::Spaces)),
+    ("setadd", &[QUEUE, SET], Queue(QueueKeyword::AddToSet)),
+    ("setdel", &[QUEUE, SET], Queue(QueueKeyword::RemoveFromSet)),
+    ("select", &[SET, TIME], Set(SetKeyword::Select)),
+];
+
+/// The keyword that is written so, with its operands.
+pub(crate) fn keyword_of(word: &[u8]) -> Option<(&'static [Parameter], Keyword)>
+    ensures keyword { option_map (λ found. found.1) result ≡ keyword_of word.now }
+    ensures operands { IfSome result (λ found. found.0.now ≡ operands_of (row_of found.1)) }
+{
+    first_written(word, &KEYWORDS)
+}
+
+// The first of these keywords that is written so.
+fn first_written<'a>(
+    word: &[u8],
+    keywords: &[(&str, &'a [Parameter], Keyword)],
+) -> Option<(&'a [Parameter], Keyword)>
+    ensures { option_map (λ row. (row.0.now, row.1)) result
+        ≡ first_written word.now (texts_view keywords.now) }
+{
+    for (text, operands, keyword) in keywords {
+        if word == text.as_bytes() {
+            return Some((*operands, *keyword));
+        }
+    }
+    None
+}

@@ -1,0 +1,201 @@
+//! The operands of an instruction, read from its words.
+
+ghost use Rattle.std.specs.Prelude.{◌≡◌};
+ghost use Rattle.rd_app.specs.declared.app.Kind.TheVariants as kind;
+ghost use Rattle.rd_script.specs.declared.keyword.Parameter.TheVariants as parameter;
+ghost use Rattle.rd_script.specs.Objects.{objects_view};
+ghost use Rattle.rd_script.specs.Spelling.{register_of, target_of, operand_of, time_of};
+ghost use Rattle.rd_script.specs.Spelling.{index_named, index_of, is_formed, are_formed};
+ghost use Rattle.rd_script.specs.Spelling.{Takes};
+ghost use Rattle.rd_text.specs.Words.{texts};
+
+use crate::error::AppError;
+use crate::keyword::Parameter;
+use crate::objects::NamedObjects;
+use rd_app::instr::{MAX_DELAY, Operand};
+use rd_bytes::bytes::Bytes;
+use rd_text::words::{Words, bytes, name, number};
+use std::marker::Model;
+
+// The number of a register: `r0` to `r7`.
+fn register_of(word: &[u8]) -> Option<usize>
+    ensures { result ≡ register_of word.now }
+{
+    match word {
+        [b'r', digit @ b'0'..=b'7'] => Some(usize::from(*digit - b'0')),
+        _ => None,
+    }
+}
+
+// A number, or the value of a register.
+fn operand_of(word: &[u8]) -> Option<Operand>
+    ensures { result ≡ operand_of word.now }
+{
+    match register_of(word) {
+        Some(register) => Some(Operand::Register { register }),
+        None => Some(Operand::Number {
+            value: number(word)?,
+        }),
+    }
+}
+
+// A block time: `max`, a number of ticks, or the value of a register.
+fn time_of(word: &[u8]) -> Option<Operand>
+    ensures { result ≡ time_of word.now }
+{
+    match word {
+        b"max" => Some(Operand::Number { value: MAX_DELAY }),
+        _ => operand_of(word),
+    }
+}
+
+// The number of an instruction of a script of that length.
+fn target_of(word: &[u8], len: usize) -> Option<usize>
+    ensures { result ≡ target_of len word.now }
+{
+    let target = number(word)? as usize;
+    if target < len { Some(target) } else { None }
+}
+
+/// The number of the thing with that name, which is its index among these.
+pub(crate) fn index_of(name: &str, names: &[&str]) -> Result<usize, AppError>
+    ensures { result ≡ index_of (texts names.now) name.now }
+{
+    for (index, other) in names.iter().enumerate() {
+        if name == *other {
+            return Ok(index);
+        }
+    }
+    Err(AppError::Name)
+}
+
+// The number of the thing that a word names.
+fn index_named(word: &[u8], names: &[&str]) -> Option<usize>
+    ensures { result ≡ index_named (texts names.now) word.now }
+{
+    index_of(name(word)?, names).ok()
+}
+
+// Whether the word has the form of such an operand, whatever it names.
+fn is_formed(parameter: Parameter, word: &[u8], len: usize) -> bool
+    ensures { result ≡ is_formed len parameter word.now }
+{
+    match parameter {
+        Parameter::Register => register_of(word).is_some(),
+        Parameter::Number => number(word).is_some(),
+        Parameter::Target => target_of(word, len).is_some(),
+        Parameter::Data => bytes(word).is_some(),
+        Parameter::Time => time_of(word).is_some(),
+        Parameter::Name(_) => name(word).is_some(),
+    }
+}
+
+/// Reads the words after a keyword, in a script of that length over those objects.
+#[derive(Drop)]
+pub(crate) struct Reader<'a> {
+    objects: &'a NamedObjects<'a>,
+    len: usize,
+    words: Words<'a>,
+}
+
+impl<'a> Model for Reader<'a> {
+    ghost use Rattle.rd_script.specs.Objects.{objects_view};
+    ghost use Rattle.rd_script.specs.Spelling.{Reading};
+
+    ghost Value = { Reading };
+
+    ghost view = { λ r. record {
+      objects = objects_view r.objects.now;
+      len = r.len;
+      words = r.words;
+    } };
+}
+
+impl<'a> Reader<'a> {
+    /// Reads these words.
+    pub(crate) fn new(objects: &'a NamedObjects<'a>, len: usize, words: Words<'a>) -> Reader<'a>
+        ensures { result ≡ record {
+          objects = objects_view objects.now;
+          len = len;
+          words = words.entry;
+        } }
+    {
+        Reader {
+            objects,
+            len,
+            words,
+        }
+    }
+
+    /// Whether the words have the forms of these operands, and there are no more.
+    pub(crate) fn are_formed(&self, parameters: &[Parameter]) -> bool
+        ensures { result ≡ are_formed self.now.len parameters.now self.now.words }
+    {
+        let mut words = self.words.copy();
+        for parameter in parameters {
+            let Some(word) = words.next() else {
+                return false;
+            };
+            if !is_formed(*parameter, word, self.len) {
+                return false;
+            }
+        }
+        words.next().is_none()
+    }
+
+    /// The next word, as a register.
+    #[tactic(auto, unfolding(crate::specs::Spelling::next_value))]
+    pub(crate) fn register(&mut self) -> Option<usize>
+        ensures { Takes parameter.Register self.old result self.new }
+    {
+        register_of(self.words.next()?)
+    }
+
+    /// The next word, as a number.
+    #[tactic(auto, unfolding(crate::specs::Spelling::next_value))]
+    pub(crate) fn number(&mut self) -> Option<u32>
+        ensures { Takes parameter.Number self.old result self.new }
+    {
+        number(self.words.next()?)
+    }
+
+    /// The next word, as the number of an instruction of the script.
+    #[tactic(auto, unfolding(crate::specs::Spelling::next_value))]
+    pub(crate) fn target(&mut self) -> Option<usize>
+        ensures { Takes parameter.Target self.old result self.new }
+    {
+        target_of(self.words.next()?, self.len)
+    }
+
+    /// The next word, as bytes.
+    #[tactic(auto, unfolding(crate::specs::Spelling::next_value))]
+    pub(crate) fn data(&mut self) -> Option<Bytes>
+        ensures { Takes parameter.Data self.old result self.new }
+    {
+        bytes(self.words.next()?)
+    }
+
+    /// The next word, as a block time.
+    #[tactic(auto, unfolding(crate::specs::Spelling::next_value))]
+    pub(crate) fn time(&mut self) -> Option<Operand>
+        ensures { Takes parameter.Time self.old result self.new }
+    {
+        time_of(self.words.next()?)
+    }
+
+    /// The next word, as the number of the queue that it names.
+    #[tactic(auto, unfolding(crate::specs::Spelling::next_value))]
+    pub(crate) fn queue(&mut self) -> Option<usize>
+        ensures { Takes (parameter.Name kind.Queue) self.old result self.new }
+    {
+        index_named(self.words.next()?, self.objects.queues.names.as_slice())
+    }
+
+    /// The next word, as the number of the set that it names.
+    #[tactic(auto, unfolding(crate::specs::Spelling::next_value))]
+    pub(crate) fn set(&mut self) -> Option<usize>
+        ensures { Takes (parameter.Name kind.Set) self.old result self.new }
+    {
+        index_named(self.words.next()?, self.objects.set_names.as_slice())
+    }
+}
