@@ -9,7 +9,6 @@ ghost use Rattle.rd_command.specs.Commands.{numbered_command};
 ghost use Rattle.rd_command.specs.Commands.{view_without_name, named_view};
 
 use rd_text::words::{Words, name, number};
-use thiserror::Error;
 
 /// How many moves a command makes or takes back at the most.
 pub const MAX_COUNT: u32 = 1_000_000;
@@ -34,8 +33,7 @@ pub enum Command<'a> {
 }
 
 /// The line is no command.
-#[derive(Debug, Drop, Error)]
-#[error("not a command")]
+#[derive(Debug, Drop)]
 pub struct Syntax;
 
 /// Reads a command from its line. `Syntax` exactly where the words of the line spell none.

@@ -20,19 +20,16 @@ use rd_wait::prio_list::PrioList;
 use std::alloc::{AllocError, Global};
 use std::collections::VecDeque;
 use std::marker::Model;
-use thiserror::Error;
 
 /// How many items a queue has room for at the most.
 pub const MAX_ITEMS: usize = 64;
 
 /// The queue has no free slot.
-#[derive(Debug, Drop, Error)]
-#[error("the queue is full")]
+#[derive(Debug, Drop)]
 pub struct Full;
 
 /// The queue has no item.
-#[derive(Debug, Drop, Error)]
-#[error("the queue is empty")]
+#[derive(Debug, Drop)]
 pub struct Empty;
 
 /// A queue with room for `capacity` items of `item_size` bytes each, the tasks that wait at it, and
