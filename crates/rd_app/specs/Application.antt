@@ -30,29 +30,25 @@ use Rattle.rd_queue.specs.declared.waiting_list.WaitingList.{WaitingList}
 use Rattle.rd_queue.specs.declared.waiting_list.WaitingList.TheVariants.{Receiving, Sending}
 use Rattle.rd_app.specs.TaskScript.{TaskScript}
 use Rattle.rd_app.specs.QueueSetShape.{QueueSetShape}
-use Rattle.rd_text.specs.Names.{AreNames}
+use Rattle.rd_app.specs.Named.{AreNamed, Named}
 
--- Names and what they stand for go by number: the index in these lists.
 pub record Application : Type 0 where
   pub cores : ℕ
   pub notes : ℕ
   pub tick : ℕ
-  pub queues : List QueueShape
-  pub queue_names : List (List ℕ)
-  pub sets : List QueueSetShape
-  pub set_names : List (List ℕ)
-  pub scripts : List TaskScript
-  pub task_names : List (List ℕ)
+  pub queues : Named QueueShape
+  pub sets : Named QueueSetShape
+  pub tasks : Named TaskScript
 
 -- the names of one kind
 abbrev pub names_of : Kind → Application → List (List ℕ)
-names_of kind.Queue app = app.queue_names
-names_of kind.Set app = app.set_names
-names_of kind.Task app = app.task_names
+names_of kind.Queue app = app.queues.names
+names_of kind.Set app = app.sets.names
+names_of kind.Task app = app.tasks.names
 
 -- the script of a task
 abbrev pub script_of : Application → ℕ → TaskScript
-script_of app task = slice_index_or app.scripts task (record { priority = 0; code = [] })
+script_of app task = slice_index_or app.tasks.things task (record { priority = 0; code = [] })
 
 -- the instructions of a task
 abbrev pub code_of : Application → ℕ → List Instr
@@ -64,11 +60,11 @@ instr_at app task pc = slice_index_or (code_of app task) pc (Local local.End)
 
 -- the shape of a queue
 abbrev pub shape_at : Application → ℕ → QueueShape
-shape_at app queue = slice_index_or app.queues queue (record { capacity = 0; item_size = 0 })
+shape_at app queue = slice_index_or app.queues.things queue (record { capacity = 0; item_size = 0 })
 
 -- the set that a queue is a member of at boot, if it is one of any
 abbrev pub set_at_boot : Application → ℕ → Option ℕ
-set_at_boot app queue = position (λ set. list_any (nat_eq queue) set.members) app.sets
+set_at_boot app queue = position (λ set. list_any (nat_eq queue) set.members) app.sets.things
 
 -- the members of all these sets, one set after another
 abbrev pub members_of : List QueueSetShape → List ℕ
@@ -76,7 +72,7 @@ members_of sets = concat (map (λ set. set.members) sets)
 
 -- the tasks' priorities, by number
 abbrev pub priorities_of : Application → List ℕ
-priorities_of app = map (λ script. script.priority) app.scripts
+priorities_of app = map (λ script. script.priority) app.tasks.things
 
 -- the block time of a call that waits without end
 abbrev pub max_delay : ℕ
@@ -143,10 +139,10 @@ list_of_call (RemoveFromSet set) = None
 abbrev pub IsWithin : Application → ℕ → Instr → Type 0
 IsWithin app len (Local instr) = IsLocalWithin len instr
 IsWithin app len (Queue queue call) =
-    (queue < length app.queues)
-    × IsQueueCall (length app.sets) call
+    (queue < length app.queues.things)
+    × IsQueueCall (length app.sets.things) call
     × IsCallFor (shape_at app queue) call
-IsWithin app len (Set set call) = (set < length app.sets) × IsSetCall call
+IsWithin app len (Set set call) = (set < length app.sets.things) × IsSetCall call
 
 -- does the script never go on at the next instruction?
 abbrev pub is_local_final : LocalInstr → Bool
@@ -176,7 +172,7 @@ IsQueueShape queue =
 pub record IsSetShape (app : Application) (set : QueueSetShape) : Type 0 where
   pub some : 0 < set.capacity
   pub few : set.capacity ≤ MAX_HANDLES
-  pub members : All (λ queue. queue < length app.queues) set.members
+  pub members : All (λ queue. queue < length app.queues.things) set.members
 
 pub record IsScript (app : Application) (script : TaskScript) : Type 0 where
   pub priority : script.priority ≤ MAX_PRIORITY
@@ -191,17 +187,14 @@ pub record IsApplication (app : Application) : Type 0 where
   pub some_notes : 0 < app.notes
   pub few_notes : app.notes ≤ MAX_ENTRIES
   pub tick : app.tick < 2 ^ 32
-  pub few_queues : length app.queues ≤ MAX_QUEUES
-  pub queues : All IsQueueShape app.queues
-  pub queue_names : length app.queue_names ≡ length app.queues
-  pub named_queues : AreNames app.queue_names
-  pub few_sets : length app.sets ≤ MAX_SETS
-  pub sets : All (IsSetShape app) app.sets
-  pub one_set_each : IsDistinct nat_eq (members_of app.sets)
-  pub set_names : length app.set_names ≡ length app.sets
-  pub named_sets : AreNames app.set_names
-  pub some_tasks : 0 < length app.scripts
-  pub few_tasks : length app.scripts ≤ MAX_TASKS
-  pub scripts : All (IsScript app) app.scripts
-  pub task_names : length app.task_names ≡ length app.scripts
-  pub named_tasks : AreNames app.task_names
+  pub named_queues : AreNamed app.queues
+  pub few_queues : length app.queues.things ≤ MAX_QUEUES
+  pub queues : All IsQueueShape app.queues.things
+  pub named_sets : AreNamed app.sets
+  pub few_sets : length app.sets.things ≤ MAX_SETS
+  pub sets : All (IsSetShape app) app.sets.things
+  pub one_set_each : IsDistinct nat_eq (members_of app.sets.things)
+  pub named_tasks : AreNamed app.tasks
+  pub some_tasks : 0 < length app.tasks.things
+  pub few_tasks : length app.tasks.things ≤ MAX_TASKS
+  pub tasks : All (IsScript app) app.tasks.things

@@ -12,19 +12,22 @@ builtin = record {
   cores = 1;
   notes = 1;
   tick = 0;
-  queues = record { capacity = 2; item_size = 1 } ∷ [];
-  queue_names = codes "q0" ∷ [];
-  sets = [];
-  set_names = [];
-  scripts = record {
-    priority = 1;
-    code =
-        Local (Data (65 ∷ []))
-        ∷ Queue 0 (Send Back (Number 0))
-        ∷ Queue 0 (Send Back (Number 0))
-        ∷ Queue 0 (Send Back (Number 0))
-        ∷ Local End
-        ∷ [];
-  } ∷ [];
-  task_names = codes "t0" ∷ [];
+  queues = record {
+    names = codes "q0" ∷ [];
+    things = record { capacity = 2; item_size = 1 } ∷ [];
+  };
+  sets = record { names = []; things = [] };
+  tasks = record {
+    names = codes "t0" ∷ [];
+    things = record {
+      priority = 1;
+      code =
+          Local (Data (65 ∷ []))
+          ∷ Queue 0 (Send Back (Number 0))
+          ∷ Queue 0 (Send Back (Number 0))
+          ∷ Queue 0 (Send Back (Number 0))
+          ∷ Local End
+          ∷ [];
+    } ∷ [];
+  };
 }

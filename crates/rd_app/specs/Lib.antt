@@ -2,5 +2,6 @@
 pub mod TaskScript
 pub mod QueueSetShape
 pub mod Application
+pub mod Named
 pub mod Inside
 pub mod Builtin

@@ -79,7 +79,16 @@ impl Model for Script {
     ghost view = { λ s. record { priority = s.priority; code = s.code.items } };
 }
 
-/// What an application is made of. Queues, sets and tasks go by number: the index in these lists.
+/// Things of one kind, with their names. They go by number: the index in both.
+#[derive(Drop)]
+pub struct Named<T> {
+    /// Their names.
+    pub names: Names,
+    /// The things.
+    pub things: Vec<T>,
+}
+
+/// What an application is made of.
 #[derive(Drop)]
 pub struct Parts {
     /// How many cores there are, 1 to 8.
@@ -89,17 +98,11 @@ pub struct Parts {
     /// The tick at boot.
     pub tick: u32,
     /// The queues, at most 32.
-    pub queues: Vec<QueueShape>,
-    /// The queues' names.
-    pub queue_names: Names,
+    pub queues: Named<QueueShape>,
     /// The queue sets, at most 32.
-    pub sets: Vec<SetShape>,
-    /// The sets' names.
-    pub set_names: Names,
-    /// The tasks, 1 to 32.
-    pub scripts: Vec<Script>,
-    /// The tasks' names.
-    pub task_names: Names,
+    pub sets: Named<SetShape>,
+    /// The tasks' scripts, 1 to 32.
+    pub tasks: Named<Script>,
 }
 
 /// An application within the limits. It never changes.
@@ -175,7 +178,7 @@ impl App {
         requires { IsApplication (application_of parts) }
         ensures { IfOk result (λ app. app ≡ application_of parts) }
     {
-        let priorities = priorities_of(alloc, parts.scripts.as_slice())?;
+        let priorities = priorities_of(alloc, parts.tasks.things.as_slice())?;
         Ok(App { parts, priorities })
     }
 
@@ -208,12 +211,18 @@ impl App {
             cores: 1,
             notes: 1,
             tick: 0,
-            queues: vec![in alloc; queue]?,
-            queue_names: Names::new(alloc, &["q0"])?,
-            sets: Vec::new(alloc),
-            set_names: Names::new(alloc, &[])?,
-            scripts: vec![in alloc; Script::new(1, code)]?,
-            task_names: Names::new(alloc, &["t0"])?,
+            queues: Named {
+                names: Names::new(alloc, &["q0"])?,
+                things: vec![in alloc; queue]?,
+            },
+            sets: Named {
+                names: Names::new(alloc, &[])?,
+                things: Vec::new(alloc),
+            },
+            tasks: Named {
+                names: Names::new(alloc, &["t0"])?,
+                things: vec![in alloc; Script::new(1, code)]?,
+            },
         };
         App::new(alloc, parts)
     }
@@ -248,25 +257,26 @@ impl App {
 
     /// The queues, by number.
     pub fn queues(&self) -> &[QueueShape]
-        ensures { result.now ≡ self.now.queues }
+        ensures { result.now ≡ self.now.queues.things }
     {
-        self.parts.queues.as_slice()
+        self.parts.queues.things.as_slice()
     }
 
     /// The queue sets, by number.
     pub fn sets(&self) -> &[SetShape]
-        ensures { result.now ≡ self.now.sets }
+        ensures { result.now ≡ self.now.sets.things }
     {
-        self.parts.sets.as_slice()
+        self.parts.sets.things.as_slice()
     }
 
     /// The set that the queue is a member of at boot, if it is one of any.
     pub fn set_of(&self, queue: usize) -> Option<usize>
         ensures set { result ≡ set_at_boot self.now queue }
-        ensures within { IfSome result (λ set. set < length self.now.sets) }
+        ensures within { IfSome result (λ set. set < length self.now.sets.things) }
     {
         self.parts
             .sets
+            .things
             .iter()
             .position(|set| set.members.contains(&queue))
     }
@@ -276,9 +286,9 @@ impl App {
         ensures { result ≡ position (λ other. bytes_eq name.now other) (names_of kind self.now) }
     {
         match kind {
-            Kind::Queue => self.parts.queue_names.find(name),
-            Kind::Set => self.parts.set_names.find(name),
-            Kind::Task => self.parts.task_names.find(name),
+            Kind::Queue => self.parts.queues.names.find(name),
+            Kind::Set => self.parts.sets.names.find(name),
+            Kind::Task => self.parts.tasks.names.find(name),
         }
     }
 
@@ -288,20 +298,20 @@ impl App {
         ensures { slice_get (names_of kind self.now) number ≡ Some result.now }
     {
         match kind {
-            Kind::Queue => self.parts.queue_names.name(number),
-            Kind::Set => self.parts.set_names.name(number),
-            Kind::Task => self.parts.task_names.name(number),
+            Kind::Queue => self.parts.queues.names.name(number),
+            Kind::Set => self.parts.sets.names.name(number),
+            Kind::Task => self.parts.tasks.names.name(number),
         }
     }
 
     /// The instructions of the task's script.
     pub fn code(&self, task: usize) -> &[Instr]
-        requires { task < length self.now.scripts }
+        requires { task < length self.now.tasks.things }
         ensures code { result.now ≡ code_of self.now task }
         ensures few { length result.now ≤ MAX_CODE }
         ensures within { All (IsWithin self.now (length result.now)) result.now }
     {
-        let script = &self.parts.scripts[task];
+        let script = &self.parts.tasks.things[task];
         script.code.as_slice()
     }
 

@@ -236,7 +236,7 @@ IsConsistent-blocked app s core task place wait there runs has_core e has_place 
 
 -- The call is done, somebody else may have been woken, and it returns.
 pub IsConsistent-passed : (app : Application) (tick : ℕ) (s p : Snapshot) (task answer : ℕ) → task < length s.tasks → 1 ≤ seats_to_run (task_at s task).phase
-    → (task_at s task).pc + 1 < length (code_of app task) → length s.tasks ≡ length app.scripts
+    → (task_at s task).pc + 1 < length (code_of app task) → length s.tasks ≡ length app.tasks.things
     → AfterWaking app (all_have_time_left tick) s p task → IsConsistent app (all_have_time_left tick) (returned p task answer)
 IsConsistent-passed app tick s p task answer there runs within tasks wakes =
     let same = wakes.same_caller in

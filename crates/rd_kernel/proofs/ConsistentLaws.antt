@@ -38,7 +38,7 @@ pub record IsConsistentTask (app : Application) (D : ℕ → Phase → Type 0) (
 
 pub record IsConsistent (app : Application) (D : ℕ → Phase → Type 0) (s : Snapshot) : Type 0 where
   pub cores : length s.cores ≡ app.cores
-  pub tasks : length s.tasks ≡ length app.scripts
+  pub tasks : length s.tasks ≡ length app.tasks.things
   pub each : (task : ℕ) → task < length s.tasks → IsConsistentTask app D task (task_at s task)
   pub shapes : AreShaped app s.objects
   pub placed_once : PlacedOnce s

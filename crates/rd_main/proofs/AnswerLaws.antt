@@ -16,15 +16,15 @@ use Rattle.rd_reply.specs.Names.{all_names, SeatedAreNamed}
 use Rattle.rd_reply.specs.Replies.{line_of, cores_text}
 
 -- Each queue, each set and each task of the state has a name.
-queues_named : (app : Application) (s : Snapshot) → IsApplication app → IsValid app s → length s.objects.queues ≡ length app.queue_names
-queues_named app s limits valid = omega (arith, limits.queue_names, ap length valid.in_limits.objects.queues, length-map s.objects.queues shape_of)
+queues_named : (app : Application) (s : Snapshot) → IsApplication app → IsValid app s → length s.objects.queues ≡ length app.queues.names
+queues_named app s limits valid = omega (arith, limits.named_queues.paired, ap length valid.in_limits.objects.queues, length-map s.objects.queues shape_of)
 
-sets_named : (app : Application) (s : Snapshot) → IsApplication app → IsValid app s → length s.objects.sets ≡ length app.set_names
+sets_named : (app : Application) (s : Snapshot) → IsApplication app → IsValid app s → length s.objects.sets ≡ length app.sets.names
 sets_named app s limits valid =
-    omega (arith, limits.set_names, ap length valid.in_limits.objects.sets, length-map s.objects.sets room_of, length-map app.sets (λ (set : QueueSetShape). set.capacity))
+    omega (arith, limits.named_sets.paired, ap length valid.in_limits.objects.sets, length-map s.objects.sets room_of, length-map app.sets.things (λ (set : QueueSetShape). set.capacity))
 
-tasks_named : (app : Application) (s : Snapshot) → IsApplication app → IsValid app s → length s.tasks ≡ length app.task_names
-tasks_named app s limits valid = omega (arith, limits.task_names, valid.in_limits.tasks)
+tasks_named : (app : Application) (s : Snapshot) → IsApplication app → IsValid app s → length s.tasks ≡ length app.tasks.names
+tasks_named app s limits valid = omega (arith, limits.named_tasks.paired, valid.in_limits.tasks)
 
 -- Who runs and who is ready has a name.
 pub seated_named : (app : Application) (s : Snapshot) → IsApplication app → IsValid app s → SeatedAreNamed (all_names app) s
@@ -69,7 +69,7 @@ answer_with_less less room old new None line within is = is
 answer_with_less less room old new (Some (Step core)) line within is = is
 answer_with_less less room old new (Some Tick) line within is = is
 answer_with_less less room old new (Some (Back count)) line within is = is
-answer_with_less less room old new (Some (ShowQueue name)) line within is = (view_with_less less room (number_named name old.app.queue_names) _ line within is.0, is.1)
-answer_with_less less room old new (Some (ShowSet name)) line within is = (view_with_less less room (number_named name old.app.set_names) _ line within is.0, is.1)
-answer_with_less less room old new (Some (ShowTask name)) line within is = (view_with_less less room (number_named name old.app.task_names) _ line within is.0, is.1)
+answer_with_less less room old new (Some (ShowQueue name)) line within is = (view_with_less less room (number_named name old.app.queues.names) _ line within is.0, is.1)
+answer_with_less less room old new (Some (ShowSet name)) line within is = (view_with_less less room (number_named name old.app.sets.names) _ line within is.0, is.1)
+answer_with_less less room old new (Some (ShowTask name)) line within is = (view_with_less less room (number_named name old.app.tasks.names) _ line within is.0, is.1)
 answer_with_less less room old new (Some ShowCores) line within is = (shown_with_less less room (cores_text (all_names old.app) old.target) line within is.0, is.1)

@@ -18,9 +18,9 @@ pub record AllNames : Type 0 where
 -- those of an application
 abbrev pub all_names : Application → AllNames
 all_names app = record {
-  queues = app.queue_names;
-  sets = app.set_names;
-  tasks = app.task_names;
+  queues = app.queues.names;
+  sets = app.sets.names;
+  tasks = app.tasks.names;
 }
 
 -- how many objects of each kind have a name

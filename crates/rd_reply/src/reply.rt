@@ -186,8 +186,8 @@ fn append_number_list(page: &mut Page<'_>, numbers: &[u32])
 
 // The names of tasks.
 fn append_task_names(page: &mut Page<'_>, app: &App, tasks: &[usize])
-    requires { All (IsNamed app.now.task_names) tasks.now }
-    ensures { Appends page.old page.new (list_text (name_at app.now.task_names) tasks.now) }
+    requires { All (IsNamed app.now.tasks.names) tasks.now }
+    ensures { Appends page.old page.new (list_text (name_at app.now.tasks.names) tasks.now) }
 {
     if tasks.is_empty() {
         return page.append("-");
@@ -200,8 +200,8 @@ fn append_task_names(page: &mut Page<'_>, app: &App, tasks: &[usize])
 
 // The names of the queues whose handles are in a set.
 fn append_handle_names(page: &mut Page<'_>, app: &App, set: &QueueSet)
-    requires { All (IsNamed app.now.queue_names) set.now.handles }
-    ensures { Appends page.old page.new (list_text (name_at app.now.queue_names) set.now.handles) }
+    requires { All (IsNamed app.now.queues.names) set.now.handles }
+    ensures { Appends page.old page.new (list_text (name_at app.now.queues.names) set.now.handles) }
 {
     if set.count() == 0 {
         return page.append("-");
@@ -225,8 +225,8 @@ fn append_name_or_dash(page: &mut Page<'_>, app: &App, kind: Kind, number: Optio
 
 // The names of the tasks on the cores.
 fn append_seat_names(page: &mut Page<'_>, app: &App, cores: &[Option<usize>])
-    requires { All (IsNamedOrNone app.now.task_names) cores.now }
-    ensures { Appends page.old page.new (list_text (name_or_dash app.now.task_names) cores.now) }
+    requires { All (IsNamedOrNone app.now.tasks.names) cores.now }
+    ensures { Appends page.old page.new (list_text (name_or_dash app.now.tasks.names) cores.now) }
 {
     if cores.is_empty() {
         return page.append("-");

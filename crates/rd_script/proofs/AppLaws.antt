@@ -18,8 +18,9 @@ use Rattle.rd_text.specs.Names.{AreNames}
 use Rattle.rd_script.specs.File.{TaskDraft, object_with, field, number_in, number_or, array_in, array_or_empty}
 use Rattle.rd_script.specs.File.{queue_of, queues_after, set_of, sets_after, task_of, tasks_after}
 use Rattle.rd_script.specs.File.{scripts_after, file_keys, AppDraft, draft_of, with_scripts, app_of, app_of_text, app_of_bytes, checked}
-use Rattle.rd_script.specs.File.{GivesFaultFirst, GivesOrNoMemory}
-use Rattle.rd_script.specs.Says.{IsNumberOr, IsArrayOrEmpty, IsQueue, AreQueues, AreSets, Says, FileSays}
+use Rattle.rd_script.specs.File.{GivesFaultFirst, GivesOrNoMemory, nothing_named}
+use Rattle.rd_app.specs.Named.{Named}
+use Rattle.rd_script.specs.Says.{IsNumberOr, IsArrayOrEmpty, IsQueue, AreQueues, AreSets, SayEach, SayNamed, Says, FileSays}
 use Rattle.std.specs.List.{AllByRecursion}
 use Rattle.rd_script.proofs.NamedLaws.{AllByRecursion-first, length_named, named_again, named_take, each_again, each_takes}
 use Rattle.rd_app.specs.TaskScript.{TaskScript}
@@ -39,6 +40,10 @@ array_or_ok : (most : ℕ) (o : Option Data) (ds : Items) → array_or_empty mos
 array_or_ok most None ds e = let is : no_items ≡ ds = cc in (sym is, omega (arith, ap items_len is))
 array_or_ok most (Some d) ds e = let a = array_ok 0 most d ds e in (a.0, a.2)
 
+-- drafts with the names of the tasks
+abbrev drafts_of : Application → List TaskDraft → Named TaskDraft
+drafts_of app drafts = record { names = app.tasks.names; things = drafts }
+
 -- the application was read so
 pub record IsRead (d : Data) (app : Application) (profile cores tasks : Data) (queue_items set_items task_items : Items) (drafts : List TaskDraft)
     : Type 0 where
@@ -51,15 +56,21 @@ pub record IsRead (d : Data) (app : Application) (profile cores tasks : Data) (q
   pub notes : number_or 1 1 4 (get (codes "notes") d) ≡ Ok app.notes
   pub tick : number_or 0 0 (2 ^ 32 - 1) (get (codes "tick") d) ≡ Ok app.tick
   pub queue_array : array_or_empty 32 (get (codes "queues") d) ≡ Ok queue_items
-  pub queues : queues_after [] [] queue_items ≡ Ok (app.queue_names, app.queues)
+  pub queues : queues_after nothing_named queue_items ≡ Ok app.queues
   pub set_array : array_or_empty 32 (get (codes "sets") d) ≡ Ok set_items
-  pub sets : sets_after app.queue_names [] [] set_items ≡ Ok (app.set_names, app.sets)
+  pub sets : sets_after app.queues.names nothing_named set_items ≡ Ok app.sets
   pub task_array : array_in 1 32 tasks ≡ Ok task_items
-  pub drafts_are : tasks_after [] [] task_items ≡ Ok (app.task_names, drafts)
-  pub scripts : scripts_after (objects_of app) [] drafts ≡ Ok app.scripts
+  pub drafts_are : tasks_after nothing_named task_items ≡ Ok (drafts_of app drafts)
+  pub scripts : scripts_after (objects_of app) [] drafts ≡ Ok app.tasks.things
 
 no_names : AreNames []
 no_names = record { named = refl; distinct = refl }
+
+-- what is said of these names and things is said of them together
+said_named : {X : Type 0} (Is : Data → List ℕ → X → Type 0) (ds : Items) (named : Named X) (names : List (List ℕ)) (things : List X)
+    → named.names ≡ names → named.things ≡ things → SayEach Is ds names things → SayNamed Is ds named
+said_named Is ds named names things names_are things_are said =
+    subst (λ (ns : List (List ℕ)). SayEach Is ds ns named.things) (sym names_are) (subst (SayEach Is ds names) (sym things_are) said)
 
 pub read_takes : (d : Data) (app : Application) (profile cores tasks : Data) (queue_items set_items task_items : Items) (drafts : List TaskDraft)
     → IsRead d app profile cores tasks queue_items set_items task_items drafts → Says d app queue_items set_items task_items × IsApplication app
@@ -72,35 +83,31 @@ read_takes d app profile cores tasks queue_items set_items task_items drafts rea
     let set_array = array_or_ok 32 (get (codes "sets") d) set_items read.set_array in
     let task_array = array_ok 1 32 tasks task_items read.task_array in
     let queues =
-    named_take (λ names shapes. queue_of names) IsQueue (AllByRecursion IsQueueShape) (each_takes queue_of IsQueue IsQueueShape queue.queue_takes)
-    queue_items [] [] (app.queue_names, app.queues) read.queues
+    named_take (λ before. queue_of before.names) IsQueue (AllByRecursion IsQueueShape) (each_takes queue_of IsQueue IsQueueShape queue.queue_takes)
+    queue_items nothing_named app.queues read.queues
     (record { are_names = no_names; are_things = tt }) in
     let sets =
-    named_take (set_of app.queue_names) (set.SaysSet app.queue_names) (set.AreSetsOf (length app.queue_names)) (set.set_takes app.queue_names)
-    set_items [] [] (app.set_names, app.sets) read.sets
-    (record { are_names = no_names; are_things = set.no_sets (length app.queue_names) }) in
+    named_take (set_of app.queues.names) (set.SaysSet app.queues.names) (set.AreSetsOf (length app.queues.names)) (set.set_takes app.queues.names)
+    set_items nothing_named app.sets read.sets
+    (record { are_names = no_names; are_things = set.no_sets (length app.queues.names) }) in
     let taken =
-    named_take (λ names drafts. task_of names) task.IsDraft (AllByRecursion task.IsDraftInLimits)
-    (each_takes task_of task.IsDraft task.IsDraftInLimits task.task_takes) task_items [] [] (app.task_names, drafts) read.drafts_are
+    named_take (λ before. task_of before.names) task.IsDraft (AllByRecursion task.IsDraftInLimits)
+    (each_takes task_of task.IsDraft task.IsDraftInLimits task.task_takes) task_items nothing_named (drafts_of app drafts) read.drafts_are
     (record { are_names = no_names; are_things = tt }) in
-    let scripts = scripts_take (objects_of app) drafts [] app.scripts read.scripts in
-    let names_said : AreQueues queue_items app.queue_names app.queues =
-    subst (λ (ns : List (List ℕ)). AreQueues queue_items ns app.queues) (sym queues.2.names_are)
-    (subst (AreQueues queue_items queues.0) (sym queues.2.things_are) queues.2.said) in
-    let sets_said : AreSets app.queue_names set_items app.set_names app.sets =
-    subst (λ (ns : List (List ℕ)). AreSets app.queue_names set_items ns app.sets) (sym sets.2.names_are)
-    (subst (AreSets app.queue_names set_items sets.0) (sym sets.2.things_are) sets.2.said) in
-    let drafts_said : task.AreDrafts task_items app.task_names drafts =
-    subst (λ (ns : List (List ℕ)). task.AreDrafts task_items ns drafts) (sym taken.2.names_are)
-    (subst (task.AreDrafts task_items taken.0) (sym taken.2.things_are) taken.2.said) in
-    let scripts_said : AreScripts (objects_of app) drafts app.scripts = subst (AreScripts (objects_of app) drafts) (sym scripts.1) scripts.2 in
-    let tasks_said = task.tasks_said (objects_of app) task_items app.task_names drafts app.scripts drafts_said scripts_said in
-    let sizes = length_named IsQueue queue_items app.queue_names app.queues names_said in
-    let set_sizes = length_named (set.SaysSet app.queue_names) set_items app.set_names app.sets sets_said in
-    let count = (length_named task.IsDraft task_items app.task_names drafts drafts_said).0 in
-    let same : length app.queues ≡ length app.queue_names = omega (arith, sizes) in
-    let same_sets : length app.sets ≡ length app.set_names = omega (arith, set_sizes) in
-    let within = task.scripts_in_limits app drafts app.scripts (record { queues = same; sets = same_sets }) taken.2.kept.are_things scripts_said in (
+    let scripts = scripts_take (objects_of app) drafts [] app.tasks.things read.scripts in
+    let queues_said : AreQueues queue_items app.queues = said_named IsQueue queue_items app.queues queues.0 queues.1 queues.2.names_are queues.2.things_are queues.2.said in
+    let sets_said : AreSets app.queues.names set_items app.sets =
+    said_named (set.SaysSet app.queues.names) set_items app.sets sets.0 sets.1 sets.2.names_are sets.2.things_are sets.2.said in
+    let drafts_said : task.AreDrafts task_items app.tasks.names drafts =
+    said_named task.IsDraft task_items (drafts_of app drafts) taken.0 taken.1 taken.2.names_are taken.2.things_are taken.2.said in
+    let scripts_said : AreScripts (objects_of app) drafts app.tasks.things = subst (AreScripts (objects_of app) drafts) (sym scripts.1) scripts.2 in
+    let tasks_said = task.tasks_said (objects_of app) task_items app.tasks.names drafts app.tasks.things drafts_said scripts_said in
+    let sizes = length_named IsQueue queue_items app.queues.names app.queues.things queues_said in
+    let set_sizes = length_named (set.SaysSet app.queues.names) set_items app.sets.names app.sets.things sets_said in
+    let count = (length_named task.IsDraft task_items app.tasks.names drafts drafts_said).0 in
+    let same : length app.queues.things ≡ length app.queues.names = omega (arith, sizes) in
+    let same_sets : length app.sets.things ≡ length app.sets.names = omega (arith, set_sizes) in
+    let within = task.scripts_in_limits app drafts app.tasks.things (record { queues = same; sets = same_sets }) taken.2.kept.are_things scripts_said in (
       record {
         keys = object_ok file_keys d tt read.keys;
         profile_at = field_ok (codes "profile") d profile read.profile_at ∙ ap Some one.0;
@@ -108,7 +115,7 @@ read_takes d app profile cores tasks queue_items set_items task_items drafts rea
         notes_at = notes.0;
         tick_at = tick.0;
         queues_at = queue_array.0;
-        queues = names_said;
+        queues = queues_said;
         sets_at = set_array.0;
         sets = sets_said;
         one_set_each = sets.2.kept.are_things.one_each;
@@ -122,20 +129,17 @@ read_takes d app profile cores tasks queue_items set_items task_items drafts rea
         few_notes = notes.2;
         tick = omega (arith, tick);
         few_queues = omega (arith, queue_array, sizes);
-        queues = All-from_recursion IsQueueShape app.queues queues.2.kept.are_things;
-        queue_names = sym same;
-        named_queues = queues.2.kept.are_names;
+        queues = All-from_recursion IsQueueShape app.queues.things queues.2.kept.are_things;
+        named_queues = record { paired = sym same; names = queues.2.kept.are_names };
         few_sets = omega (arith, set_array, set_sizes);
-        sets = All-from_recursion (IsSetShape app) app.sets
-            (set.sets_in_limits app (length app.queue_names) app.sets same sets.2.kept.are_things.shapes);
+        sets = All-from_recursion (IsSetShape app) app.sets.things
+            (set.sets_in_limits app (length app.queues.names) app.sets.things same sets.2.kept.are_things.shapes);
         one_set_each = sets.2.kept.are_things.one_each;
-        set_names = sym same_sets;
-        named_sets = sets.2.kept.are_names;
+        named_sets = record { paired = sym same_sets; names = sets.2.kept.are_names };
         some_tasks = omega (arith, task_array, count, tasks_said.1);
         few_tasks = omega (arith, task_array, count, tasks_said.1);
-        scripts = All-from_recursion (IsScript app) app.scripts within;
-        task_names = tasks_said.1;
-        named_tasks = taken.2.kept.are_names;
+        tasks = All-from_recursion (IsScript app) app.tasks.things within;
+        named_tasks = record { paired = tasks_said.1; names = taken.2.kept.are_names };
       },
     )
 
@@ -158,11 +162,8 @@ app_with draft scripts = record {
   notes = draft.notes;
   tick = draft.tick;
   queues = draft.objects.queues;
-  queue_names = draft.objects.queue_names;
-  sets = draft.sets;
-  set_names = draft.objects.set_names;
-  scripts = scripts;
-  task_names = draft.task_names;
+  sets = draft.objects.sets;
+  tasks = record { names = draft.tasks.names; things = scripts };
 }
 
 pub app_takes : (d : Data) (app : Application) → app_of d ≡ Ok app
@@ -170,7 +171,7 @@ pub app_takes : (d : Data) (app : Application) → app_of d ≡ Ok app
 unfolding draft_of
 app_takes d app e =
     let drafted = bind_ok (draft_of d) with_scripts app e in
-    let scripts = bind_ok (scripts_after drafted.0.objects [] drafted.0.tasks) _ app drafted.2 in
+    let scripts = bind_ok (scripts_after drafted.0.objects [] drafted.0.tasks.things) _ app drafted.2 in
     let keys = bind_ok (object_with file_keys d) _ drafted.0 drafted.1 in
     let profile = bind_ok (field (codes "profile") d) _ drafted.0 keys.2 in
     let cores = bind_ok (field (codes "cores") d) _ drafted.0 profile.2 in
@@ -180,24 +181,22 @@ app_takes d app e =
     let notes = bind_ok (number_or 1 1 4 (get (codes "notes") d)) _ drafted.0 core_count.2 in
     let tick = bind_ok (number_or 0 0 (2 ^ 32 - 1) (get (codes "tick") d)) _ drafted.0 notes.2 in
     let queue_items = bind_ok (array_or_empty 32 (get (codes "queues") d)) _ drafted.0 tick.2 in
-    let queues = bind_ok (queues_after [] [] queue_items.0) _ drafted.0 queue_items.2 in
+    let queues = bind_ok (queues_after nothing_named queue_items.0) _ drafted.0 queue_items.2 in
     let set_items = bind_ok (array_or_empty 32 (get (codes "sets") d)) _ drafted.0 queues.2 in
-    let sets = bind_ok (sets_after queues.0.0 [] [] set_items.0) _ drafted.0 set_items.2 in
+    let sets = bind_ok (sets_after queues.0.names nothing_named set_items.0) _ drafted.0 set_items.2 in
     let task_items = bind_ok (array_in 1 32 tasks.0) _ drafted.0 sets.2 in
-    let drafts = bind_ok (tasks_after [] [] task_items.0) _ drafted.0 task_items.2 in
+    let drafts = bind_ok (tasks_after nothing_named task_items.0) _ drafted.0 task_items.2 in
     let draft : AppDraft = record {
       cores = core_count.0;
       notes = notes.0;
       tick = tick.0;
-      objects = record { queue_names = queues.0.0; queues = queues.0.1; set_names = sets.0.0 };
-      sets = sets.0.1;
-      tasks = drafts.0.1;
-      task_names = drafts.0.0;
+      objects = record { queues = queues.0; sets = sets.0 };
+      tasks = drafts.0;
     } in
     let draft_is : draft ≡ drafted.0 = ok_is draft drafted.0 drafts.2 in
     let made = app_with draft scripts.0 in
     let is : made ≡ app = ap (λ (draft : AppDraft). app_with draft scripts.0) draft_is ∙ ok_is _ app scripts.2 in
-    let all = read_takes d made profile.0 cores.0 tasks.0 queue_items.0 set_items.0 task_items.0 drafts.0.1 (record {
+    let all = read_takes d made profile.0 cores.0 tasks.0 queue_items.0 set_items.0 task_items.0 drafts.0.things (record {
       keys = keys.1;
       profile_at = profile.1;
       cores_at = cores.1;
@@ -212,7 +211,7 @@ app_takes d app e =
       sets = sets.1;
       task_array = task_items.1;
       drafts_are = drafts.1;
-      scripts = ap (λ (draft : AppDraft). scripts_after draft.objects [] draft.tasks) draft_is ∙ scripts.1;
+      scripts = ap (λ (draft : AppDraft). scripts_after draft.objects [] draft.tasks.things) draft_is ∙ scripts.1;
     }) in
     let says = subst (λ (app : Application). Says d app queue_items.0 set_items.0 task_items.0) is all.0 in
     (queue_items.0, set_items.0, task_items.0, says, subst IsApplication is all.1)
@@ -235,9 +234,7 @@ draft_from app drafts = record {
   notes = app.notes;
   tick = app.tick;
   objects = objects_of app;
-  sets = app.sets;
-  tasks = drafts;
-  task_names = app.task_names;
+  tasks = drafts_of app drafts;
 }
 
 -- what was read so is the answer
@@ -254,30 +251,30 @@ draft_read d app profile cores tasks queue_items set_items task_items drafts rea
     (then_is (number_or 1 1 4 (get (codes "notes") d)) _ app.notes _ read.notes
     (then_is (number_or 0 0 (2 ^ 32 - 1) (get (codes "tick") d)) _ app.tick _ read.tick
     (then_is (array_or_empty 32 (get (codes "queues") d)) _ queue_items _ read.queue_array
-    (then_is (queues_after [] [] queue_items) _ (app.queue_names, app.queues) _ read.queues
+    (then_is (queues_after nothing_named queue_items) _ app.queues _ read.queues
     (then_is (array_or_empty 32 (get (codes "sets") d)) _ set_items _ read.set_array
-    (then_is (sets_after app.queue_names [] [] set_items) _ (app.set_names, app.sets) _ read.sets
+    (then_is (sets_after app.queues.names nothing_named set_items) _ app.sets _ read.sets
     (then_is (array_in 1 32 tasks) _ task_items _ read.task_array
-    (then_is (tasks_after [] [] task_items) _ (app.task_names, drafts) _ read.drafts_are
+    (then_is (tasks_after nothing_named task_items) _ (drafts_of app drafts) _ read.drafts_are
     refl)))))))))))))
 
 app_read : (d : Data) (app : Application) (profile cores tasks : Data) (queue_items set_items task_items : Items) (drafts : List TaskDraft)
     → IsRead d app profile cores tasks queue_items set_items task_items drafts → app_of d ≡ Ok app
 app_read d app profile cores tasks queue_items set_items task_items drafts read =
     then_is (draft_of d) with_scripts (draft_from app drafts) _ (draft_read d app profile cores tasks queue_items set_items task_items drafts read)
-    (then_is (scripts_after (objects_of app) [] drafts) _ app.scripts _ read.scripts refl)
+    (then_is (scripts_after (objects_of app) [] drafts) _ app.tasks.things _ read.scripts refl)
 
 pub app_again : (d : Data) (app : Application) (queue_items set_items task_items : Items) → Says d app queue_items set_items task_items → IsApplication app
     → app_of d ≡ Ok app
 app_again d app queue_items set_items task_items says limits =
-    let sizes = length_named IsQueue queue_items app.queue_names app.queues says.queues in
-    let shapes = recursion_from_All IsQueueShape app.queues limits.queues in
-    let set_sizes = length_named (set.SaysSet app.queue_names) set_items app.set_names app.sets says.sets in
-    let set_limits = recursion_from_All (IsSetShape app) app.sets limits.sets in
-    let set_shapes = set.sets_of_limits app (length app.queue_names) app.sets (sym limits.queue_names) set_limits in
-    let scripts = recursion_from_All (IsScript app) app.scripts limits.scripts in
-    let split = task.tasks_split app (objects_of app) task_items app.task_names app.scripts says.tasks scripts in
-    let count = (length_named task.IsDraft task_items app.task_names split.0 split.1).0 in
+    let sizes = length_named IsQueue queue_items app.queues.names app.queues.things says.queues in
+    let shapes = recursion_from_All IsQueueShape app.queues.things limits.queues in
+    let set_sizes = length_named (set.SaysSet app.queues.names) set_items app.sets.names app.sets.things says.sets in
+    let set_limits = recursion_from_All (IsSetShape app) app.sets.things limits.sets in
+    let set_shapes = set.sets_of_limits app (length app.queues.names) app.sets.things (sym limits.named_queues.paired) set_limits in
+    let scripts = recursion_from_All (IsScript app) app.tasks.things limits.tasks in
+    let split = task.tasks_split app (objects_of app) task_items app.tasks.names app.tasks.things says.tasks scripts in
+    let count = (length_named task.IsDraft task_items app.tasks.names split.0 split.1).0 in
     app_read d app (number (unsigned 1)) (number (unsigned app.cores)) (array task_items) queue_items set_items task_items split.0 (record {
       keys = object_again file_keys d says.keys;
       profile_at = field_again (codes "profile") d _ says.profile_at;
@@ -288,17 +285,17 @@ app_again d app queue_items set_items task_items says limits =
       notes = number_or_again 1 1 4 (get (codes "notes") d) app.notes says.notes_at (omega (arith, limits.some_notes)) limits.few_notes;
       tick = number_or_again 0 0 (2 ^ 32 - 1) (get (codes "tick") d) app.tick says.tick_at (omega arith) (omega (arith, limits.tick));
       queue_array = array_or_again 32 (get (codes "queues") d) queue_items says.queues_at (omega (arith, sizes, limits.few_queues));
-      queues = named_again (λ names shapes. queue_of names) IsQueue (AllByRecursion IsQueueShape) (AllByRecursion-first IsQueueShape)
-          (each_again queue_of IsQueue IsQueueShape queue.queue_again) queue_items [] [] app.queue_names app.queues says.queues limits.named_queues shapes;
+      queues = named_again (λ before. queue_of before.names) IsQueue (AllByRecursion IsQueueShape) (AllByRecursion-first IsQueueShape)
+          (each_again queue_of IsQueue IsQueueShape queue.queue_again) queue_items nothing_named app.queues.names app.queues.things says.queues limits.named_queues.names shapes;
       set_array = array_or_again 32 (get (codes "sets") d) set_items says.sets_at (omega (arith, set_sizes, limits.few_sets));
-      sets = named_again (set_of app.queue_names) (set.SaysSet app.queue_names) (set.AreSetsOf (length app.queue_names))
-          (set.sets_first (length app.queue_names)) (set.set_again app.queue_names) set_items [] [] app.set_names app.sets says.sets limits.named_sets
+      sets = named_again (set_of app.queues.names) (set.SaysSet app.queues.names) (set.AreSetsOf (length app.queues.names))
+          (set.sets_first (length app.queues.names)) (set.set_again app.queues.names) set_items nothing_named app.sets.names app.sets.things says.sets limits.named_sets.names
           (record { shapes = set_shapes; one_each = limits.one_set_each });
-      task_array = array_again 1 32 (array task_items) task_items refl (omega (arith, count, limits.some_tasks, limits.task_names))
-          (omega (arith, count, limits.few_tasks, limits.task_names));
-      drafts_are = named_again (λ names drafts. task_of names) task.IsDraft (AllByRecursion task.IsReadable) (AllByRecursion-first task.IsReadable)
-          (each_again task_of task.IsDraft task.IsReadable task.draft_again) task_items [] [] app.task_names split.0 split.1 limits.named_tasks split.2;
-      scripts = scripts_again (objects_of app) split.0 [] app.scripts split.3;
+      task_array = array_again 1 32 (array task_items) task_items refl (omega (arith, count, limits.some_tasks, limits.named_tasks.paired))
+          (omega (arith, count, limits.few_tasks, limits.named_tasks.paired));
+      drafts_are = named_again (λ before. task_of before.names) task.IsDraft (AllByRecursion task.IsReadable) (AllByRecursion-first task.IsReadable)
+          (each_again task_of task.IsDraft task.IsReadable task.draft_again) task_items nothing_named app.tasks.names split.0 split.1 limits.named_tasks.names split.2;
+      scripts = scripts_again (objects_of app) split.0 [] app.tasks.things split.3;
     })
 
 -- ---- the bytes of a file
@@ -341,27 +338,27 @@ pub at_any : (r : Result Application AppError) (read : Result Application AppErr
 at_any (Ok app) read h = h
 at_any (Err e) read h = λ other. elim h [ inl is ↦ is | inr memory ↦ absurd (other memory.0) ]
 
-kept_app : (d : Data) (draft : AppDraft) (r : Result (List TaskScript) AppError) → draft_of d ≡ Ok draft → scripts_after draft.objects [] draft.tasks ≡ r
+kept_app : (d : Data) (draft : AppDraft) (r : Result (List TaskScript) AppError) → draft_of d ≡ Ok draft → scripts_after draft.objects [] draft.tasks.things ≡ r
     → checked r ≡ Ok tt
     → IsOkAnd (r >>= λ scripts. Ok (app_with draft scripts)) IsApplication
 kept_app d draft (Ok scripts) drafted e h =
     (app_takes d (app_with draft scripts)
-    (then_is (draft_of d) with_scripts draft _ drafted (then_is (scripts_after draft.objects [] draft.tasks) _ scripts _ e refl))).4
+    (then_is (draft_of d) with_scripts draft _ drafted (then_is (scripts_after draft.objects [] draft.tasks.things) _ scripts _ e refl))).4
 kept_app d draft (Err x) drafted e h = absurd cc
 
 -- a draft whose scripts were checked is an application within the limits
-pub checked_app : (d : Data) (draft : AppDraft) → draft_of d ≡ Ok draft → checked (scripts_after draft.objects [] draft.tasks) ≡ Ok tt
+pub checked_app : (d : Data) (draft : AppDraft) → draft_of d ≡ Ok draft → checked (scripts_after draft.objects [] draft.tasks.things) ≡ Ok tt
     → IsOkAnd (with_scripts draft) IsApplication
-checked_app d draft drafted h = kept_app d draft (scripts_after draft.objects [] draft.tasks) drafted refl h
+checked_app d draft drafted h = kept_app d draft (scripts_after draft.objects [] draft.tasks.things) drafted refl h
 
 fault_kept : (r : Result (List TaskScript) AppError) (f : List TaskScript → Result Application AppError) (e : AppError) → checked r ≡ Err e → (r >>= f) ≡ Err e
 fault_kept (Ok scripts) f e h = absurd cc
 fault_kept (Err d) f e h = cc
 
 -- a draft with a fault in its scripts is no application
-pub fault_found : (d : Data) (draft : AppDraft) (e : AppError) → draft_of d ≡ Ok draft → checked (scripts_after draft.objects [] draft.tasks) ≡ Err e
+pub fault_found : (d : Data) (draft : AppDraft) (e : AppError) → draft_of d ≡ Ok draft → checked (scripts_after draft.objects [] draft.tasks.things) ≡ Err e
     → app_of d ≡ Err e
-fault_found d draft e drafted h = then_is (draft_of d) with_scripts draft (Err e) drafted (fault_kept (scripts_after draft.objects [] draft.tasks) _ e h)
+fault_found d draft e drafted h = then_is (draft_of d) with_scripts draft (Err e) drafted (fault_kept (scripts_after draft.objects [] draft.tasks.things) _ e h)
 
 pub file_again : (bytes : List ℕ) (app : Application) → FileSays bytes app → IsApplication app → app_of_bytes bytes ≡ Ok app
 file_again bytes app says limits =

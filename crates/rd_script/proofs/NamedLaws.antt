@@ -7,7 +7,8 @@ use Rattle.serde_json.specs.Events.{items_len}
 use Rattle.rd_text.specs.Names.{AreNames}
 use Rattle.rd_text.proofs.Offered.{AreNames-push, IsNewName, IsNewName-in}
 use Rattle.rd_script.specs.declared.error.AppError.{AppError}
-use Rattle.rd_script.specs.File.{named_after}
+use Rattle.rd_app.specs.Named.{Named}
+use Rattle.rd_script.specs.File.{named_after, with_named}
 use Rattle.rd_script.specs.Says.{SayEach}
 use Rattle.rd_script.proofs.Steps.{bind_ok, then_is}
 
@@ -34,83 +35,87 @@ length_named Is (item d ds) [] things h = absurd h
 length_named Is (item d ds) (n ∷ names) [] h = absurd h
 length_named Is (item d ds) (n ∷ names) (x ∷ things) h = let rest = length_named Is ds names things h.1 in (ap suc rest.0, ap suc rest.1)
 
-pub record AreKept {X : Type 0} (InLimits : List X → Type 0) (names : List (List ℕ)) (things : List X) : Type 0 where
-  pub are_names : AreNames names
-  pub are_things : InLimits things
+pub record AreKept {X : Type 0} (InLimits : List X → Type 0) (named : Named X) : Type 0 where
+  pub are_names : AreNames named.names
+  pub are_things : InLimits named.things
 
 -- what an array adds
-pub record Adds {X : Type 0} (Is : Data → List ℕ → X → Type 0) (InLimits : List X → Type 0) (ds : Items) (names : List (List ℕ)) (things : List X)
-    (q : List (List ℕ) × List X) (more : List (List ℕ)) (others : List X) : Type 0 where
-  pub names_are : q.0 ≡ names ++ more
-  pub things_are : q.1 ≡ things ++ others
+pub record Adds {X : Type 0} (Is : Data → List ℕ → X → Type 0) (InLimits : List X → Type 0) (ds : Items) (before after : Named X)
+    (more : List (List ℕ)) (others : List X) : Type 0 where
+  pub names_are : after.names ≡ before.names ++ more
+  pub things_are : after.things ≡ before.things ++ others
   pub said : SayEach Is ds more others
-  pub kept : AreKept InLimits q.0 q.1
+  pub kept : AreKept InLimits after
 
-pub named_take : {X : Type 0} (read : List (List ℕ) → List X → Data → Result (List ℕ × X) AppError) (Is : Data → List ℕ → X → Type 0)
-    (InLimits : List X → Type 0)
-    → ((names : List (List ℕ)) (things : List X) (d : Data) (t : List ℕ × X) → read names things d ≡ Ok t → InLimits things
-    → Is d t.0 t.1 × IsNewName names t.0 × InLimits (things ++ t.1 ∷ []))
-    → (ds : Items) (names : List (List ℕ)) (things : List X) (q : List (List ℕ) × List X) → named_after read names things ds ≡ Ok q
-    → AreKept InLimits names things → (more : List (List ℕ)) × (others : List X) × Adds Is InLimits ds names things q more others
-named_take {X = X} read Is InLimits takes no_items names things q e kept =
-    let is : (names, things) ≡ q = cc in (
+pub named_take : {X : Type 0} (read : Named X → Data → Result (List ℕ × X) AppError) (Is : Data → List ℕ → X → Type 0) (InLimits : List X → Type 0)
+    → ((before : Named X) (d : Data) (t : List ℕ × X) → read before d ≡ Ok t → InLimits before.things
+    → Is d t.0 t.1 × IsNewName before.names t.0 × InLimits (before.things ++ t.1 ∷ []))
+    → (ds : Items) (before after : Named X) → named_after read before ds ≡ Ok after
+    → AreKept InLimits before → (more : List (List ℕ)) × (others : List X) × Adds Is InLimits ds before after more others
+named_take {X = X} read Is InLimits takes no_items before after e kept =
+    let is : before ≡ after = cc in (
       [],
       [],
       record {
-        names_are = ap (λ (q : List (List ℕ) × List X). q.0) (sym is) ∙ sym (append-nil names);
-        things_are = ap (λ (q : List (List ℕ) × List X). q.1) (sym is) ∙ sym (append-nil things);
+        names_are = ap (λ (named : Named X). named.names) (sym is) ∙ sym (append-nil before.names);
+        things_are = ap (λ (named : Named X). named.things) (sym is) ∙ sym (append-nil before.things);
         said = tt;
-        kept = subst (λ (q : List (List ℕ) × List X). AreKept InLimits q.0 q.1) is kept;
+        kept = subst (AreKept InLimits) is kept;
       },
     )
-named_take read Is InLimits takes (item d ds) names things q e kept =
-    let first = bind_ok (read names things d) _ q e in
-    let taken = takes names things d first.0 first.1 kept.are_things in
+named_take read Is InLimits takes (item d ds) before after e kept =
+    let first = bind_ok (read before d) _ after e in
+    let taken = takes before d first.0 first.1 kept.are_things in
     let rest =
-    named_take read Is InLimits takes ds (names ++ first.0.0 ∷ []) (things ++ first.0.1 ∷ []) q first.2 (record {
-      are_names = AreNames-push names first.0.0 kept.are_names taken.1;
+    named_take read Is InLimits takes ds (with_named before first.0.0 first.0.1) after first.2 (record {
+      are_names = AreNames-push before.names first.0.0 kept.are_names taken.1;
       are_things = taken.2;
     }) in (
       first.0.0 ∷ rest.0,
       first.0.1 ∷ rest.1,
       record {
-        names_are = rest.2.names_are ∙ append_assoc names (first.0.0 ∷ []) rest.0;
-        things_are = rest.2.things_are ∙ append_assoc things (first.0.1 ∷ []) rest.1;
+        names_are = rest.2.names_are ∙ append_assoc before.names (first.0.0 ∷ []) rest.0;
+        things_are = rest.2.things_are ∙ append_assoc before.things (first.0.1 ∷ []) rest.1;
         said = (taken.0, rest.2.said);
         kept = rest.2.kept;
       },
     )
 
-pub named_again : {X : Type 0} (read : List (List ℕ) → List X → Data → Result (List ℕ × X) AppError) (Is : Data → List ℕ → X → Type 0)
+-- those before, and more of them
+abbrev pub named_more : {X : Type 0} → Named X → List (List ℕ) → List X → Named X
+named_more before more others = record { names = before.names ++ more; things = before.things ++ others }
+
+pub named_again : {X : Type 0} (read : Named X → Data → Result (List ℕ × X) AppError) (Is : Data → List ℕ → X → Type 0)
     (InLimits : List X → Type 0) → ((xs ys : List X) → InLimits (xs ++ ys) → InLimits xs)
-    → ((names : List (List ℕ)) (things : List X) (d : Data) (name : List ℕ) (x : X) → Is d name x → IsNewName names name → InLimits (things ++ x ∷ [])
-    → read names things d ≡ Ok (name, x))
-    → (ds : Items) (names : List (List ℕ)) (things : List X) (more : List (List ℕ)) (others : List X) → SayEach Is ds more others
-    → AreNames (names ++ more) → InLimits (things ++ others) → named_after read names things ds ≡ Ok (names ++ more, things ++ others)
-named_again read Is InLimits first again no_items names things [] [] h are limits = rw (append-nil names, append-nil things) refl
-named_again read Is InLimits first again no_items names things [] (x ∷ others) h are limits = absurd h
-named_again read Is InLimits first again no_items names things (n ∷ more) others h are limits = absurd h
-named_again read Is InLimits first again (item d ds) names things [] others h are limits = absurd h
-named_again read Is InLimits first again (item d ds) names things (n ∷ more) [] h are limits = absurd h
-named_again read Is InLimits first again (item d ds) names things (n ∷ more) (x ∷ others) h are limits =
-    let all : AreNames ((names ++ n ∷ []) ++ more) = subst AreNames (sym (append_assoc names (n ∷ []) more)) are in
-    let within : InLimits ((things ++ x ∷ []) ++ others) = subst InLimits (sym (append_assoc things (x ∷ []) others)) limits in
-    then_is (read names things d) _ (n, x) _ (again names things d n x h.0 (IsNewName-in names n more are) (first (things ++ x ∷ []) others within))
-    (named_again read Is InLimits first again ds (names ++ n ∷ []) (things ++ x ∷ []) more others h.1 all within
-    ∙ rw (append_assoc names (n ∷ []) more, append_assoc things (x ∷ []) others) refl)
+    → ((before : Named X) (d : Data) (name : List ℕ) (x : X) → Is d name x → IsNewName before.names name → InLimits (before.things ++ x ∷ [])
+    → read before d ≡ Ok (name, x))
+    → (ds : Items) (before : Named X) (more : List (List ℕ)) (others : List X) → SayEach Is ds more others
+    → AreNames (before.names ++ more) → InLimits (before.things ++ others) → named_after read before ds ≡ Ok (named_more before more others)
+named_again read Is InLimits first again no_items before [] [] h are limits = rw (append-nil before.names, append-nil before.things) refl
+named_again read Is InLimits first again no_items before [] (x ∷ others) h are limits = absurd h
+named_again read Is InLimits first again no_items before (n ∷ more) others h are limits = absurd h
+named_again read Is InLimits first again (item d ds) before [] others h are limits = absurd h
+named_again read Is InLimits first again (item d ds) before (n ∷ more) [] h are limits = absurd h
+named_again read Is InLimits first again (item d ds) before (n ∷ more) (x ∷ others) h are limits =
+    let all : AreNames ((before.names ++ n ∷ []) ++ more) = subst AreNames (sym (append_assoc before.names (n ∷ []) more)) are in
+    let within : InLimits ((before.things ++ x ∷ []) ++ others) = subst InLimits (sym (append_assoc before.things (x ∷ []) others)) limits in
+    then_is (read before d) _ (n, x) _
+    (again before d n x h.0 (IsNewName-in before.names n more are) (first (before.things ++ x ∷ []) others within))
+    (named_again read Is InLimits first again ds (with_named before n x) more others h.1 all within
+    ∙ rw (append_assoc before.names (n ∷ []) more, append_assoc before.things (x ∷ []) others) refl)
 
 -- ---- things that are read over names alone, each within its own limits
 
 pub each_takes : {X : Type 0} (read : List (List ℕ) → Data → Result (List ℕ × X) AppError) (Is : Data → List ℕ → X → Type 0) (InLimits : X → Type 0)
     → ((names : List (List ℕ)) (d : Data) (t : List ℕ × X) → read names d ≡ Ok t → Is d t.0 t.1 × IsNewName names t.0 × InLimits t.1)
-    → (names : List (List ℕ)) (things : List X) (d : Data) (t : List ℕ × X) → read names d ≡ Ok t → AllByRecursion InLimits things
-    → Is d t.0 t.1 × IsNewName names t.0 × AllByRecursion InLimits (things ++ t.1 ∷ [])
-each_takes read Is InLimits takes names things d t e all =
-    let taken = takes names d t e in
-    (taken.0, taken.1, AllByRecursion-push InLimits things t.1 all taken.2)
+    → (before : Named X) (d : Data) (t : List ℕ × X) → read before.names d ≡ Ok t → AllByRecursion InLimits before.things
+    → Is d t.0 t.1 × IsNewName before.names t.0 × AllByRecursion InLimits (before.things ++ t.1 ∷ [])
+each_takes read Is InLimits takes before d t e all =
+    let taken = takes before.names d t e in
+    (taken.0, taken.1, AllByRecursion-push InLimits before.things t.1 all taken.2)
 
 pub each_again : {X : Type 0} (read : List (List ℕ) → Data → Result (List ℕ × X) AppError) (Is : Data → List ℕ → X → Type 0) (InLimits : X → Type 0)
     → ((names : List (List ℕ)) (d : Data) (name : List ℕ) (x : X) → Is d name x → IsNewName names name → InLimits x → read names d ≡ Ok (name, x))
-    → (names : List (List ℕ)) (things : List X) (d : Data) (name : List ℕ) (x : X) → Is d name x → IsNewName names name
-    → AllByRecursion InLimits (things ++ x ∷ []) → read names d ≡ Ok (name, x)
-each_again read Is InLimits again names things d name x h new all = again names d name x h new (AllByRecursion-last InLimits things x all)
+    → (before : Named X) (d : Data) (name : List ℕ) (x : X) → Is d name x → IsNewName before.names name
+    → AllByRecursion InLimits (before.things ++ x ∷ []) → read before.names d ≡ Ok (name, x)
+each_again read Is InLimits again before d name x h new all = again before.names d name x h new (AllByRecursion-last InLimits before.things x all)

@@ -13,6 +13,7 @@ use Rattle.std.proofs.lemmas.Map.Steps.{length-le_from_distinct_below}
 use Rattle.serde_json.specs.Data.{Data, null, boolean, number, unsigned, string, array, object, Items, no_items, item}
 use Rattle.serde_json.specs.Find.{get, as_array, as_str}
 use Rattle.rd_app.specs.Application.{Application, IsSetShape, members_of}
+use Rattle.rd_app.specs.Named.{Named}
 use Rattle.rd_app.specs.QueueSetShape.{QueueSetShape}
 use Rattle.rd_script.specs.declared.error.AppError.TheVariants as fault
 use Rattle.rd_script.specs.Says.{IsMember, AreMembers, IsSet}
@@ -203,10 +204,13 @@ read_takes queues names sets d text length_value members_value texts name set re
       },
     )
 
-pub set_takes : (queues names : List (List ℕ)) (sets : List QueueSetShape) (d : Data) (t : List ℕ × QueueSetShape) → set_of queues names sets d ≡ Ok t
-    → AreSetsOf (length queues) sets → SaysSet queues d t.0 t.1 × IsNewName names t.0 × AreSetsOf (length queues) (sets ++ t.1 ∷ [])
+pub set_takes : (queues : List (List ℕ)) (before : Named QueueSetShape) (d : Data) (t : List ℕ × QueueSetShape) → set_of queues before d ≡ Ok t
+    → AreSetsOf (length queues) before.things
+    → SaysSet queues d t.0 t.1 × IsNewName before.names t.0 × AreSetsOf (length queues) (before.things ++ t.1 ∷ [])
 unfolding set_of
-set_takes queues names sets d t e kept =
+set_takes queues before d t e kept =
+    let names = before.names in
+    let sets = before.things in
     let keys = bind_ok (object_with set_keys d) _ t e in
     let text = bind_ok (field (codes "name") d) _ t keys.2 in
     let length_value = bind_ok (field (codes "length") d) _ t text.2 in
@@ -228,10 +232,12 @@ set_takes queues names sets d t e kept =
       members = members.1 ∙ ap (λ (set : QueueSetShape). Ok set.members) set_is;
     }) kept
 
-pub set_again : (queues names : List (List ℕ)) (sets : List QueueSetShape) (d : Data) (name : List ℕ) (set : QueueSetShape) → SaysSet queues d name set
-    → IsNewName names name → AreSetsOf (length queues) (sets ++ set ∷ []) → set_of queues names sets d ≡ Ok (name, set)
+pub set_again : (queues : List (List ℕ)) (before : Named QueueSetShape) (d : Data) (name : List ℕ) (set : QueueSetShape) → SaysSet queues d name set
+    → IsNewName before.names name → AreSetsOf (length queues) (before.things ++ set ∷ []) → set_of queues before d ≡ Ok (name, set)
 unfolding set_of
-set_again queues names sets d name set h new all =
+set_again queues before d name set h new all =
+    let names = before.names in
+    let sets = before.things in
     let said = h.1 in
     let limits = AllByRecursion-last (IsSetOf (length queues)) sets set all.shapes in
     let once = subst (IsDistinct nat_eq) (members_of-push sets set) all.one_each in
@@ -246,7 +252,7 @@ set_again queues names sets d name set h new all =
 
 -- ---- the sets of an application
 
-pub sets_in_limits : (app : Application) (queues : ℕ) (sets : List QueueSetShape) → length app.queues ≡ queues → AllByRecursion (IsSetOf queues) sets
+pub sets_in_limits : (app : Application) (queues : ℕ) (sets : List QueueSetShape) → length app.queues.things ≡ queues → AllByRecursion (IsSetOf queues) sets
     → AllByRecursion (IsSetShape app) sets
 sets_in_limits app queues [] same all = tt
 sets_in_limits app queues (set ∷ sets) same all =
@@ -254,15 +260,15 @@ sets_in_limits app queues (set ∷ sets) same all =
     let shape : IsSetShape app set = record {
       some = omega (arith, all.0.some);
       few = all.0.few;
-      members = All-from_recursion (λ queue. queue < length app.queues) set.members there;
+      members = All-from_recursion (λ queue. queue < length app.queues.things) set.members there;
     } in
     (shape, sets_in_limits app queues sets same all.1)
 
-pub sets_of_limits : (app : Application) (queues : ℕ) (sets : List QueueSetShape) → length app.queues ≡ queues → AllByRecursion (IsSetShape app) sets
+pub sets_of_limits : (app : Application) (queues : ℕ) (sets : List QueueSetShape) → length app.queues.things ≡ queues → AllByRecursion (IsSetShape app) sets
     → AllByRecursion (IsSetOf queues) sets
 sets_of_limits app queues [] same all = tt
 sets_of_limits app queues (set ∷ sets) same all =
-    let there = recursion_from_All (λ queue. queue < length app.queues) set.members all.0.members in
+    let there = recursion_from_All (λ queue. queue < length app.queues.things) set.members all.0.members in
     let of_queues : IsSetOf queues set = record {
       some = omega (arith, all.0.some);
       few = all.0.few;

@@ -271,8 +271,8 @@ time_there word wait =
 
 -- there are as many names as objects
 pub record AreNamedObjects (app : Application) : Type 0 where
-  pub queues : length app.queues ≡ length app.queue_names
-  pub sets : length app.sets ≡ length app.set_names
+  pub queues : length app.queues.things ≡ length app.queues.names
+  pub sets : length app.sets.things ≡ length app.sets.names
 
 -- what an operand of that kind may stand for
 abbrev IsValue : Application → ℕ → (parameter : Parameter) → Value parameter → Type 0

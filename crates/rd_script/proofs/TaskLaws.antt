@@ -62,7 +62,7 @@ AreDrafts ds names drafts = SayEach IsDraft ds names drafts
 
 -- drafts and their scripts are tasks
 pub tasks_said : (objects : NamedObjects) (ds : Items) (names : List (List ℕ)) (drafts : List TaskDraft) (scripts : List TaskScript) → AreDrafts ds names drafts
-    → AreScripts objects drafts scripts → AreTasks objects ds names scripts × (length names ≡ length scripts)
+    → AreScripts objects drafts scripts → AreTasks objects ds (record { names = names; things = scripts }) × (length names ≡ length scripts)
 tasks_said objects no_items [] [] [] a b = (tt, refl)
 tasks_said objects no_items [] [] (s ∷ scripts) a b = absurd b
 tasks_said objects no_items [] (draft ∷ drafts) scripts a b = absurd a
@@ -131,7 +131,7 @@ texts_said objects len (item d ds) (i ∷ code) h = rw h.0.1 (texts_said objects
 
 -- tasks are drafts and their scripts
 pub tasks_split : (app : Application) (objects : NamedObjects) (ds : Items) (names : List (List ℕ)) (scripts : List TaskScript)
-    → AreTasks objects ds names scripts → AllByRecursion (IsScript app) scripts
+    → AreTasks objects ds (record { names = names; things = scripts }) → AllByRecursion (IsScript app) scripts
     → (drafts : List TaskDraft) × AreDrafts ds names drafts × AllByRecursion IsReadable drafts × AreScripts objects drafts scripts
 tasks_split app objects no_items [] [] h limits = ([], tt, tt, tt)
 tasks_split app objects no_items [] (s ∷ scripts) h limits = absurd h

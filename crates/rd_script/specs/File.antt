@@ -21,6 +21,7 @@ use Rattle.rd_script.specs.declared.error.AppError.{AppError}
 use Rattle.rd_script.specs.declared.error.AppError.TheVariants as fault
 use Rattle.rd_app.specs.declared.instr.Instr.{Instr}
 use Rattle.rd_app.specs.Application.{Application, is_final, members_of}
+use Rattle.rd_app.specs.Named.{Named}
 use Rattle.rd_app.specs.QueueSetShape.{QueueSetShape}
 use Rattle.rd_script.specs.Objects.{NamedObjects}
 use Rattle.rd_script.specs.Spelling.{◌>>=◌, index_of, instr_of}
@@ -78,17 +79,24 @@ new_name names d = do
 
 -- ---- arrays of named things
 
--- those before, and those of the array, each read over the names and the things before it
-abbrev pub named_after : {X : Type 0}
-    → (List (List ℕ) → List X → Data → Result (List ℕ × X) AppError)
-    → List (List ℕ)
-    → List X
-    → Items
-    → Result (List (List ℕ) × List X) AppError
-named_after read names things no_items = Ok (names, things)
-named_after read names things (item d ds) = do
-  thing ← read names things d
-  named_after read (names ++ thing.0 ∷ []) (things ++ thing.1 ∷ []) ds
+abbrev pub nothing_named : {X : Type 0} → Named X
+nothing_named = record { names = []; things = [] }
+
+-- one more thing of that name
+abbrev pub with_named : {X : Type 0} → Named X → List ℕ → X → Named X
+with_named before name thing = record {
+  names = before.names ++ name ∷ [];
+  things = before.things ++ thing ∷ [];
+}
+
+-- those before, and those of the array, each read over those before it
+abbrev pub named_after : {X : Type 0} → (Named X → Data → Result (List ℕ × X) AppError)
+    → Named X → Items
+    → Result (Named X) AppError
+named_after read before no_items = Ok before
+named_after read before (item d ds) = do
+  thing ← read before d
+  named_after read (with_named before thing.0 thing.1) ds
 
 -- ---- queues
 
@@ -106,9 +114,8 @@ queue_of names d = do
   item_size ← number_in 1 MAX_ITEM_SIZE item_size
   Ok (name, record { capacity = capacity; item_size = item_size })
 
-abbrev pub queues_after : List (List ℕ) → List QueueShape → Items
-    → Result (List (List ℕ) × List QueueShape) AppError
-queues_after names shapes ds = named_after (λ names shapes. queue_of names) names shapes ds
+abbrev pub queues_after : Named QueueShape → Items → Result (Named QueueShape) AppError
+queues_after before ds = named_after (λ before. queue_of before.names) before ds
 
 -- ---- queue sets
 
@@ -130,24 +137,23 @@ members_after queues others members (item d ds) = do
   queue ← member_of queues (others ++ members) d
   members_after queues others (members ++ queue ∷ []) ds
 
--- The first names are those of all queues. The others are those of the sets before it, which are
--- these sets.
-unfoldable pub set_of : List (List ℕ) → List (List ℕ) → List QueueSetShape → Data
+-- a set over the names of all queues and the sets before it
+unfoldable pub set_of : List (List ℕ) → Named QueueSetShape → Data
     → Result (List ℕ × QueueSetShape) AppError
-set_of queues names sets d = do
+set_of queues before d = do
   _ ← object_with set_keys d
   name ← field (codes "name") d
   capacity ← field (codes "length") d
   members ← field (codes "members") d
-  name ← new_name names name
+  name ← new_name before.names name
   capacity ← number_in 1 MAX_HANDLES capacity
   members ← ok_or (as_array members) fault.Shape
-  members ← members_after queues (members_of sets) [] members
+  members ← members_after queues (members_of before.things) [] members
   Ok (name, record { capacity = capacity; members = members })
 
-abbrev pub sets_after : List (List ℕ) → List (List ℕ) → List QueueSetShape → Items
-    → Result (List (List ℕ) × List QueueSetShape) AppError
-sets_after queues names sets ds = named_after (set_of queues) names sets ds
+abbrev pub sets_after : List (List ℕ) → Named QueueSetShape → Items
+    → Result (Named QueueSetShape) AppError
+sets_after queues before ds = named_after (set_of queues) before ds
 
 -- ---- tasks
 
@@ -177,9 +183,8 @@ task_of names d = do
       then Ok (name, record { priority = priority; lines = lines })
       else Err fault.Shape
 
-abbrev pub tasks_after : List (List ℕ) → List TaskDraft → Items
-    → Result (List (List ℕ) × List TaskDraft) AppError
-tasks_after names drafts ds = named_after (λ names drafts. task_of names) names drafts ds
+abbrev pub tasks_after : Named TaskDraft → Items → Result (Named TaskDraft) AppError
+tasks_after before ds = named_after (λ before. task_of before.names) before ds
 
 -- ---- scripts
 
@@ -234,9 +239,7 @@ pub record AppDraft : Type 0 where
   pub notes : ℕ
   pub tick : ℕ
   pub objects : NamedObjects
-  pub sets : List QueueSetShape
-  pub tasks : List TaskDraft
-  pub task_names : List (List ℕ)
+  pub tasks : Named TaskDraft
 
 unfoldable pub draft_of : Data → Result AppDraft AppError
 draft_of d = do
@@ -249,35 +252,30 @@ draft_of d = do
   notes ← number_or 1 1 MAX_ENTRIES (get (codes "notes") d)
   tick ← number_or 0 0 (2 ^ 32 - 1) (get (codes "tick") d)
   queues ← array_or_empty MAX_QUEUES (get (codes "queues") d)
-  queues ← queues_after [] [] queues
+  queues ← queues_after nothing_named queues
   sets ← array_or_empty MAX_SETS (get (codes "sets") d)
-  sets ← sets_after queues.0 [] [] sets
+  sets ← sets_after queues.names nothing_named sets
   tasks ← array_in 1 MAX_TASKS tasks
-  tasks ← tasks_after [] [] tasks
+  tasks ← tasks_after nothing_named tasks
   Ok (record {
     cores = cores;
     notes = notes;
     tick = tick;
-    objects = record { queue_names = queues.0; queues = queues.1; set_names = sets.0 };
-    sets = sets.1;
-    tasks = tasks.1;
-    task_names = tasks.0;
+    objects = record { queues = queues; sets = sets };
+    tasks = tasks;
   })
 
 -- the application of a draft
 abbrev pub with_scripts : AppDraft → Result Application AppError
 with_scripts draft = do
-  scripts ← scripts_after draft.objects [] draft.tasks
+  scripts ← scripts_after draft.objects [] draft.tasks.things
   Ok (record {
     cores = draft.cores;
     notes = draft.notes;
     tick = draft.tick;
     queues = draft.objects.queues;
-    queue_names = draft.objects.queue_names;
-    sets = draft.sets;
-    set_names = draft.objects.set_names;
-    scripts = scripts;
-    task_names = draft.task_names;
+    sets = draft.objects.sets;
+    tasks = record { names = draft.tasks.names; things = scripts };
   })
 
 abbrev pub app_of : Data → Result Application AppError

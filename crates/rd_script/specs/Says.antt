@@ -9,6 +9,7 @@ use Rattle.serde_json.specs.Find.{get}
 use Rattle.rd_app.specs.declared.app.QueueShape.{QueueShape}
 use Rattle.rd_app.specs.declared.instr.Instr.{Instr}
 use Rattle.rd_app.specs.Application.{Application, members_of}
+use Rattle.rd_app.specs.Named.{Named}
 use Rattle.rd_app.specs.QueueSetShape.{QueueSetShape}
 use Rattle.rd_script.specs.File.{is_object_with, queue_keys, set_keys, task_keys, file_keys}
 use Rattle.rd_script.specs.File.{ends}
@@ -31,8 +32,11 @@ SayEach Is (item d ds) (name ∷ names) (thing ∷ things) =
     Is d name thing × SayEach Is ds names things
 SayEach Is _ _ _ = ⊥
 
-abbrev pub AreQueues : Items → List (List ℕ) → List QueueShape → Type 0
-AreQueues ds names shapes = SayEach IsQueue ds names shapes
+abbrev pub SayNamed : {X : Type 0} → (Data → List ℕ → X → Type 0) → Items → Named X → Type 0
+SayNamed Is ds named = SayEach Is ds named.names named.things
+
+abbrev pub AreQueues : Items → Named QueueShape → Type 0
+AreQueues ds queues = SayNamed IsQueue ds queues
 
 -- a text that names the queue of that number
 abbrev pub IsMember : List (List ℕ) → Data → ℕ → Type 0
@@ -59,9 +63,8 @@ pub record IsSet
   pub members : AreMembers queues texts set.members
 
 -- The first names are those of all queues.
-abbrev pub AreSets : List (List ℕ) → Items → List (List ℕ) → List QueueSetShape → Type 0
-AreSets queues ds names sets =
-    SayEach (λ d name set. (texts : Items) × IsSet queues d name set texts) ds names sets
+abbrev pub AreSets : List (List ℕ) → Items → Named QueueSetShape → Type 0
+AreSets queues ds sets = SayNamed (λ d name set. (texts : Items) × IsSet queues d name set texts) ds sets
 
 -- a text whose words spell the instruction
 abbrev pub IsLine : NamedObjects → ℕ → Data → Instr → Type 0
@@ -91,9 +94,9 @@ pub record IsTask
   pub code_at : get (codes "code") d ≡ Some (array lines)
   pub code : IsCode objects lines script.code
 
-abbrev pub AreTasks : NamedObjects → Items → List (List ℕ) → List TaskScript → Type 0
-AreTasks objects ds names scripts =
-    SayEach (λ d name task. (lines : Items) × IsTask objects d name task lines) ds names scripts
+abbrev pub AreTasks : NamedObjects → Items → Named TaskScript → Type 0
+AreTasks objects ds tasks =
+    SayNamed (λ d name task. (lines : Items) × IsTask objects d name task lines) ds tasks
 
 -- what stands at a key, or what it means to leave the key out
 abbrev pub IsNumberOr : ℕ → Option Data → ℕ → Type 0
@@ -112,12 +115,12 @@ pub record Says (d : Data) (app : Application) (queue_items set_items task_items
   pub notes_at : IsNumberOr 1 (get (codes "notes") d) app.notes
   pub tick_at : IsNumberOr 0 (get (codes "tick") d) app.tick
   pub queues_at : IsArrayOrEmpty (get (codes "queues") d) queue_items
-  pub queues : AreQueues queue_items app.queue_names app.queues
+  pub queues : AreQueues queue_items app.queues
   pub sets_at : IsArrayOrEmpty (get (codes "sets") d) set_items
-  pub sets : AreSets app.queue_names set_items app.set_names app.sets
-  pub one_set_each : IsDistinct nat_eq (members_of app.sets)
+  pub sets : AreSets app.queues.names set_items app.sets
+  pub one_set_each : IsDistinct nat_eq (members_of app.sets.things)
   pub tasks_at : get (codes "tasks") d ≡ Some (array task_items)
-  pub tasks : AreTasks (objects_of app) task_items app.task_names app.scripts
+  pub tasks : AreTasks (objects_of app) task_items app.tasks
 
 -- the bytes are JSON whose value says the application
 abbrev pub FileSays : List ℕ → Application → Type 0

@@ -9,7 +9,7 @@ ghost use Rattle.serde_json.specs.Read.{read};
 ghost use Rattle.serde_json.specs.View.{view, items_view, members_view};
 ghost use Rattle.rd_app.specs.Application.{Application, IsApplication, is_final, is_local_final};
 ghost use Rattle.rd_app.specs.Application.{members_of};
-ghost use Rattle.rd_script.specs.Draft.{app_draft_view, task_draft_view};
+ghost use Rattle.rd_script.specs.Draft.{app_draft_view, task_draft_view, task_drafts_view};
 ghost use Rattle.rd_script.specs.File.{Gives, GivesFaultFirst, GivesOrNoMemory, checked};
 ghost use Rattle.rd_script.specs.File.{array_in, array_or_empty, are_texts, field, has_only};
 ghost use Rattle.rd_script.specs.File.{in_limits, number_in, number_or, new_name, object_with};
@@ -17,18 +17,19 @@ ghost use Rattle.rd_script.specs.File.{queue_of, queues_after, task_of, tasks_af
 ghost use Rattle.rd_script.specs.File.{member_of, members_after, set_of, sets_after};
 ghost use Rattle.rd_script.specs.File.{line_ends, instr_of_line, instrs_of, scripts_after};
 ghost use Rattle.rd_script.specs.File.{draft_of, with_scripts, app_of, app_of_text, app_of_bytes};
-ghost use Rattle.rd_script.specs.Objects.{objects_view};
+ghost use Rattle.rd_script.specs.File.{nothing_named};
+ghost use Rattle.rd_script.specs.Objects.{array_view, objects_view};
 ghost use Rattle.rd_script.specs.Says.{FileSays};
 ghost use Rattle.rd_text.specs.Words.{texts};
 
 use crate::error::AppError;
-use crate::objects::{NamedObjects, Queues};
+use crate::objects::{NamedArray, NamedObjects, SetDraft};
 use crate::reader::index_of;
 use crate::spelling::read_instr;
 use arrayvec::ArrayVec;
 use rd_app::app::{
-    App, MAX_CODE, MAX_CORES, MAX_PRIORITY, MAX_QUEUES, MAX_SETS, MAX_TASKS, Parts, QueueShape,
-    Script, SetShape,
+    App, MAX_CODE, MAX_CORES, MAX_PRIORITY, MAX_QUEUES, MAX_SETS, MAX_TASKS, Named, Parts,
+    QueueShape, Script, SetShape,
 };
 use rd_app::instr::{Instr, LocalInstr};
 use rd_notify::notes::MAX_ENTRIES;
@@ -39,7 +40,6 @@ use rd_text::names::Names;
 use rd_text::words::is_name;
 use serde_json::{Map, Value};
 use std::alloc::{AllocError, Global};
-use std::marker::Model;
 
 // Does the name stand among these?
 fn stands(name: &str, names: &[&str]) -> bool
@@ -161,34 +161,18 @@ fn read_queue<'a>(value: &'a Value, names: &[&str]) -> Result<(&'a str, QueueSha
     ))
 }
 
-fn read_queues(values: &[Value]) -> Result<Queues<'_>, AppError>
+fn read_queues(values: &[Value]) -> Result<NamedArray<'_, QueueShape, MAX_QUEUES>, AppError>
     requires { length values.now ≤ MAX_QUEUES }
-    ensures { Gives (λ queues. (texts queues.names.items, queues.shapes.items))
-        result (queues_after [] [] (items_view values.now)) }
+    ensures { Gives array_view result (queues_after nothing_named (items_view values.now)) }
 {
     let mut names = ArrayVec::new();
-    let mut shapes = ArrayVec::new();
+    let mut things = ArrayVec::new();
     for value in values {
         let (name, shape) = read_queue(value, names.as_slice())?;
         names.push(name);
-        shapes.push(shape);
+        things.push(shape);
     }
-    Ok(Queues { names, shapes })
-}
-
-// A queue set's room, and its members, each of them once.
-#[derive(Default, Drop)]
-struct SetDraft {
-    capacity: usize,
-    members: ArrayVec<usize, MAX_QUEUES>,
-}
-
-impl Model for SetDraft {
-    ghost use Rattle.rd_app.specs.QueueSetShape.{QueueSetShape};
-
-    ghost Value = { QueueSetShape };
-
-    ghost view = { λ s. record { capacity = s.capacity; members = s.members.items } };
+    Ok(NamedArray { names, things })
 }
 
 // Is the queue a member of one of these sets?
@@ -253,7 +237,8 @@ fn read_set<'a>(
 ) -> Result<(&'a str, SetDraft), AppError>
     requires { length queues.now ≤ MAX_QUEUES }
     ensures { Gives (λ set. (set.0.now, set.1))
-        result (set_of (texts queues.now) (texts names.now) sets.now (view value.now)) }
+        result (set_of (texts queues.now) (record { names = texts names.now; things = sets.now })
+        (view value.now)) }
 {
     object_with(value, &["name", "length", "members"])?;
     let name = field(value, "name")?;
@@ -266,27 +251,23 @@ fn read_set<'a>(
     Ok((name, SetDraft { capacity, members }))
 }
 
-// The queue sets of an array, and their names, which lie in the file's value.
-#[derive(Drop)]
-struct Sets<'a> {
-    names: ArrayVec<&'a str, MAX_SETS>,
-    drafts: ArrayVec<SetDraft, MAX_SETS>,
-}
-
-fn read_sets<'a>(values: &'a [Value], queues: &[&str]) -> Result<Sets<'a>, AppError>
+fn read_sets<'a>(
+    values: &'a [Value],
+    queues: &[&str],
+) -> Result<NamedArray<'a, SetDraft, MAX_SETS>, AppError>
     requires sets { length values.now ≤ MAX_SETS }
     requires queues { length queues.now ≤ MAX_QUEUES }
-    ensures { Gives (λ sets. (texts sets.names.items, sets.drafts.items))
-        result (sets_after (texts queues.now) [] [] (items_view values.now)) }
+    ensures { Gives array_view
+        result (sets_after (texts queues.now) nothing_named (items_view values.now)) }
 {
     let mut names = ArrayVec::new();
-    let mut drafts = ArrayVec::new();
+    let mut things = ArrayVec::new();
     for value in values {
-        let (name, draft) = read_set(value, queues, names.as_slice(), drafts.as_slice())?;
+        let (name, draft) = read_set(value, queues, names.as_slice(), things.as_slice())?;
         names.push(name);
-        drafts.push(draft);
+        things.push(draft);
     }
-    Ok(Sets { names, drafts })
+    Ok(NamedArray { names, things })
 }
 
 // A task's priority and the texts of its instructions, which are not read yet.
@@ -325,26 +306,19 @@ fn read_task<'a>(value: &'a Value, names: &[&str]) -> Result<(&'a str, TaskDraft
     Ok((name, TaskDraft { priority, lines }))
 }
 
-// The tasks of an array, and their names, which lie in the file's value.
-#[derive(Drop)]
-struct Tasks<'a> {
-    names: ArrayVec<&'a str, MAX_TASKS>,
-    drafts: ArrayVec<TaskDraft<'a>, MAX_TASKS>,
-}
-
-fn read_tasks(values: &[Value]) -> Result<Tasks<'_>, AppError>
+fn read_tasks(values: &[Value]) -> Result<NamedArray<'_, TaskDraft<'_>, MAX_TASKS>, AppError>
     requires { length values.now ≤ MAX_TASKS }
-    ensures { Gives (λ tasks. (texts tasks.names.items, map task_draft_view tasks.drafts.items))
-        result (tasks_after [] [] (items_view values.now)) }
+    ensures { Gives task_drafts_view
+        result (tasks_after nothing_named (items_view values.now)) }
 {
     let mut names = ArrayVec::new();
-    let mut drafts = ArrayVec::new();
+    let mut things = ArrayVec::new();
     for value in values {
         let (name, draft) = read_task(value, names.as_slice())?;
         names.push(name);
-        drafts.push(draft);
+        things.push(draft);
     }
-    Ok(Tasks { names, drafts })
+    Ok(NamedArray { names, things })
 }
 
 // What a file says of an application, its scripts not read yet.
@@ -354,8 +328,7 @@ struct AppDraft<'a> {
     notes: usize,
     tick: u32,
     objects: NamedObjects<'a>,
-    sets: ArrayVec<SetDraft, MAX_SETS>,
-    tasks: Tasks<'a>,
+    tasks: NamedArray<'a, TaskDraft<'a>, MAX_TASKS>,
 }
 
 #[tactic(auto, unfolding(crate::specs::File::draft_of))]
@@ -383,11 +356,7 @@ fn read_draft(file: &Value) -> Result<AppDraft<'_>, AppError>
         cores,
         notes,
         tick,
-        objects: NamedObjects {
-            queues,
-            set_names: sets.names,
-        },
-        sets: sets.drafts,
+        objects: NamedObjects { queues, sets },
         tasks,
     })
 }
@@ -509,17 +478,24 @@ fn keep(alloc: Global, draft: &AppDraft<'_>) -> Result<App, AllocError>
     requires { IsOkAnd (with_scripts (app_draft_view draft.now)) IsApplication }
     ensures { IfOk result (λ app. with_scripts (app_draft_view draft.now) ≡ Ok app) }
 {
-    let queues = &draft.objects.queues;
+    let NamedObjects { queues, sets } = &draft.objects;
+    let tasks = &draft.tasks;
     let parts = Parts {
         cores: draft.cores,
         notes: draft.notes,
         tick: draft.tick,
-        queues: queues.shapes.as_slice().to_vec(alloc)?,
-        queue_names: Names::new(alloc, queues.names.as_slice())?,
-        sets: keep_sets(alloc, draft.sets.as_slice())?,
-        set_names: Names::new(alloc, draft.objects.set_names.as_slice())?,
-        scripts: keep_scripts(alloc, draft.tasks.drafts.as_slice(), &draft.objects)?,
-        task_names: Names::new(alloc, draft.tasks.names.as_slice())?,
+        queues: Named {
+            names: Names::new(alloc, queues.names.as_slice())?,
+            things: queues.things.as_slice().to_vec(alloc)?,
+        },
+        sets: Named {
+            names: Names::new(alloc, sets.names.as_slice())?,
+            things: keep_sets(alloc, sets.things.as_slice())?,
+        },
+        tasks: Named {
+            names: Names::new(alloc, tasks.names.as_slice())?,
+            things: keep_scripts(alloc, tasks.things.as_slice(), &draft.objects)?,
+        },
     };
     App::new(alloc, parts)
 }
@@ -529,7 +505,7 @@ fn read_file(alloc: Global, file: &Value) -> Result<App, AppError>
     ensures { GivesFaultFirst (λ app. app) result (app_of (view file.now)) }
 {
     let draft = read_draft(file)?;
-    check_scripts(draft.tasks.drafts.as_slice(), &draft.objects)?;
+    check_scripts(draft.tasks.things.as_slice(), &draft.objects)?;
     Ok(keep(alloc, &draft)?)
 }
 

@@ -1,7 +1,6 @@
 //! The operands of an instruction, read from its words.
 
 ghost use Rattle.std.specs.Prelude.{◌≡◌};
-ghost use Rattle.rd_app.specs.declared.app.Kind.TheVariants as kind;
 ghost use Rattle.rd_script.specs.declared.keyword.Parameter.TheVariants as parameter;
 ghost use Rattle.rd_script.specs.Objects.{objects_view};
 ghost use Rattle.rd_script.specs.Spelling.{register_of, target_of, operand_of, time_of};
@@ -12,6 +11,7 @@ ghost use Rattle.rd_text.specs.Words.{texts};
 use crate::error::AppError;
 use crate::keyword::Parameter;
 use crate::objects::NamedObjects;
+use rd_app::app::Kind;
 use rd_app::instr::{MAX_DELAY, Operand};
 use rd_bytes::bytes::Bytes;
 use rd_text::words::{Words, bytes, name, number};
@@ -183,19 +183,11 @@ impl<'a> Reader<'a> {
         time_of(self.words.next()?)
     }
 
-    /// The next word, as the number of the queue that it names.
+    /// The next word, as the number of the thing of that kind that it names.
     #[tactic(auto, unfolding(crate::specs::Spelling::next_value))]
-    pub(crate) fn queue(&mut self) -> Option<usize>
-        ensures { Takes (parameter.Name kind.Queue) self.old result self.new }
+    pub(crate) fn object(&mut self, kind: Kind) -> Option<usize>
+        ensures { Takes (parameter.Name kind) self.old result self.new }
     {
-        index_named(self.words.next()?, self.objects.queues.names.as_slice())
-    }
-
-    /// The next word, as the number of the set that it names.
-    #[tactic(auto, unfolding(crate::specs::Spelling::next_value))]
-    pub(crate) fn set(&mut self) -> Option<usize>
-        ensures { Takes (parameter.Name kind.Set) self.old result self.new }
-    {
-        index_named(self.words.next()?, self.objects.set_names.as_slice())
+        index_named(self.words.next()?, self.objects.names(kind))
     }
 }

@@ -10,7 +10,7 @@ use crate::error::AppError;
 use crate::keyword::{Keyword, LocalKeyword, QueueKeyword, SetKeyword, keyword_of};
 use crate::objects::NamedObjects;
 use crate::reader::Reader;
-use rd_app::app::QueueShape;
+use rd_app::app::{Kind, QueueShape};
 use rd_app::instr::{Instr, LocalInstr, QueueCall, SetCall};
 use rd_queue::end::End;
 use rd_text::words::Words;
@@ -57,7 +57,7 @@ fn local_instr(keyword: LocalKeyword, reader: &mut Reader<'_>) -> Option<Instr>
 fn queue_instr(keyword: QueueKeyword, reader: &mut Reader<'_>) -> Option<Instr>
     ensures { result ≡ instr_made (queue_row keyword) reader.old }
 {
-    let queue = reader.queue()?;
+    let queue = reader.object(Kind::Queue)?;
     let call = match keyword {
         QueueKeyword::Send => QueueCall::Send {
             end: End::Back,
@@ -77,8 +77,12 @@ fn queue_instr(keyword: QueueKeyword, reader: &mut Reader<'_>) -> Option<Instr>
         QueueKeyword::Reset => QueueCall::Reset,
         QueueKeyword::Count => QueueCall::Count,
         QueueKeyword::Spaces => QueueCall::Spaces,
-        QueueKeyword::AddToSet => QueueCall::AddToSet { set: reader.set()? },
-        QueueKeyword::RemoveFromSet => QueueCall::RemoveFromSet { set: reader.set()? },
+        QueueKeyword::AddToSet => QueueCall::AddToSet {
+            set: reader.object(Kind::Set)?,
+        },
+        QueueKeyword::RemoveFromSet => QueueCall::RemoveFromSet {
+            set: reader.object(Kind::Set)?,
+        },
     };
     Some(Instr::Queue { queue, call })
 }
@@ -87,7 +91,7 @@ fn queue_instr(keyword: QueueKeyword, reader: &mut Reader<'_>) -> Option<Instr>
 fn set_instr(keyword: SetKeyword, reader: &mut Reader<'_>) -> Option<Instr>
     ensures { result ≡ instr_made (set_row keyword) reader.old }
 {
-    let set = reader.set()?;
+    let set = reader.object(Kind::Set)?;
     let call = match keyword {
         SetKeyword::Select => SetCall::Select {
             wait: reader.time()?,
@@ -130,7 +134,7 @@ fn is_for_queue(instr: &Instr, objects: &NamedObjects<'_>) -> bool
 {
     match instr {
         Instr::Queue { queue, call } => {
-            let shape = objects.queues.shapes.get(*queue).copied();
+            let shape = objects.queues.things.get(*queue).copied();
             is_call_for(&shape.unwrap_or_default(), call)
         }
         Instr::Local { .. } | Instr::Set { .. } => true,

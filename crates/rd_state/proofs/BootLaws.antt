@@ -45,13 +45,13 @@ IsInOrder-all_joined priorities zero = tt
 IsInOrder-all_joined priorities (suc n) = IsInOrder-joined priorities (all_joined priorities n) n (IsInOrder-all_joined priorities n)
 
 -- the shapes of the queues so far
-shape_of-first_queues : (app : Application) (n : ℕ) → n ≤ length app.queues → map shape_of (first_queues app n) ≡ take n app.queues
+shape_of-first_queues : (app : Application) (n : ℕ) → n ≤ length app.queues.things → map shape_of (first_queues app n) ≡ take n app.queues.things
 shape_of-first_queues app zero few = refl
 shape_of-first_queues app (suc n) few =
     map-append shape_of (first_queues app n) (new_queue app n ∷ [])
     ∙ ap (λ before. before ++ shape_at app n ∷ []) (shape_of-first_queues app n (omega (arith, few)))
-    ∙ sym (take_more app.queues n (record { capacity = 0; item_size = 0 }) (omega (arith, few)))
-    ∙ ap (λ k. take k app.queues) (let one_more : n + 1 ≡ suc n = omega arith in one_more)
+    ∙ sym (take_more app.queues.things n (record { capacity = 0; item_size = 0 }) (omega (arith, few)))
+    ∙ ap (λ k. take k app.queues.things) (let one_more : n + 1 ≡ suc n = omega arith in one_more)
 
 room_of-new_sets : (tasks queues : ℕ) (shapes : List QueueSetShape)
     → map room_of (map (new_set tasks queues) shapes) ≡ map (λ (shape : QueueSetShape). shape.capacity) shapes
@@ -83,8 +83,8 @@ nobody_selects tasks queues (shape ∷ shapes) zero = refl
 nobody_selects tasks queues (shape ∷ shapes) (suc set) = nobody_selects tasks queues shapes set
 
 waiting_at-before_scheduling : (app : Application) (place : Place) → waiting_at (before_scheduling app) place ≡ []
-waiting_at-before_scheduling app (Queue queue list) = nobody_waits_at app list queue (length app.queues)
-waiting_at-before_scheduling app (Set set) = nobody_selects (length app.scripts) (length app.queues) app.sets set
+waiting_at-before_scheduling app (Queue queue list) = nobody_waits_at app list queue (length app.queues.things)
+waiting_at-before_scheduling app (Set set) = nobody_selects (length app.tasks.things) (length app.queues.things) app.sets.things set
 
 idle_is_not_waiting : IsNotWaiting idle_entry
 idle_is_not_waiting h = cc
@@ -92,7 +92,7 @@ idle_is_not_waiting h = cc
 pub IsValid-boot : (app : Application) (s : Snapshot) → IsApplication app → IsSized s → s ≡ boot_of app → IsValid app s
 IsValid-boot app s limits sized e =
     let priorities = priorities_of app in
-    let n = length app.scripts in
+    let n = length app.tasks.things in
     let before = before_scheduling app in
     let cores : length before.cores ≡ app.cores = length-replicate app.cores None in
     let kept : SeatsKept priorities (seating_of before) (seating_of (boot_of app)) =
@@ -106,13 +106,13 @@ IsValid-boot app s limits sized e =
         cores = kept.cores ∙ cores;
         tasks = tasks;
         pcs = λ task h.
-            let script : IsScript app (get_or app.scripts task (record { priority = 0; code = [] })) =
-            All-get_or (IsScript app) app.scripts task (record { priority = 0; code = [] }) (omega (arith, h, tasks)) limits.scripts in
+            let script : IsScript app (get_or app.tasks.things task (record { priority = 0; code = [] })) =
+            All-get_or (IsScript app) app.tasks.things task (record { priority = 0; code = [] }) (omega (arith, h, tasks)) limits.tasks in
             omega (arith, ap (λ (t : TaskSnapshot). t.pc) (there task h), script.some);
         entries = All-replicate (λ (task : TaskSnapshot). length task.entries ≡ app.notes) n (fresh_task app.notes) (length-replicate app.notes idle_entry);
         objects = record {
-          queues = shape_of-first_queues app (length app.queues) (omega arith) ∙ take_all (length app.queues) app.queues (omega arith);
-          sets = room_of-new_sets n (length app.queues) app.sets;
+          queues = shape_of-first_queues app (length app.queues.things) (omega arith) ∙ take_all (length app.queues.things) app.queues.things (omega arith);
+          sets = room_of-new_sets n (length app.queues.things) app.sets.things;
         };
       };
       placed_once = λ task h.
@@ -143,5 +143,5 @@ IsSettled-boot app s limits e =
     let cores : length (before_scheduling app).cores ≡ app.cores = length-replicate app.cores None in
     let settled_now =
     (scheduling_settles priorities (before_scheduling app) (omega (arith, cores, limits.some_cores)) (IsInOrder-all_joined priorities (length
-    app.scripts))).settled_now in
+    app.tasks.things))).settled_now in
     subst (IsSettled priorities) (sym e) settled_now

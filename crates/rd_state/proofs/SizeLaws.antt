@@ -196,18 +196,18 @@ All-all_joined priorities (suc n) limit h =
 no_shape : QueueSetShape
 no_shape = record { capacity = 0; members = [] }
 
-set_at_boot-there : (app : Application) (queue : ℕ) → IfSome (set_at_boot app queue) (λ set. set < length app.sets)
+set_at_boot-there : (app : Application) (queue : ℕ) → IfSome (set_at_boot app queue) (λ set. set < length app.sets.things)
 set_at_boot-there app queue = by_answer (set_at_boot app queue) refl
   where
-    by_answer : (o : Option ℕ) → set_at_boot app queue ≡ o → IfSome o (λ set. set < length app.sets)
+    by_answer : (o : Option ℕ) → set_at_boot app queue ≡ o → IfSome o (λ set. set < length app.sets.things)
     by_answer None e = tt
-    by_answer (Some set) e = (position-Some (λ (s : QueueSetShape). list_any (nat_eq queue) s.members) app.sets set no_shape e).0
+    by_answer (Some set) e = (position-Some (λ (s : QueueSetShape). list_any (nat_eq queue) s.members) app.sets.things set no_shape e).0
 
 -- Nobody waits at a new queue, and it has no items.
-IsQueueFor-new_queue : (app : Application) (queue tasks sets : ℕ) → IsApplication app → queue < length app.queues → tasks ≡ length app.scripts
-    → sets ≡ length app.sets → IsQueueFor tasks sets (new_queue app queue)
+IsQueueFor-new_queue : (app : Application) (queue tasks sets : ℕ) → IsApplication app → queue < length app.queues.things → tasks ≡ length app.tasks.things
+    → sets ≡ length app.sets.things → IsQueueFor tasks sets (new_queue app queue)
 IsQueueFor-new_queue app queue tasks sets limits there same_tasks same_sets =
-    let shape : IsQueueShape (shape_at app queue) = All-get_or IsQueueShape app.queues queue _ there limits.queues in (
+    let shape : IsQueueShape (shape_at app queue) = All-get_or IsQueueShape app.queues.things queue _ there limits.queues in (
       record {
         room = omega arith;
         items = All-nil (λ (item : List ℕ). length item ≡ (shape_at app queue).item_size);
@@ -215,16 +215,16 @@ IsQueueFor-new_queue app queue tasks sets limits there same_tasks same_sets =
         few = shape.1;
         some_bytes = shape.2;
         small = shape.3;
-        receiving = (All-nil (λ task. task < length app.scripts), omega arith);
-        sending = (All-nil (λ task. task < length app.scripts), omega arith);
+        receiving = (All-nil (λ task. task < length app.tasks.things), omega arith);
+        sending = (All-nil (λ task. task < length app.tasks.things), omega arith);
         set = set_at_boot-there app queue;
       },
       sym same_tasks,
       sym same_sets,
     )
 
-IsQueueFor-first_queues : (app : Application) (n tasks sets : ℕ) → IsApplication app → n ≤ length app.queues → tasks ≡ length app.scripts
-    → sets ≡ length app.sets → All (IsQueueFor tasks sets) (first_queues app n)
+IsQueueFor-first_queues : (app : Application) (n tasks sets : ℕ) → IsApplication app → n ≤ length app.queues.things → tasks ≡ length app.tasks.things
+    → sets ≡ length app.sets.things → All (IsQueueFor tasks sets) (first_queues app n)
 IsQueueFor-first_queues app zero tasks sets limits few same_tasks same_sets = All-nil (IsQueueFor tasks sets)
 IsQueueFor-first_queues app (suc n) tasks sets limits few same_tasks same_sets =
     All-push (IsQueueFor tasks sets) (first_queues app n) (new_queue app n)
@@ -251,23 +251,23 @@ IsSetFor-new_set app n queues tasks shape same limits = (
 )
 
 -- the objects of a new state, at which so many tasks can wait
-AreSizedObjects-new : (app : Application) (tasks : ℕ) → IsApplication app → tasks ≡ length app.scripts → AreSizedObjects tasks (new_objects app)
+AreSizedObjects-new : (app : Application) (tasks : ℕ) → IsApplication app → tasks ≡ length app.tasks.things → AreSizedObjects tasks (new_objects app)
 AreSizedObjects-new app tasks limits same =
-    let n = length app.queues in
-    let made = new_set (length app.scripts) n in
+    let n = length app.queues.things in
+    let made = new_set (length app.tasks.things) n in
     let SetFits : SetSnapshot → Type 0 = IsSetFor tasks n in
-    let sets : All SetFits (map made app.sets) =
-    All-map SetFits made app.sets
-    (All-weaker (IsSetShape app) (λ q. SetFits (made q)) (λ q h. IsSetFor-new_set app (length app.scripts) n tasks q (sym same) h) app.sets limits.sets) in
+    let sets : All SetFits (map made app.sets.things) =
+    All-map SetFits made app.sets.things
+    (All-weaker (IsSetShape app) (λ q. SetFits (made q)) (λ q h. IsSetFor-new_set app (length app.tasks.things) n tasks q (sym same) h) app.sets.things limits.sets) in
     record {
-      queues = IsQueueFor-first_queues app n tasks (length (map made app.sets)) limits (omega arith) same (length-map app.sets made);
-      sets = subst (λ q. All (IsSetFor tasks q) (map made app.sets)) (sym (length-first_queues app n)) sets;
+      queues = IsQueueFor-first_queues app n tasks (length (map made app.sets.things)) limits (omega arith) same (length-map app.sets.things made);
+      sets = subst (λ q. All (IsSetFor tasks q) (map made app.sets.things)) (sym (length-first_queues app n)) sets;
     }
 
 -- a new state
 pub HasSizes-new : (app : Application) (s : Inside) (n : ℕ) → IsApplication app → s.turn ≡ 0 → s.cores.items ≡ replicate app.cores None
     → s.ready ≡ record { tasks = all_joined (priorities_of app) n; room = n } → s.tasks.items ≡ replicate n (fresh_task app.notes)
-    → n ≡ length app.scripts → s.objects ≡ new_objects app → HasSizes s
+    → n ≡ length app.tasks.things → s.objects ≡ new_objects app → HasSizes s
 HasSizes-new app s n limits turn cores ready tasks scripts objects =
     let count : length s.tasks.items ≡ n = omega (arith, ap length tasks, length-replicate n (fresh_task app.notes)) in
     let listed : s.ready.tasks ≡ all_joined (priorities_of app) n = ap (λ (l : TaskList). l.tasks) ready in

@@ -31,7 +31,7 @@ abbrev pub new_queue : Application → ℕ → QueueSnapshot
 new_queue app queue =
     as_member_of
     (empty_queue (shape_at app queue).capacity (shape_at app queue).item_size
-    (length app.scripts) (length app.sets))
+    (length app.tasks.things) (length app.sets.things))
     (set_at_boot app queue)
 
 -- the first n queues
@@ -49,8 +49,8 @@ new_set tasks queues shape = empty_set shape.capacity queues tasks
 
 abbrev pub new_objects : Application → ObjectsSnapshot
 new_objects app = record {
-  queues = first_queues app (length app.queues);
-  sets = map (new_set (length app.scripts) (length app.queues)) app.sets;
+  queues = first_queues app (length app.queues.things);
+  sets = map (new_set (length app.tasks.things) (length app.queues.things)) app.sets.things;
 }
 
 -- the first n tasks, joined by rising number
@@ -63,8 +63,8 @@ before_scheduling app = record {
   tick = app.tick;
   turn = 0;
   cores = replicate app.cores None;
-  ready = all_joined (priorities_of app) (length app.scripts);
-  tasks = replicate (length app.scripts) (fresh_task app.notes);
+  ready = all_joined (priorities_of app) (length app.tasks.things);
+  tasks = replicate (length app.tasks.things) (fresh_task app.notes);
   objects = new_objects app;
 }
 

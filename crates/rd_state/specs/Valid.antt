@@ -30,14 +30,14 @@ room_of set = set.capacity
 
 -- The objects have the sizes that the application gives them.
 pub record AreShaped (app : Application) (o : ObjectsSnapshot) : Type 0 where
-  pub queues : map shape_of o.queues ≡ app.queues
-  pub sets : map room_of o.sets ≡ map (λ set. set.capacity) app.sets
+  pub queues : map shape_of o.queues ≡ app.queues.things
+  pub sets : map room_of o.sets ≡ map (λ set. set.capacity) app.sets.things
 
 -- Numbers and lengths are the application's, and each task stands at an instruction of its script.
 pub record InLimits (app : Application) (s : Snapshot) : Type 0 where
   pub sized : IsSized s
   pub cores : length s.cores ≡ app.cores
-  pub tasks : length s.tasks ≡ length app.scripts
+  pub tasks : length s.tasks ≡ length app.tasks.things
   pub pcs : (task : ℕ) → task < length s.tasks → (task_at s task).pc < length (code_of app task)
   pub entries : All (λ task. length task.entries ≡ app.notes) s.tasks
   pub objects : AreShaped app s.objects

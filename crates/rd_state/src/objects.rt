@@ -38,7 +38,7 @@ impl Model for Objects {
 
 // An empty queue of an application, in its set.
 fn new_queue(alloc: Global, app: &App, queue: usize) -> Result<Queue, NoMemory>
-    requires { queue < length app.now.queues }
+    requires { queue < length app.now.queues.things }
     ensures { IfOk result (λ made. made ≡ new_queue app.now queue) }
 {
     app.limits();
@@ -54,7 +54,7 @@ fn new_queue(alloc: Global, app: &App, queue: usize) -> Result<Queue, NoMemory>
 
 // The empty queues of an application.
 fn new_queues(alloc: Global, app: &App) -> Result<Vec<Queue>, NoMemory>
-    ensures { IfOk result (λ queues. queues.items ≡ first_queues app.now (length app.now.queues)) }
+    ensures { IfOk result (λ queues. queues.items ≡ first_queues app.now (length app.now.queues.things)) }
 {
     let mut queues = Vec::with_capacity(alloc, app.queues().len())?;
     for number in 0..app.queues().len() {

@@ -10,7 +10,7 @@ use Rattle.rd_state.specs.declared.task_change.TaskChange.TheVariants.{SetPc, Se
 use Rattle.rd_queue.specs.declared.change.QueueChange.TheVariants.{PutBack}
 use Rattle.rd_state.specs.Boot.{boot_of}
 use Rattle.rd_state.specs.Change.{applied, inverse_of}
-use Rattle.rd_state.specs.Snapshot.{Snapshot, TaskSnapshot}
+use Rattle.rd_state.specs.Snapshot.{Snapshot, TaskSnapshot, no_objects}
 use Rattle.rd_state.specs.Undoing.{undone}
 use Rattle.rd_calls.specs.declared.moves.Move.{Move}
 use Rattle.rd_calls.specs.declared.moves.Move.TheVariants.{Core}
@@ -25,7 +25,7 @@ task_of pc r0 bytes = record { pc = pc; registers = r0 ∷ 0 ∷ 0 ∷ 0 ∷ 0 �
 
 -- t0 runs on core 0
 abbrev state_of : ℕ → TaskSnapshot → List (List ℕ) → Snapshot
-state_of turn task items = record { tick = 0; turn = turn; cores = Some 0 ∷ []; ready = []; tasks = task ∷ []; objects = record { queues = queue_of items ∷ []; sets = [] } }
+state_of turn task items = record { tick = 0; turn = turn; cores = Some 0 ∷ []; ready = []; tasks = task ∷ []; objects = record no_objects { queues = queue_of items ∷ [] } }
 
 abbrev one_move : Move
 one_move = Core 0

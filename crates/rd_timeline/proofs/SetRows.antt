@@ -14,23 +14,18 @@ use Rattle.rd_app.specs.declared.instr.QueueCall.TheVariants as call
 use Rattle.rd_app.specs.declared.instr.SetCall.TheVariants.{Select}
 use Rattle.rd_app.specs.declared.instr.Operand.TheVariants.{Number}
 use Rattle.rd_app.specs.Application.{Application}
-use Rattle.rd_state.specs.Snapshot.{Snapshot, TaskSnapshot}
+use Rattle.rd_app.specs.Builtin.{builtin}
+use Rattle.rd_state.specs.Snapshot.{Snapshot, TaskSnapshot, no_objects}
 use Rattle.rd_calls.specs.declared.moves.Move.{Move}
 use Rattle.rd_calls.specs.declared.moves.Move.TheVariants.{Core}
 use Rattle.rd_timeline.specs.History.{state_after}
 
 -- one task over a queue for items of one byte, in a set with room for one handle
 abbrev over_a_set : ℕ → List Instr → Application
-over_a_set capacity code = record {
-  cores = 1;
-  notes = 1;
-  tick = 0;
-  queues = record { capacity = capacity; item_size = 1 } ∷ [];
-  queue_names = codes "q0" ∷ [];
-  sets = record { capacity = 1; members = 0 ∷ [] } ∷ [];
-  set_names = codes "s0" ∷ [];
-  scripts = record { priority = 1; code = code } ∷ [];
-  task_names = codes "t0" ∷ [];
+over_a_set capacity code = record builtin {
+  queues = record { names = codes "q0" ∷ []; things = record { capacity = capacity; item_size = 1 } ∷ [] };
+  sets = record { names = codes "s0" ∷ []; things = record { capacity = 1; members = 0 ∷ [] } ∷ [] };
+  tasks = record { names = codes "t0" ∷ []; things = record { priority = 1; code = code } ∷ [] };
 }
 
 abbrev task_of : ℕ → ℕ → List ℕ → Phase → TaskSnapshot
@@ -44,7 +39,7 @@ set_of handles = record { handles = handles; capacity = 1; queues = 1; waiting =
 
 abbrev runs_with : TaskSnapshot → QueueSnapshot → SetSnapshot → Snapshot
 runs_with task queue set =
-    record { tick = 0; turn = 1; cores = Some 0 ∷ []; ready = []; tasks = task ∷ []; objects = record { queues = queue ∷ []; sets = set ∷ [] } }
+    record { tick = 0; turn = 1; cores = Some 0 ∷ []; ready = []; tasks = task ∷ []; objects = record no_objects { queues = queue ∷ []; sets = set ∷ [] } }
 
 abbrev one_move : Move
 one_move = Core 0
@@ -77,6 +72,6 @@ full_set : state_after sends_twice (one_move ∷ one_move ∷ [])
       cores = None ∷ [];
       ready = [];
       tasks = task_of 1 1 [] (Failed SetFull) ∷ [];
-      objects = record { queues = queue_of 2 ((0 ∷ []) ∷ []) ∷ []; sets = set_of (0 ∷ []) ∷ [] };
+      objects = record no_objects { queues = queue_of 2 ((0 ∷ []) ∷ []) ∷ []; sets = set_of (0 ∷ []) ∷ [] };
     })
 full_set = refl

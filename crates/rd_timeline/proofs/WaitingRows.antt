@@ -13,23 +13,18 @@ use Rattle.rd_state.specs.declared.phase.Phase.{Phase}
 use Rattle.rd_state.specs.declared.phase.Phase.TheVariants.{Run, Again, Wait}
 use Rattle.rd_state.specs.declared.phase.Place.TheVariants.{Queue}
 use Rattle.rd_app.specs.Application.{Application, max_delay}
+use Rattle.rd_app.specs.Builtin.{builtin}
 use Rattle.rd_app.specs.TaskScript.{TaskScript}
-use Rattle.rd_state.specs.Snapshot.{TaskSnapshot}
+use Rattle.rd_state.specs.Snapshot.{TaskSnapshot, no_objects}
 use Rattle.rd_calls.specs.declared.moves.Move.TheVariants.{Core, Tick}
 use Rattle.rd_timeline.specs.History.{state_after}
 
 -- three tasks over one queue with room for one item of one byte
 abbrev over_a_queue : ℕ → List TaskScript → Application
-over_a_queue cores scripts = record {
+over_a_queue cores scripts = record builtin {
   cores = cores;
-  notes = 1;
-  tick = 0;
-  queues = record { capacity = 1; item_size = 1 } ∷ [];
-  queue_names = codes "q0" ∷ [];
-  sets = [];
-  set_names = [];
-  scripts = scripts;
-  task_names = codes "t0" ∷ codes "t1" ∷ codes "t2" ∷ [];
+  queues = record { names = codes "q0" ∷ []; things = record { capacity = 1; item_size = 1 } ∷ [] };
+  tasks = record { names = codes "t0" ∷ codes "t1" ∷ codes "t2" ∷ []; things = scripts };
 }
 
 abbrev receives : ℕ → Instr
@@ -60,7 +55,7 @@ item_is_sent : state_after stolen (Core 0 ∷ Core 1 ∷ Core 0 ∷ [])
       cores = Some 2 ∷ Some 1 ∷ [];
       ready = [];
       tasks = waits_for_item None ∷ task_of 0 0 [] (Again (Some 10)) ∷ task_of 1 1 [] Run ∷ [];
-      objects = record { queues = queue_of ((0 ∷ []) ∷ []) (0 ∷ []) ∷ []; sets = [] };
+      objects = record no_objects { queues = queue_of ((0 ∷ []) ∷ []) (0 ∷ []) ∷ [] };
     })
 item_is_sent = refl
 
@@ -72,7 +67,7 @@ item_is_lost : state_after stolen (Core 0 ∷ Core 1 ∷ Core 0 ∷ Core 0 ∷ C
       cores = Some 2 ∷ None ∷ [];
       ready = [];
       tasks = waits_for_item None ∷ waits_for_item (Some 10) ∷ task_of 2 1 (0 ∷ []) Run ∷ [];
-      objects = record { queues = queue_of [] (1 ∷ 0 ∷ []) ∷ []; sets = [] };
+      objects = record no_objects { queues = queue_of [] (1 ∷ 0 ∷ []) ∷ [] };
     })
 item_is_lost = refl
 
@@ -91,6 +86,6 @@ second_times_out : state_after timing_out (Core 0 ∷ Core 1 ∷ Core 2 ∷ Tick
       cores = Some 1 ∷ None ∷ None ∷ [];
       ready = [];
       tasks = waits_for_item None ∷ task_of 0 0 [] (Again (Some 1)) ∷ waits_for_item None ∷ [];
-      objects = record { queues = queue_of [] (0 ∷ 2 ∷ []) ∷ []; sets = [] };
+      objects = record no_objects { queues = queue_of [] (0 ∷ 2 ∷ []) ∷ [] };
     })
 second_times_out = refl

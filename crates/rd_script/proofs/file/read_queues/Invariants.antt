@@ -1,7 +1,7 @@
 -- What holds in each turn of read_queues's loop.
-use Rattle.std.proofs.Common.{◌≡◌, [], drop, length}
+use Rattle.std.proofs.Common.{◌≡◌, drop, length}
 use Rattle.serde_json.specs.View.{items_view}
-use Rattle.rd_script.specs.File.{queues_after}
+use Rattle.rd_script.specs.File.{nothing_named, queues_after}
 use Rattle.rd_text.specs.Words.{texts}
 use Rattle.rd_script.proofs.file.read_queues.Given as goal
 
@@ -9,8 +9,8 @@ use Rattle.rd_script.proofs.file.read_queues.Given as goal
 abbrev pub invariant-loop-value : goal.invariant-loop-value
 invariant-loop-value l = record {
   so_far :
-      queues_after (texts l.names.items) l.shapes.items (items_view (drop l.value-index l.values))
-      ≡ queues_after [] [] (items_view l.values);
+      queues_after (record { names = texts l.names.items; things = l.things.items }) (items_view (drop l.value-index l.values))
+      ≡ queues_after nothing_named (items_view l.values);
   names : length l.names.items ≡ l.value-index;
-  shapes : length l.shapes.items ≡ l.value-index;
+  things : length l.things.items ≡ l.value-index;
 }

@@ -1,7 +1,7 @@
 -- What holds in each turn of read_sets's loop.
-use Rattle.std.proofs.Common.{◌≡◌, [], drop, length}
+use Rattle.std.proofs.Common.{◌≡◌, drop, length}
 use Rattle.serde_json.specs.View.{items_view}
-use Rattle.rd_script.specs.File.{sets_after}
+use Rattle.rd_script.specs.File.{nothing_named, sets_after}
 use Rattle.rd_text.specs.Words.{texts}
 use Rattle.rd_script.proofs.file.read_sets.Given as goal
 
@@ -9,8 +9,8 @@ use Rattle.rd_script.proofs.file.read_sets.Given as goal
 abbrev pub invariant-loop-value : goal.invariant-loop-value
 invariant-loop-value l = record {
   so_far :
-      sets_after (texts l.queues) (texts l.names.items) l.drafts.items (items_view (drop l.value-index l.values))
-      ≡ sets_after (texts l.queues) [] [] (items_view l.values);
+      sets_after (texts l.queues) (record { names = texts l.names.items; things = l.things.items }) (items_view (drop l.value-index l.values))
+      ≡ sets_after (texts l.queues) nothing_named (items_view l.values);
   names : length l.names.items ≡ l.value-index;
-  drafts : length l.drafts.items ≡ l.value-index;
+  things : length l.things.items ≡ l.value-index;
 }
