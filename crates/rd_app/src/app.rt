@@ -50,7 +50,7 @@ pub struct QueueShape {
 
 /// A queue set to be made: room for 1 to 2,048 handles (`xQueueCreateSet`), and the queues that are
 /// its members at boot, by number.
-#[derive(Drop)]
+#[derive(Debug, Drop)]
 pub struct SetShape {
     capacity: usize,
     members: Vec<usize>,
@@ -65,7 +65,7 @@ impl Model for SetShape {
 }
 
 /// A task to be made: its priority, 0 to 31, higher before lower, and its instructions.
-#[derive(Drop)]
+#[derive(Debug, Drop)]
 pub struct Script {
     priority: u8,
     code: Vec<Instr>,
@@ -80,7 +80,7 @@ impl Model for Script {
 }
 
 /// Things of one kind, with their names. They go by number: the index in both.
-#[derive(Drop)]
+#[derive(Debug, Drop)]
 pub struct Named<T> {
     /// Their names.
     pub names: Names,
@@ -89,7 +89,7 @@ pub struct Named<T> {
 }
 
 /// What an application is made of.
-#[derive(Drop)]
+#[derive(Debug, Drop)]
 pub struct Parts {
     /// How many cores there are, 1 to 8.
     pub cores: usize,
@@ -106,7 +106,7 @@ pub struct Parts {
 }
 
 /// An application within the limits. It never changes.
-#[derive(Drop)]
+#[derive(Debug, Drop)]
 pub struct App {
     parts: Parts,
     priorities: Vec<u8>,

@@ -22,7 +22,7 @@ pub enum Operand {
 
 /// An instruction that touches nothing but its own task. Registers are 0 to 7, the instructions of
 /// a script are counted from 0.
-#[derive(Drop)]
+#[derive(Debug, Drop)]
 pub enum LocalInstr {
     /// `set R N`: the register becomes the value.
     Set { register: usize, value: u32 },
@@ -80,7 +80,7 @@ pub enum SetCall {
 }
 
 /// One instruction of a task's script. Objects are counted from 0.
-#[derive(Drop)]
+#[derive(Debug, Drop)]
 pub enum Instr {
     /// One that touches nothing but its own task.
     Local { instr: LocalInstr },

@@ -11,7 +11,7 @@ use std::marker::Model;
 const INLINE: usize = 16;
 
 /// The bytes that a change carries: any number of them, and none of up to 16 take memory elsewhere.
-#[derive(Drop)]
+#[derive(Debug, Drop)]
 pub struct SavedBytes {
     bytes: SmallVec<u8, INLINE>,
 }

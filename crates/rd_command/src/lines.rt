@@ -29,7 +29,7 @@ pub enum Front {
 }
 
 /// The bytes that were read and not answered yet.
-#[derive(Drop)]
+#[derive(Debug, Drop)]
 pub struct Lines {
     buffer: Vec<u8>,
     start: usize,

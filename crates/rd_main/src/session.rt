@@ -29,7 +29,7 @@ impl From<AllocError> for Ended {
 }
 
 /// What a session reads into and answers in.
-#[derive(Drop)]
+#[derive(Debug, Drop)]
 pub struct Session {
     lines: Lines,
     answers: Vec<u8>,

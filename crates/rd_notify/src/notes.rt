@@ -30,7 +30,7 @@ pub struct Entry {
 
 /// The notification entries of one task, 1 to 4 of them, counted from 0
 /// (`configTASK_NOTIFICATION_ARRAY_ENTRIES`).
-#[derive(Drop)]
+#[derive(Debug, Drop)]
 pub struct Notes {
     entries: ArrayVec<Entry, MAX_ENTRIES>,
 }
@@ -42,21 +42,6 @@ impl Model for Notes {
     ghost Value = { List Entry };
 
     ghost view = { λ n. n.entries.items };
-}
-
-// Whether the entries are equal, one by one.
-fn same_entries(entries: &[Entry], others: &[Entry]) -> bool
-    ensures { IsTrue result ↔ (entries.now ≡ others.now) }
-{
-    if entries.len() != others.len() {
-        return false;
-    }
-    for index in 0..entries.len() {
-        if entries[index] != others[index] {
-            return false;
-        }
-    }
-    true
 }
 
 impl Notes {
@@ -90,7 +75,7 @@ impl Notes {
     pub fn same(&self, other: &Notes) -> bool
         ensures { IsTrue result ↔ (self.now ≡ other.now) }
     {
-        same_entries(self.entries.as_slice(), other.entries.as_slice())
+        self.entries.as_slice() == other.entries.as_slice()
     }
 
     /// How many entries there are.

@@ -11,7 +11,7 @@ use rd_bytes::saved::SavedBytes;
 use std::alloc::Global;
 
 /// A primitive change of a queue. An index counts from the front.
-#[derive(Drop)]
+#[derive(Debug, Drop)]
 pub enum QueueChange {
     /// The task is put into the list of those that wait, at the index.
     InsWait {

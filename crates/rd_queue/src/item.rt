@@ -10,7 +10,7 @@ use std::marker::Model;
 pub const MAX_ITEM_SIZE: usize = 64;
 
 /// An item by value: 0 to 64 bytes.
-#[derive(Drop)]
+#[derive(Debug, Drop)]
 pub struct Item {
     bytes: ArrayVec<u8, MAX_ITEM_SIZE>,
 }

@@ -34,7 +34,7 @@ pub struct Empty;
 
 /// A queue with room for `capacity` items of `item_size` bytes each, the tasks that wait at it, and
 /// the queue set that it is a member of. All its memory is taken by `new`.
-#[derive(Drop)]
+#[derive(Debug, Drop)]
 pub struct Queue {
     items: VecDeque<Item>,
     capacity: usize,

@@ -7,7 +7,7 @@ use std::alloc::AllocError;
 
 /// Bytes that are appended to. Where there is no room for a text, it and all that would come after
 /// it are left out.
-#[derive(Drop)]
+#[derive(Debug, Drop)]
 pub struct Page<'a> {
     bytes: &'a mut Vec<u8>,
     is_full: bool,

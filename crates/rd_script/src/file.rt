@@ -271,7 +271,7 @@ fn read_sets<'a>(
 }
 
 // A task's priority and the texts of its instructions, which are not read yet.
-#[derive(Clone, Copy, Default)]
+#[derive(Clone, Copy, Debug, Default)]
 struct TaskDraft<'a> {
     priority: u8,
     lines: &'a [Value],
@@ -322,7 +322,7 @@ fn read_tasks(values: &[Value]) -> Result<NamedArray<'_, TaskDraft<'_>, MAX_TASK
 }
 
 // What a file says of an application, its scripts not read yet.
-#[derive(Drop)]
+#[derive(Debug, Drop)]
 struct AppDraft<'a> {
     cores: usize,
     notes: usize,

@@ -10,14 +10,14 @@ use std::marker::Model;
 
 /// Things of one kind in a file, with their names, which lie in its value. They go by number: the
 /// index in both.
-#[derive(Drop)]
+#[derive(Debug, Drop)]
 pub(crate) struct NamedArray<'a, T, const N: usize> {
     pub(crate) names: ArrayVec<&'a str, N>,
     pub(crate) things: ArrayVec<T, N>,
 }
 
 /// A queue set's room, and its members, each of them once.
-#[derive(Default, Drop)]
+#[derive(Debug, Default, Drop)]
 pub(crate) struct SetDraft {
     pub(crate) capacity: usize,
     pub(crate) members: ArrayVec<usize, MAX_QUEUES>,
@@ -32,7 +32,7 @@ impl Model for SetDraft {
 }
 
 /// What the instructions of a file name, each kind in its order.
-#[derive(Drop)]
+#[derive(Debug, Drop)]
 pub(crate) struct NamedObjects<'a> {
     pub(crate) queues: NamedArray<'a, QueueShape, MAX_QUEUES>,
     pub(crate) sets: NamedArray<'a, SetDraft, MAX_SETS>,

@@ -91,7 +91,7 @@ fn is_formed(parameter: Parameter, word: &[u8], len: usize) -> bool
 }
 
 /// Reads the words after a keyword, in a script of that length over those objects.
-#[derive(Drop)]
+#[derive(Debug, Drop)]
 pub(crate) struct Reader<'a> {
     objects: &'a NamedObjects<'a>,
     len: usize,

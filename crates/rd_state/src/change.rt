@@ -9,7 +9,7 @@ use rd_queue::set_change::SetChange;
 
 /// A primitive change of the state: all that a move does is made of these, and each has an inverse
 /// among them. Tasks, cores and objects go by number, an index counts from the front.
-#[derive(Drop)]
+#[derive(Debug, Drop)]
 pub enum Change {
     /// It is this tick.
     SetTick { tick: u32 },

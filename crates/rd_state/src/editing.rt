@@ -20,6 +20,7 @@ use std::marker::Model;
 
 /// A step in the middle: the state, which it owns, and a record, to which it adds what it changes.
 /// The rules of the kernel are written over it. It ends in `commit` or in `roll_back`.
+#[derive(Debug)]
 pub struct Editing {
     state: State,
     undo: Undo,

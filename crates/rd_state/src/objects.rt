@@ -22,7 +22,7 @@ use std::alloc::Global;
 use std::marker::Model;
 
 /// The objects of the target, each kind by number.
-#[derive(Drop)]
+#[derive(Debug, Drop)]
 pub(crate) struct Objects {
     queues: Vec<Queue>,
     sets: Vec<QueueSet>,

@@ -32,7 +32,7 @@ use std::alloc::Global;
 use std::marker::Model;
 
 /// The whole state of the target. It changes by primitive changes alone.
-#[derive(Drop)]
+#[derive(Debug, Drop)]
 pub struct State {
     tick: u32,
     turn: usize,
@@ -54,19 +54,11 @@ impl Model for State {
     ghost invariant = { HasSizes };
 }
 
-// Whether the same tasks run on the cores, one by one.
+// Whether the same tasks run on the cores.
 fn same_cores(cores: &[Option<usize>], others: &[Option<usize>]) -> bool
     ensures { IsTrue result ↔ (cores.now ≡ others.now) }
 {
-    if cores.len() != others.len() {
-        return false;
-    }
-    for number in 0..cores.len() {
-        if cores[number] != others[number] {
-            return false;
-        }
-    }
-    true
+    cores == others
 }
 
 impl State {

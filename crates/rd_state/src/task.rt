@@ -13,7 +13,7 @@ use rd_notify::notes::Notes;
 use std::marker::Model;
 
 /// A task of the target.
-#[derive(Drop)]
+#[derive(Debug, Drop)]
 pub struct Task {
     pc: usize,
     registers: [u32; REGISTERS],

@@ -12,7 +12,7 @@ use rd_bytes::saved::SavedBytes;
 use std::alloc::Global;
 
 /// A primitive change of a task.
-#[derive(Drop)]
+#[derive(Debug, Drop)]
 pub enum TaskChange {
     /// The task stands at this instruction.
     SetPc { pc: usize },

@@ -15,6 +15,7 @@ use std::marker::Model;
 
 /// The record of a move, or of moves one after the other: the changes that undo them, in the order
 /// of recording. It can't be dropped: it ends in `State::back`, in a log or in `retire`.
+#[derive(Debug)]
 pub struct Undo {
     changes: Vec<Change>,
 }

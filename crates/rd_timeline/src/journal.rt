@@ -19,6 +19,7 @@ use std::marker::Model;
 
 /// The moves done and the moves undone, in one list, and the record of each move done. It can't be
 /// dropped: it ends in `retire`.
+#[derive(Debug)]
 pub struct Journal {
     moves: Vec<Move>,
     // So many of them are done; the others are undone, the one to be redone next first.

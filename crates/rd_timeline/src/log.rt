@@ -18,6 +18,7 @@ use std::alloc::Global;
 use std::marker::Model;
 
 /// The records of the moves done, in order. It can't be dropped: it ends in `retire`.
+#[derive(Debug)]
 pub struct Log {
     // The changes of all records, one record after the other.
     undo: Undo,

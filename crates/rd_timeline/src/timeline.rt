@@ -24,6 +24,7 @@ use std::alloc::Global;
 use std::marker::Model;
 
 /// The target with the moves that led to it. It can't be dropped: it ends in `close`.
+#[derive(Debug)]
 pub struct Timeline {
     alloc: Global,
     app: App,
