@@ -4,7 +4,7 @@ use Rattle.std.specs.Prelude.{List, [], length, map, slice_index_or, All, Option
 use Rattle.std.specs.Prelude.{nat_eq, position}
 use Rattle.std.specs.List.{IsDistinct, concat, list_any}
 use Rattle.rd_bytes.specs.declared.bytes.TheConstants.{MAX_BYTES}
-use Rattle.rd_notify.specs.declared.notes.TheConstants.{MAX_ENTRIES}
+use Rattle.rd_notify.specs.declared.entries.TheConstants.{MAX_ENTRIES}
 use Rattle.rd_queue.specs.declared.item.TheConstants.{MAX_ITEM_SIZE}
 use Rattle.rd_queue.specs.declared.queue.TheConstants.{MAX_ITEMS}
 use Rattle.rd_queue.specs.declared.queue_set.TheConstants.{MAX_HANDLES}
@@ -34,7 +34,7 @@ use Rattle.rd_app.specs.Named.{AreNamed, Named}
 
 pub record Application : Type 0 where
   pub cores : ℕ
-  pub notes : ℕ
+  pub entries : ℕ
   pub tick : ℕ
   pub queues : Named QueueShape
   pub sets : Named QueueSetShape
@@ -184,8 +184,8 @@ pub record IsScript (app : Application) (script : TaskScript) : Type 0 where
 pub record IsApplication (app : Application) : Type 0 where
   pub some_cores : 0 < app.cores
   pub few_cores : app.cores ≤ MAX_CORES
-  pub some_notes : 0 < app.notes
-  pub few_notes : app.notes ≤ MAX_ENTRIES
+  pub some_entries : 0 < app.entries
+  pub few_entries : app.entries ≤ MAX_ENTRIES
   pub tick : app.tick < 2 ^ 32
   pub named_queues : AreNamed app.queues
   pub few_queues : length app.queues.things ≤ MAX_QUEUES

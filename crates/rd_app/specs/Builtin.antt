@@ -10,7 +10,7 @@ use Rattle.rd_app.specs.Application.{Application}
 abbrev pub builtin : Application
 builtin = record {
   cores = 1;
-  notes = 1;
+  entries = 1;
   tick = 0;
   queues = record {
     names = codes "q0" ∷ [];

@@ -6,7 +6,7 @@ use Rattle.rd_app.specs.Named.{named_view}
 abbrev pub application_of : Parts → Application
 application_of parts = record {
   cores = parts.cores;
-  notes = parts.notes;
+  entries = parts.entries;
   tick = parts.tick;
   queues = named_view parts.queues;
   sets = named_view parts.sets;

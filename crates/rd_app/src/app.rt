@@ -94,7 +94,7 @@ pub struct Parts {
     /// How many cores there are, 1 to 8.
     pub cores: usize,
     /// How many notification entries each task has, 1 to 4.
-    pub notes: usize,
+    pub entries: usize,
     /// The tick at boot.
     pub tick: u32,
     /// The queues, at most 32.
@@ -209,7 +209,7 @@ impl App {
         ]?;
         let parts = Parts {
             cores: 1,
-            notes: 1,
+            entries: 1,
             tick: 0,
             queues: Named {
                 names: Names::new(alloc, &["q0"])?,
@@ -242,10 +242,10 @@ impl App {
     }
 
     /// How many notification entries each task has.
-    pub fn notes(&self) -> usize
-        ensures { result ≡ self.now.notes }
+    pub fn entries(&self) -> usize
+        ensures { result ≡ self.now.entries }
     {
-        self.parts.notes
+        self.parts.entries
     }
 
     /// The tick at boot.

@@ -74,7 +74,7 @@ pub IsConsistent-with_values : (app : Application) (D : ℕ → Phase → Type 0
 IsConsistent-with_values app D s task registers bytes there at =
     let was = at.each task there in
     IsConsistent-task_replaced app D s task (record (task_at s task) { registers = registers; bytes = bytes }) there
-    (record { pc = was.pc; notes = was.notes; call = was.call; deadline = was.deadline; entries = was.entries }) refl (λ place. refl) at
+    (record { pc = was.pc; entry_count = was.entry_count; call = was.call; deadline = was.deadline; entries = was.entries }) refl (λ place. refl) at
 
 -- It goes on at another instruction.
 pub IsConsistent-with_pc : (app : Application) (D : ℕ → Phase → Type 0) (s : Snapshot) (task pc : ℕ) → task < length s.tasks → (task_at s task).phase ≡ Run
@@ -84,7 +84,7 @@ IsConsistent-with_pc app D s task pc there runs within at =
     IsConsistent-task_replaced app D s task (record (task_at s task) { pc = pc }) there
     (record {
       pc = within;
-      notes = was.notes;
+      entry_count = was.entry_count;
       call = subst (λ phase. PhaseFitsCall phase (instr_at app task pc)) (sym runs) tt;
       deadline = was.deadline;
       entries = was.entries;
@@ -96,7 +96,7 @@ pub IsConsistent-with_run : (app : Application) (D : ℕ → Phase → Type 0) (
 IsConsistent-with_run app D s task there runs asked at =
     let was = at.each task there in
     IsConsistent-task_replaced app D s task (record (task_at s task) { phase = Run }) there
-    (record { pc = was.pc; notes = was.notes; call = tt; deadline = asked; entries = was.entries }) (sym (seats_to_run-one (task_at s task).phase runs))
+    (record { pc = was.pc; entry_count = was.entry_count; call = tt; deadline = asked; entries = was.entries }) (sym (seats_to_run-one (task_at s task).phase runs))
     (λ place. sym (waits_nowhere place (task_at s task).phase runs)) at
 
 -- It gets other registers or data, and goes on at an instruction of its script.
@@ -166,7 +166,7 @@ IsConsistent-stopped app D s core task phase there runs has_core e idle nowhere 
       tasks = length-set s.tasks task now ∙ at.tasks;
       each =
           task_or_other s p task now (IsConsistentTask app D) there refl
-          (record { pc = was.pc; notes = was.notes; call = call; deadline = asked; entries = was.entries }) (λ t differs h. at.each t h);
+          (record { pc = was.pc; entry_count = was.entry_count; call = call; deadline = asked; entries = was.entries }) (λ t differs h. at.each t h);
       shapes = at.shapes;
       placed_once = task_or_other s p task now (λ t x. times_in_list t s.ready + times_on_cores t (set s.cores core None) ≡ seats_to_run x.phase) there refl
           (omega (arith, times_off_core task, same_one task, at.placed_once task there, one, idle))
@@ -198,7 +198,7 @@ IsConsistent-waiting app D s core task place deadline there runs has_core e has_
     let none : times_in_list task list ≡ 0 = at.places place task there ∙ waits_nowhere place (task_at s task).phase runs in
     let goes : TaskMoves app D s task now place (set s.cores core None) s.ready (joined priorities list task) = record {
       there = there;
-      consistent = record { pc = was.pc; notes = was.notes; call = call; deadline = asked; entries = was.entries };
+      consistent = record { pc = was.pc; entry_count = was.entry_count; call = call; deadline = asked; entries = was.entries };
       same_cores = length-set s.cores core None;
       seats = omega (arith, times_off_core task, same_one task, at.placed_once task there, one);
       others_seats = λ t differs. omega (arith, times_off_core t, other_none t task differs);

@@ -31,7 +31,7 @@ use Rattle.rd_state.proofs.Offered.{SeatsKept}
 -- some tasks alone.
 pub record IsConsistentTask (app : Application) (D : ℕ → Phase → Type 0) (task : ℕ) (x : TaskSnapshot) : Type 0 where
   pub pc : x.pc < length (code_of app task)
-  pub notes : length x.entries ≡ app.notes
+  pub entry_count : length x.entries ≡ app.entries
   pub call : PhaseFitsCall x.phase (instr_at app task x.pc)
   pub deadline : D task x.phase
   pub entries : All IsNotWaiting x.entries
@@ -55,7 +55,7 @@ IsConsistent-valid app s valid = record {
   tasks = valid.in_limits.tasks;
   each = λ task h. record {
     pc = valid.in_limits.pcs task h;
-    notes = All-get_or (λ (t : TaskSnapshot). length t.entries ≡ app.notes) s.tasks task no_task h valid.in_limits.entries;
+    entry_count = All-get_or (λ (t : TaskSnapshot). length t.entries ≡ app.entries) s.tasks task no_task h valid.in_limits.entries;
     call = valid.calls task h;
     deadline = valid.deadlines task h;
     entries = All-get_or (λ (t : TaskSnapshot). All IsNotWaiting t.entries) s.tasks task no_task h valid.entries;
@@ -73,7 +73,7 @@ IsValid-consistent app s at sized = record {
     cores = at.cores;
     tasks = at.tasks;
     pcs = λ task h. (at.each task h).pc;
-    entries = All-from_get_or (λ (t : TaskSnapshot). length t.entries ≡ app.notes) s.tasks no_task (λ task h. (at.each task h).notes);
+    entries = All-from_get_or (λ (t : TaskSnapshot). length t.entries ≡ app.entries) s.tasks no_task (λ task h. (at.each task h).entry_count);
     objects = at.shapes;
   };
   placed_once = at.placed_once;
@@ -93,7 +93,7 @@ IsConsistent-deadlines app D E s gives at = record {
   tasks = at.tasks;
   each =
       λ task h. let was = at.each task h in
-      record { pc = was.pc; notes = was.notes; call = was.call; deadline = gives task h was.deadline; entries = was.entries };
+      record { pc = was.pc; entry_count = was.entry_count; call = was.call; deadline = gives task h was.deadline; entries = was.entries };
   shapes = at.shapes;
   placed_once = at.placed_once;
   waiting_lists = at.waiting_lists;

@@ -170,7 +170,7 @@ TaskMoves-again app D s task place deadline f there waits some asked at =
     let call : place_of_call instr ≡ Some place = subst (λ o. FitsCall instr o (tries_again (task_at s task).phase)) waits was.call in
     record {
       there = there;
-      consistent = record { pc = was.pc; notes = was.notes; call = ap is_some call; deadline = asked; entries = was.entries };
+      consistent = record { pc = was.pc; entry_count = was.entry_count; call = ap is_some call; deadline = asked; entries = was.entries };
       same_cores = refl;
       seats = omega (arith, times_in_list-joined (priorities_of app) s.ready task task, self, idle);
       others_seats = λ t differs. omega (arith, times_in_list-joined (priorities_of app) s.ready t task, other t differs);

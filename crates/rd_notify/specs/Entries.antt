@@ -1,6 +1,6 @@
 -- Notification entries.
-use Rattle.rd_notify.specs.declared.notes.Entry.{Entry}
-use Rattle.rd_notify.specs.declared.notes.EntryState.TheVariants.{Idle}
+use Rattle.rd_notify.specs.declared.entries.Entry.{Entry}
+use Rattle.rd_notify.specs.declared.entries.EntryState.TheVariants.{Idle}
 
 -- how an entry begins: value 0, idle
 abbrev pub idle_entry : Entry

@@ -1,4 +1,4 @@
 //! Direct-to-task notifications.
 #![tactic(auto)]
 
-pub mod notes;
+pub mod entries;

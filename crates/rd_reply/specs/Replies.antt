@@ -7,9 +7,9 @@ use Rattle.rd_text.specs.declared.refusal.Refusal.{Refusal}
 use Rattle.rd_text.specs.declared.refusal.Refusal.TheVariants.{NoTask, TickLimit, TooFar}
 use Rattle.rd_text.specs.declared.refusal.Refusal.TheVariants.{MovesFull, NoSuch, NoMemory}
 use Rattle.rd_text.specs.declared.refusal.Refusal.TheVariants.{Syntax, LineTooLong}
-use Rattle.rd_notify.specs.declared.notes.Entry.{Entry}
-use Rattle.rd_notify.specs.declared.notes.EntryState.{EntryState}
-use Rattle.rd_notify.specs.declared.notes.EntryState.TheVariants.{Idle, Waiting, Received}
+use Rattle.rd_notify.specs.declared.entries.Entry.{Entry}
+use Rattle.rd_notify.specs.declared.entries.EntryState.{EntryState}
+use Rattle.rd_notify.specs.declared.entries.EntryState.TheVariants.{Idle, Waiting, Received}
 use Rattle.rd_queue.specs.declared.waiting_list.WaitingList.{WaitingList}
 use Rattle.rd_queue.specs.declared.waiting_list.WaitingList.TheVariants.{Receiving, Sending}
 use Rattle.rd_queue.specs.QueueSnapshot.{QueueSnapshot}

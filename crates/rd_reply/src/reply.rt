@@ -23,7 +23,7 @@ use crate::page::Page;
 use itoa::{Buffer, Integer};
 use rd_app::app::{App, Kind};
 use rd_bytes::bytes::MAX_BYTES;
-use rd_notify::notes::{Entry, EntryState};
+use rd_notify::entries::{Entry, EntryState};
 use rd_queue::queue::Queue;
 use rd_queue::queue_set::QueueSet;
 use rd_queue::waiting_list::WaitingList;
@@ -504,7 +504,7 @@ fn append_state(page: &mut Page<'_>, task: &Task)
     page.append(" data ");
     append_bytes(page, task.bytes());
     page.append(" notes ");
-    append_entry_list(page, task.notes().as_slice());
+    append_entry_list(page, task.entries().as_slice());
 }
 
 /// Appends the view of the cores. An `Err` says that there is no memory for it, and comes only

@@ -140,7 +140,7 @@ fn refused_files(rt: HostRuntime) -> Result<(), Fail> {
     assert_same(&rt, app.find(Kind::Queue, "q0"), Some(0));
     assert_same(&rt, app.find(Kind::Task, "q0"), None);
     assert_same(&rt, app.queues().len(), 1);
-    assert_same(&rt, app.notes(), 1);
+    assert_same(&rt, app.entries(), 1);
     assert_refused(&rt, alloc, &REFUSED_FILES);
     Ok(())
 }

@@ -53,7 +53,7 @@ pub record IsRead (d : Data) (app : Application) (profile cores tasks : Data) (q
   pub tasks_at : field (codes "tasks") d ≡ Ok tasks
   pub one : number_in 1 1 profile ≡ Ok 1
   pub core_count : number_in 1 8 cores ≡ Ok app.cores
-  pub notes : number_or 1 1 4 (get (codes "notes") d) ≡ Ok app.notes
+  pub entries : number_or 1 1 4 (get (codes "notes") d) ≡ Ok app.entries
   pub tick : number_or 0 0 (2 ^ 32 - 1) (get (codes "tick") d) ≡ Ok app.tick
   pub queue_array : array_or_empty 32 (get (codes "queues") d) ≡ Ok queue_items
   pub queues : queues_after nothing_named queue_items ≡ Ok app.queues
@@ -77,7 +77,7 @@ pub read_takes : (d : Data) (app : Application) (profile cores tasks : Data) (qu
 read_takes d app profile cores tasks queue_items set_items task_items drafts read =
     let one = number_ok 1 1 profile 1 read.one in
     let core_count = number_ok 1 8 cores app.cores read.core_count in
-    let notes = number_or_ok 1 1 4 (get (codes "notes") d) app.notes (omega arith) (omega arith) read.notes in
+    let entries = number_or_ok 1 1 4 (get (codes "notes") d) app.entries (omega arith) (omega arith) read.entries in
     let tick = number_or_ok 0 0 (2 ^ 32 - 1) (get (codes "tick") d) app.tick (omega arith) (omega arith) read.tick in
     let queue_array = array_or_ok 32 (get (codes "queues") d) queue_items read.queue_array in
     let set_array = array_or_ok 32 (get (codes "sets") d) set_items read.set_array in
@@ -112,7 +112,7 @@ read_takes d app profile cores tasks queue_items set_items task_items drafts rea
         keys = object_ok file_keys d tt read.keys;
         profile_at = field_ok (codes "profile") d profile read.profile_at ∙ ap Some one.0;
         cores_at = field_ok (codes "cores") d cores read.cores_at ∙ ap Some core_count.0;
-        notes_at = notes.0;
+        entries_at = entries.0;
         tick_at = tick.0;
         queues_at = queue_array.0;
         queues = queues_said;
@@ -125,8 +125,8 @@ read_takes d app profile cores tasks queue_items set_items task_items drafts rea
       record {
         some_cores = omega (arith, core_count);
         few_cores = omega (arith, core_count);
-        some_notes = omega (arith, notes);
-        few_notes = notes.2;
+        some_entries = omega (arith, entries);
+        few_entries = entries.2;
         tick = omega (arith, tick);
         few_queues = omega (arith, queue_array, sizes);
         queues = All-from_recursion IsQueueShape app.queues.things queues.2.kept.are_things;
@@ -159,7 +159,7 @@ ok_is x y e = cc
 abbrev app_with : AppDraft → List TaskScript → Application
 app_with draft scripts = record {
   cores = draft.cores;
-  notes = draft.notes;
+  entries = draft.entries;
   tick = draft.tick;
   queues = draft.objects.queues;
   sets = draft.objects.sets;
@@ -178,8 +178,8 @@ app_takes d app e =
     let tasks = bind_ok (field (codes "tasks") d) _ drafted.0 cores.2 in
     let one = bind_ok (number_in 1 1 profile.0) _ drafted.0 tasks.2 in
     let core_count = bind_ok (number_in 1 8 cores.0) _ drafted.0 one.2 in
-    let notes = bind_ok (number_or 1 1 4 (get (codes "notes") d)) _ drafted.0 core_count.2 in
-    let tick = bind_ok (number_or 0 0 (2 ^ 32 - 1) (get (codes "tick") d)) _ drafted.0 notes.2 in
+    let entries = bind_ok (number_or 1 1 4 (get (codes "notes") d)) _ drafted.0 core_count.2 in
+    let tick = bind_ok (number_or 0 0 (2 ^ 32 - 1) (get (codes "tick") d)) _ drafted.0 entries.2 in
     let queue_items = bind_ok (array_or_empty 32 (get (codes "queues") d)) _ drafted.0 tick.2 in
     let queues = bind_ok (queues_after nothing_named queue_items.0) _ drafted.0 queue_items.2 in
     let set_items = bind_ok (array_or_empty 32 (get (codes "sets") d)) _ drafted.0 queues.2 in
@@ -188,7 +188,7 @@ app_takes d app e =
     let drafts = bind_ok (tasks_after nothing_named task_items.0) _ drafted.0 task_items.2 in
     let draft : AppDraft = record {
       cores = core_count.0;
-      notes = notes.0;
+      entries = entries.0;
       tick = tick.0;
       objects = record { queues = queues.0; sets = sets.0 };
       tasks = drafts.0;
@@ -203,7 +203,7 @@ app_takes d app e =
       tasks_at = tasks.1;
       one = is_one profile.0 one.0 one.1;
       core_count = core_count.1;
-      notes = notes.1;
+      entries = entries.1;
       tick = tick.1;
       queue_array = queue_items.1;
       queues = queues.1;
@@ -231,7 +231,7 @@ array_or_again most (Some d) ds h few = array_again 0 most d ds h (omega arith) 
 abbrev draft_from : Application → List TaskDraft → AppDraft
 draft_from app drafts = record {
   cores = app.cores;
-  notes = app.notes;
+  entries = app.entries;
   tick = app.tick;
   objects = objects_of app;
   tasks = drafts_of app drafts;
@@ -248,7 +248,7 @@ draft_read d app profile cores tasks queue_items set_items task_items drafts rea
     (then_is (field (codes "tasks") d) _ tasks _ read.tasks_at
     (then_is (number_in 1 1 profile) _ 1 _ read.one
     (then_is (number_in 1 8 cores) _ app.cores _ read.core_count
-    (then_is (number_or 1 1 4 (get (codes "notes") d)) _ app.notes _ read.notes
+    (then_is (number_or 1 1 4 (get (codes "notes") d)) _ app.entries _ read.entries
     (then_is (number_or 0 0 (2 ^ 32 - 1) (get (codes "tick") d)) _ app.tick _ read.tick
     (then_is (array_or_empty 32 (get (codes "queues") d)) _ queue_items _ read.queue_array
     (then_is (queues_after nothing_named queue_items) _ app.queues _ read.queues
@@ -282,7 +282,7 @@ app_again d app queue_items set_items task_items says limits =
       tasks_at = field_again (codes "tasks") d _ says.tasks_at;
       one = refl;
       core_count = limits_again 1 8 app.cores (omega (arith, limits.some_cores)) limits.few_cores;
-      notes = number_or_again 1 1 4 (get (codes "notes") d) app.notes says.notes_at (omega (arith, limits.some_notes)) limits.few_notes;
+      entries = number_or_again 1 1 4 (get (codes "notes") d) app.entries says.entries_at (omega (arith, limits.some_entries)) limits.few_entries;
       tick = number_or_again 0 0 (2 ^ 32 - 1) (get (codes "tick") d) app.tick says.tick_at (omega arith) (omega (arith, limits.tick));
       queue_array = array_or_again 32 (get (codes "queues") d) queue_items says.queues_at (omega (arith, sizes, limits.few_queues));
       queues = named_again (λ before. queue_of before.names) IsQueue (AllByRecursion IsQueueShape) (AllByRecursion-first IsQueueShape)

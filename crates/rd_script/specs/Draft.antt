@@ -21,7 +21,7 @@ task_drafts_view array = record {
 abbrev pub app_draft_view : AppDraft → file.AppDraft
 app_draft_view draft = record {
   cores = draft.cores;
-  notes = draft.notes;
+  entries = draft.entries;
   tick = draft.tick;
   objects = objects_view draft.objects;
   tasks = task_drafts_view draft.tasks;

@@ -10,7 +10,7 @@ use Rattle.serde_json.specs.Data.{Data, Items, no_items, item, Members, no_membe
 use Rattle.serde_json.specs.Events.{items_len}
 use Rattle.serde_json.specs.Find.{get, as_number, as_u64, as_str, as_array, as_object}
 use Rattle.serde_json.specs.Read.{read}
-use Rattle.rd_notify.specs.declared.notes.TheConstants.{MAX_ENTRIES}
+use Rattle.rd_notify.specs.declared.entries.TheConstants.{MAX_ENTRIES}
 use Rattle.rd_queue.specs.declared.item.TheConstants.{MAX_ITEM_SIZE}
 use Rattle.rd_queue.specs.declared.queue.TheConstants.{MAX_ITEMS}
 use Rattle.rd_queue.specs.declared.queue_set.TheConstants.{MAX_HANDLES}
@@ -236,7 +236,7 @@ file_keys =
 -- what a file says, its scripts not read yet
 pub record AppDraft : Type 0 where
   pub cores : ℕ
-  pub notes : ℕ
+  pub entries : ℕ
   pub tick : ℕ
   pub objects : NamedObjects
   pub tasks : Named TaskDraft
@@ -249,7 +249,7 @@ draft_of d = do
   tasks ← field (codes "tasks") d
   _ ← number_in 1 1 profile
   cores ← number_in 1 MAX_CORES cores
-  notes ← number_or 1 1 MAX_ENTRIES (get (codes "notes") d)
+  entries ← number_or 1 1 MAX_ENTRIES (get (codes "notes") d)
   tick ← number_or 0 0 (2 ^ 32 - 1) (get (codes "tick") d)
   queues ← array_or_empty MAX_QUEUES (get (codes "queues") d)
   queues ← queues_after nothing_named queues
@@ -259,7 +259,7 @@ draft_of d = do
   tasks ← tasks_after nothing_named tasks
   Ok (record {
     cores = cores;
-    notes = notes;
+    entries = entries;
     tick = tick;
     objects = record { queues = queues; sets = sets };
     tasks = tasks;
@@ -271,7 +271,7 @@ with_scripts draft = do
   scripts ← scripts_after draft.objects [] draft.tasks.things
   Ok (record {
     cores = draft.cores;
-    notes = draft.notes;
+    entries = draft.entries;
     tick = draft.tick;
     queues = draft.objects.queues;
     sets = draft.objects.sets;

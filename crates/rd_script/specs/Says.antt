@@ -112,7 +112,7 @@ pub record Says (d : Data) (app : Application) (queue_items set_items task_items
   pub keys : is_object_with file_keys d ≡ true
   pub profile_at : get (codes "profile") d ≡ Some (number (unsigned 1))
   pub cores_at : get (codes "cores") d ≡ Some (number (unsigned app.cores))
-  pub notes_at : IsNumberOr 1 (get (codes "notes") d) app.notes
+  pub entries_at : IsNumberOr 1 (get (codes "notes") d) app.entries
   pub tick_at : IsNumberOr 0 (get (codes "tick") d) app.tick
   pub queues_at : IsArrayOrEmpty (get (codes "queues") d) queue_items
   pub queues : AreQueues queue_items app.queues

@@ -32,7 +32,7 @@ use rd_app::app::{
     QueueShape, Script, SetShape,
 };
 use rd_app::instr::{Instr, LocalInstr};
-use rd_notify::notes::MAX_ENTRIES;
+use rd_notify::entries::MAX_ENTRIES;
 use rd_queue::item::MAX_ITEM_SIZE;
 use rd_queue::queue::MAX_ITEMS;
 use rd_queue::queue_set::MAX_HANDLES;
@@ -325,7 +325,7 @@ fn read_tasks(values: &[Value]) -> Result<NamedArray<'_, TaskDraft<'_>, MAX_TASK
 #[derive(Debug, Drop)]
 struct AppDraft<'a> {
     cores: usize,
-    notes: usize,
+    entries: usize,
     tick: u32,
     objects: NamedObjects<'a>,
     tasks: NamedArray<'a, TaskDraft<'a>, MAX_TASKS>,
@@ -346,7 +346,7 @@ fn read_draft(file: &Value) -> Result<AppDraft<'_>, AppError>
     let tasks = field(file, "tasks")?;
     number(profile, 1, 1)?;
     let cores = number(cores, 1, MAX_CORES as u64)? as usize;
-    let notes = number_or(file.get("notes"), 1, 1, MAX_ENTRIES as u64)? as usize;
+    let entries = number_or(file.get("notes"), 1, 1, MAX_ENTRIES as u64)? as usize;
     let tick = number_or(file.get("tick"), 0, 0, u64::from(u32::MAX))? as u32;
     let queues = read_queues(array_or_empty(file.get("queues"), MAX_QUEUES)?)?;
     let sets = array_or_empty(file.get("sets"), MAX_SETS)?;
@@ -354,7 +354,7 @@ fn read_draft(file: &Value) -> Result<AppDraft<'_>, AppError>
     let tasks = read_tasks(array(tasks, 1, MAX_TASKS)?)?;
     Ok(AppDraft {
         cores,
-        notes,
+        entries,
         tick,
         objects: NamedObjects { queues, sets },
         tasks,
@@ -482,7 +482,7 @@ fn keep(alloc: Global, draft: &AppDraft<'_>) -> Result<App, AllocError>
     let tasks = &draft.tasks;
     let parts = Parts {
         cores: draft.cores,
-        notes: draft.notes,
+        entries: draft.entries,
         tick: draft.tick,
         queues: Named {
             names: Names::new(alloc, queues.names.as_slice())?,

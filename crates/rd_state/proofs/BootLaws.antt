@@ -97,9 +97,9 @@ IsValid-boot app s limits sized e =
     let cores : length before.cores ≡ app.cores = length-replicate app.cores None in
     let kept : SeatsKept priorities (seating_of before) (seating_of (boot_of app)) =
     SeatsKept-settled priorities before (omega (arith, cores, limits.some_cores)) in
-    let tasks : length before.tasks ≡ n = length-replicate n (fresh_task app.notes) in
-    let there : (task : ℕ) → task < length before.tasks → task_at before task ≡ fresh_task app.notes =
-    λ task h. get_or-replicate n task (fresh_task app.notes) no_task (omega (arith, h, tasks)) in
+    let tasks : length before.tasks ≡ n = length-replicate n (fresh_task app.entries) in
+    let there : (task : ℕ) → task < length before.tasks → task_at before task ≡ fresh_task app.entries =
+    λ task h. get_or-replicate n task (fresh_task app.entries) no_task (omega (arith, h, tasks)) in
     let valid : IsSized (boot_of app) → IsValid app (boot_of app) = λ z. record {
       in_limits = record {
         sized = z;
@@ -109,7 +109,7 @@ IsValid-boot app s limits sized e =
             let script : IsScript app (get_or app.tasks.things task (record { priority = 0; code = [] })) =
             All-get_or (IsScript app) app.tasks.things task (record { priority = 0; code = [] }) (omega (arith, h, tasks)) limits.tasks in
             omega (arith, ap (λ (t : TaskSnapshot). t.pc) (there task h), script.some);
-        entries = All-replicate (λ (task : TaskSnapshot). length task.entries ≡ app.notes) n (fresh_task app.notes) (length-replicate app.notes idle_entry);
+        entries = All-replicate (λ (task : TaskSnapshot). length task.entries ≡ app.entries) n (fresh_task app.entries) (length-replicate app.entries idle_entry);
         objects = record {
           queues = shape_of-first_queues app (length app.queues.things) (omega arith) ∙ take_all (length app.queues.things) app.queues.things (omega arith);
           sets = room_of-new_sets n (length app.queues.things) app.sets.things;
@@ -132,8 +132,8 @@ IsValid-boot app s limits sized e =
       calls = λ task h. subst (λ (t : TaskSnapshot). PhaseFitsCall t.phase (instr_at app task t.pc)) (sym (there task h)) tt;
       deadlines = λ task h. subst (λ (t : TaskSnapshot). HasTimeLeft app.tick t.phase) (sym (there task h)) tt;
       entries =
-          All-replicate (λ (task : TaskSnapshot). All IsNotWaiting task.entries) n (fresh_task app.notes)
-          (All-replicate IsNotWaiting app.notes idle_entry idle_is_not_waiting);
+          All-replicate (λ (task : TaskSnapshot). All IsNotWaiting task.entries) n (fresh_task app.entries)
+          (All-replicate IsNotWaiting app.entries idle_entry idle_is_not_waiting);
     } in
     subst (λ (t : Snapshot). IsSized t → IsValid app t) (sym e) valid sized
 

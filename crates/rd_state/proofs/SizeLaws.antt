@@ -266,10 +266,10 @@ AreSizedObjects-new app tasks limits same =
 
 -- a new state
 pub HasSizes-new : (app : Application) (s : Inside) (n : ℕ) → IsApplication app → s.turn ≡ 0 → s.cores.items ≡ replicate app.cores None
-    → s.ready ≡ record { tasks = all_joined (priorities_of app) n; room = n } → s.tasks.items ≡ replicate n (fresh_task app.notes)
+    → s.ready ≡ record { tasks = all_joined (priorities_of app) n; room = n } → s.tasks.items ≡ replicate n (fresh_task app.entries)
     → n ≡ length app.tasks.things → s.objects ≡ new_objects app → HasSizes s
 HasSizes-new app s n limits turn cores ready tasks scripts objects =
-    let count : length s.tasks.items ≡ n = omega (arith, ap length tasks, length-replicate n (fresh_task app.notes)) in
+    let count : length s.tasks.items ≡ n = omega (arith, ap length tasks, length-replicate n (fresh_task app.entries)) in
     let listed : s.ready.tasks ≡ all_joined (priorities_of app) n = ap (λ (l : TaskList). l.tasks) ready in
     let HasPhase : TaskSnapshot → Type 0 = λ task. IsSizedPhase (numbers_of (snapshot_of s)) task.phase in
     record {
@@ -286,10 +286,10 @@ HasSizes-new app s n limits turn cores ready tasks scripts objects =
         };
         tasks = record {
           tasks =
-              All-same IsSizedTask s.tasks.items (replicate n (fresh_task app.notes)) tasks
-              (All-replicate IsSizedTask n (fresh_task app.notes) (refl, omega arith));
+              All-same IsSizedTask s.tasks.items (replicate n (fresh_task app.entries)) tasks
+              (All-replicate IsSizedTask n (fresh_task app.entries) (refl, omega arith));
           phases =
-              All-same HasPhase s.tasks.items (replicate n (fresh_task app.notes)) tasks (All-replicate HasPhase n (fresh_task app.notes) tt);
+              All-same HasPhase s.tasks.items (replicate n (fresh_task app.entries)) tasks (All-replicate HasPhase n (fresh_task app.entries) tt);
         };
         objects =
             subst (AreSizedObjects (length s.tasks.items)) (sym objects) (AreSizedObjects-new app (length s.tasks.items) limits (count ∙ scripts));

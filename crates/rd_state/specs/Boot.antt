@@ -18,12 +18,12 @@ use Rattle.rd_state.specs.Settled.{settled}
 
 -- a task at its first instruction, with that many notification entries
 abbrev pub fresh_task : ℕ → TaskSnapshot
-fresh_task notes = record {
+fresh_task entries = record {
   pc = 0;
   registers = replicate REGISTERS 0;
   bytes = [];
   phase = Run;
-  entries = replicate notes idle_entry;
+  entries = replicate entries idle_entry;
 }
 
 -- a queue with nothing in it, at which every task can wait, in the set that has it as a member
@@ -64,7 +64,7 @@ before_scheduling app = record {
   turn = 0;
   cores = replicate app.cores None;
   ready = all_joined (priorities_of app) (length app.tasks.things);
-  tasks = replicate (length app.tasks.things) (fresh_task app.notes);
+  tasks = replicate (length app.tasks.things) (fresh_task app.entries);
   objects = new_objects app;
 }
 

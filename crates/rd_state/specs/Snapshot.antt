@@ -1,6 +1,6 @@
 -- The whole state of the target, as plain lists: what a contract sees of a `State`.
 use Rattle.std.specs.Prelude.{ℕ, ◌≡◌, List, [], length, Option, None, slice_index_or}
-use Rattle.rd_notify.specs.declared.notes.Entry.{Entry}
+use Rattle.rd_notify.specs.declared.entries.Entry.{Entry}
 use Rattle.rd_queue.specs.QueueSnapshot.{QueueSnapshot}
 use Rattle.rd_queue.specs.SetSnapshot.{SetSnapshot}
 use Rattle.rd_state.specs.declared.phase.Phase.{Phase}

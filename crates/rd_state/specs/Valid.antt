@@ -2,8 +2,8 @@
 use Rattle.std.specs.Prelude.{ℕ, ◌≡◌, ◌≢◌, ◌+◌, ◌<◌, Bool, true, false, List, length, map, All}
 use Rattle.std.specs.Prelude.{count_by, nat_eq, nat_lt, if◌then◌else◌}
 use Rattle.std.specs.Prelude.{Option, Some, None, IsSome, IfSome, option_map}
-use Rattle.rd_notify.specs.declared.notes.Entry.{Entry}
-use Rattle.rd_notify.specs.declared.notes.EntryState.TheVariants.{Waiting}
+use Rattle.rd_notify.specs.declared.entries.Entry.{Entry}
+use Rattle.rd_notify.specs.declared.entries.EntryState.TheVariants.{Waiting}
 use Rattle.rd_queue.specs.QueueSnapshot.{QueueSnapshot}
 use Rattle.rd_app.specs.declared.app.QueueShape.{QueueShape}
 use Rattle.rd_queue.specs.SetSnapshot.{SetSnapshot}
@@ -39,7 +39,7 @@ pub record InLimits (app : Application) (s : Snapshot) : Type 0 where
   pub cores : length s.cores ≡ app.cores
   pub tasks : length s.tasks ≡ length app.tasks.things
   pub pcs : (task : ℕ) → task < length s.tasks → (task_at s task).pc < length (code_of app task)
-  pub entries : All (λ task. length task.entries ≡ app.notes) s.tasks
+  pub entries : All (λ task. length task.entries ≡ app.entries) s.tasks
   pub objects : AreShaped app s.objects
 
 -- how often a task stands in a list, and on cores

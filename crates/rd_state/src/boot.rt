@@ -1,7 +1,7 @@
 //! The state at boot.
 
 ghost use Rattle.std.specs.Prelude.{◌≡◌, ◌≤◌, length, replicate, IfOk};
-ghost use Rattle.rd_notify.specs.declared.notes.TheConstants.{MAX_ENTRIES};
+ghost use Rattle.rd_notify.specs.declared.entries.TheConstants.{MAX_ENTRIES};
 ghost use Rattle.rd_notify.specs.Entries.{idle_entry};
 ghost use Rattle.rd_app.specs.Application.{priorities_of};
 ghost use Rattle.rd_state.specs.Boot.{all_joined, boot_of, fresh_task};
@@ -17,14 +17,14 @@ use rd_bytes::no_memory::NoMemory;
 use rd_wait::prio_list::PrioList;
 use std::alloc::Global;
 
-// `count` tasks at their first instruction, each with `notes` notification entries.
-pub(crate) fn new_tasks(alloc: Global, count: usize, notes: usize) -> Result<Vec<Task>, NoMemory>
-    requires { notes ≤ MAX_ENTRIES }
-    ensures { IfOk result (λ tasks. tasks.items ≡ replicate count (fresh_task notes)) }
+// `count` tasks at their first instruction, each with so many notification entries.
+pub(crate) fn new_tasks(alloc: Global, count: usize, entries: usize) -> Result<Vec<Task>, NoMemory>
+    requires { entries ≤ MAX_ENTRIES }
+    ensures { IfOk result (λ tasks. tasks.items ≡ replicate count (fresh_task entries)) }
 {
     let mut tasks = Vec::with_capacity(alloc, count)?;
     for _ in 0..count {
-        tasks.push(Task::new(notes))?;
+        tasks.push(Task::new(entries))?;
     }
     Ok(tasks)
 }

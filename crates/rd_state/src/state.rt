@@ -88,7 +88,7 @@ impl State {
             turn: 0,
             cores: vec![in alloc; None; app.cores()]?,
             ready: all_ready(alloc, priorities)?,
-            tasks: new_tasks(alloc, priorities.len(), app.notes())?,
+            tasks: new_tasks(alloc, priorities.len(), app.entries())?,
             objects: Objects::new(alloc, app)?,
         })
     }

@@ -3,13 +3,13 @@
 ghost use Rattle.std.specs.Prelude.{◌≡◌, ◌↔◌, IsTrue, ◌<◌, ◌≤◌, [], length, replicate};
 ghost use Rattle.std.specs.Prelude.{slice_index, slice_set, Some, IfOk};
 ghost use Rattle.rd_bytes.specs.declared.bytes.TheConstants.{MAX_BYTES};
-ghost use Rattle.rd_notify.specs.declared.notes.TheConstants.{MAX_ENTRIES};
+ghost use Rattle.rd_notify.specs.declared.entries.TheConstants.{MAX_ENTRIES};
 ghost use Rattle.rd_state.specs.Boot.{fresh_task};
 
 use crate::phase::Phase;
 use rd_app::instr::REGISTERS;
 use rd_bytes::bytes::Bytes;
-use rd_notify::notes::Notes;
+use rd_notify::entries::Entries;
 use std::marker::Model;
 
 /// A task of the target.
@@ -19,7 +19,7 @@ pub struct Task {
     registers: [u32; REGISTERS],
     bytes: Bytes,
     phase: Phase,
-    notes: Notes,
+    entries: Entries,
 }
 
 impl Model for Task {
@@ -32,22 +32,22 @@ impl Model for Task {
       registers = t.registers;
       bytes = t.bytes;
       phase = t.phase;
-      entries = t.notes;
+      entries = t.entries;
     } };
 }
 
 impl Task {
     /// A task at its first instruction, with that many idle notification entries.
-    pub fn new(notes: usize) -> Task
-        requires { notes ≤ MAX_ENTRIES }
-        ensures { result ≡ fresh_task notes }
+    pub fn new(entries: usize) -> Task
+        requires { entries ≤ MAX_ENTRIES }
+        ensures { result ≡ fresh_task entries }
     {
         Task {
             pc: 0,
             registers: [0; REGISTERS],
             bytes: Bytes::new(),
             phase: Phase::Run,
-            notes: Notes::new(notes),
+            entries: Entries::new(entries),
         }
     }
 
@@ -60,7 +60,7 @@ impl Task {
             registers: self.registers,
             bytes: Bytes::from_slice(self.bytes.as_slice()),
             phase: self.phase,
-            notes: self.notes.copy(),
+            entries: self.entries.copy(),
         }
     }
 
@@ -72,7 +72,7 @@ impl Task {
             && self.registers == other.registers
             && self.phase == other.phase
             && self.bytes.same(&other.bytes)
-            && self.notes.same(&other.notes)
+            && self.entries.same(&other.entries)
     }
 
     /// The number of the instruction that comes next.
@@ -114,10 +114,10 @@ impl Task {
     }
 
     /// The notification entries.
-    pub fn notes(&self) -> &Notes
+    pub fn entries(&self) -> &Entries
         ensures { result.now ≡ self.now.entries }
     {
-        &self.notes
+        &self.entries
     }
 
     /// Moves the task to another instruction of its script.

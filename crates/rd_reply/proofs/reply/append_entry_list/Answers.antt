@@ -1,6 +1,6 @@
 -- The goals of append_entry_list that the check left open.
 use Rattle.std.proofs.Common.{arith}
-use Rattle.rd_notify.specs.declared.notes.EntryState.TheVariants.{Idle}
+use Rattle.rd_notify.specs.declared.entries.EntryState.TheVariants.{Idle}
 use Rattle.rd_reply.proofs.TextLaws.{one_more}
 use Rattle.rd_reply.specs.Replies.{entry_text}
 use Rattle.rd_reply.proofs.reply.append_entry_list.Goals as goal

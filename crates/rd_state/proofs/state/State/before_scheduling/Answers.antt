@@ -11,5 +11,5 @@ invariant_of-result c =
     let app = c.args.app.now in
     HasSizes-new app _ (length (priorities_of app)) c.limits.ensures refl (search rules)
     (rw c.priorities-priorities.ensures at c.in_ok-all_ready.ensures)
-    (rw (c.priorities-priorities.ensures, c.notes.ensures) at c.in_ok-new_tasks.ensures)
+    (rw (c.priorities-priorities.ensures, c.entries.ensures) at c.in_ok-new_tasks.ensures)
     (length-map app.tasks.things (λ (script : TaskScript). script.priority)) c.in_ok-new.ensures

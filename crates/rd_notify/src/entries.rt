@@ -31,22 +31,22 @@ pub struct Entry {
 /// The notification entries of one task, 1 to 4 of them, counted from 0
 /// (`configTASK_NOTIFICATION_ARRAY_ENTRIES`).
 #[derive(Debug, Drop)]
-pub struct Notes {
+pub struct Entries {
     entries: ArrayVec<Entry, MAX_ENTRIES>,
 }
 
-impl Model for Notes {
+impl Model for Entries {
     ghost use Rattle.std.specs.Prelude.{List};
-    ghost use Rattle.rd_notify.specs.declared.notes.Entry.{Entry};
+    ghost use Rattle.rd_notify.specs.declared.entries.Entry.{Entry};
 
     ghost Value = { List Entry };
 
     ghost view = { λ n. n.entries.items };
 }
 
-impl Notes {
+impl Entries {
     /// `count` entries of value 0, all idle.
-    pub fn new(count: usize) -> Notes
+    pub fn new(count: usize) -> Entries
         requires { count ≤ MAX_ENTRIES }
         ensures { result ≡ replicate count idle_entry }
     {
@@ -57,22 +57,22 @@ impl Notes {
                 state: EntryState::Idle,
             });
         }
-        Notes { entries }
+        Entries { entries }
     }
 
     /// Equal entries.
-    pub fn copy(&self) -> Notes
+    pub fn copy(&self) -> Entries
         ensures { result ≡ self.now }
     {
         let mut entries = ArrayVec::new();
         entries
             .try_extend_from_slice(self.entries.as_slice())
             .unwrap();
-        Notes { entries }
+        Entries { entries }
     }
 
     /// Whether the other entries are equal, one by one.
-    pub fn same(&self, other: &Notes) -> bool
+    pub fn same(&self, other: &Entries) -> bool
         ensures { IsTrue result ↔ (self.now ≡ other.now) }
     {
         self.entries.as_slice() == other.entries.as_slice()
