@@ -12,8 +12,8 @@ use Rattle.rd_app.specs.declared.app.TheConstants.{MAX_CODE, MAX_CORES, MAX_PRIO
 use Rattle.rd_app.specs.declared.app.TheConstants.{MAX_QUEUES, MAX_SETS, MAX_TASKS}
 use Rattle.rd_app.specs.declared.instr.TheConstants.{REGISTERS}
 use Rattle.rd_app.specs.declared.app.QueueShape.{QueueShape}
-use Rattle.rd_app.specs.declared.app.Kind.{Kind}
-use Rattle.rd_app.specs.declared.app.Kind.TheVariants as kind
+use Rattle.rd_text.specs.declared.kind.Kind.{Kind}
+use Rattle.rd_text.specs.declared.kind.Kind.TheVariants as kind
 use Rattle.rd_app.specs.declared.instr.Operand.{Operand}
 use Rattle.rd_app.specs.declared.instr.Operand.TheVariants.{Number, Register}
 use Rattle.rd_app.specs.declared.instr.Instr.{Instr}

@@ -11,6 +11,7 @@ ghost use Rattle.rd_app.specs.Inside.{application_of};
 use crate::instr::{Instr, LocalInstr, Operand, QueueCall};
 use rd_bytes::bytes::Bytes;
 use rd_queue::end::End;
+use rd_text::kind::Kind;
 use rd_text::names::Names;
 use std::alloc::{AllocError, Global};
 use std::marker::Model;
@@ -32,14 +33,6 @@ pub const MAX_PRIORITY: u8 = 31;
 
 /// How many instructions the script of a task has at the most.
 pub const MAX_CODE: usize = 256;
-
-/// What kind of thing a name stands for.
-#[derive(Clone, Copy, Debug, PartialEq, Eq)]
-pub enum Kind {
-    Queue,
-    Set,
-    Task,
-}
 
 /// A queue to be made: room for 1 to 64 items of 1 to 64 bytes each.
 #[derive(Clone, Copy, Debug, Default, PartialEq, Eq)]

@@ -14,12 +14,11 @@ use Rattle.rd_app.specs.declared.instr.LocalInstr.TheVariants as local
 use Rattle.rd_state.specs.declared.phase.Phase.TheVariants.{Run, Ended}
 use Rattle.rd_app.specs.Application.{Application, IsApplication, IsScript, IsWithin, code_of, instr_at, is_final, priorities_of}
 use Rattle.rd_app.specs.TaskScript.{TaskScript}
-use Rattle.rd_state.specs.Change.{with_task}
 use Rattle.rd_state.specs.Settled.{seating_of, settled, IsSettled}
 use Rattle.rd_state.specs.Sizes.{IsSized}
-use Rattle.rd_state.specs.Snapshot.{Snapshot, task_at, core_at}
+use Rattle.rd_state.specs.Snapshot.{Snapshot, task_at, core_at, with_task}
 use Rattle.rd_state.specs.Valid.{IsValid, PhaseFitsCall, place_of_call, seats_to_run}
-use Rattle.rd_state.specs.Valid.{room_of, shape_of}
+use Rattle.rd_state.specs.Objects.{room_of, shape_of}
 use Rattle.rd_app.specs.QueueSetShape.{QueueSetShape}
 use Rattle.rd_state.proofs.Offered.{scheduling_settles, stays_settled, SeatsKept, SeatsKept-settled, SeatsKept-rotated, SeatsKept-then}
 use Rattle.rd_calls.specs.Local.{unpacked}

@@ -10,7 +10,8 @@ use Rattle.rd_text.specs.declared.refusal.Refusal.TheVariants.{NoTask, TickLimit
 use Rattle.rd_state.specs.declared.change.Change.{Change}
 use Rattle.rd_state.specs.Change.{weight_of}
 use Rattle.rd_state.specs.Settled.{settled, rotated, IsSettled}
-use Rattle.rd_state.specs.Snapshot.{Numbers, Snapshot, task_at, core_at}
+use Rattle.rd_state.specs.Snapshot.{Snapshot, task_at, core_at}
+use Rattle.rd_state.specs.Objects.{Numbers}
 use Rattle.rd_state.specs.Undoing.{undone, CanUndo}
 use Rattle.rd_state.specs.Valid.{IsValid}
 use Rattle.rd_calls.specs.Local.{local_step, NamesRegisters}

@@ -2,6 +2,8 @@
 use Rattle.std.specs.Prelude.{ℕ, ◌&&◌, codes, List, [], ◌∷◌, nat_lt, nat_le, if◌then◌else◌}
 use Rattle.std.specs.Prelude.{Option, Some, None, option_map, option_and_then}
 use Rattle.std.specs.Str.{bytes_eq}
+use Rattle.rd_text.specs.declared.kind.Kind.{Kind}
+use Rattle.rd_text.specs.Kinds.{kind_of_word}
 use Rattle.rd_text.specs.Words.{number_of, name_of}
 use Rattle.rd_command.specs.declared.command.Command.{Command}
 use Rattle.rd_command.specs.declared.command.Command.TheVariants as command
@@ -11,18 +13,14 @@ pub data Asked : Type 0 where
   Step : ℕ → Asked
   Tick : Asked
   Back : ℕ → Asked
-  ShowQueue : List ℕ → Asked
-  ShowSet : List ℕ → Asked
-  ShowTask : List ℕ → Asked
+  Show : Kind → List ℕ → Asked
   ShowCores : Asked
 
 abbrev pub asked : Command → Asked
 asked (command.Step core) = Step core
 asked command.Tick = Tick
 asked (command.Back count) = Back count
-asked (command.ShowQueue name) = ShowQueue name.now
-asked (command.ShowSet name) = ShowSet name.now
-asked (command.ShowTask name) = ShowTask name.now
+asked (command.Show kind name) = Show kind name.now
 asked command.ShowCores = ShowCores
 
 -- a number of moves: 1 to 1,000,000
@@ -39,13 +37,10 @@ numbered_command verb number =
     else if bytes_eq verb (codes "back") then option_map Back (count_of number)
     else None
 
--- `show queue Q`, `show set S`, `show task K`
+-- `show KIND NAME`
 abbrev pub named_view : List ℕ → List ℕ → Option Asked
 named_view kind name =
-    if bytes_eq kind (codes "queue") then option_map ShowQueue (name_of name)
-    else if bytes_eq kind (codes "set") then option_map ShowSet (name_of name)
-    else if bytes_eq kind (codes "task") then option_map ShowTask (name_of name)
-    else None
+    option_and_then (λ kind. option_map (Show kind) (name_of name)) (kind_of_word kind)
 
 -- `show cores`
 abbrev pub view_without_name : List ℕ → Option Asked

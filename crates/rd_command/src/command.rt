@@ -8,6 +8,7 @@ ghost use Rattle.rd_command.specs.Commands.{single_word_command, two_word_comman
 ghost use Rattle.rd_command.specs.Commands.{numbered_command};
 ghost use Rattle.rd_command.specs.Commands.{view_without_name, named_view};
 
+use rd_text::kind::Kind;
 use rd_text::words::{Words, name, number};
 
 /// How many moves a command makes or takes back at the most.
@@ -22,12 +23,8 @@ pub enum Command<'a> {
     Tick,
     /// `back COUNT`: the last moves are undone, 1 to 1,000,000 of them.
     Back { count: u32 },
-    /// `show queue Q`: the queue of this name.
-    ShowQueue { name: &'a str },
-    /// `show set S`: the queue set of this name.
-    ShowSet { name: &'a str },
-    /// `show task K`: the task of this name.
-    ShowTask { name: &'a str },
+    /// `show KIND NAME`: the thing of that kind and name, as `show queue Q`.
+    Show { kind: Kind, name: &'a str },
     /// `show cores`: who runs, who is ready, the tick and the turn.
     ShowCores,
 }
@@ -102,16 +99,13 @@ fn numbered_command<'a>(verb: &[u8], word: &'a [u8]) -> Option<Command<'a>>
     }
 }
 
-// `show queue Q`, `show set S` or `show task K`.
+// `show KIND NAME`.
 fn named_view<'a>(kind: &[u8], word: &'a [u8]) -> Option<Command<'a>>
     ensures { option_map asked result ≡ named_view kind.now word.now }
 {
-    match kind {
-        b"queue" => Some(Command::ShowQueue { name: name(word)? }),
-        b"set" => Some(Command::ShowSet { name: name(word)? }),
-        b"task" => Some(Command::ShowTask { name: name(word)? }),
-        _ => None,
-    }
+    let kind = Kind::of_word(kind)?;
+    let name = name(word)?;
+    Some(Command::Show { kind, name })
 }
 
 // A number of moves.

@@ -16,10 +16,9 @@ use Rattle.rd_state.specs.declared.phase.Place.{Place}
 use Rattle.rd_app.specs.Application.{Application, code_of, instr_at, priorities_of}
 use Rattle.rd_wait.specs.Joined.{joined, IsInOrder}
 use Rattle.rd_wait.proofs.Offered.{IsInOrder-joined}
-use Rattle.rd_state.specs.Change.{with_task}
 use Rattle.rd_state.specs.Sizes.{IsSized, IsTaskOrIdle}
 use Rattle.rd_state.specs.Phases.{can_run, kept_deadline, waits_at}
-use Rattle.rd_state.specs.Snapshot.{Snapshot, TaskSnapshot, task_at, core_at}
+use Rattle.rd_state.specs.Snapshot.{Snapshot, TaskSnapshot, task_at, core_at, with_task}
 use Rattle.rd_state.specs.Valid.{IsValid, PhaseFitsCall, is_ahead, is_at_place, is_on, place_of_call, seats_to_run}
 use Rattle.rd_state.specs.Valid.{times_in_list, times_on_cores, times_waiting_at}
 use Rattle.rd_state.specs.Waiting.{HasPlace, waiting_at}

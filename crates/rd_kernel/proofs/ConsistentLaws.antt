@@ -17,12 +17,12 @@ use Rattle.rd_state.specs.declared.phase.Place.{Place}
 use Rattle.rd_state.specs.declared.phase.Place.TheVariants.{Queue, Set}
 use Rattle.rd_app.specs.Application.{Application, code_of, instr_at, priorities_of}
 use Rattle.rd_wait.specs.Joined.{IsInOrder}
-use Rattle.rd_state.specs.Change.{with_task, with_queue, with_set}
 use Rattle.rd_state.specs.Settled.{seating_of}
 use Rattle.rd_state.specs.Sizes.{IsSized}
-use Rattle.rd_state.specs.Snapshot.{ObjectsSnapshot, Snapshot, TaskSnapshot, no_task, no_queue, no_set, numbers_in, task_at, queue_at, set_at}
-use Rattle.rd_state.specs.Valid.{AreShaped, IsNotWaiting, IsValid, ListsInOrder, PlacedOnce, PhaseFitsCall, HasTimeLeft, WaitsAtPlaces}
-use Rattle.rd_state.specs.Valid.{room_of, seats_to_run, shape_of, times_in_list, times_on_cores, times_waiting_at}
+use Rattle.rd_state.specs.Snapshot.{Snapshot, TaskSnapshot, no_task, task_at, queue_at, set_at, with_task, with_queue, with_set}
+use Rattle.rd_state.specs.Objects.{ObjectsSnapshot, no_queue, no_set, numbers_in, AreShaped, room_of, shape_of}
+use Rattle.rd_state.specs.Valid.{IsNotWaiting, IsValid, ListsInOrder, PlacedOnce, PhaseFitsCall, HasTimeLeft, WaitsAtPlaces}
+use Rattle.rd_state.specs.Valid.{seats_to_run, times_in_list, times_on_cores, times_waiting_at}
 use Rattle.rd_state.specs.Waiting.{HasPlace, IsPlace, list_number, objects_then, place_kind, place_list, place_number, same_place, waiting_at}
 use Rattle.rd_state.specs.Waiting.{waiting_in}
 use Rattle.rd_state.proofs.Offered.{SeatsKept}

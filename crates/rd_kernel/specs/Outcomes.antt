@@ -7,7 +7,8 @@ use Rattle.rd_state.specs.declared.phase.Phase.TheVariants.{Run, Wait, Failed}
 use Rattle.rd_state.specs.declared.phase.Place.{Place}
 use Rattle.rd_state.specs.Edit.{Edit, Reaches}
 use Rattle.rd_state.specs.Sizes.{IsSizedPhase}
-use Rattle.rd_state.specs.Snapshot.{Numbers, Snapshot, numbers_of, task_at}
+use Rattle.rd_state.specs.Snapshot.{Snapshot, numbers_of, task_at}
+use Rattle.rd_state.specs.Objects.{Numbers}
 use Rattle.rd_state.specs.Valid.{IsValid, seats_to_run}
 use Rattle.rd_state.specs.Waiting.{HasPlace, waiting_at}
 use Rattle.rd_kernel.specs.declared.outcome.Outcome.{Outcome}

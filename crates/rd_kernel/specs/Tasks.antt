@@ -1,8 +1,7 @@
 -- A state with one thing of a task changed.
 use Rattle.std.specs.Prelude.{ℕ, ◌≡◌, ◌+◌, List, None, slice_index, slice_set}
 use Rattle.rd_state.specs.declared.phase.Phase.{Phase}
-use Rattle.rd_state.specs.Snapshot.{Snapshot, task_at}
-use Rattle.rd_state.specs.Change.{with_task}
+use Rattle.rd_state.specs.Snapshot.{Snapshot, task_at, with_task}
 
 abbrev pub register_at : Snapshot → ℕ → ℕ → ℕ
 register_at s task register = slice_index (task_at s task).registers register

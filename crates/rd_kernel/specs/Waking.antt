@@ -10,7 +10,8 @@ use Rattle.rd_state.specs.declared.phase.Place.{Place}
 use Rattle.rd_app.specs.Application.{max_delay}
 use Rattle.rd_wait.specs.Joined.{joined}
 use Rattle.rd_state.specs.Phases.{is_first, kept_deadline, waits_at}
-use Rattle.rd_state.specs.Snapshot.{ObjectsSnapshot, Snapshot, task_at}
+use Rattle.rd_state.specs.Snapshot.{Snapshot, task_at}
+use Rattle.rd_state.specs.Objects.{ObjectsSnapshot}
 use Rattle.rd_state.specs.Valid.{is_ahead}
 use Rattle.rd_state.specs.Waiting.{objects_then, waiting_at, waiting_in, with_waiting_at}
 use Rattle.rd_kernel.specs.Tasks.{register_at, with_phase}

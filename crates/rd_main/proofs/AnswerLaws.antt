@@ -4,13 +4,14 @@ use Rattle.std.proofs.Common.{refl, ap, subst, sym, arith, inl, inr}
 use Rattle.std.specs.Prelude.{All, IfSome}
 use Rattle.std.specs.Global.{Vec}
 use Rattle.std.proofs.lemmas.List.{length-map, take_all}
-use Rattle.rd_app.specs.Application.{Application, IsApplication}
+use Rattle.rd_app.specs.Application.{Application, IsApplication, names_of}
 use Rattle.rd_app.specs.QueueSetShape.{QueueSetShape}
 use Rattle.rd_state.specs.Snapshot.{Snapshot}
-use Rattle.rd_state.specs.Valid.{IsValid, room_of, shape_of}
+use Rattle.rd_state.specs.Valid.{IsValid}
+use Rattle.rd_state.specs.Objects.{room_of, shape_of}
 use Rattle.rd_timeline.specs.Course.{Course}
 use Rattle.rd_main.specs.Answers.{Adds, IsAnswer, IsShown, IsView, no_memory, number_named, room_in}
-use Rattle.rd_command.specs.Commands.{Asked, Step, Tick, Back, ShowQueue, ShowSet, ShowTask, ShowCores}
+use Rattle.rd_command.specs.Commands.{Asked, Step, Tick, Back, Show, ShowCores}
 use Rattle.rd_reply.specs.Pages.{LacksRoom, KeepsFront}
 use Rattle.rd_reply.specs.Names.{all_names, SeatedAreNamed}
 use Rattle.rd_reply.specs.Replies.{line_of, cores_text}
@@ -69,7 +70,6 @@ answer_with_less less room old new None line within is = is
 answer_with_less less room old new (Some (Step core)) line within is = is
 answer_with_less less room old new (Some Tick) line within is = is
 answer_with_less less room old new (Some (Back count)) line within is = is
-answer_with_less less room old new (Some (ShowQueue name)) line within is = (view_with_less less room (number_named name old.app.queues.names) _ line within is.0, is.1)
-answer_with_less less room old new (Some (ShowSet name)) line within is = (view_with_less less room (number_named name old.app.sets.names) _ line within is.0, is.1)
-answer_with_less less room old new (Some (ShowTask name)) line within is = (view_with_less less room (number_named name old.app.tasks.names) _ line within is.0, is.1)
+answer_with_less less room old new (Some (Show kind name)) line within is =
+    (view_with_less less room (number_named name (names_of kind old.app)) _ line within is.0, is.1)
 answer_with_less less room old new (Some ShowCores) line within is = (shown_with_less less room (cores_text (all_names old.app) old.target) line within is.0, is.1)

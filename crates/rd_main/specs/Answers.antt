@@ -4,15 +4,14 @@ use Rattle.std.specs.Prelude.{take, drop, position, vec_capacity, vec_len, Optio
 use Rattle.std.specs.Global.{Vec}
 use Rattle.std.specs.Str.{bytes_eq}
 use Rattle.rd_app.specs.Application.{names_of}
-use Rattle.rd_app.specs.declared.app.Kind.{Kind}
-use Rattle.rd_app.specs.declared.app.Kind.TheVariants as kind
+use Rattle.rd_text.specs.declared.kind.Kind.{Kind}
+use Rattle.rd_text.specs.declared.kind.Kind.TheVariants as kind
 use Rattle.rd_calls.specs.Step.{step}
 use Rattle.rd_calls.specs.declared.moves.Move.{Move}
 use Rattle.rd_calls.specs.declared.moves.Move.TheVariants as move
 use Rattle.rd_state.specs.Snapshot.{queue_at, set_at, task_at}
 use Rattle.rd_timeline.specs.Course.{Course, IsWhyNot}
-use Rattle.rd_command.specs.Commands.{Asked, Step, Tick, Back, ShowQueue, ShowSet}
-use Rattle.rd_command.specs.Commands.{ShowTask, ShowCores}
+use Rattle.rd_command.specs.Commands.{Asked, Step, Tick, Back, Show, ShowCores}
 use Rattle.rd_reply.specs.Names.{all_names}
 use Rattle.rd_reply.specs.Replies.{line_of, reply_text, queue_text, set_text, task_text}
 use Rattle.rd_reply.specs.Replies.{cores_text}
@@ -111,7 +110,5 @@ IsAnswer room old None new line = (line ≡ line_of (reply_text (Refused Syntax)
 IsAnswer room old (Some (Step core)) new line = IsReplyLine (StepReply old core new) line
 IsAnswer room old (Some Tick) new line = IsReplyLine (MoveReply old move.Tick new) line
 IsAnswer room old (Some (Back count)) new line = IsReplyLine (BackReply old count new) line
-IsAnswer room old (Some (ShowQueue name)) new line = NamedLine room old kind.Queue name line × (new ≡ old)
-IsAnswer room old (Some (ShowSet name)) new line = NamedLine room old kind.Set name line × (new ≡ old)
-IsAnswer room old (Some (ShowTask name)) new line = NamedLine room old kind.Task name line × (new ≡ old)
+IsAnswer room old (Some (Show kind name)) new line = NamedLine room old kind name line × (new ≡ old)
 IsAnswer room old (Some ShowCores) new line = CoresLine room old line × (new ≡ old)

@@ -11,12 +11,12 @@ ghost use Rattle.rd_main.specs.Answers.{NamedLine, CoresLine, room_in, view_text
 ghost use Rattle.rd_reply.specs.Pages.{LacksRoom, KeepsFront};
 ghost use Rattle.rd_reply.specs.Replies.{line_of};
 
-use rd_app::app::Kind;
 use rd_calls::moves::Move;
 use rd_command::command::{Command, parse_line};
 use rd_reply::reply::{
     MAX_REPLY, Reply, append_reply_reserved, core_of, show_cores, show_queue, show_set, show_task,
 };
+use rd_text::kind::Kind;
 use rd_text::refusal::Refusal;
 use rd_timeline::timeline::Timeline;
 use std::alloc::AllocError;
@@ -139,9 +139,7 @@ fn put_reserved(timeline: &mut Timeline, answers: &mut Vec<u8>, line: &[u8])
         Ok(Command::Back { count }) => {
             append_reply_reserved(answers, back(timeline, count as usize));
         }
-        Ok(Command::ShowQueue { name }) => put_named(timeline, answers, Kind::Queue, name),
-        Ok(Command::ShowSet { name }) => put_named(timeline, answers, Kind::Set, name),
-        Ok(Command::ShowTask { name }) => put_named(timeline, answers, Kind::Task, name),
+        Ok(Command::Show { kind, name }) => put_named(timeline, answers, kind, name),
         Ok(Command::ShowCores) => put_cores(timeline, answers),
         Err(_) => append_reply_reserved(answers, refused(Refusal::Syntax)),
     }

@@ -18,7 +18,8 @@ use Rattle.rd_state.specs.declared.phase.Cause.TheVariants.{SetFull}
 use Rattle.rd_state.specs.declared.phase.Place.{Place}
 use Rattle.rd_state.specs.declared.phase.Place.TheVariants.{Queue, Set}
 use Rattle.rd_state.specs.Phases.{kept_deadline, waits_at}
-use Rattle.rd_state.specs.Snapshot.{Snapshot, no_set, queue_at, set_at, task_at}
+use Rattle.rd_state.specs.Snapshot.{Snapshot, queue_at, set_at, task_at}
+use Rattle.rd_state.specs.Objects.{no_set}
 use Rattle.rd_state.specs.Waiting.{objects_then, waiting_at}
 use Rattle.rd_kernel.specs.Outcomes.{Called, blocked, call_answers, call_fails, call_passes, passed}
 use Rattle.rd_kernel.specs.declared.outcome.Outcome.TheVariants.{Waits}

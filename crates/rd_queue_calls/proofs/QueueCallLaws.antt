@@ -23,9 +23,8 @@ use Rattle.rd_queue.specs.Sets.{with_handles}
 use Rattle.rd_state.specs.declared.phase.Cause.TheVariants.{SetFull}
 use Rattle.rd_state.specs.declared.phase.Place.{Place}
 use Rattle.rd_state.specs.declared.phase.Place.TheVariants.{Queue, Set}
-use Rattle.rd_state.specs.Change.{with_queue, with_set, items_at}
 use Rattle.rd_state.specs.Sizes.{IsSized}
-use Rattle.rd_state.specs.Snapshot.{Snapshot, TaskSnapshot, no_task, task_at, queue_at, set_at}
+use Rattle.rd_state.specs.Snapshot.{Snapshot, TaskSnapshot, no_task, task_at, queue_at, set_at, with_queue, with_set, items_at}
 use Rattle.rd_state.specs.Valid.{seats_to_run, times_in_list}
 use Rattle.rd_state.specs.Waiting.{HasPlace, waiting_at, waiting_in}
 use Rattle.rd_state.proofs.Offered.{queue_sized}

@@ -7,8 +7,7 @@ use Rattle.rd_queue.specs.Sets.{with_handles}
 use Rattle.rd_state.specs.declared.phase.Cause.{Cause}
 use Rattle.rd_state.specs.declared.phase.Place.{Place}
 use Rattle.rd_state.specs.declared.phase.Place.TheVariants.{Queue, Set}
-use Rattle.rd_state.specs.Change.{with_queue, with_set}
-use Rattle.rd_state.specs.Snapshot.{Snapshot, queue_at, set_at}
+use Rattle.rd_state.specs.Snapshot.{Snapshot, queue_at, set_at, with_queue, with_set}
 use Rattle.rd_state.specs.Waiting.{HasPlace, waiting_at}
 use Rattle.rd_kernel.specs.declared.outcome.Outcome.TheVariants.{Fails}
 use Rattle.rd_kernel.specs.Outcomes.{Called, call_passes, passed}

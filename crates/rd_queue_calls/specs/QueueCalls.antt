@@ -16,8 +16,7 @@ use Rattle.rd_queue.specs.QueueSnapshot.{QueueSnapshot}
 use Rattle.rd_queue.specs.Queues.{fitted, with_items}
 use Rattle.rd_state.specs.declared.phase.Cause.TheVariants.{SetFull}
 use Rattle.rd_state.specs.declared.phase.Place.TheVariants.{Queue}
-use Rattle.rd_state.specs.Change.{with_queue, items_at}
-use Rattle.rd_state.specs.Snapshot.{Snapshot, task_at, queue_at}
+use Rattle.rd_state.specs.Snapshot.{Snapshot, task_at, queue_at, with_queue, items_at}
 use Rattle.rd_kernel.specs.Costs.{data_cost, item_cost, waking_cost}
 use Rattle.rd_kernel.specs.Outcomes.{Called, blocked, call_answers, call_fails}
 use Rattle.rd_kernel.specs.Outcomes.{call_passes, passed}

@@ -7,8 +7,7 @@ use Rattle.rd_app.specs.declared.instr.SetCall.TheVariants.{Select}
 use Rattle.rd_queue.specs.SetSnapshot.{SetSnapshot}
 use Rattle.rd_queue.specs.Sets.{with_handles}
 use Rattle.rd_state.specs.declared.phase.Place.TheVariants.{Set}
-use Rattle.rd_state.specs.Change.{with_set}
-use Rattle.rd_state.specs.Snapshot.{Snapshot, set_at}
+use Rattle.rd_state.specs.Snapshot.{Snapshot, set_at, with_set}
 use Rattle.rd_kernel.specs.Outcomes.{Called, blocked, call_answers}
 use Rattle.rd_kernel.specs.Waking.{may_wait}
 

@@ -34,6 +34,7 @@ use rd_queue::end::End;
 use rd_queue::waiting_list::WaitingList;
 use rd_state::change::Change;
 use rd_state::editing::Editing;
+use rd_state::objects::ObjectChange;
 use rd_state::phase::{Cause, Place};
 use rd_state::transfer::Transfer;
 
@@ -50,7 +51,8 @@ fn dequeue(editing: &mut Editing, task: usize, queue: usize) -> Result<(), NoMem
 {
     editing.transfer(Transfer::FrontToData { queue, task })?;
     let change = QueueChange::TakeFront;
-    editing.change(Change::Queue { queue, change })
+    let change = ObjectChange::Queue { queue, change };
+    editing.change(Change::Object { change })
 }
 
 // Where tasks wait for an item of the queue, and for a free slot.
@@ -212,7 +214,8 @@ fn reset(app: &App, editing: &mut Editing, task: usize, queue: usize) -> Result<
 {
     let _ = task;
     let change = QueueChange::Clear;
-    editing.change(Change::Queue { queue, change })?;
+    let change = ObjectChange::Queue { queue, change };
+    editing.change(Change::Object { change })?;
     pass(editing, app.priorities(), sending(queue))
 }
 
@@ -233,7 +236,8 @@ fn add_to_set(editing: &mut Editing, queue: usize, set: usize) -> Result<Outcome
         return Ok(Outcome::Returns(0));
     }
     let change = QueueChange::SetMember { set: Some(set) };
-    editing.change(Change::Queue { queue, change })?;
+    let change = ObjectChange::Queue { queue, change };
+    editing.change(Change::Object { change })?;
     Ok(Outcome::Returns(1))
 }
 
@@ -254,7 +258,8 @@ fn remove_from_set(editing: &mut Editing, queue: usize, set: usize) -> Result<Ou
         return Ok(Outcome::Returns(0));
     }
     let change = QueueChange::SetMember { set: None };
-    editing.change(Change::Queue { queue, change })?;
+    let change = ObjectChange::Queue { queue, change };
+    editing.change(Change::Object { change })?;
     Ok(Outcome::Returns(1))
 }
 

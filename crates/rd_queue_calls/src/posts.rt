@@ -15,6 +15,7 @@ use rd_queue::set_change::SetChange;
 use rd_queue::waiting_list::WaitingList;
 use rd_state::change::Change;
 use rd_state::editing::Editing;
+use rd_state::objects::ObjectChange;
 use rd_state::phase::Place;
 use rd_state::state::State;
 
@@ -52,6 +53,7 @@ pub fn post(
     };
     let _ = editing.state().set(set);
     let change = SetChange::PushHandle { queue };
-    editing.change(Change::Set { set, change })?;
+    let change = ObjectChange::Set { set, change };
+    editing.change(Change::Object { change })?;
     pass(editing, app.priorities(), Place::Set { set })
 }

@@ -18,6 +18,7 @@ use rd_kernel::waking::block;
 use rd_queue::set_change::SetChange;
 use rd_state::change::Change;
 use rd_state::editing::Editing;
+use rd_state::objects::ObjectChange;
 use rd_state::phase::Place;
 
 // Takes the set's oldest handle (`xQueueSelectFromSet`), or waits for one.
@@ -44,7 +45,8 @@ fn select(
     app.limits();
     let queue = editing.state().set(set).first_handle();
     let change = SetChange::TakeHandle;
-    editing.change(Change::Set { set, change })?;
+    let change = ObjectChange::Set { set, change };
+    editing.change(Change::Object { change })?;
     Ok(Outcome::Returns(queue as u32 + 1))
 }
 

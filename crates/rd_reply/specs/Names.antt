@@ -6,7 +6,8 @@ use Rattle.rd_queue.specs.QueueSnapshot.{QueueSnapshot}
 use Rattle.rd_queue.specs.SetSnapshot.{SetSnapshot}
 use Rattle.rd_state.specs.declared.phase.Phase.{Phase}
 use Rattle.rd_state.specs.Phases.{waits_at}
-use Rattle.rd_state.specs.Snapshot.{Numbers, Snapshot}
+use Rattle.rd_state.specs.Snapshot.{Snapshot}
+use Rattle.rd_state.specs.Objects.{Numbers}
 use Rattle.rd_state.specs.Waiting.{IsPlace}
 
 -- Objects and tasks go by number: the index in these lists.

@@ -21,7 +21,7 @@ ghost use Rattle.rd_reply.specs.Pages.{Appends, LacksRoom, KeepsFront};
 
 use crate::page::Page;
 use itoa::{Buffer, Integer};
-use rd_app::app::{App, Kind};
+use rd_app::app::App;
 use rd_bytes::bytes::MAX_BYTES;
 use rd_notify::entries::{Entry, EntryState};
 use rd_queue::queue::Queue;
@@ -30,6 +30,7 @@ use rd_queue::waiting_list::WaitingList;
 use rd_state::phase::{Cause, Phase, Place};
 use rd_state::state::State;
 use rd_state::task::Task;
+use rd_text::kind::Kind;
 use rd_text::refusal::Refusal;
 use std::alloc::AllocError;
 

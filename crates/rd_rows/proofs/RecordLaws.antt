@@ -12,8 +12,9 @@ use Rattle.rd_app.specs.Application.{Application}
 use Rattle.rd_queue.specs.QueueSnapshot.{QueueSnapshot}
 use Rattle.rd_queue.specs.Sizes.{IsSizedQueue}
 use Rattle.rd_queue_calls.specs.QueueCalls.{dropped_by}
-use Rattle.rd_state.specs.Sizes.{IsSized, IsQueueFor}
-use Rattle.rd_state.specs.Snapshot.{Snapshot, core_at, no_queue}
+use Rattle.rd_state.specs.Sizes.{IsSized}
+use Rattle.rd_state.specs.Objects.{IsQueueFor, no_queue}
+use Rattle.rd_state.specs.Snapshot.{Snapshot, core_at}
 use Rattle.rd_calls.specs.declared.moves.Move.{Move}
 use Rattle.rd_calls.specs.declared.moves.Move.TheVariants.{Core, Tick}
 use Rattle.rd_calls.specs.Step.{dropped_by_instr, dropped_by_move, dropped_by_task, next_instr}

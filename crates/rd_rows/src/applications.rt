@@ -1,10 +1,11 @@
 //! What no clause says of reading files: outside texts, and each public function once.
 
 use crate::asserts::assert_same;
-use rd_app::app::{App, Kind};
+use rd_app::app::App;
 use rd_app::instr::{Instr, LocalInstr, MAX_DELAY, Operand, QueueCall, SetCall};
 use rd_script::error::AppError;
 use rd_script::file::read_app;
+use rd_text::kind::Kind;
 use std::alloc::{AllocError, Global};
 use std::process::Abort;
 use std::test::Fail;

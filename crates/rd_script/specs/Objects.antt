@@ -1,7 +1,7 @@
 -- The objects that instructions name.
 use Rattle.std.specs.Prelude.{ℕ, List, [], slice_index_or}
-use Rattle.rd_app.specs.declared.app.Kind.{Kind}
-use Rattle.rd_app.specs.declared.app.Kind.TheVariants as kind
+use Rattle.rd_text.specs.declared.kind.Kind.{Kind}
+use Rattle.rd_text.specs.declared.kind.Kind.TheVariants as kind
 use Rattle.rd_app.specs.declared.app.QueueShape.{QueueShape}
 use Rattle.rd_app.specs.Application.{Application}
 use Rattle.rd_app.specs.Named.{Named}

@@ -5,7 +5,7 @@ ghost use Rattle.rd_script.specs.Keywords.{keyword_of, row_of, operands_of};
 ghost use Rattle.rd_script.specs.Keywords.{first_written, texts_view};
 
 use Keyword::{Local, Queue, Set};
-use rd_app::app::Kind;
+use rd_text::kind::Kind;
 
 /// What an operand of an instruction is.
 #[derive(Clone, Copy, Debug, PartialEq, Eq)]

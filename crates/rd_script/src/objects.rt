@@ -5,7 +5,8 @@ ghost use Rattle.rd_script.specs.Objects.{names_in, objects_view};
 ghost use Rattle.rd_text.specs.Words.{texts};
 
 use arrayvec::ArrayVec;
-use rd_app::app::{Kind, MAX_QUEUES, MAX_SETS, QueueShape};
+use rd_app::app::{MAX_QUEUES, MAX_SETS, QueueShape};
+use rd_text::kind::Kind;
 use std::marker::Model;
 
 /// Things of one kind in a file, with their names, which lie in its value. They go by number: the

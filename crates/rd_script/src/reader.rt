@@ -11,9 +11,9 @@ ghost use Rattle.rd_text.specs.Words.{texts};
 use crate::error::AppError;
 use crate::keyword::Parameter;
 use crate::objects::NamedObjects;
-use rd_app::app::Kind;
 use rd_app::instr::{MAX_DELAY, Operand};
 use rd_bytes::bytes::Bytes;
+use rd_text::kind::Kind;
 use rd_text::words::{Words, bytes, name, number};
 use std::marker::Model;
 

@@ -10,9 +10,10 @@ use crate::error::AppError;
 use crate::keyword::{Keyword, LocalKeyword, QueueKeyword, SetKeyword, keyword_of};
 use crate::objects::NamedObjects;
 use crate::reader::Reader;
-use rd_app::app::{Kind, QueueShape};
+use rd_app::app::QueueShape;
 use rd_app::instr::{Instr, LocalInstr, QueueCall, SetCall};
 use rd_queue::end::End;
+use rd_text::kind::Kind;
 use rd_text::words::Words;
 
 // An instruction that touches nothing but its own task, of the words after its keyword.

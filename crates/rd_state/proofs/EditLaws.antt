@@ -5,12 +5,13 @@ use Rattle.std.proofs.lemmas.List.{drop-append-le, length-set, length-take-le, l
 use Rattle.std.proofs.lemmas.List.Sums.{sum_by_push}
 use Rattle.std.specs.Prelude.{Result, Ok, Err, OnOk, OnErr}
 use Rattle.rd_state.specs.declared.change.Change.{Change}
-use Rattle.rd_state.specs.declared.change.Change.TheVariants.{SetTick, SetTurn, SetCore, InsReady, DelReady, Task, Queue, Set}
-use Rattle.rd_state.specs.Snapshot.{Snapshot, numbers_of}
+use Rattle.rd_state.specs.declared.change.Change.TheVariants.{SetTick, SetTurn, SetCore, InsReady, DelReady, Task, Object}
+use Rattle.rd_state.specs.Snapshot.{Snapshot}
 use Rattle.rd_state.specs.Change.{applied, inverse_of, cost_of, weight_of, Fits}
 use Rattle.rd_state.specs.Edit.{Base, Edit, GoesOn, SameShape, Reaches, edit_of}
 use Rattle.rd_state.specs.Sizes.{IsSized}
 use Rattle.rd_state.specs.Undoing.{undone, CanUndo}
+use Rattle.rd_state.proofs.ObjectLaws.{object_numbers}
 use Rattle.rd_state.proofs.UndoLaws.{each_is_undone, undone-push, CanUndo-push}
 
 -- A change keeps the numbers of cores, of tasks and of objects.
@@ -21,16 +22,7 @@ shape-applied s (SetCore core task) = record { cores = length-set s.cores core t
 shape-applied s (InsReady index task) = record { cores = refl; tasks = refl; objects = refl }
 shape-applied s (DelReady index) = record { cores = refl; tasks = refl; objects = refl }
 shape-applied s (Task task change) = record { cores = refl; tasks = length-set s.tasks task _; objects = refl }
-shape-applied s (Queue queue change) = record {
-  cores = refl;
-  tasks = refl;
-  objects = ap (λ (queues : ℕ). record (numbers_of s) { queues = queues }) (length-set s.objects.queues queue _);
-}
-shape-applied s (Set set change) = record {
-  cores = refl;
-  tasks = refl;
-  objects = ap (λ (sets : ℕ). record (numbers_of s) { sets = sets }) (length-set s.objects.sets set _);
-}
+shape-applied s (Object change) = record { cores = refl; tasks = refl; objects = object_numbers s.objects change }
 
 abbrev base_of : Snapshot → List Change → Base
 base_of s changes = record { state = s; recorded = changes }

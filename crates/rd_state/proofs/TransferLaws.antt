@@ -11,14 +11,14 @@ use Rattle.rd_queue.specs.Queues.{fitted}
 use Rattle.rd_state.specs.declared.transfer.Transfer.{Transfer}
 use Rattle.rd_state.specs.declared.transfer.Transfer.TheVariants.{DataToQueue, DataOverFront, FrontToData}
 use Rattle.rd_state.specs.declared.change.Change.{Change}
-use Rattle.rd_state.specs.Change.{applied, cost_of, inverse_of, Fits, items_at}
+use Rattle.rd_state.specs.Change.{applied, cost_of, inverse_of, Fits}
 use Rattle.rd_state.specs.Edit.{Edit, Reaches, edit_of}
 use Rattle.rd_state.specs.Sizes.{IsSized}
-use Rattle.rd_state.specs.Snapshot.{Snapshot, queue_at, task_at}
+use Rattle.rd_state.specs.Snapshot.{Snapshot, queue_at, task_at, items_at}
 use Rattle.rd_state.specs.Transfers.{change_of, CanTransfer}
 use Rattle.rd_state.specs.Undoing.{CanUndo}
 use Rattle.rd_state.proofs.EditLaws.{CanUndo-from_act, Reaches-from_act}
-use Rattle.rd_state.proofs.UndoLaws.{queue_sized}
+use Rattle.rd_state.proofs.PlaceLaws.{queue_sized}
 
 pub length-fitted : (size : ℕ) (bytes : List ℕ) → length (fitted size bytes) ≡ size
 length-fitted size bytes =

@@ -1,39 +1,25 @@
 -- Changes undone: each by its inverse, and records from their end.
 use Rattle.std.proofs.Common.{◌≡◌, ℕ, ◌<◌, List, [], ◌∷◌, ◌++◌, Option, None, length, refl, ap, sym, subst, arith}
-use Rattle.std.proofs.lemmas.List.{get_or-set_same, length-set}
+use Rattle.std.proofs.lemmas.List.{length-set}
 use Rattle.std.proofs.lemmas.List.Edits.{length-remove, length-insert}
 use Rattle.std.proofs.lemmas.List.Elements.{All-get_or}
-use Rattle.rd_queue.specs.declared.waiting_list.WaitingList.TheVariants.{Receiving, Sending}
-use Rattle.rd_queue.specs.Changes.{queue_applied, queue_inverse_of, QueueFits}
-use Rattle.rd_queue.specs.QueueSnapshot.{QueueSnapshot}
-use Rattle.rd_queue.specs.Sizes.{IsSizedList}
-use Rattle.rd_queue.specs.SetChanges.{set_applied, set_inverse_of, SetFits}
-use Rattle.rd_queue.specs.SetSnapshot.{SetSnapshot}
-use Rattle.rd_queue.proofs.Offered.{queue_change_is_undone, set_change_is_undone}
 use Rattle.rd_state.specs.declared.change.Change.{Change}
-use Rattle.rd_state.specs.declared.change.Change.TheVariants.{SetTick, SetTurn, SetCore, InsReady, DelReady, Task, Queue, Set}
-use Rattle.rd_state.specs.declared.phase.Place.{Place}
-use Rattle.rd_state.specs.declared.phase.Place.TheVariants as place
+use Rattle.rd_state.specs.declared.change.Change.TheVariants.{SetTick, SetTurn, SetCore, InsReady, DelReady, Task, Object}
 use Rattle.rd_state.specs.declared.task_change.TaskChange.{TaskChange}
 use Rattle.rd_state.specs.declared.task_change.TaskChange.TheVariants.{SetPc, SetReg, SetPhase, SetData}
 use Rattle.rd_state.specs.Change.{applied, inverse_of, Fits, NamesObjects}
-use Rattle.rd_state.specs.Sizes.{IsQueueFor, IsSetFor, IsSized, IsSizedPhase, IsSizedTask, IsTaskOrIdle}
-use Rattle.rd_state.specs.Snapshot.{Snapshot, TaskSnapshot, no_task, no_queue, no_set, numbers_of, task_at, queue_at, set_at}
+use Rattle.rd_state.specs.Objects.{ObjectsSnapshot}
+use Rattle.rd_state.specs.Sizes.{IsSized, IsSizedPhase, IsSizedTask, IsTaskOrIdle}
+use Rattle.rd_state.specs.Snapshot.{Snapshot, TaskSnapshot, no_task, numbers_of, task_at}
 use Rattle.rd_state.specs.TaskChanges.{task_applied, task_inverse_of}
 use Rattle.rd_state.specs.Undoing.{undone, CanUndo, EachIsUndone}
-use Rattle.rd_state.specs.Waiting.{HasPlace, waiting_at}
+use Rattle.rd_state.proofs.ObjectLaws.{object_back, object_fits}
 use Rattle.rd_state.proofs.TaskLaws as task_law
 use Rattle.rd_wait.proofs.Offered.{remove-insert, insert-remove, replaced_back, set_back}
 
--- A task, a queue and a set of the state has its sizes.
+-- A task of the state has its sizes.
 pub task_sized : (s : Snapshot) (task : ℕ) → IsSized s → task < length s.tasks → IsSizedTask (task_at s task)
 task_sized s task sized there = All-get_or IsSizedTask s.tasks task no_task there sized.tasks.tasks
-
-pub queue_sized : (s : Snapshot) (queue : ℕ) → IsSized s → queue < length s.objects.queues → IsQueueFor (length s.tasks) (length s.objects.sets) (queue_at s queue)
-queue_sized s queue sized there = All-get_or (IsQueueFor (length s.tasks) (length s.objects.sets)) s.objects.queues queue no_queue there sized.objects.queues
-
-pub set_sized : (s : Snapshot) (set : ℕ) → IsSized s → set < length s.objects.sets → IsSetFor (length s.tasks) (length s.objects.queues) (set_at s set)
-set_sized s set sized there = All-get_or (IsSetFor (length s.tasks) (length s.objects.queues)) s.objects.sets set no_set there sized.objects.sets
 
 pub phase_sized : (s : Snapshot) (task : ℕ) → IsSized s → task < length s.tasks → IsSizedPhase (numbers_of s) (task_at s task).phase
 phase_sized s task sized there = All-get_or (λ (t : TaskSnapshot). IsSizedPhase (numbers_of s) t.phase) s.tasks task no_task there sized.tasks.phases
@@ -49,16 +35,8 @@ inverse_undoes s (Task task change) sized fits =
     let back = (task_law.each_is_undone was change (task_sized s task sized fits.0) fits.1).back in
     ap (λ (tasks : List TaskSnapshot). record s { tasks = tasks })
     (replaced_back s.tasks task no_task (task_applied was change) (λ t. task_applied t (task_inverse_of was change)) fits.0 back)
-inverse_undoes s (Queue queue change) sized fits =
-    let was = queue_at s queue in
-    let back = (queue_change_is_undone was change (queue_sized s queue sized fits.0).0 fits.1).back in
-    ap (λ (queues : List QueueSnapshot). record s { objects = record s.objects { queues = queues } })
-    (replaced_back s.objects.queues queue no_queue (queue_applied was change) (λ q. queue_applied q (queue_inverse_of was change)) fits.0 back)
-inverse_undoes s (Set set change) sized fits =
-    let was = set_at s set in
-    let back = (set_change_is_undone was change (set_sized s set sized fits.0).0 fits.1).back in
-    ap (λ (sets : List SetSnapshot). record s { objects = record s.objects { sets = sets } })
-    (replaced_back s.objects.sets set no_set (set_applied was change) (λ q. set_applied q (set_inverse_of was change)) fits.0 back)
+inverse_undoes s (Object change) sized fits =
+    ap (λ (o : ObjectsSnapshot). record s { objects = o }) (object_back (length s.tasks) s.objects change sized.objects fits)
 
 -- The objects that a task named before a change are there.
 names_back : (s : Snapshot) (task : ℕ) (change : TaskChange) → IsSized s → task < length s.tasks
@@ -85,35 +63,10 @@ inverse_fits s (Task task change) sized fits =
       (task_law.each_is_undone was change (task_sized s task sized fits.0) fits.1).fits,
       names_back s task change sized fits.0,
     )
-inverse_fits s (Queue queue change) sized fits =
-    let was = queue_at s queue in
-    let now = queue_applied was change in (
-      omega (arith, length-set s.objects.queues queue now, fits.0),
-      subst (λ q. QueueFits q (queue_inverse_of was change)) (sym (get_or-set_same s.objects.queues queue now no_queue fits.0))
-          (queue_change_is_undone was change (queue_sized s queue sized fits.0).0 fits.1).fits,
-    )
-inverse_fits s (Set set change) sized fits =
-    let was = set_at s set in
-    let now = set_applied was change in (
-      omega (arith, length-set s.objects.sets set now, fits.0),
-      subst (λ q. SetFits q (set_inverse_of was change)) (sym (get_or-set_same s.objects.sets set now no_set fits.0))
-          (set_change_is_undone was change (set_sized s set sized fits.0).0 fits.1).fits,
-    )
+inverse_fits s (Object change) sized fits = object_fits (length s.tasks) s.objects change sized.objects fits
 
 pub each_is_undone : EachIsUndone
 each_is_undone s change sized fits = record { back = inverse_undoes s change sized fits; fits = inverse_fits s change sized fits }
-
--- Those who wait at a place are tasks, and no more than there are.
-pub IsSizedList-waiting_at : (s : Snapshot) (place : Place) → IsSized s → HasPlace s place → IsSizedList (length s.tasks) (waiting_at s place)
-IsSizedList-waiting_at s (place.Queue queue Receiving) sized there =
-    let here = queue_sized s queue sized there in
-    subst (λ n. IsSizedList n (queue_at s queue).receiving) here.1 here.0.receiving
-IsSizedList-waiting_at s (place.Queue queue Sending) sized there =
-    let here = queue_sized s queue sized there in
-    subst (λ n. IsSizedList n (queue_at s queue).sending) here.1 here.0.sending
-IsSizedList-waiting_at s (place.Set set) sized there =
-    let here = set_sized s set sized there in
-    subst (λ n. IsSizedList n (set_at s set).waiting) here.1 here.0.waiting
 
 -- A record that gets the inverse of the change just made leads back to where it led before.
 pub undone-push : (s : Snapshot) (record_ : List Change) (change : Change) → undone s (record_ ++ change ∷ []) ≡ undone (applied s change) record_

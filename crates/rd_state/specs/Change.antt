@@ -1,41 +1,17 @@
 -- The primitive changes: what each does, at which states it fits, and what undoes it.
 use Rattle.std.specs.Prelude.{ℕ, ◌+◌, ◌<◌, ◌≤◌, List, length, slice_index, slice_set}
 use Rattle.std.specs.Prelude.{insert, remove, sum_by, IfSome}
-use Rattle.rd_queue.specs.QueueSnapshot.{QueueSnapshot}
-use Rattle.rd_queue.specs.SetSnapshot.{SetSnapshot}
-use Rattle.rd_queue.specs.SetChanges.{set_applied, set_inverse_of, SetFits}
-use Rattle.rd_queue.specs.Changes.{queue_applied, queue_inverse_of, queue_saved_bytes, QueueFits}
 use Rattle.rd_state.specs.declared.change.Change.{Change}
 use Rattle.rd_state.specs.declared.change.Change.TheVariants.{SetTick, SetTurn, SetCore}
-use Rattle.rd_state.specs.declared.change.Change.TheVariants.{InsReady, DelReady, Task, Queue, Set}
+use Rattle.rd_state.specs.declared.change.Change.TheVariants.{InsReady, DelReady, Task, Object}
 use Rattle.rd_state.specs.declared.task_change.TaskChange.{TaskChange}
 use Rattle.rd_state.specs.declared.task_change.TaskChange.TheVariants.{SetPc, SetReg, SetPhase}
 use Rattle.rd_state.specs.declared.task_change.TaskChange.TheVariants.{SetData}
+use Rattle.rd_state.specs.Objects.{Numbers, object_applied, object_inverse_of}
+use Rattle.rd_state.specs.Objects.{object_saved_bytes, ObjectFits}
 use Rattle.rd_state.specs.Sizes.{IsSizedPhase}
-use Rattle.rd_state.specs.Snapshot.{Numbers, ObjectsSnapshot, Snapshot, TaskSnapshot}
-use Rattle.rd_state.specs.Snapshot.{numbers_of, task_at, queue_at, set_at, core_at}
+use Rattle.rd_state.specs.Snapshot.{Snapshot, core_at, numbers_of, task_at, with_task}
 use Rattle.rd_state.specs.TaskChanges.{task_applied, task_inverse_of, task_saved_bytes, TaskFits}
-
--- objects with another queue and another set of that number
-abbrev pub objects_with_queue : ObjectsSnapshot → ℕ → QueueSnapshot → ObjectsSnapshot
-objects_with_queue o queue now = record o { queues = slice_set o.queues queue now }
-
-abbrev pub objects_with_set : ObjectsSnapshot → ℕ → SetSnapshot → ObjectsSnapshot
-objects_with_set o set now = record o { sets = slice_set o.sets set now }
-
--- the state with another task, another queue and another set of that number
-abbrev pub with_task : Snapshot → ℕ → TaskSnapshot → Snapshot
-with_task s task now = record s { tasks = slice_set s.tasks task now }
-
-abbrev pub with_queue : Snapshot → ℕ → QueueSnapshot → Snapshot
-with_queue s queue now = record s { objects = objects_with_queue s.objects queue now }
-
-abbrev pub with_set : Snapshot → ℕ → SetSnapshot → Snapshot
-with_set s set now = record s { objects = objects_with_set s.objects set now }
-
--- the items of a queue
-abbrev pub items_at : Snapshot → ℕ → List (List ℕ)
-items_at s queue = (queue_at s queue).items
 
 -- the state after a change
 abbrev pub applied : Snapshot → Change → Snapshot
@@ -45,8 +21,7 @@ applied s (SetCore core task) = record s { cores = slice_set s.cores core task }
 applied s (InsReady index task) = record s { ready = insert s.ready index task }
 applied s (DelReady index) = record s { ready = remove s.ready index }
 applied s (Task task change) = with_task s task (task_applied (task_at s task) change)
-applied s (Queue queue change) = with_queue s queue (queue_applied (queue_at s queue) change)
-applied s (Set set change) = with_set s set (set_applied (set_at s set) change)
+applied s (Object change) = record s { objects = object_applied s.objects change }
 
 -- the change that undoes a change made at this state
 abbrev pub inverse_of : Snapshot → Change → Change
@@ -56,8 +31,7 @@ inverse_of s (SetCore core task) = SetCore core (core_at s core)
 inverse_of s (InsReady index task) = DelReady index
 inverse_of s (DelReady index) = InsReady index (slice_index s.ready index)
 inverse_of s (Task task change) = Task task (task_inverse_of (task_at s task) change)
-inverse_of s (Queue queue change) = Queue queue (queue_inverse_of (queue_at s queue) change)
-inverse_of s (Set set change) = Set set (set_inverse_of (set_at s set) change)
+inverse_of s (Object change) = Object (object_inverse_of s.objects change)
 
 -- The objects that a change of a task names are there.
 abbrev pub NamesObjects : Numbers → TaskChange → Type 0
@@ -76,8 +50,7 @@ Fits s (InsReady index task) =
 Fits s (DelReady index) = index < length s.ready
 Fits s (Task task change) =
     (task < length s.tasks) × TaskFits change × NamesObjects (numbers_of s) change
-Fits s (Queue queue change) = (queue < length s.objects.queues) × QueueFits (queue_at s queue) change
-Fits s (Set set change) = (set < length s.objects.sets) × SetFits (set_at s set) change
+Fits s (Object change) = ObjectFits s.objects change
 
 -- the bytes that a change carries
 abbrev pub saved_bytes : Change → ℕ
@@ -87,8 +60,7 @@ saved_bytes (SetCore core task) = 0
 saved_bytes (InsReady index task) = 0
 saved_bytes (DelReady index) = 0
 saved_bytes (Task task change) = task_saved_bytes change
-saved_bytes (Queue queue change) = queue_saved_bytes change
-saved_bytes (Set set change) = 0
+saved_bytes (Object change) = object_saved_bytes change
 
 abbrev pub cost_of : Change → ℕ
 cost_of change = 1 + saved_bytes change

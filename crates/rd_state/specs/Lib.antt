@@ -1,4 +1,5 @@
 -- The files of definitions of rd_state.
+pub mod Objects
 pub mod Snapshot
 pub mod Waiting
 pub mod Phases

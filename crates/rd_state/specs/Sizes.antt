@@ -3,13 +3,11 @@
 use Rattle.std.specs.Prelude.{ℕ, ◌≡◌, ◌<◌, ◌≤◌, ◌^◌, length, All, Option, Some, None, IfSome}
 use Rattle.rd_bytes.specs.declared.bytes.TheConstants.{MAX_BYTES}
 use Rattle.rd_app.specs.declared.instr.TheConstants.{REGISTERS}
-use Rattle.rd_queue.specs.QueueSnapshot.{QueueSnapshot}
-use Rattle.rd_queue.specs.SetSnapshot.{SetSnapshot}
-use Rattle.rd_queue.specs.Sizes.{IsSizedQueue, IsSizedSet}
 use Rattle.rd_state.specs.declared.phase.Phase.{Phase}
 use Rattle.rd_state.specs.declared.phase.Place.{Place}
 use Rattle.rd_state.specs.Phases.{kept_deadline, waits_at}
-use Rattle.rd_state.specs.Snapshot.{Numbers, ObjectsSnapshot, Snapshot, TaskSnapshot, numbers_of}
+use Rattle.rd_state.specs.Objects.{AreSizedObjects, Numbers}
+use Rattle.rd_state.specs.Snapshot.{Snapshot, TaskSnapshot, numbers_of}
 use Rattle.rd_state.specs.Waiting.{IsPlace}
 
 -- a core's task, if it has one, is one of that many
@@ -31,15 +29,6 @@ IsSizedWait numbers (Some place) deadline = IsPlace numbers place × IsDeadline 
 abbrev pub IsSizedPhase : Numbers → Phase → Type 0
 IsSizedPhase numbers phase = IsSizedWait numbers (waits_at phase) (kept_deadline phase)
 
--- a queue with room for that many tasks in each of its lists, which is a member of one of so many
--- sets, if of any
-abbrev pub IsQueueFor : ℕ → ℕ → QueueSnapshot → Type 0
-IsQueueFor tasks sets queue = IsSizedQueue queue × (queue.tasks ≡ tasks) × (queue.sets ≡ sets)
-
--- a set with room for that many tasks, whose handles are of so many queues
-abbrev pub IsSetFor : ℕ → ℕ → SetSnapshot → Type 0
-IsSetFor tasks queues set = IsSizedSet set × (set.tasks ≡ tasks) × (set.queues ≡ queues)
-
 -- who has the turn, who runs, and who is ready
 pub record IsSizedScheduling (s : Snapshot) : Type 0 where
   pub turn : s.turn ≤ length s.cores
@@ -50,11 +39,6 @@ pub record IsSizedScheduling (s : Snapshot) : Type 0 where
 pub record AreSizedTasks (s : Snapshot) : Type 0 where
   pub tasks : All IsSizedTask s.tasks
   pub phases : All (λ task. IsSizedPhase (numbers_of s) task.phase) s.tasks
-
--- objects at which that many tasks can wait
-pub record AreSizedObjects (tasks : ℕ) (o : ObjectsSnapshot) : Type 0 where
-  pub queues : All (IsQueueFor tasks (length o.sets)) o.queues
-  pub sets : All (IsSetFor tasks (length o.queues)) o.sets
 
 pub record IsSized (s : Snapshot) : Type 0 where
   pub scheduling : IsSizedScheduling s

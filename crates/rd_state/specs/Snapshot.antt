@@ -1,10 +1,12 @@
 -- The whole state of the target, as plain lists: what a contract sees of a `State`.
-use Rattle.std.specs.Prelude.{ℕ, ◌≡◌, List, [], length, Option, None, slice_index_or}
+use Rattle.std.specs.Prelude.{ℕ, ◌≡◌, List, [], Option, None, slice_index_or, slice_set}
 use Rattle.rd_notify.specs.declared.entries.Entry.{Entry}
 use Rattle.rd_queue.specs.QueueSnapshot.{QueueSnapshot}
 use Rattle.rd_queue.specs.SetSnapshot.{SetSnapshot}
 use Rattle.rd_state.specs.declared.phase.Phase.{Phase}
 use Rattle.rd_state.specs.declared.phase.Phase.TheVariants.{Run}
+use Rattle.rd_state.specs.Objects.{Numbers, ObjectsSnapshot, numbers_in, no_objects}
+use Rattle.rd_state.specs.Objects.{objects_with_queue, objects_with_set, queue_in, set_in}
 
 -- a task: the number of the instruction that comes next, its 8 registers, its data, what it does,
 -- its notification entries
@@ -14,11 +16,6 @@ pub record TaskSnapshot : Type 0 where
   pub bytes : List ℕ
   pub phase : Phase
   pub entries : List Entry
-
--- The objects of the kernel: a kind is one field.
-pub record ObjectsSnapshot : Type 0 where
-  pub queues : List QueueSnapshot
-  pub sets : List SetSnapshot
 
 -- Cores, tasks and objects go by number. A core has its task, or none when it is idle. The ready
 -- list has its first task first. Two states are the same where their snapshots are equal.
@@ -31,18 +28,8 @@ pub record Snapshot : Type 0 where
   pub objects : ObjectsSnapshot
 
 -- how many objects of each kind there are
-pub record Numbers : Type 0 where
-  pub queues : ℕ
-  pub sets : ℕ
-
-abbrev pub numbers_in : ObjectsSnapshot → Numbers
-numbers_in o = record { queues = length o.queues; sets = length o.sets }
-
 abbrev pub numbers_of : Snapshot → Numbers
 numbers_of s = numbers_in s.objects
-
-abbrev pub no_objects : ObjectsSnapshot
-no_objects = record { queues = []; sets = [] }
 
 -- a state with no cores, no tasks and no objects
 abbrev pub hollow_state : Snapshot
@@ -55,40 +42,32 @@ hollow_state = record {
   objects = no_objects;
 }
 
--- what stands for a task, a queue and a set that isn't there
+-- what stands for a task that isn't there
 abbrev pub no_task : TaskSnapshot
 no_task = record { pc = 0; registers = []; bytes = []; phase = Run; entries = [] }
 
-abbrev pub no_queue : QueueSnapshot
-no_queue = record {
-  items = [];
-  capacity = 0;
-  item_size = 0;
-  receiving = [];
-  sending = [];
-  tasks = 0;
-  set = None;
-  sets = 0;
-}
-
-abbrev pub no_set : SetSnapshot
-no_set = record { handles = []; capacity = 0; queues = 0; waiting = []; tasks = 0 }
-
 abbrev pub task_at : Snapshot → ℕ → TaskSnapshot
 task_at s task = slice_index_or s.tasks task no_task
-
--- a queue and a set of objects
-abbrev pub queue_in : ObjectsSnapshot → ℕ → QueueSnapshot
-queue_in o queue = slice_index_or o.queues queue no_queue
-
-abbrev pub set_in : ObjectsSnapshot → ℕ → SetSnapshot
-set_in o set = slice_index_or o.sets set no_set
 
 abbrev pub queue_at : Snapshot → ℕ → QueueSnapshot
 queue_at s queue = queue_in s.objects queue
 
 abbrev pub set_at : Snapshot → ℕ → SetSnapshot
 set_at s set = set_in s.objects set
+
+-- the items of a queue
+abbrev pub items_at : Snapshot → ℕ → List (List ℕ)
+items_at s queue = (queue_at s queue).items
+
+-- the state with another task, another queue and another set of that number
+abbrev pub with_task : Snapshot → ℕ → TaskSnapshot → Snapshot
+with_task s task now = record s { tasks = slice_set s.tasks task now }
+
+abbrev pub with_queue : Snapshot → ℕ → QueueSnapshot → Snapshot
+with_queue s queue now = record s { objects = objects_with_queue s.objects queue now }
+
+abbrev pub with_set : Snapshot → ℕ → SetSnapshot → Snapshot
+with_set s set now = record s { objects = objects_with_set s.objects set now }
 
 -- the task on a core
 abbrev pub core_at : Snapshot → ℕ → Option ℕ

@@ -4,20 +4,20 @@ use Rattle.rd_queue.specs.declared.change.QueueChange.TheVariants.{SetItem}
 use Rattle.rd_queue.specs.Changes.{put_at}
 use Rattle.rd_queue.specs.Queues.{fitted}
 use Rattle.rd_state.specs.declared.change.Change.{Change}
-use Rattle.rd_state.specs.declared.change.Change.TheVariants.{Task, Queue}
+use Rattle.rd_state.specs.declared.change.Change.TheVariants.{Object, Task}
+use Rattle.rd_state.specs.declared.objects.ObjectChange.TheVariants.{Queue}
 use Rattle.rd_state.specs.declared.task_change.TaskChange.TheVariants.{SetData}
 use Rattle.rd_state.specs.declared.transfer.Transfer.{Transfer}
 use Rattle.rd_state.specs.declared.transfer.Transfer.TheVariants.{DataToQueue, DataOverFront}
 use Rattle.rd_state.specs.declared.transfer.Transfer.TheVariants.{FrontToData}
-use Rattle.rd_state.specs.Change.{items_at}
-use Rattle.rd_state.specs.Snapshot.{Snapshot, task_at, queue_at}
+use Rattle.rd_state.specs.Snapshot.{Snapshot, task_at, queue_at, items_at}
 
 -- the change that a transfer makes of a state
 abbrev pub change_of : Snapshot → Transfer → Change
 change_of s (DataToQueue task queue end) =
-    Queue queue (put_at end (fitted (queue_at s queue).item_size (task_at s task).bytes))
+    Object (Queue queue (put_at end (fitted (queue_at s queue).item_size (task_at s task).bytes)))
 change_of s (DataOverFront task queue) =
-    Queue queue (SetItem 0 (fitted (queue_at s queue).item_size (task_at s task).bytes))
+    Object (Queue queue (SetItem 0 (fitted (queue_at s queue).item_size (task_at s task).bytes)))
 change_of s (FrontToData queue task) = Task task (SetData (slice_index_or (items_at s queue) 0 []))
 
 -- Both parts are there, with room for an item or with one.

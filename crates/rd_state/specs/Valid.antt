@@ -1,12 +1,9 @@
 -- What holds of a state between moves, for an application.
-use Rattle.std.specs.Prelude.{ℕ, ◌≡◌, ◌≢◌, ◌+◌, ◌<◌, Bool, true, false, List, length, map, All}
+use Rattle.std.specs.Prelude.{ℕ, ◌≡◌, ◌≢◌, ◌+◌, ◌<◌, Bool, true, false, List, length, All}
 use Rattle.std.specs.Prelude.{count_by, nat_eq, nat_lt, if◌then◌else◌}
 use Rattle.std.specs.Prelude.{Option, Some, None, IsSome, IfSome, option_map}
 use Rattle.rd_notify.specs.declared.entries.Entry.{Entry}
 use Rattle.rd_notify.specs.declared.entries.EntryState.TheVariants.{Waiting}
-use Rattle.rd_queue.specs.QueueSnapshot.{QueueSnapshot}
-use Rattle.rd_app.specs.declared.app.QueueShape.{QueueShape}
-use Rattle.rd_queue.specs.SetSnapshot.{SetSnapshot}
 use Rattle.rd_state.specs.declared.phase.Phase.{Phase}
 use Rattle.rd_state.specs.Phases.{can_run, kept_deadline, tries_again, waits_at}
 use Rattle.rd_app.specs.declared.instr.Instr.{Instr}
@@ -17,21 +14,10 @@ use Rattle.rd_state.specs.declared.phase.Place.{Place}
 use Rattle.rd_state.specs.declared.phase.Place.TheVariants as place
 use Rattle.rd_app.specs.Application.{Application, code_of, instr_at, list_of_call, priorities_of}
 use Rattle.rd_wait.specs.Joined.{IsInOrder}
-use Rattle.rd_state.specs.Snapshot.{ObjectsSnapshot, Snapshot, task_at}
+use Rattle.rd_state.specs.Objects.{AreShaped}
+use Rattle.rd_state.specs.Snapshot.{Snapshot, task_at}
 use Rattle.rd_state.specs.Sizes.{IsSized}
 use Rattle.rd_state.specs.Waiting.{same_place, waiting_at}
-
-abbrev pub shape_of : QueueSnapshot → QueueShape
-shape_of queue = record { capacity = queue.capacity; item_size = queue.item_size }
-
--- how many handles a set has room for
-abbrev pub room_of : SetSnapshot → ℕ
-room_of set = set.capacity
-
--- The objects have the sizes that the application gives them.
-pub record AreShaped (app : Application) (o : ObjectsSnapshot) : Type 0 where
-  pub queues : map shape_of o.queues ≡ app.queues.things
-  pub sets : map room_of o.sets ≡ map (λ set. set.capacity) app.sets.things
 
 -- Numbers and lengths are the application's, and each task stands at an instruction of its script.
 pub record InLimits (app : Application) (s : Snapshot) : Type 0 where

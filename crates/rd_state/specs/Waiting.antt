@@ -1,13 +1,14 @@
 -- The places where tasks can wait, and the list of each.
-use Rattle.std.specs.Prelude.{ℕ, ◌<◌, ◌&&◌, Bool, List, nat_eq, slice_index_or, slice_set}
+use Rattle.std.specs.Prelude.{ℕ, ◌<◌, ◌&&◌, Bool, List, nat_eq}
 use Rattle.rd_queue.specs.declared.waiting_list.WaitingList.{WaitingList}
 use Rattle.rd_queue.specs.declared.waiting_list.WaitingList.TheVariants.{Receiving, Sending}
 use Rattle.rd_queue.specs.Sets.{with_waiting_tasks}
 use Rattle.rd_queue.specs.Queues.{tasks_in_list, with_waiting}
 use Rattle.rd_state.specs.declared.phase.Place.{Place}
 use Rattle.rd_state.specs.declared.phase.Place.TheVariants.{Queue, Set}
-use Rattle.rd_state.specs.Snapshot.{Numbers, ObjectsSnapshot, Snapshot, no_queue, no_set}
-use Rattle.rd_state.specs.Snapshot.{numbers_of}
+use Rattle.rd_state.specs.Objects.{Numbers, ObjectsSnapshot, objects_with_queue}
+use Rattle.rd_state.specs.Objects.{objects_with_set, queue_in, set_in}
+use Rattle.rd_state.specs.Snapshot.{Snapshot, numbers_of}
 
 -- The place is there, where there are so many objects.
 abbrev pub IsPlace : Numbers → Place → Type 0
@@ -42,20 +43,17 @@ same_place place other =
 
 -- the tasks that wait at a place of objects, the first to be served first
 abbrev pub waiting_in : ObjectsSnapshot → Place → List ℕ
-waiting_in o (Queue queue list) = tasks_in_list list (slice_index_or o.queues queue no_queue)
-waiting_in o (Set set) = (slice_index_or o.sets set no_set).waiting
+waiting_in o (Queue queue list) = tasks_in_list list (queue_in o queue)
+waiting_in o (Set set) = (set_in o set).waiting
 
 abbrev pub waiting_at : Snapshot → Place → List ℕ
 waiting_at s place = waiting_in s.objects place
 
 -- the objects, once these tasks wait at a place and no others
 abbrev pub objects_then : ObjectsSnapshot → Place → List ℕ → ObjectsSnapshot
-objects_then o (Queue queue list) tasks = record o {
-  queues = slice_set o.queues queue (with_waiting list tasks (slice_index_or o.queues queue no_queue));
-}
-objects_then o (Set set) tasks = record o {
-  sets = slice_set o.sets set (with_waiting_tasks (slice_index_or o.sets set no_set) tasks);
-}
+objects_then o (Queue queue list) tasks =
+    objects_with_queue o queue (with_waiting list tasks (queue_in o queue))
+objects_then o (Set set) tasks = objects_with_set o set (with_waiting_tasks (set_in o set) tasks)
 
 -- the state with these tasks at a place, and none of those that waited there
 abbrev pub with_waiting_at : Snapshot → Place → List ℕ → Snapshot

@@ -3,12 +3,11 @@
 ghost use Rattle.std.specs.Prelude.{◌≡◌};
 ghost use Rattle.rd_state.specs.Change.{cost_of};
 
+use crate::objects::ObjectChange;
 use crate::task_change::TaskChange;
-use rd_queue::change::QueueChange;
-use rd_queue::set_change::SetChange;
 
 /// A primitive change of the state: all that a move does is made of these, and each has an inverse
-/// among them. Tasks, cores and objects go by number, an index counts from the front.
+/// among them. Tasks and cores go by number, an index counts from the front.
 #[derive(Debug, Drop)]
 pub enum Change {
     /// It is this tick.
@@ -23,10 +22,8 @@ pub enum Change {
     DelReady { index: usize },
     /// The task changes so.
     Task { task: usize, change: TaskChange },
-    /// The queue changes so.
-    Queue { queue: usize, change: QueueChange },
-    /// The queue set changes so.
-    Set { set: usize, change: SetChange },
+    /// An object changes so.
+    Object { change: ObjectChange },
 }
 
 impl Change {
@@ -39,10 +36,9 @@ impl Change {
             | Change::SetTurn { .. }
             | Change::SetCore { .. }
             | Change::InsReady { .. }
-            | Change::DelReady { .. }
-            | Change::Set { .. } => 1,
+            | Change::DelReady { .. } => 1,
             Change::Task { change, .. } => change.cost(),
-            Change::Queue { change, .. } => change.cost(),
+            Change::Object { change } => change.cost(),
         }
     }
 }

@@ -9,6 +9,7 @@ ghost use Rattle.rd_state.specs.Transfers.{change_of, CanTransfer};
 ghost use Rattle.rd_state.specs.Waiting.{HasPlace, waiting_at, with_waiting_at};
 
 use crate::change::Change;
+use crate::objects::ObjectChange;
 use crate::phase::Place;
 use crate::state::State;
 use crate::transfer::Transfer;
@@ -107,14 +108,16 @@ impl Editing {
     {
         self.state.sizes();
         match place {
-            Place::Queue { queue, list } => self.change(Change::Queue {
-                queue,
-                change: QueueChange::InsWait { list, index, task },
-            }),
-            Place::Set { set } => self.change(Change::Set {
-                set,
-                change: SetChange::InsWait { index, task },
-            }),
+            Place::Queue { queue, list } => {
+                let change = QueueChange::InsWait { list, index, task };
+                let change = ObjectChange::Queue { queue, change };
+                self.change(Change::Object { change })
+            }
+            Place::Set { set } => {
+                let change = SetChange::InsWait { index, task };
+                let change = ObjectChange::Set { set, change };
+                self.change(Change::Object { change })
+            }
         }
     }
 
@@ -128,14 +131,16 @@ impl Editing {
         ensures err { OnErr result (self.new ≡ self.old) }
     {
         match place {
-            Place::Queue { queue, list } => self.change(Change::Queue {
-                queue,
-                change: QueueChange::DelWait { list, index },
-            }),
-            Place::Set { set } => self.change(Change::Set {
-                set,
-                change: SetChange::DelWait { index },
-            }),
+            Place::Queue { queue, list } => {
+                let change = QueueChange::DelWait { list, index };
+                let change = ObjectChange::Queue { queue, change };
+                self.change(Change::Object { change })
+            }
+            Place::Set { set } => {
+                let change = SetChange::DelWait { index };
+                let change = ObjectChange::Set { set, change };
+                self.change(Change::Object { change })
+            }
         }
     }
 

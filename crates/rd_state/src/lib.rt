@@ -4,7 +4,7 @@
 mod boot;
 pub mod change;
 pub mod editing;
-mod objects;
+pub mod objects;
 pub mod phase;
 pub mod scheduling;
 pub mod state;

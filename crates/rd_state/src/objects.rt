@@ -1,16 +1,16 @@
-//! The objects of the target.
+//! The objects of the target, and their changes. A kind has a row or a field in each of these.
 
-ghost use Rattle.std.specs.Prelude.{◌≡◌, ◌↔◌, ◌<◌, length, map, All, IfOk, IsTrue};
+ghost use Rattle.std.specs.Prelude.{◌≡◌, ◌↔◌, ◌+◌, ◌<◌, ◌≤◌, length, map, All, IfOk, IsOk, IsTrue};
 ghost use Rattle.rd_queue.specs.Changes.{put_at, queue_applied, QueueFits};
 ghost use Rattle.rd_queue.specs.Queues.{fitted};
 ghost use Rattle.rd_queue.specs.SetChanges.{set_applied, SetFits};
 ghost use Rattle.rd_queue.specs.declared.change.QueueChange.TheVariants.{SetItem};
-ghost use Rattle.rd_state.specs.Boot.{first_queues, new_objects, new_queue, new_set};
-ghost use Rattle.rd_state.specs.Boot.{HasRoomForHandles};
-ghost use Rattle.rd_state.specs.Change.{objects_with_queue, objects_with_set};
-ghost use Rattle.rd_state.specs.Snapshot.{no_objects, queue_in, set_in};
+ghost use Rattle.rd_state.specs.Objects.{first_queues, new_objects, new_queue, new_set, no_objects};
+ghost use Rattle.rd_state.specs.Objects.{object_applied, object_inverse_of, object_saved_bytes};
+ghost use Rattle.rd_state.specs.Objects.{objects_with_queue, objects_with_set, queue_in, set_in};
+ghost use Rattle.rd_state.specs.Objects.{HasRoomForHandles, ObjectFits};
 
-use crate::whole::{all_same, copy_all};
+use crate::whole::{Whole, all_same, copy_all};
 use rd_app::app::{App, SetShape};
 use rd_bytes::no_memory::NoMemory;
 use rd_queue::change::QueueChange;
@@ -18,8 +18,29 @@ use rd_queue::end::End;
 use rd_queue::queue::Queue;
 use rd_queue::queue_set::QueueSet;
 use rd_queue::set_change::SetChange;
-use std::alloc::Global;
+use std::alloc::{AllocError, Global};
 use std::marker::Model;
+
+/// A primitive change of an object, whichever kind it is of. Objects go by number.
+#[derive(Debug, Drop)]
+pub enum ObjectChange {
+    /// The queue changes so.
+    Queue { queue: usize, change: QueueChange },
+    /// The queue set changes so.
+    Set { set: usize, change: SetChange },
+}
+
+impl ObjectChange {
+    /// How much it takes in a record: one, and the bytes that it carries.
+    pub fn cost(&self) -> usize
+        ensures { result ≡ 1 + object_saved_bytes self.now }
+    {
+        match self {
+            ObjectChange::Queue { change, .. } => change.cost(),
+            ObjectChange::Set { .. } => 1,
+        }
+    }
+}
 
 /// The objects of the target, each kind by number.
 #[derive(Debug, Drop)]
@@ -29,11 +50,31 @@ pub(crate) struct Objects {
 }
 
 impl Model for Objects {
-    ghost use Rattle.rd_state.specs.Snapshot.{ObjectsSnapshot};
+    ghost use Rattle.rd_state.specs.Objects.{ObjectsSnapshot};
 
     ghost Value = { ObjectsSnapshot };
 
     ghost view = { λ o. record { queues = o.queues.items; sets = o.sets.items } };
+}
+
+impl Whole for Queue {
+    fn copied(&self, alloc: Global) -> Result<Queue, AllocError> {
+        self.copy(alloc)
+    }
+
+    fn is_same(&self, other: &Queue) -> bool {
+        self.same(other)
+    }
+}
+
+impl Whole for QueueSet {
+    fn copied(&self, alloc: Global) -> Result<QueueSet, AllocError> {
+        self.copy(alloc)
+    }
+
+    fn is_same(&self, other: &QueueSet) -> bool {
+        self.same(other)
+    }
 }
 
 // An empty queue of an application, in its set.
@@ -145,8 +186,8 @@ impl Objects {
         &self.sets[set]
     }
 
-    /// Changes a queue.
-    pub(crate) fn change_queue(&mut self, queue: usize, change: &QueueChange)
+    // Changes a queue.
+    fn change_queue(&mut self, queue: usize, change: &QueueChange)
         requires there { queue < length self.old.queues }
         requires fits { QueueFits (queue_in self.old queue) change.now }
         ensures { self.new ≡ objects_with_queue self.old queue
@@ -156,8 +197,8 @@ impl Objects {
         target.apply(change);
     }
 
-    /// Changes a queue set.
-    pub(crate) fn change_set(&mut self, set: usize, change: &SetChange)
+    // Changes a queue set.
+    fn change_set(&mut self, set: usize, change: &SetChange)
         requires there { set < length self.old.sets }
         requires fits { SetFits (set_in self.old set) change.now }
         ensures { self.new ≡ objects_with_set self.old set
@@ -165,6 +206,42 @@ impl Objects {
     {
         let target = &mut self.sets[set];
         target.apply(change);
+    }
+
+    /// Makes a change of an object. It takes no memory.
+    pub(crate) fn apply(&mut self, change: &ObjectChange)
+        requires { ObjectFits self.old change.now }
+        ensures { self.new ≡ object_applied self.old change.now }
+    {
+        match change {
+            ObjectChange::Queue { queue, change } => self.change_queue(*queue, change),
+            ObjectChange::Set { set, change } => self.change_set(*set, change),
+        }
+    }
+
+    /// The change that undoes `change`, made at these objects. It needs memory only where more than
+    /// 16 bytes are saved.
+    pub(crate) fn inverse_of(
+        &self,
+        alloc: Global,
+        change: &ObjectChange,
+    ) -> Result<ObjectChange, NoMemory>
+        requires { ObjectFits self.now change.now }
+        ensures inverse { IfOk result
+            (λ inverse. inverse ≡ object_inverse_of self.now change.now) }
+        ensures memory { object_saved_bytes (object_inverse_of self.now change.now) ≤ 16
+            → IsOk result }
+    {
+        match change {
+            ObjectChange::Queue { queue, change } => Ok(ObjectChange::Queue {
+                queue: *queue,
+                change: self.queue(*queue).inverse_of(alloc, change)?,
+            }),
+            ObjectChange::Set { set, change } => Ok(ObjectChange::Set {
+                set: *set,
+                change: self.set(*set).inverse_of(change),
+            }),
+        }
     }
 
     /// Puts the item that these bytes make at an end of a queue that has room.

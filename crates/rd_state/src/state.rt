@@ -3,8 +3,9 @@
 ghost use Rattle.std.specs.Prelude.{◌≡◌, ◌<◌, ◌≤◌, ◌↔◌, length, All, IfOk, IsOk, IsTrue};
 ghost use Rattle.rd_state.specs.Boot.{before_scheduling};
 ghost use Rattle.rd_state.specs.Change.{applied, inverse_of, saved_bytes, Fits};
+ghost use Rattle.rd_state.specs.Objects.{IsQueueFor, IsSetFor};
 ghost use Rattle.rd_state.specs.Settled.{weakest_of, rank_of};
-ghost use Rattle.rd_state.specs.Sizes.{IsQueueFor, IsSetFor, IsSized, IsSizedPhase, IsTaskOrIdle};
+ghost use Rattle.rd_state.specs.Sizes.{IsSized, IsSizedPhase, IsTaskOrIdle};
 ghost use Rattle.rd_state.specs.Snapshot.{hollow_state, numbers_of, task_at, queue_at, set_at};
 ghost use Rattle.rd_state.specs.Snapshot.{core_at};
 ghost use Rattle.rd_state.specs.Snapshot.{SameScheduling, SameObjects};
@@ -13,7 +14,7 @@ ghost use Rattle.rd_state.specs.Waiting.{HasPlace, waiting_at};
 
 use crate::boot::{all_ready, new_tasks};
 use crate::change::Change;
-use crate::objects::Objects;
+use crate::objects::{ObjectChange, Objects};
 use crate::phase::{Phase, Place};
 use crate::task::Task;
 use crate::task_change::TaskChange;
@@ -26,7 +27,6 @@ use rd_queue::change::QueueChange;
 use rd_queue::end::End;
 use rd_queue::queue::Queue;
 use rd_queue::queue_set::QueueSet;
-use rd_queue::set_change::SetChange;
 use rd_wait::prio_list::PrioList;
 use std::alloc::Global;
 use std::marker::Model;
@@ -284,18 +284,11 @@ impl State {
         target.apply(change);
     }
 
-    fn change_queue(&mut self, queue: usize, change: &QueueChange)
-        requires { Fits self.old (Change.Queue queue change.now) }
-        ensures { self.new ≡ applied self.old (Change.Queue queue change.now) }
+    fn change_object(&mut self, change: &ObjectChange)
+        requires { Fits self.old (Change.Object change.now) }
+        ensures { self.new ≡ applied self.old (Change.Object change.now) }
     {
-        self.objects.change_queue(queue, change);
-    }
-
-    fn change_set(&mut self, set: usize, change: &SetChange)
-        requires { Fits self.old (Change.Set set change.now) }
-        ensures { self.new ≡ applied self.old (Change.Set set change.now) }
-    {
-        self.objects.change_set(set, change);
+        self.objects.apply(change);
     }
 
     /// Makes a change. It takes no memory.
@@ -310,8 +303,7 @@ impl State {
             Change::InsReady { index, task } => self.insert_ready(*index, *task),
             Change::DelReady { index } => self.delete_ready(*index),
             Change::Task { task, change } => self.change_task(*task, change),
-            Change::Queue { queue, change } => self.change_queue(*queue, change),
-            Change::Set { set, change } => self.change_set(*set, change),
+            Change::Object { change } => self.change_object(change),
         }
     }
 
@@ -366,20 +358,22 @@ impl State {
             → IsOk result }
     {
         match transfer {
-            Transfer::DataToQueue { queue, end, .. } => Ok(Change::Queue {
-                queue,
-                change: match end {
+            Transfer::DataToQueue { queue, end, .. } => {
+                let change = match end {
                     End::Back => QueueChange::TakeBack,
                     End::Front => QueueChange::TakeFront,
-                },
-            }),
-            Transfer::DataOverFront { queue, .. } => Ok(Change::Queue {
-                queue,
-                change: QueueChange::SetItem {
+                };
+                let change = ObjectChange::Queue { queue, change };
+                Ok(Change::Object { change })
+            }
+            Transfer::DataOverFront { queue, .. } => {
+                let change = QueueChange::SetItem {
                     index: 0,
                     item: SavedBytes::from_slice(alloc, self.queue(queue).first())?,
-                },
-            }),
+                };
+                let change = ObjectChange::Queue { queue, change };
+                Ok(Change::Object { change })
+            }
             Transfer::FrontToData { task, .. } => Ok(Change::Task {
                 task,
                 change: TaskChange::SetData {
@@ -412,13 +406,8 @@ impl State {
                 task: *task,
                 change: self.task(*task).inverse_of(alloc, change)?,
             }),
-            Change::Queue { queue, change } => Ok(Change::Queue {
-                queue: *queue,
-                change: self.queue(*queue).inverse_of(alloc, change)?,
-            }),
-            Change::Set { set, change } => Ok(Change::Set {
-                set: *set,
-                change: self.set(*set).inverse_of(change),
+            Change::Object { change } => Ok(Change::Object {
+                change: self.objects.inverse_of(alloc, change)?,
             }),
         }
     }

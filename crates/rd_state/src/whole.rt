@@ -4,8 +4,6 @@ ghost use Rattle.std.specs.Prelude.{◌≡◌, ◌↔◌, IfOk, IsTrue};
 
 use crate::task::Task;
 use rd_bytes::no_memory::NoMemory;
-use rd_queue::queue::Queue;
-use rd_queue::queue_set::QueueSet;
 use std::alloc::{AllocError, Global};
 
 /// What can be copied and compared to the last field.
@@ -25,26 +23,6 @@ impl Whole for Task {
     }
 
     fn is_same(&self, other: &Task) -> bool {
-        self.same(other)
-    }
-}
-
-impl Whole for Queue {
-    fn copied(&self, alloc: Global) -> Result<Queue, AllocError> {
-        self.copy(alloc)
-    }
-
-    fn is_same(&self, other: &Queue) -> bool {
-        self.same(other)
-    }
-}
-
-impl Whole for QueueSet {
-    fn copied(&self, alloc: Global) -> Result<QueueSet, AllocError> {
-        self.copy(alloc)
-    }
-
-    fn is_same(&self, other: &QueueSet) -> bool {
         self.same(other)
     }
 }

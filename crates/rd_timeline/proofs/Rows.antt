@@ -5,12 +5,14 @@ use Rattle.rd_queue.specs.QueueSnapshot.{QueueSnapshot}
 use Rattle.rd_app.specs.Builtin.{builtin}
 use Rattle.rd_state.specs.declared.phase.Phase.TheVariants.{Run}
 use Rattle.rd_state.specs.declared.change.Change.{Change}
-use Rattle.rd_state.specs.declared.change.Change.TheVariants.{Task, Queue}
+use Rattle.rd_state.specs.declared.change.Change.TheVariants.{Object, Task}
+use Rattle.rd_state.specs.declared.objects.ObjectChange.TheVariants.{Queue}
 use Rattle.rd_state.specs.declared.task_change.TaskChange.TheVariants.{SetPc, SetReg}
 use Rattle.rd_queue.specs.declared.change.QueueChange.TheVariants.{PutBack}
 use Rattle.rd_state.specs.Boot.{boot_of}
 use Rattle.rd_state.specs.Change.{applied, inverse_of}
-use Rattle.rd_state.specs.Snapshot.{Snapshot, TaskSnapshot, no_objects}
+use Rattle.rd_state.specs.Snapshot.{Snapshot, TaskSnapshot}
+use Rattle.rd_state.specs.Objects.{no_objects}
 use Rattle.rd_state.specs.Undoing.{undone}
 use Rattle.rd_calls.specs.declared.moves.Move.{Move}
 use Rattle.rd_calls.specs.declared.moves.Move.TheVariants.{Core}
@@ -46,7 +48,7 @@ abbrev before : Snapshot
 before = state_of 1 (task_of 1 0 (65 ∷ [])) []
 
 abbrev put : Change
-put = Queue 0 (PutBack (65 ∷ []))
+put = Object (Queue 0 (PutBack (65 ∷ [])))
 
 abbrev answer : Change
 answer = Task 0 (SetReg 0 1)

@@ -15,7 +15,8 @@ use Rattle.rd_app.specs.declared.instr.SetCall.TheVariants.{Select}
 use Rattle.rd_app.specs.declared.instr.Operand.TheVariants.{Number}
 use Rattle.rd_app.specs.Application.{Application}
 use Rattle.rd_app.specs.Builtin.{builtin}
-use Rattle.rd_state.specs.Snapshot.{Snapshot, TaskSnapshot, no_objects}
+use Rattle.rd_state.specs.Snapshot.{Snapshot, TaskSnapshot}
+use Rattle.rd_state.specs.Objects.{no_objects}
 use Rattle.rd_calls.specs.declared.moves.Move.{Move}
 use Rattle.rd_calls.specs.declared.moves.Move.TheVariants.{Core}
 use Rattle.rd_timeline.specs.History.{state_after}

@@ -15,7 +15,8 @@ use Rattle.rd_state.specs.declared.phase.Place.TheVariants.{Queue}
 use Rattle.rd_app.specs.Application.{Application, max_delay}
 use Rattle.rd_app.specs.Builtin.{builtin}
 use Rattle.rd_app.specs.TaskScript.{TaskScript}
-use Rattle.rd_state.specs.Snapshot.{TaskSnapshot, no_objects}
+use Rattle.rd_state.specs.Snapshot.{TaskSnapshot}
+use Rattle.rd_state.specs.Objects.{no_objects}
 use Rattle.rd_calls.specs.declared.moves.Move.TheVariants.{Core, Tick}
 use Rattle.rd_timeline.specs.History.{state_after}
 

@@ -2,7 +2,7 @@
 use Rattle.std.proofs.Common.{◌<◌, length, ap, arith}
 use Rattle.std.proofs.lemmas.List.{length-map}
 use Rattle.rd_state.specs.Snapshot.{Snapshot}
-use Rattle.rd_state.specs.Valid.{shape_of}
+use Rattle.rd_state.specs.Objects.{shape_of}
 use Rattle.rd_queue_calls.proofs.selecting.select.Goals as goal
 
 pub overflow_cast-result : goal.overflow_cast-result

@@ -1,6 +1,6 @@
 -- The queues before this one are made.
 use Rattle.std.proofs.Common.{◌≡◌}
-use Rattle.rd_state.specs.Boot.{first_queues}
+use Rattle.rd_state.specs.Objects.{first_queues}
 use Rattle.rd_state.proofs.objects.new_queues.Given as goal
 
 abbrev pub invariant-loop-number : goal.invariant-loop-number

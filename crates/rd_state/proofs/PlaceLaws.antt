@@ -1,0 +1,66 @@
+-- The places where tasks wait: who waits at one is a task, and at boot nobody does.
+use Rattle.std.proofs.Common.{◌≡◌, ◌∙◌, ℕ, zero, suc, ◌<◌, List, [], ◌∷◌, length, get_or, map, refl, ap, subst}
+use Rattle.std.proofs.Common.{inl, inr}
+use Rattle.std.specs.Prelude.{All}
+use Rattle.std.proofs.lemmas.Bool.{cases_lt}
+use Rattle.std.proofs.lemmas.List.{get_or_past}
+use Rattle.std.proofs.lemmas.List.Elements.{All-nil, All-push, All-get_or}
+use Rattle.rd_queue.specs.declared.waiting_list.WaitingList.{WaitingList}
+use Rattle.rd_queue.specs.declared.waiting_list.WaitingList.TheVariants.{Receiving, Sending}
+use Rattle.rd_queue.specs.Queues.{tasks_in_list}
+use Rattle.rd_queue.specs.Sizes.{IsSizedList}
+use Rattle.rd_app.specs.QueueSetShape.{QueueSetShape}
+use Rattle.rd_app.specs.Application.{Application}
+use Rattle.rd_state.specs.declared.phase.Place.{Place}
+use Rattle.rd_state.specs.declared.phase.Place.TheVariants.{Queue, Set}
+use Rattle.rd_state.specs.Boot.{before_scheduling}
+use Rattle.rd_state.specs.Objects.{IsQueueFor, first_queues, new_queue, new_set, no_queue, no_set}
+use Rattle.rd_state.specs.Sizes.{IsSized}
+use Rattle.rd_state.specs.Snapshot.{Snapshot, queue_at, set_at}
+use Rattle.rd_state.specs.Waiting.{HasPlace, waiting_at}
+use Rattle.rd_state.proofs.ObjectLaws.{queue_in_sized, set_in_sized}
+
+-- A queue of the state has its sizes.
+pub queue_sized : (s : Snapshot) (queue : ℕ) → IsSized s → queue < length s.objects.queues
+    → IsQueueFor (length s.tasks) (length s.objects.sets) (queue_at s queue)
+queue_sized s queue sized there = queue_in_sized (length s.tasks) s.objects queue sized.objects there
+
+-- Those who wait at a place are tasks, and no more than there are.
+pub IsSizedList-waiting_at : (s : Snapshot) (place : Place) → IsSized s → HasPlace s place → IsSizedList (length s.tasks) (waiting_at s place)
+IsSizedList-waiting_at s (Queue queue Receiving) sized there =
+    let here = queue_sized s queue sized there in
+    subst (λ n. IsSizedList n (queue_at s queue).receiving) here.1 here.0.receiving
+IsSizedList-waiting_at s (Queue queue Sending) sized there =
+    let here = queue_sized s queue sized there in
+    subst (λ n. IsSizedList n (queue_at s queue).sending) here.1 here.0.sending
+IsSizedList-waiting_at s (Set set) sized there =
+    let here = set_in_sized (length s.tasks) s.objects set sized.objects there in
+    subst (λ n. IsSizedList n (set_at s set).waiting) here.1 here.0.waiting
+
+-- Nobody waits in either list of a new queue.
+nobody_waits : (app : Application) (list : WaitingList) (n : ℕ) → All (λ queue. tasks_in_list list queue ≡ []) (first_queues app n)
+nobody_waits app list zero = All-nil (λ queue. tasks_in_list list queue ≡ [])
+nobody_waits app Receiving (suc n) =
+    All-push (λ queue. tasks_in_list Receiving queue ≡ []) (first_queues app n) (new_queue app n) (nobody_waits app Receiving n) refl
+nobody_waits app Sending (suc n) =
+    All-push (λ queue. tasks_in_list Sending queue ≡ []) (first_queues app n) (new_queue app n) (nobody_waits app Sending n) refl
+
+-- what stands for a queue that isn't there
+nobody_waits_nowhere : (list : WaitingList) → tasks_in_list list no_queue ≡ []
+nobody_waits_nowhere Receiving = refl
+nobody_waits_nowhere Sending = refl
+
+nobody_waits_at : (app : Application) (list : WaitingList) (queue n : ℕ) → tasks_in_list list (get_or (first_queues app n) queue no_queue) ≡ []
+nobody_waits_at app list queue n = elim (cases_lt queue (length (first_queues app n))) [
+  | inl there ↦ All-get_or (λ queue. tasks_in_list list queue ≡ []) (first_queues app n) queue no_queue there (nobody_waits app list n)
+  | inr past ↦ ap (tasks_in_list list) (get_or_past (first_queues app n) queue no_queue past) ∙ nobody_waits_nowhere list
+]
+
+nobody_selects : (tasks queues : ℕ) (shapes : List QueueSetShape) (set : ℕ) → (get_or (map (new_set tasks queues) shapes) set no_set).waiting ≡ []
+nobody_selects tasks queues [] set = refl
+nobody_selects tasks queues (shape ∷ shapes) zero = refl
+nobody_selects tasks queues (shape ∷ shapes) (suc set) = nobody_selects tasks queues shapes set
+
+pub waiting_at-before_scheduling : (app : Application) (place : Place) → waiting_at (before_scheduling app) place ≡ []
+waiting_at-before_scheduling app (Queue queue list) = nobody_waits_at app list queue (length app.queues.things)
+waiting_at-before_scheduling app (Set set) = nobody_selects (length app.tasks.things) (length app.queues.things) app.sets.things set
