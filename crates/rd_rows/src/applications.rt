@@ -2,11 +2,11 @@
 
 use crate::asserts::assert_same;
 use rd_app::app::App;
-use rd_app::instr::{Instr, LocalInstr, MAX_DELAY, Operand, QueueCall, SetCall};
+use rd_app::instr::{Instr, MAX_DELAY, Operand, QueueCall, SetCall};
 use rd_script::error::AppError;
 use rd_script::file::read_app;
 use rd_text::kind::Kind;
-use std::alloc::{AllocError, Global};
+use std::alloc::{AllocError, AllocGlobal, Global};
 use std::process::Abort;
 use std::test::Fail;
 
@@ -22,14 +22,19 @@ macro_rules! file_with_code {
     };
 }
 
-// The application of a file's text. What `read_app` promises of it is not asked for here.
-fn read(alloc: Global, text: &str) -> Result<App, AppError> {
+/// The application of a file's text. What `read_app` promises of it is not asked for here.
+pub fn read(alloc: Global, text: &str) -> Result<App, AppError> {
     read_app(alloc, text.as_bytes())
 }
 
-// The built-in application, likewise.
-fn builtin_app(alloc: Global) -> Result<App, AllocError> {
+/// The built-in application, likewise.
+pub fn builtin_app(alloc: Global) -> Result<App, AllocError> {
     App::builtin(alloc)
+}
+
+// The number of a thing of that name, likewise.
+fn find(app: &App, kind: Kind, name: &str) -> Option<usize> {
+    app.find(kind, name)
 }
 
 // Why the file is refused, if it is.
@@ -138,8 +143,8 @@ fn refused_files(rt: HostRuntime) -> Result<(), Fail> {
     let alloc = rt.alloc();
     let whole = file_with_code!(r#""end""#);
     let app = read(alloc, whole)?;
-    assert_same(&rt, app.find(Kind::Queue, "q0"), Some(0));
-    assert_same(&rt, app.find(Kind::Task, "q0"), None);
+    assert_same(&rt, find(&app, Kind::Queue, "q0"), Some(0));
+    assert_same(&rt, find(&app, Kind::Task, "q0"), None);
     assert_same(&rt, app.queues().len(), 1);
     assert_same(&rt, app.entries(), 1);
     assert_refused(&rt, alloc, &REFUSED_FILES);
@@ -204,8 +209,8 @@ fn files_with_sets(rt: HostRuntime) -> Result<(), Fail> {
         r#"{"name":"s0","length":2048,"members":["q1"]},{"name":"q0","length":1,"members":[]}"#
     );
     let app = read(alloc, text)?;
-    assert_same(&rt, app.find(Kind::Set, "q0"), Some(1));
-    assert_same(&rt, app.find(Kind::Set, "q1"), None);
+    assert_same(&rt, find(&app, Kind::Set, "q0"), Some(1));
+    assert_same(&rt, find(&app, Kind::Set, "q1"), None);
     assert_same(&rt, app.sets().len(), 2);
     assert_same(&rt, app.queues().len(), 2);
     assert_same(&rt, app.set_of(0), None);
@@ -225,13 +230,24 @@ fn first_name(app: &App) -> &str {
     app.name(Kind::Task, 0)
 }
 
-// The instruction, if it is a local one.
-fn local(instr: &Instr) -> Option<&LocalInstr> {
-    match instr {
-        Instr::Local { instr } => Some(instr),
-        Instr::Queue { .. } | Instr::Set { .. } => None,
-    }
+// The instruction is this one, as `Debug` writes it.
+fn assert_written<H: AllocGlobal + Abort>(
+    rt: &H,
+    instr: &Instr,
+    want: &str,
+) -> Result<(), AllocError> {
+    let text = format!(in rt.alloc(); "{instr:?}")?;
+    assert_same(rt, text.as_str(), want);
+    Ok(())
 }
+
+// The instructions of the test below, as `Debug` writes them.
+const PACKING: [&str; 4] = [
+    "Local { instr: Set { register: 1, value: 258 } }",
+    "Local { instr: Pack { register: 1 } }",
+    "Local { instr: Unpack { register: 2 } }",
+    "Local { instr: End }",
+];
 
 #[test]
 fn pack_and_unpack(rt: HostRuntime) -> Result<(), Fail> {
@@ -242,19 +258,10 @@ fn pack_and_unpack(rt: HostRuntime) -> Result<(), Fail> {
     let app = read(rt.alloc(), text)?;
     assert_same(&rt, app.priorities().len(), 1);
     let code = first_script(&app);
-    assert!(rt; code.len() == 4);
-    assert!(rt;
-        matches!(
-            local(&code[0]),
-            Some(LocalInstr::Set {
-                register: 1,
-                value: 258
-            })
-        )
-    );
-    assert!(rt; matches!(local(&code[1]), Some(LocalInstr::Pack { register: 1 })));
-    assert!(rt; matches!(local(&code[2]), Some(LocalInstr::Unpack { register: 2 })));
-    assert!(rt; matches!(local(&code[3]), Some(LocalInstr::End)));
+    assert_same(&rt, code.len(), PACKING.len());
+    for (instr, want) in code.iter().zip(&PACKING) {
+        assert_written(&rt, instr, want)?;
+    }
     Ok(())
 }
 

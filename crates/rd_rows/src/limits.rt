@@ -10,9 +10,9 @@
 //! handles. Each other task waits for a handle of set 30, for one tick, counts queue 31, and waits
 //! for room in it.
 
+use crate::applications::read;
 use crate::asserts::assert_same;
 use rd_calls::moves::Move;
-use rd_script::file::read_app;
 use rd_state::state::State;
 use rd_timeline::timeline::Timeline;
 use std::alloc::{AllocError, Global};
@@ -191,7 +191,7 @@ fn compares_states(rt: &impl Abort, alloc: Global, timeline: &mut Timeline) -> P
 #[test]
 fn states(rt: HostRuntime) -> Result<(), Fail> {
     let alloc = rt.alloc();
-    let app = read_app(alloc, file(alloc)?.as_bytes())?;
+    let app = read(alloc, file(alloc)?.as_str())?;
     let boot = State::boot(alloc, &app)?;
     let mut timeline = Timeline::new(alloc, app, 2464)?;
     let is_at_boot = timeline.target().same(&boot);

@@ -1,5 +1,9 @@
 //! Runs of the parts: moves, the way back, and their limit; waiting lists.
 
+ghost use Rattle.std.specs.Prelude.{◌<◌};
+ghost use Rattle.rd_state.specs.Valid.{IsValid};
+
+use crate::applications::builtin_app;
 use crate::asserts::assert_same;
 use rd_app::app::App;
 use rd_bytes::no_memory::NoMemory;
@@ -86,15 +90,13 @@ fn moves_full(rt: HostRuntime) -> Result<(), Fail> {
     result
 }
 
-// With ample memory a move is played and its record is kept.
-#[test]
-fn always_out_of_memory(rt: HostRuntime) -> Result<(), Fail> {
-    let alloc = rt.alloc();
-    let app = App::builtin(alloc)?;
-    let mut state = State::boot(alloc, &app)?;
-    let mut log = Log::new(alloc);
-    let kept = match play(alloc, &mut state, &app, Move::Core { core: 0 }) {
-        Ok(undo) => match Timeline::keep(&mut log, undo) {
+// A step on core 0 is played, and its record is kept.
+fn is_kept(alloc: Global, app: &App, state: &mut State, log: &mut Log) -> bool
+    requires valid { IsValid app.now state.old }
+    requires core { 0 < app.now.cores }
+{
+    match play(alloc, state, app, Move::Core { core: 0 }) {
+        Ok(undo) => match Timeline::keep(log, undo) {
             Ok(()) => true,
             Err(undo) => {
                 undo.retire();
@@ -102,7 +104,18 @@ fn always_out_of_memory(rt: HostRuntime) -> Result<(), Fail> {
             }
         },
         Err(_) => false,
-    };
+    }
+}
+
+// With ample memory it is.
+#[test]
+fn always_out_of_memory(rt: HostRuntime) -> Result<(), Fail> {
+    let alloc = rt.alloc();
+    let app = builtin_app(alloc)?;
+    assert!(rt; app.cores() > 0);
+    let mut state = State::boot(alloc, &app)?;
+    let mut log = Log::new(alloc);
+    let kept = is_kept(alloc, &app, &mut state, &mut log);
     let records = log.len();
     log.retire();
     assert!(rt; kept);

@@ -4,11 +4,11 @@ ghost use Rattle.std.specs.Prelude.{◌≡◌};
 ghost use Rattle.rd_calls.specs.Step.{IsMoveOf};
 ghost use Rattle.rd_state.specs.Valid.{IsValid};
 
+use crate::applications::read;
 use crate::asserts::assert_same;
 use rd_app::app::App;
 use rd_calls::moves::Move;
 use rd_calls::play::play;
-use rd_script::file::read_app;
 use rd_state::state::State;
 use std::alloc::{AllocError, Global};
 use std::process::Abort;
@@ -81,7 +81,7 @@ fn weighs_steps(rt: &impl Abort, alloc: Global, app: &App, state: &mut State)
 #[test]
 fn weights(rt: HostRuntime) -> Result<(), Fail> {
     let alloc = rt.alloc();
-    let app = read_app(alloc, file(alloc)?.as_bytes())?;
+    let app = read(alloc, file(alloc)?.as_str())?;
     assert!(rt; app.cores() == 1);
     let mut state = State::boot(alloc, &app)?;
     weighs_steps(&rt, alloc, &app, &mut state);
