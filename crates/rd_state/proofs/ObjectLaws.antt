@@ -1,6 +1,6 @@
 -- The objects of the kernel: a change of one is undone by its inverse and keeps sizes and numbers, and those of boot have
 -- the sizes of the application.
-use Rattle.std.proofs.Common.{◌≡◌, ◌∙◌, ℕ, zero, suc, ◌+◌, ◌<◌, ◌≤◌, List, [], ◌∷◌, ◌++◌, length, map, take, Option, Some, None}
+use Rattle.std.proofs.Common.{◌≡◌, ◌∙◌, ℕ, zero, suc, ◌+◌, ◌<◌, ◌≤◌, List, [], ◌∷◌, ◌++◌, length, get_or, map, set, take, Option, Some, None}
 use Rattle.std.proofs.Common.{refl, ap, sym, subst, arith}
 use Rattle.std.specs.Prelude.{All, IfSome, nat_eq}
 use Rattle.std.specs.List.{list_any}
@@ -44,23 +44,22 @@ object_back tasks o (Set number change) sized fits =
     ap (λ (sets : List SetSnapshot). record o { sets = sets })
     (replaced_back o.sets number no_set (set_applied was change) (λ q. set_applied q (set_inverse_of was change)) fits.0 back)
 
--- which fits,
+-- which fits: it finds what stands in the place of what was there.
+replaced_fits : {X : Type 0} (xs : List X) (i : ℕ) (d y : X) (FitsNext : X → Type 0) → i < length xs → FitsNext y
+    → (i < length (set xs i y)) × FitsNext (get_or (set xs i y) i d)
+replaced_fits xs i d y FitsNext there fits =
+    (omega (arith, length-set xs i y, there), subst FitsNext (sym (get_or-set_same xs i y d there)) fits)
+
 pub object_fits : (tasks : ℕ) (o : ObjectsSnapshot) (change : ObjectChange) → AreSizedObjects tasks o → ObjectFits o change
     → ObjectFits (object_applied o change) (object_inverse_of o change)
 object_fits tasks o (Queue queue change) sized fits =
     let was = queue_in o queue in
-    let now = queue_applied was change in (
-      omega (arith, length-set o.queues queue now, fits.0),
-      subst (λ q. QueueFits q (queue_inverse_of was change)) (sym (get_or-set_same o.queues queue now no_queue fits.0))
-          (queue_change_is_undone was change (queue_in_sized tasks o queue sized fits.0).0 fits.1).fits,
-    )
+    replaced_fits o.queues queue no_queue (queue_applied was change) (λ q. QueueFits q (queue_inverse_of was change)) fits.0
+    (queue_change_is_undone was change (queue_in_sized tasks o queue sized fits.0).0 fits.1).fits
 object_fits tasks o (Set number change) sized fits =
     let was = set_in o number in
-    let now = set_applied was change in (
-      omega (arith, length-set o.sets number now, fits.0),
-      subst (λ q. SetFits q (set_inverse_of was change)) (sym (get_or-set_same o.sets number now no_set fits.0))
-          (set_change_is_undone was change (set_in_sized tasks o number sized fits.0).0 fits.1).fits,
-    )
+    replaced_fits o.sets number no_set (set_applied was change) (λ q. SetFits q (set_inverse_of was change)) fits.0
+    (set_change_is_undone was change (set_in_sized tasks o number sized fits.0).0 fits.1).fits
 
 -- keeps the sizes,
 pub object_sized : (tasks : ℕ) (o : ObjectsSnapshot) (change : ObjectChange) → AreSizedObjects tasks o → ObjectFits o change
