@@ -1,19 +1,12 @@
 -- An application: what a contract sees of an `App`, and the limits that each keeps.
 use Rattle.std.specs.Prelude.{ℕ, ◌≡◌, ◌-◌, ◌^◌, ◌<◌, ◌≤◌, Bool, true, false}
 use Rattle.std.specs.Prelude.{List, [], length, map, slice_index_or, All, Option, None, Some}
-use Rattle.std.specs.Prelude.{nat_eq, position}
-use Rattle.std.specs.List.{IsDistinct, concat, list_any}
 use Rattle.rd_bytes.specs.declared.bytes.TheConstants.{MAX_BYTES}
 use Rattle.rd_notify.specs.declared.entries.TheConstants.{MAX_ENTRIES}
-use Rattle.rd_queue.specs.declared.item.TheConstants.{MAX_ITEM_SIZE}
-use Rattle.rd_queue.specs.declared.queue.TheConstants.{MAX_ITEMS}
-use Rattle.rd_queue.specs.declared.queue_set.TheConstants.{MAX_HANDLES}
-use Rattle.rd_app.specs.declared.app.TheConstants.{MAX_CODE, MAX_CORES, MAX_PRIORITY}
-use Rattle.rd_app.specs.declared.app.TheConstants.{MAX_QUEUES, MAX_SETS, MAX_TASKS}
+use Rattle.rd_app.specs.declared.app.TheConstants.{MAX_CODE, MAX_CORES, MAX_PRIORITY, MAX_TASKS}
 use Rattle.rd_app.specs.declared.instr.TheConstants.{REGISTERS}
-use Rattle.rd_app.specs.declared.app.QueueShape.{QueueShape}
+use Rattle.rd_app.specs.declared.objects.QueueShape.{QueueShape}
 use Rattle.rd_text.specs.declared.kind.Kind.{Kind}
-use Rattle.rd_text.specs.declared.kind.Kind.TheVariants as kind
 use Rattle.rd_app.specs.declared.instr.Operand.{Operand}
 use Rattle.rd_app.specs.declared.instr.Operand.TheVariants.{Number, Register}
 use Rattle.rd_app.specs.declared.instr.Instr.{Instr}
@@ -29,22 +22,19 @@ use Rattle.rd_app.specs.declared.instr.SetCall.TheVariants.{Select}
 use Rattle.rd_queue.specs.declared.waiting_list.WaitingList.{WaitingList}
 use Rattle.rd_queue.specs.declared.waiting_list.WaitingList.TheVariants.{Receiving, Sending}
 use Rattle.rd_app.specs.TaskScript.{TaskScript}
-use Rattle.rd_app.specs.QueueSetShape.{QueueSetShape}
 use Rattle.rd_app.specs.Named.{AreNamed, Named}
+use Rattle.rd_app.specs.Objects.{AreObjects, NamedObjects, names_in, shape_at}
 
 pub record Application : Type 0 where
   pub cores : ℕ
   pub entries : ℕ
   pub tick : ℕ
-  pub queues : Named QueueShape
-  pub sets : Named QueueSetShape
+  pub objects : NamedObjects
   pub tasks : Named TaskScript
 
 -- the names of one kind
 abbrev pub names_of : Kind → Application → List (List ℕ)
-names_of kind.Queue app = app.queues.names
-names_of kind.Set app = app.sets.names
-names_of kind.Task app = app.tasks.names
+names_of kind app = names_in app.objects app.tasks.names kind
 
 -- the script of a task
 abbrev pub script_of : Application → ℕ → TaskScript
@@ -57,18 +47,6 @@ code_of app task = (script_of app task).code
 -- the instruction of a task at a number
 abbrev pub instr_at : Application → ℕ → ℕ → Instr
 instr_at app task pc = slice_index_or (code_of app task) pc (Local local.End)
-
--- the shape of a queue
-abbrev pub shape_at : Application → ℕ → QueueShape
-shape_at app queue = slice_index_or app.queues.things queue (record { capacity = 0; item_size = 0 })
-
--- the set that a queue is a member of at boot, if it is one of any
-abbrev pub set_at_boot : Application → ℕ → Option ℕ
-set_at_boot app queue = position (λ set. list_any (nat_eq queue) set.members) app.sets.things
-
--- the members of all these sets, one set after another
-abbrev pub members_of : List QueueSetShape → List ℕ
-members_of sets = concat (map (λ set. set.members) sets)
 
 -- the tasks' priorities, by number
 abbrev pub priorities_of : Application → List ℕ
@@ -139,10 +117,10 @@ list_of_call (RemoveFromSet set) = None
 abbrev pub IsWithin : Application → ℕ → Instr → Type 0
 IsWithin app len (Local instr) = IsLocalWithin len instr
 IsWithin app len (Queue queue call) =
-    (queue < length app.queues.things)
-    × IsQueueCall (length app.sets.things) call
-    × IsCallFor (shape_at app queue) call
-IsWithin app len (Set set call) = (set < length app.sets.things) × IsSetCall call
+    (queue < length app.objects.queues.things)
+    × IsQueueCall (length app.objects.sets.things) call
+    × IsCallFor (shape_at app.objects queue) call
+IsWithin app len (Set set call) = (set < length app.objects.sets.things) × IsSetCall call
 
 -- does the script never go on at the next instruction?
 abbrev pub is_local_final : LocalInstr → Bool
@@ -161,19 +139,6 @@ is_final (Local instr) = is_local_final instr
 is_final (Queue queue call) = false
 is_final (Set set call) = false
 
-abbrev pub IsQueueShape : QueueShape → Type 0
-IsQueueShape queue =
-    (0 < queue.capacity)
-    × (queue.capacity ≤ MAX_ITEMS)
-    × (0 < queue.item_size)
-    × (queue.item_size ≤ MAX_ITEM_SIZE)
-
--- There is room for handles, and the members are queues.
-pub record IsSetShape (app : Application) (set : QueueSetShape) : Type 0 where
-  pub some : 0 < set.capacity
-  pub few : set.capacity ≤ MAX_HANDLES
-  pub members : All (λ queue. queue < length app.queues.things) set.members
-
 pub record IsScript (app : Application) (script : TaskScript) : Type 0 where
   pub priority : script.priority ≤ MAX_PRIORITY
   pub some : 0 < length script.code
@@ -187,13 +152,7 @@ pub record IsApplication (app : Application) : Type 0 where
   pub some_entries : 0 < app.entries
   pub few_entries : app.entries ≤ MAX_ENTRIES
   pub tick : app.tick < 2 ^ 32
-  pub named_queues : AreNamed app.queues
-  pub few_queues : length app.queues.things ≤ MAX_QUEUES
-  pub queues : All IsQueueShape app.queues.things
-  pub named_sets : AreNamed app.sets
-  pub few_sets : length app.sets.things ≤ MAX_SETS
-  pub sets : All (IsSetShape app) app.sets.things
-  pub one_set_each : IsDistinct nat_eq (members_of app.sets.things)
+  pub objects : AreObjects app.objects
   pub named_tasks : AreNamed app.tasks
   pub some_tasks : 0 < length app.tasks.things
   pub few_tasks : length app.tasks.things ≤ MAX_TASKS

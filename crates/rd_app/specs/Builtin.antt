@@ -6,17 +6,19 @@ use Rattle.rd_app.specs.declared.instr.LocalInstr.TheVariants.{Data, End}
 use Rattle.rd_app.specs.declared.instr.QueueCall.TheVariants.{Send}
 use Rattle.rd_queue.specs.declared.end.End.TheVariants.{Back}
 use Rattle.rd_app.specs.Application.{Application}
+use Rattle.rd_app.specs.Objects.{no_objects}
 
 abbrev pub builtin : Application
 builtin = record {
   cores = 1;
   entries = 1;
   tick = 0;
-  queues = record {
-    names = codes "q0" ∷ [];
-    things = record { capacity = 2; item_size = 1 } ∷ [];
+  objects = record no_objects {
+    queues = record {
+      names = codes "q0" ∷ [];
+      things = record { capacity = 2; item_size = 1 } ∷ [];
+    };
   };
-  sets = record { names = []; things = [] };
   tasks = record {
     names = codes "t0" ∷ [];
     things = record {

@@ -1,6 +1,7 @@
 -- What the contracts of this crate cite.
 pub mod TaskScript
 pub mod QueueSetShape
+pub mod Objects
 pub mod Application
 pub mod Named
 pub mod Inside

@@ -1,7 +1,7 @@
 -- Things of one kind, with their names.
 use Rattle.std.specs.Prelude.{ℕ, ◌≡◌, List, length}
 use Rattle.rd_text.specs.Names.{AreNames}
-use Rattle.rd_app.specs.declared.app.Named as code
+use Rattle.rd_app.specs.declared.objects.Named as code
 
 -- Things go by number: the index in these lists.
 pub record Named (X : Type 0) : Type 0 where

@@ -1,14 +1,16 @@
-//! An application: its cores, its queues and their sets, its tasks with their scripts, and names.
+//! An application: its cores, its objects, its tasks with their scripts, and names.
 
 ghost use Rattle.std.specs.Prelude.{◌≡◌, ◌<◌, ◌≤◌, length, map, position, slice_get};
-ghost use Rattle.std.specs.Prelude.{All, Some, IfOk, IfSome};
+ghost use Rattle.std.specs.Prelude.{All, Some, IfOk};
 ghost use Rattle.std.specs.Str.{bytes_eq};
 ghost use Rattle.rd_app.specs.Application.{IsApplication, IsWithin, names_of, code_of};
-ghost use Rattle.rd_app.specs.Application.{priorities_of, set_at_boot};
+ghost use Rattle.rd_app.specs.Application.{priorities_of};
 ghost use Rattle.rd_app.specs.Builtin.{builtin};
 ghost use Rattle.rd_app.specs.Inside.{application_of};
+ghost use Rattle.rd_app.specs.Objects.{objects_view};
 
 use crate::instr::{Instr, LocalInstr, Operand, QueueCall};
+use crate::objects::{Named, NamedObjects, QueueShape};
 use rd_bytes::bytes::Bytes;
 use rd_queue::end::End;
 use rd_text::kind::Kind;
@@ -19,12 +21,6 @@ use std::marker::Model;
 /// How many cores an application has at the most (`configNUMBER_OF_CORES`).
 pub const MAX_CORES: usize = 8;
 
-/// How many queues an application has at the most.
-pub const MAX_QUEUES: usize = 32;
-
-/// How many queue sets an application has at the most.
-pub const MAX_SETS: usize = 32;
-
 /// How many tasks an application has at the most.
 pub const MAX_TASKS: usize = 32;
 
@@ -33,29 +29,6 @@ pub const MAX_PRIORITY: u8 = 31;
 
 /// How many instructions the script of a task has at the most.
 pub const MAX_CODE: usize = 256;
-
-/// A queue to be made: room for 1 to 64 items of 1 to 64 bytes each.
-#[derive(Clone, Copy, Debug, Default, PartialEq, Eq)]
-pub struct QueueShape {
-    pub capacity: usize,
-    pub item_size: usize,
-}
-
-/// A queue set to be made: room for 1 to 2,048 handles (`xQueueCreateSet`), and the queues that are
-/// its members at boot, by number.
-#[derive(Debug, Drop)]
-pub struct SetShape {
-    capacity: usize,
-    members: Vec<usize>,
-}
-
-impl Model for SetShape {
-    ghost use Rattle.rd_app.specs.QueueSetShape.{QueueSetShape};
-
-    ghost Value = { QueueSetShape };
-
-    ghost view = { λ s. record { capacity = s.capacity; members = s.members.items } };
-}
 
 /// A task to be made: its priority, 0 to 31, higher before lower, and its instructions.
 #[derive(Debug, Drop)]
@@ -72,15 +45,6 @@ impl Model for Script {
     ghost view = { λ s. record { priority = s.priority; code = s.code.items } };
 }
 
-/// Things of one kind, with their names. They go by number: the index in both.
-#[derive(Debug, Drop)]
-pub struct Named<T> {
-    /// Their names.
-    pub names: Names,
-    /// The things.
-    pub things: Vec<T>,
-}
-
 /// What an application is made of.
 #[derive(Debug, Drop)]
 pub struct Parts {
@@ -90,10 +54,8 @@ pub struct Parts {
     pub entries: usize,
     /// The tick at boot.
     pub tick: u32,
-    /// The queues, at most 32.
-    pub queues: Named<QueueShape>,
-    /// The queue sets, at most 32.
-    pub sets: Named<SetShape>,
+    /// The objects.
+    pub objects: NamedObjects,
     /// The tasks' scripts, 1 to 32.
     pub tasks: Named<Script>,
 }
@@ -118,29 +80,6 @@ impl Model for App {
     ghost invariant = { λ a.
         IsApplication (application_of a.parts)
         × (a.priorities.items ≡ priorities_of (application_of a.parts)) };
-}
-
-impl SetShape {
-    /// A set with room for `capacity` handles, 1 to 2,048, whose members at boot are these queues.
-    pub fn new(capacity: usize, members: Vec<usize>) -> SetShape
-        ensures { result ≡ record { capacity = capacity; members = members.items } }
-    {
-        SetShape { capacity, members }
-    }
-
-    /// How many handles there is room for.
-    pub fn capacity(&self) -> usize
-        ensures { result ≡ self.now.capacity }
-    {
-        self.capacity
-    }
-
-    /// The queues that are members at boot, by number.
-    pub fn members(&self) -> &[usize]
-        ensures { result.now ≡ self.now.members }
-    {
-        self.members.as_slice()
-    }
 }
 
 impl Script {
@@ -200,18 +139,16 @@ impl App {
                 instr: LocalInstr::End
             },
         ]?;
+        let mut objects = NamedObjects::none(alloc)?;
+        objects.queues = Named {
+            names: Names::new(alloc, &["q0"])?,
+            things: vec![in alloc; queue]?,
+        };
         let parts = Parts {
             cores: 1,
             entries: 1,
             tick: 0,
-            queues: Named {
-                names: Names::new(alloc, &["q0"])?,
-                things: vec![in alloc; queue]?,
-            },
-            sets: Named {
-                names: Names::new(alloc, &[])?,
-                things: Vec::new(alloc),
-            },
+            objects,
             tasks: Named {
                 names: Names::new(alloc, &["t0"])?,
                 things: vec![in alloc; Script::new(1, code)]?,
@@ -248,41 +185,26 @@ impl App {
         self.parts.tick
     }
 
-    /// The queues, by number.
-    pub fn queues(&self) -> &[QueueShape]
-        ensures { result.now ≡ self.now.queues.things }
+    /// The objects.
+    pub fn objects(&self) -> &NamedObjects
+        ensures { objects_view result.now ≡ self.now.objects }
     {
-        self.parts.queues.things.as_slice()
+        &self.parts.objects
     }
 
-    /// The queue sets, by number.
-    pub fn sets(&self) -> &[SetShape]
-        ensures { result.now ≡ self.now.sets.things }
+    // The names of a kind.
+    fn names(&self, kind: Kind) -> &Names
+        ensures { result.now ≡ names_of kind self.now }
     {
-        self.parts.sets.things.as_slice()
-    }
-
-    /// The set that the queue is a member of at boot, if it is one of any.
-    pub fn set_of(&self, queue: usize) -> Option<usize>
-        ensures set { result ≡ set_at_boot self.now queue }
-        ensures within { IfSome result (λ set. set < length self.now.sets.things) }
-    {
-        self.parts
-            .sets
-            .things
-            .iter()
-            .position(|set| set.members.contains(&queue))
+        let Parts { objects, tasks, .. } = &self.parts;
+        objects.names(&tasks.names, kind)
     }
 
     /// The number of the thing of that kind with that name, if there is one.
     pub fn find(&self, kind: Kind, name: &str) -> Option<usize>
         ensures { result ≡ position (λ other. bytes_eq name.now other) (names_of kind self.now) }
     {
-        match kind {
-            Kind::Queue => self.parts.queues.names.find(name),
-            Kind::Set => self.parts.sets.names.find(name),
-            Kind::Task => self.parts.tasks.names.find(name),
-        }
+        self.names(kind).find(name)
     }
 
     /// The name of the thing of that kind with that number.
@@ -290,11 +212,7 @@ impl App {
         requires { number < length (names_of kind self.now) }
         ensures { slice_get (names_of kind self.now) number ≡ Some result.now }
     {
-        match kind {
-            Kind::Queue => self.parts.queues.names.name(number),
-            Kind::Set => self.parts.sets.names.name(number),
-            Kind::Task => self.parts.tasks.names.name(number),
-        }
+        self.names(kind).name(number)
     }
 
     /// The instructions of the task's script.
@@ -319,8 +237,6 @@ impl App {
 /// The limits of applications, as numbers.
 pub fn limits_of_applications()
     ensures cores { MAX_CORES ≡ 8 }
-    ensures queues { MAX_QUEUES ≡ 32 }
-    ensures sets { MAX_SETS ≡ 32 }
     ensures tasks { MAX_TASKS ≡ 32 }
     ensures priority { MAX_PRIORITY ≡ 31 }
     ensures code { MAX_CODE ≡ 256 }

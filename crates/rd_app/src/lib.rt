@@ -1,6 +1,7 @@
-//! The application that is debugged: its tasks' scripts, its cores, its queues and
-//! their sets, and their names.
+//! The application that is debugged: its tasks' scripts, its cores, its objects (queues and their
+//! sets), and their names.
 #![tactic(auto)]
 
 pub mod app;
 pub mod instr;
+pub mod objects;

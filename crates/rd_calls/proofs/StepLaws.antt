@@ -38,7 +38,7 @@ IsConsistent-performed : (app : Application) (s : Snapshot) (core task : ℕ) (i
     → 1 ≤ seats_to_run (task_at s task).phase → core < length s.cores → core_at s core ≡ Some task
     → instr_at app task (task_at s task).pc ≡ instr → IsWithin app (length (code_of app task)) instr
     → (is_final instr ≡ false → (task_at s task).pc + 1 < length (code_of app task))
-    → length s.objects.queues ≡ length app.queues.things → length s.objects.sets ≡ length app.sets.things → IsConsistent app (all_have_time_left s.tick) (performed (priorities_of app) s core task instr)
+    → length s.objects.queues ≡ length app.objects.queues.things → length s.objects.sets ≡ length app.objects.sets.things → IsConsistent app (all_have_time_left s.tick) (performed (priorities_of app) s core task instr)
 IsConsistent-performed app s core task instr valid there runs has_core e is within next queues sets =
     let D = all_have_time_left s.tick in
     let at = IsConsistent-valid app s valid in
@@ -109,9 +109,9 @@ IsConsistent-next_instr app s core task limits valid has_core e =
     All-get_or (IsScript app) app.tasks.things task (record { priority = 0; code = [] }) (omega (arith, there, valid.in_limits.tasks)) limits.tasks in
     let within = valid.in_limits.pcs task there in
     let fits = All-get_or (IsWithin app (length script.code)) script.code pc (Local End) within ok.within in
-    let queues : length s.objects.queues ≡ length app.queues.things = sym (length-map s.objects.queues shape_of) ∙ ap length valid.in_limits.objects.queues in
-    let sets : length s.objects.sets ≡ length app.sets.things =
-    sym (length-map s.objects.sets room_of) ∙ ap length valid.in_limits.objects.sets ∙ length-map app.sets.things (λ (set : QueueSetShape). set.capacity) in
+    let queues : length s.objects.queues ≡ length app.objects.queues.things = sym (length-map s.objects.queues shape_of) ∙ ap length valid.in_limits.objects.queues in
+    let sets : length s.objects.sets ≡ length app.objects.sets.things =
+    sym (length-map s.objects.sets room_of) ∙ ap length valid.in_limits.objects.sets ∙ length-map app.objects.sets.things (λ (set : QueueSetShape). set.capacity) in
     IsConsistent-performed app s core task (next_instr app s task) valid there (runs_on_core app s core task valid has_core e) has_core e refl fits
     (not_last app script pc ok within) queues sets
 

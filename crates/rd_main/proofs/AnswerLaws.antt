@@ -17,12 +17,12 @@ use Rattle.rd_reply.specs.Names.{all_names, SeatedAreNamed}
 use Rattle.rd_reply.specs.Replies.{line_of, cores_text}
 
 -- Each queue, each set and each task of the state has a name.
-queues_named : (app : Application) (s : Snapshot) → IsApplication app → IsValid app s → length s.objects.queues ≡ length app.queues.names
-queues_named app s limits valid = omega (arith, limits.named_queues.paired, ap length valid.in_limits.objects.queues, length-map s.objects.queues shape_of)
+queues_named : (app : Application) (s : Snapshot) → IsApplication app → IsValid app s → length s.objects.queues ≡ length app.objects.queues.names
+queues_named app s limits valid = omega (arith, limits.objects.named_queues.paired, ap length valid.in_limits.objects.queues, length-map s.objects.queues shape_of)
 
-sets_named : (app : Application) (s : Snapshot) → IsApplication app → IsValid app s → length s.objects.sets ≡ length app.sets.names
+sets_named : (app : Application) (s : Snapshot) → IsApplication app → IsValid app s → length s.objects.sets ≡ length app.objects.sets.names
 sets_named app s limits valid =
-    omega (arith, limits.named_sets.paired, ap length valid.in_limits.objects.sets, length-map s.objects.sets room_of, length-map app.sets.things (λ (set : QueueSetShape). set.capacity))
+    omega (arith, limits.objects.named_sets.paired, ap length valid.in_limits.objects.sets, length-map s.objects.sets room_of, length-map app.objects.sets.things (λ (set : QueueSetShape). set.capacity))
 
 tasks_named : (app : Application) (s : Snapshot) → IsApplication app → IsValid app s → length s.tasks ≡ length app.tasks.names
 tasks_named app s limits valid = omega (arith, limits.named_tasks.paired, valid.in_limits.tasks)

@@ -19,8 +19,8 @@ pub record AllNames : Type 0 where
 -- those of an application
 abbrev pub all_names : Application → AllNames
 all_names app = record {
-  queues = app.queues.names;
-  sets = app.sets.names;
+  queues = app.objects.queues.names;
+  sets = app.objects.sets.names;
   tasks = app.tasks.names;
 }
 

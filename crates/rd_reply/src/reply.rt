@@ -201,8 +201,8 @@ fn append_task_names(page: &mut Page<'_>, app: &App, tasks: &[usize])
 
 // The names of the queues whose handles are in a set.
 fn append_handle_names(page: &mut Page<'_>, app: &App, set: &QueueSet)
-    requires { All (IsNamed app.now.queues.names) set.now.handles }
-    ensures { Appends page.old page.new (list_text (name_at app.now.queues.names) set.now.handles) }
+    requires { All (IsNamed app.now.objects.queues.names) set.now.handles }
+    ensures { Appends page.old page.new (list_text (name_at app.now.objects.queues.names) set.now.handles) }
 {
     if set.count() == 0 {
         return page.append("-");

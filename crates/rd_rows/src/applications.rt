@@ -1,13 +1,15 @@
-//! What no clause says of reading files: outside texts, and each public function once.
+//! Application files: what the program says of one that it refuses, and what it shows of one that it
+//! reads.
 
 use crate::asserts::assert_same;
+use crate::programs::{assert_ending, run_file};
+use crate::tasks::{Row, assert_rows};
 use rd_app::app::App;
-use rd_app::instr::{Instr, MAX_DELAY, Operand, QueueCall, SetCall};
 use rd_script::error::AppError;
 use rd_script::file::read_app;
-use rd_text::kind::Kind;
 use std::alloc::{AllocError, AllocGlobal, Global};
 use std::process::Abort;
+use std::rt::Files;
 use std::test::Fail;
 
 // The file of one core, the queue q0 for two items of one byte, and the task t0 with this code.
@@ -22,135 +24,6 @@ macro_rules! file_with_code {
     };
 }
 
-/// The application of a file's text. What `read_app` promises of it is not asked for here.
-pub fn read(alloc: Global, text: &str) -> Result<App, AppError> {
-    read_app(alloc, text.as_bytes())
-}
-
-/// The built-in application, likewise.
-pub fn builtin_app(alloc: Global) -> Result<App, AllocError> {
-    App::builtin(alloc)
-}
-
-// The number of a thing of that name, likewise.
-fn find(app: &App, kind: Kind, name: &str) -> Option<usize> {
-    app.find(kind, name)
-}
-
-// Why the file is refused, if it is.
-fn fault_of(alloc: Global, text: &str) -> Option<AppError> {
-    read(alloc, text).err()
-}
-
-// A file, and the fault that it is refused for.
-#[derive(Clone, Copy)]
-struct Refused {
-    text: &'static str,
-    fault: AppError,
-}
-
-fn assert_refused(rt: &impl Abort, alloc: Global, files: &[Refused]) {
-    for file in files {
-        let Refused { text, fault } = *file;
-        assert_eq!(rt; fault_of(alloc, text), Some(fault), "{text}");
-    }
-}
-
-const REFUSED_FILES: [Refused; 19] = [
-    Refused {
-        text: concat!(
-            r#"{"profile":1,"cores":1,"queues":[{"name":"q0","length":0,"item":1}],"#,
-            r#""tasks":[{"name":"t0","priority":1,"code":["end"]}]}"#
-        ),
-        fault: AppError::Limit,
-    },
-    Refused {
-        text: r#"{"profile":1,"cores""#,
-        fault: AppError::NotJson,
-    },
-    Refused {
-        text: file_with_code!(r#""over q0","end""#),
-        fault: AppError::OverwriteLength,
-    },
-    Refused {
-        text: file_with_code!(r#""over q9","end""#),
-        fault: AppError::Name,
-    },
-    Refused {
-        text: file_with_code!(r#""over q0 0","end""#),
-        fault: AppError::Instr,
-    },
-    Refused {
-        text: file_with_code!(r#""over q0","over q9","end""#),
-        fault: AppError::OverwriteLength,
-    },
-    Refused {
-        text: file_with_code!(r#""over q9","over q0","end""#),
-        fault: AppError::Name,
-    },
-    Refused {
-        text: file_with_code!(r#""over q0","end 0""#),
-        fault: AppError::OverwriteLength,
-    },
-    Refused {
-        text: file_with_code!(r#""qreset q0 0","end""#),
-        fault: AppError::Instr,
-    },
-    Refused {
-        text: file_with_code!(r#""count","end""#),
-        fault: AppError::Instr,
-    },
-    Refused {
-        text: file_with_code!(r#""peek q0","end""#),
-        fault: AppError::Instr,
-    },
-    Refused {
-        text: file_with_code!(r#""setadd q0 s0","end""#),
-        fault: AppError::Name,
-    },
-    Refused {
-        text: file_with_code!(r#""setdel q0","end""#),
-        fault: AppError::Instr,
-    },
-    Refused {
-        text: file_with_code!(r#""select s0 0","end""#),
-        fault: AppError::Name,
-    },
-    Refused {
-        text: file_with_code!(r#""select s0","end""#),
-        fault: AppError::Instr,
-    },
-    Refused {
-        text: file_with_code!(r#""send q9 0","end""#),
-        fault: AppError::Name,
-    },
-    Refused {
-        text: file_with_code!(r#""send q0","end""#),
-        fault: AppError::Instr,
-    },
-    Refused {
-        text: file_with_code!(r#""send q9 r8","end""#),
-        fault: AppError::Instr,
-    },
-    Refused {
-        text: r#"{"profile":1,"cores":1,"queues":[{"name":"q0","length":2,"item":1}]}"#,
-        fault: AppError::Shape,
-    },
-];
-
-#[test]
-fn refused_files(rt: HostRuntime) -> Result<(), Fail> {
-    let alloc = rt.alloc();
-    let whole = file_with_code!(r#""end""#);
-    let app = read(alloc, whole)?;
-    assert_same(&rt, find(&app, Kind::Queue, "q0"), Some(0));
-    assert_same(&rt, find(&app, Kind::Task, "q0"), None);
-    assert_same(&rt, app.queues().len(), 1);
-    assert_same(&rt, app.entries(), 1);
-    assert_refused(&rt, alloc, &REFUSED_FILES);
-    Ok(())
-}
-
 // The file of two queues with these sets.
 macro_rules! file_with_sets {
     ($sets:literal) => {
@@ -163,171 +36,235 @@ macro_rules! file_with_sets {
     };
 }
 
+/// The application of a file's text. What `read_app` promises of it is not asked for here.
+pub fn read(alloc: Global, text: &str) -> Result<App, AppError> {
+    read_app(alloc, text.as_bytes())
+}
+
+/// The built-in application, likewise.
+pub fn builtin_app(alloc: Global) -> Result<App, AllocError> {
+    App::builtin(alloc)
+}
+
+// What the program writes to its errors, by the fault that it finds.
+const NOT_JSON: &str = "rdbg: application refused: L1 NotJson\n";
+
+const SHAPE: &str = "rdbg: application refused: L2 Shape\n";
+
+const LIMIT: &str = "rdbg: application refused: L3 Limit\n";
+
+const NAME: &str = "rdbg: application refused: L4 Name\n";
+
+const INSTR: &str = "rdbg: application refused: L5 Instr\n";
+
+const OVERWRITE_LENGTH: &str = "rdbg: application refused: L6 OverwriteLength\n";
+
+// A file, and what is said of it.
+#[derive(Clone, Copy)]
+struct Refused {
+    text: &'static str,
+    errors: &'static str,
+}
+
+fn assert_refused<H: Files + AllocGlobal + Abort>(rt: &H, files: &[Refused]) -> Result<(), Fail> {
+    for file in files {
+        let Refused { text, errors } = *file;
+        let ending = run_file(rt, "refused.json", text.as_bytes(), &[], "step 0\n")?;
+        assert_ending(rt, &ending, 1, "", errors);
+    }
+    Ok(())
+}
+
+const REFUSED_FILES: [Refused; 19] = [
+    Refused {
+        text: concat!(
+            r#"{"profile":1,"cores":1,"queues":[{"name":"q0","length":0,"item":1}],"#,
+            r#""tasks":[{"name":"t0","priority":1,"code":["end"]}]}"#
+        ),
+        errors: LIMIT,
+    },
+    Refused {
+        text: r#"{"profile":1,"cores""#,
+        errors: NOT_JSON,
+    },
+    Refused {
+        text: file_with_code!(r#""over q0","end""#),
+        errors: OVERWRITE_LENGTH,
+    },
+    Refused {
+        text: file_with_code!(r#""over q9","end""#),
+        errors: NAME,
+    },
+    Refused {
+        text: file_with_code!(r#""over q0 0","end""#),
+        errors: INSTR,
+    },
+    Refused {
+        text: file_with_code!(r#""over q0","over q9","end""#),
+        errors: OVERWRITE_LENGTH,
+    },
+    Refused {
+        text: file_with_code!(r#""over q9","over q0","end""#),
+        errors: NAME,
+    },
+    Refused {
+        text: file_with_code!(r#""over q0","end 0""#),
+        errors: OVERWRITE_LENGTH,
+    },
+    Refused {
+        text: file_with_code!(r#""qreset q0 0","end""#),
+        errors: INSTR,
+    },
+    Refused {
+        text: file_with_code!(r#""count","end""#),
+        errors: INSTR,
+    },
+    Refused {
+        text: file_with_code!(r#""peek q0","end""#),
+        errors: INSTR,
+    },
+    Refused {
+        text: file_with_code!(r#""setadd q0 s0","end""#),
+        errors: NAME,
+    },
+    Refused {
+        text: file_with_code!(r#""setdel q0","end""#),
+        errors: INSTR,
+    },
+    Refused {
+        text: file_with_code!(r#""select s0 0","end""#),
+        errors: NAME,
+    },
+    Refused {
+        text: file_with_code!(r#""select s0","end""#),
+        errors: INSTR,
+    },
+    Refused {
+        text: file_with_code!(r#""send q9 0","end""#),
+        errors: NAME,
+    },
+    Refused {
+        text: file_with_code!(r#""send q0","end""#),
+        errors: INSTR,
+    },
+    Refused {
+        text: file_with_code!(r#""send q9 r8","end""#),
+        errors: INSTR,
+    },
+    Refused {
+        text: r#"{"profile":1,"cores":1,"queues":[{"name":"q0","length":2,"item":1}]}"#,
+        errors: SHAPE,
+    },
+];
+
 const REFUSED_SETS: [Refused; 8] = [
     Refused {
         text: file_with_sets!(r#"{"name":"s0","length":1,"members":["q2"]}"#),
-        fault: AppError::Name,
+        errors: NAME,
     },
     Refused {
         text: file_with_sets!(r#"{"name":"s0","length":1,"members":["q0","q0"]}"#),
-        fault: AppError::Name,
+        errors: NAME,
     },
     Refused {
         text: file_with_sets!(
             r#"{"name":"s0","length":1,"members":["q0"]},{"name":"s1","length":1,"members":["q0"]}"#
         ),
-        fault: AppError::Name,
+        errors: NAME,
     },
     Refused {
         text: file_with_sets!(
             r#"{"name":"s0","length":1,"members":[]},{"name":"s0","length":1,"members":[]}"#
         ),
-        fault: AppError::Name,
+        errors: NAME,
     },
     Refused {
         text: file_with_sets!(r#"{"name":"s0","length":0,"members":["q2"]}"#),
-        fault: AppError::Limit,
+        errors: LIMIT,
     },
     Refused {
         text: file_with_sets!(r#"{"name":"s0","length":2049,"members":[]}"#),
-        fault: AppError::Limit,
+        errors: LIMIT,
     },
     Refused {
         text: file_with_sets!(r#"{"name":"s0","length":1}"#),
-        fault: AppError::Shape,
+        errors: SHAPE,
     },
     Refused {
         text: file_with_sets!(r#"{"name":"s0","length":1,"members":[7]}"#),
-        fault: AppError::Shape,
+        errors: SHAPE,
     },
 ];
 
 #[test]
-fn files_with_sets(rt: HostRuntime) -> Result<(), Fail> {
-    let alloc = rt.alloc();
-    let text = file_with_sets!(
-        r#"{"name":"s0","length":2048,"members":["q1"]},{"name":"q0","length":1,"members":[]}"#
-    );
-    let app = read(alloc, text)?;
-    assert_same(&rt, find(&app, Kind::Set, "q0"), Some(1));
-    assert_same(&rt, find(&app, Kind::Set, "q1"), None);
-    assert_same(&rt, app.sets().len(), 2);
-    assert_same(&rt, app.queues().len(), 2);
-    assert_same(&rt, app.set_of(0), None);
-    assert_same(&rt, app.set_of(1), Some(0));
-    assert_refused(&rt, alloc, &REFUSED_SETS);
-    Ok(())
+fn refused_files(rt: HostRuntime) -> Result<(), Fail> {
+    assert_refused(&rt, &REFUSED_FILES)?;
+    assert_refused(&rt, &REFUSED_SETS)
 }
 
-// The script and the name of the first task. What is promised of instructions isn't asked for here.
-fn first_script(app: &App) -> &[Instr] {
-    app.limits();
-    app.code(0)
-}
-
-fn first_name(app: &App) -> &str {
-    app.limits();
-    app.name(Kind::Task, 0)
-}
-
-// The instruction is this one, as `Debug` writes it.
-fn assert_written<H: AllocGlobal + Abort>(
-    rt: &H,
-    instr: &Instr,
-    want: &str,
-) -> Result<(), AllocError> {
-    let text = format!(in rt.alloc(); "{instr:?}")?;
-    assert_same(rt, text.as_str(), want);
-    Ok(())
-}
-
-// The instructions of the test below, as `Debug` writes them.
-const PACKING: [&str; 4] = [
-    "Local { instr: Set { register: 1, value: 258 } }",
-    "Local { instr: Pack { register: 1 } }",
-    "Local { instr: Unpack { register: 2 } }",
-    "Local { instr: End }",
+const ROWS: [Row; 4] = [
+    Row {
+        name: "a thing has its name among those of its kind",
+        app: file_with_code!(r#""end""#),
+        commands: "show queue q0\nshow task t0\nshow task q0\nshow queue t0\n",
+        replies: "queue q0 0/2 items - recv - send - set -\n\
+                  task t0 core 0 pc 0 phase run regs 0,0,0,0,0,0,0,0 data - notes 0:idle\n\
+                  no NoSuch\nno NoSuch\n",
+    },
+    Row {
+        name: "a set may have the name of a queue",
+        app: file_with_sets!(
+            r#"{"name":"s0","length":2048,"members":["q1"]},{"name":"q0","length":1,"members":[]}"#
+        ),
+        commands: "show set s0\nshow set q0\nshow set q1\nshow queue q0\nshow queue q1\n",
+        replies: "set s0 0/2048 handles - wait -\nset q0 0/1 handles - wait -\nno NoSuch\n\
+                  queue q0 0/1 items - recv - send - set -\n\
+                  queue q1 0/1 items - recv - send - set s0\n",
+    },
+    Row {
+        name: "spaces around the words of an instruction",
+        app: concat!(
+            r#"{"profile":1,"cores":1,"tasks":[{"name":"t0","priority":1,"#,
+            r#""code":["set r1 258","pack r1"," unpack  r2 ","end"]}]}"#
+        ),
+        commands: "step 0\nstep 0\nstep 0\nshow task t0\nstep 0\nshow task t0\n",
+        replies: "ok at 1\nok at 2\nok at 3\n\
+                  task t0 core 0 pc 3 phase run regs 0,258,258,0,0,0,0,0 data 02010000 \
+                  notes 0:idle\n\
+                  ok at 4\n\
+                  task t0 core - pc 3 phase ended regs 0,258,258,0,0,0,0,0 data 02010000 \
+                  notes 0:idle\n",
+    },
+    Row {
+        name: "block times",
+        app: concat!(
+            r#"{"profile":1,"cores":1,"queues":[{"name":"q0","length":1,"item":1}],"#,
+            r#""tasks":[{"name":"t0","priority":1,"code":["set r3 3","send q0 1","send q0 r3","#,
+            r#""front q0 2","recv q0 0","peek q0 4","recv q0 max","end"]}]}"#
+        ),
+        commands: "step 0\nstep 0\nstep 0\nshow task t0\ntick\ntick\ntick\nstep 0\n\
+                   step 0\nshow task t0\ntick\ntick\nstep 0\nstep 0\n\
+                   step 0\nshow task t0\ntick\ntick\ntick\ntick\nstep 0\n\
+                   step 0\nshow task t0\nback 19\nshow queue q0\n",
+        replies: "ok at 1\nok at 2\nok at 3\n\
+                  task t0 core - pc 2 phase wait:send:q0:3 regs 1,0,0,3,0,0,0,0 data - \
+                  notes 0:idle\n\
+                  ok at 4\nok at 5\nok at 6\nok at 7\nok at 8\n\
+                  task t0 core - pc 3 phase wait:send:q0:5 regs 0,0,0,3,0,0,0,0 data - \
+                  notes 0:idle\n\
+                  ok at 9\nok at 10\nok at 11\nok at 12\nok at 13\n\
+                  task t0 core - pc 5 phase wait:recv:q0:9 regs 1,0,0,3,0,0,0,0 data 00 \
+                  notes 0:idle\n\
+                  ok at 14\nok at 15\nok at 16\nok at 17\nok at 18\nok at 19\n\
+                  task t0 core - pc 6 phase wait:recv:q0:max regs 0,0,0,3,0,0,0,0 data 00 \
+                  notes 0:idle\n\
+                  ok at 0\nqueue q0 0/1 items - recv - send - set -\n",
+    },
 ];
 
 #[test]
-fn pack_and_unpack(rt: HostRuntime) -> Result<(), Fail> {
-    let text = concat!(
-        r#"{"profile":1,"cores":1,"tasks":[{"name":"t0","priority":1,"#,
-        r#""code":["set r1 258","pack r1"," unpack  r2 ","end"]}]}"#
-    );
-    let app = read(rt.alloc(), text)?;
-    assert_same(&rt, app.priorities().len(), 1);
-    let code = first_script(&app);
-    assert_same(&rt, code.len(), PACKING.len());
-    for (instr, want) in code.iter().zip(&PACKING) {
-        assert_written(&rt, instr, want)?;
-    }
-    Ok(())
-}
-
-// The block time of a call of a queue, of a set, and of an instruction.
-fn queue_wait_of(call: &QueueCall) -> Option<Operand> {
-    match call {
-        QueueCall::Send { wait, .. } | QueueCall::Receive { wait } | QueueCall::Peek { wait } => {
-            Some(*wait)
-        }
-        QueueCall::Overwrite
-        | QueueCall::Reset
-        | QueueCall::Count
-        | QueueCall::Spaces
-        | QueueCall::AddToSet { .. }
-        | QueueCall::RemoveFromSet { .. } => None,
-    }
-}
-
-fn set_wait_of(call: &SetCall) -> Option<Operand> {
-    match call {
-        SetCall::Select { wait } => Some(*wait),
-    }
-}
-
-fn wait_of(instr: &Instr) -> Option<Operand> {
-    match instr {
-        Instr::Queue { call, .. } => queue_wait_of(call),
-        Instr::Set { call, .. } => set_wait_of(call),
-        Instr::Local { .. } => None,
-    }
-}
-
-#[test]
-fn block_times(rt: HostRuntime) -> Result<(), Fail> {
-    let text = file_with_code!(
-        r#""send q0 1","recv q0 max","send q0 r3","end","front q0 2","peek q0 4","qreset q0","end""#
-    );
-    let app = read(rt.alloc(), text)?;
-    let code = first_script(&app);
-    assert!(rt; code.len() == 8);
-    assert_same(&rt, wait_of(&code[0]), Some(Operand::Number { value: 1 }));
-    assert_same(
-        &rt,
-        wait_of(&code[1]),
-        Some(Operand::Number { value: MAX_DELAY }),
-    );
-    assert_same(
-        &rt,
-        wait_of(&code[2]),
-        Some(Operand::Register { register: 3 }),
-    );
-    assert_same(&rt, wait_of(&code[3]), None);
-    assert_same(&rt, wait_of(&code[4]), Some(Operand::Number { value: 2 }));
-    assert_same(&rt, wait_of(&code[5]), Some(Operand::Number { value: 4 }));
-    assert_same(&rt, wait_of(&code[6]), None);
-    Ok(())
-}
-
-#[test]
-fn builtin(rt: HostRuntime) -> Result<(), Fail> {
-    let app = builtin_app(rt.alloc())?;
-    assert_same(&rt, first_name(&app), "t0");
-    assert_same(&rt, first_script(&app).len(), 5);
-    assert_same(&rt, app.tick(), 0);
-    assert_same(&rt, app.cores(), 1);
-    Ok(())
+fn rows(rt: HostRuntime) -> Result<(), Fail> {
+    assert_rows(&rt, &ROWS)
 }
 
 #[test]

@@ -82,6 +82,23 @@ pub fn assert_replies(rt: &impl Abort, ending: &Ending, replies: &str) -> Result
     Ok(())
 }
 
+// Fails unless each run on some words and these commands ends with this status, and writes this.
+fn assert_runs<H: Files + AllocGlobal + Abort>(
+    rt: &H,
+    runs: &[&[&str]],
+    commands: &str,
+    status: u8,
+    output: &str,
+    errors: &str,
+) -> Result<(), Fail> {
+    for words in runs {
+        let words: &[&str] = *words;
+        let ending = run(rt, words, commands)?;
+        assert_ending(rt, &ending, status, output, errors);
+    }
+    Ok(())
+}
+
 const BAD_COMMAND_LINES: [&[&str]; 12] = [
     &["", "", ""],
     &["fly"],
@@ -97,41 +114,48 @@ const BAD_COMMAND_LINES: [&[&str]; 12] = [
     &["run", "file.json"],
 ];
 
+const DEFAULTS: [&[&str]; 3] = [&[], &["run"], &["run", "--moves", "1000000"]];
+
+const ONE_MOVE: [&[&str]; 3] = [
+    &["run", "--moves=1"],
+    &["run", "--moves=+1"],
+    &["run", "--moves=01"],
+];
+
+const MISSING_FILES: [&[&str]; 3] = [
+    &["run", "--app", "nowhere.json"],
+    &["run", "--app", ""],
+    &["run", "--app", "."],
+];
+
 #[test]
 fn bad_command_line(rt: HostRuntime) -> Result<(), Fail> {
-    for words in &BAD_COMMAND_LINES {
-        let words: &[&str] = *words;
-        let ending = run(&rt, words, "step 0\n")?;
-        assert_ending(&rt, &ending, 2, "", "rdbg: bad command line\n");
-    }
-    Ok(())
+    let errors = "rdbg: bad command line\n";
+    assert_runs(&rt, &BAD_COMMAND_LINES, "step 0\n", 2, "", errors)
 }
 
 #[test]
 fn run_is_the_default(rt: HostRuntime) -> Result<(), Fail> {
-    for words in [[].as_slice(), &["run"], &["run", "--moves", "1000000"]] {
-        let words: &[&str] = words;
-        let ending = run(&rt, words, "step 0\nback 1\n")?;
-        assert_ending(&rt, &ending, 0, "ok at 1\nok at 0\n", "");
-    }
-    Ok(())
+    let replies = "ok at 1\nok at 0\n";
+    assert_runs(&rt, &DEFAULTS, "step 0\nback 1\n", 0, replies, "")
 }
 
 #[test]
 fn moves_are_limited(rt: HostRuntime) -> Result<(), Fail> {
     let commands = "step 0\nstep 0\nback 1\nstep 0\n";
-    for moves in ["--moves=1", "--moves=+1", "--moves=01"] {
-        let ending = run(&rt, &["run", moves], commands)?;
-        assert_ending(
-            &rt,
-            &ending,
-            0,
-            "ok at 1\nno MovesFull\nok at 0\nok at 1\n",
-            "",
-        );
-    }
-    Ok(())
+    let replies = "ok at 1\nno MovesFull\nok at 0\nok at 1\n";
+    assert_runs(&rt, &ONE_MOVE, commands, 0, replies, "")
 }
+
+#[test]
+fn missing_file(rt: HostRuntime) -> Result<(), Fail> {
+    let errors = "rdbg: cannot read the file\n";
+    assert_runs(&rt, &MISSING_FILES, "step 0\n", 1, "", errors)
+}
+
+const ASKS_FOR_HELP: [&[&str]; 3] = [&["--help"], &["-h"], &["help"]];
+
+const ASKS_FOR_HELP_OF_RUN: [&[&str]; 2] = [&["run", "--help"], &["help", "run"]];
 
 const HELP: &str = "A reverse debugger for models of FreeRTOS applications
 
@@ -157,26 +181,8 @@ Options:
 
 #[test]
 fn help(rt: HostRuntime) -> Result<(), Fail> {
-    for words in [["--help"].as_slice(), &["-h"], &["help"]] {
-        let words: &[&str] = words;
-        let ending = run(&rt, words, "step 0\n")?;
-        assert_ending(&rt, &ending, 0, HELP, "");
-    }
-    for words in [["run", "--help"].as_slice(), &["help", "run"]] {
-        let words: &[&str] = words;
-        let ending = run(&rt, words, "step 0\n")?;
-        assert_ending(&rt, &ending, 0, HELP_OF_RUN, "");
-    }
-    Ok(())
-}
-
-#[test]
-fn missing_file(rt: HostRuntime) -> Result<(), Fail> {
-    for path in ["nowhere.json", "", "."] {
-        let ending = run(&rt, &["run", "--app", path], "step 0\n")?;
-        assert_ending(&rt, &ending, 1, "", "rdbg: cannot read the file\n");
-    }
-    Ok(())
+    assert_runs(&rt, &ASKS_FOR_HELP, "step 0\n", 0, HELP, "")?;
+    assert_runs(&rt, &ASKS_FOR_HELP_OF_RUN, "step 0\n", 0, HELP_OF_RUN, "")
 }
 
 // A file of 1,048,576 bytes is read, one with a byte more isn't.
@@ -209,21 +215,5 @@ fn refused_files(rt: HostRuntime) -> Result<(), Fail> {
     );
     let bad = run_file(&rt, "refused.json", no_room, &["--moves", "0"], "")?;
     assert_ending(&rt, &bad, 2, "", "rdbg: bad command line\n");
-    Ok(())
-}
-
-#[test]
-fn pack_and_unpack(rt: HostRuntime) -> Result<(), Fail> {
-    let app = concat!(
-        r#"{"profile":1,"cores":1,"#,
-        r#""tasks":[{"name":"t0","priority":1,"#,
-        r#""code":["set r1 258","pack r1","unpack r2","end"]}]}"#,
-    )
-    .as_bytes();
-    let commands = "step 0\nstep 0\nstep 0\nshow task t0\n";
-    let ending = run_file(&rt, "pack.json", app, &[], commands)?;
-    let expected = "ok at 1\nok at 2\nok at 3\n\
-         task t0 core 0 pc 3 phase run regs 0,258,258,0,0,0,0,0 data 02010000 notes 0:idle\n";
-    assert_ending(&rt, &ending, 0, expected, "");
     Ok(())
 }

@@ -1,33 +1,29 @@
 -- An application that is read is what its file says, within the limits.
 use Rattle.std.proofs.Common.{IfOk, IsOkAnd, inl, inr, ◌∷◌, ◌<◌, ◌≡◌, ◌∙◌, ℕ, ◌-◌, ◌^◌, ◌≤◌, true, codes, List, [], length, Option}
 use Rattle.std.proofs.Common.{Some, None, IsUtf8, cond, false, Result, Ok, Err, ok_or, refl, sym, ap, subst, arith}
+use Rattle.std.specs.List.{AllByRecursion}
+use Rattle.std.specs.Str.{is_utf8}
 use Rattle.std.proofs.lemmas.List.Elements.{All-from_recursion, recursion_from_All}
 use Rattle.std.proofs.lemmas.Str.{IsUtf8-from_is_utf8, is_utf8-from_IsUtf8}
-use Rattle.std.specs.Str.{is_utf8}
 use Rattle.serde_json.specs.Read.{read}
 use Rattle.serde_json.proofs.OnLiterals.{serde_json_on_literals}
-use Rattle.serde_json.specs.Data.{Data, number, unsigned, array, Items, no_items}
-use Rattle.serde_json.specs.Events.{items_len}
+use Rattle.serde_json.specs.Data.{Data, number, unsigned, array, Items}
 use Rattle.serde_json.specs.Find.{get}
+use Rattle.rd_app.specs.Application.{Application, IsApplication, IsScript}
+use Rattle.rd_app.specs.Named.{Named}
+use Rattle.rd_app.specs.TaskScript.{TaskScript}
 use Rattle.rd_script.specs.declared.error.AppError.{AppError}
 use Rattle.rd_script.specs.declared.error.AppError.TheVariants as fault
-use Rattle.rd_script.specs.Objects.{objects_of}
+use Rattle.rd_script.specs.Values.{object_with, field, number_in, number_or, array_in, nothing_named, IsNumberOr}
+use Rattle.rd_script.specs.Objects.{file_keys, objects_of}
+use Rattle.rd_script.specs.File.{TaskDraft, task_of, tasks_after, scripts_after, AppDraft, draft_of, with_scripts, app_of, app_of_text, app_of_bytes, checked}
+use Rattle.rd_script.specs.File.{GivesFaultFirst, GivesOrNoMemory}
+use Rattle.rd_script.specs.Says.{Says, FileSays}
 use Rattle.rd_script.specs.Spelling.{◌>>=◌}
-use Rattle.rd_app.specs.Application.{Application, IsApplication, IsQueueShape, IsSetShape, IsScript}
-use Rattle.rd_text.specs.Names.{AreNames}
-use Rattle.rd_script.specs.File.{TaskDraft, object_with, field, number_in, number_or, array_in, array_or_empty}
-use Rattle.rd_script.specs.File.{queue_of, queues_after, set_of, sets_after, task_of, tasks_after}
-use Rattle.rd_script.specs.File.{scripts_after, file_keys, AppDraft, draft_of, with_scripts, app_of, app_of_text, app_of_bytes, checked}
-use Rattle.rd_script.specs.File.{GivesFaultFirst, GivesOrNoMemory, nothing_named}
-use Rattle.rd_app.specs.Named.{Named}
-use Rattle.rd_script.specs.Says.{IsNumberOr, IsArrayOrEmpty, IsQueue, AreQueues, AreSets, SayEach, SayNamed, Says, FileSays}
-use Rattle.std.specs.List.{AllByRecursion}
-use Rattle.rd_script.proofs.NamedLaws.{AllByRecursion-first, length_named, named_again, named_take, each_again, each_takes}
-use Rattle.rd_app.specs.TaskScript.{TaskScript}
+use Rattle.rd_script.proofs.NamedLaws.{AllByRecursion-first, length_named, named_again, named_take, each_again, each_takes, no_names, said_named}
+use Rattle.rd_script.proofs.ObjectLaws.{objects_again, objects_take}
 use Rattle.rd_script.proofs.Steps.{bind_ok, ok_or_ok, then_is, chosen}
-use Rattle.rd_script.proofs.Values.{object_ok, field_ok, number_ok, array_ok, object_again, field_again, number_again, array_again, limits_again}
-use Rattle.rd_script.proofs.QueueLaws as queue
-use Rattle.rd_script.proofs.SetLaws as set
+use Rattle.rd_script.proofs.ValueLaws.{object_ok, field_ok, number_ok, array_ok, object_again, field_again, number_again, array_again, limits_again}
 use Rattle.rd_script.proofs.ScriptLaws.{AreScripts, scripts_take, scripts_again}
 use Rattle.rd_script.proofs.TaskLaws as task
 
@@ -36,16 +32,12 @@ number_or_ok : (otherwise least most : ℕ) (o : Option Data) (n : ℕ) → leas
 number_or_ok otherwise least most None n low high e = let is : otherwise ≡ n = cc in (sym is, omega arith, omega arith)
 number_or_ok otherwise least most (Some d) n low high e = number_ok least most d n e
 
-array_or_ok : (most : ℕ) (o : Option Data) (ds : Items) → array_or_empty most o ≡ Ok ds → IsArrayOrEmpty o ds × (items_len ds ≤ most)
-array_or_ok most None ds e = let is : no_items ≡ ds = cc in (sym is, omega (arith, ap items_len is))
-array_or_ok most (Some d) ds e = let a = array_ok 0 most d ds e in (a.0, a.2)
-
 -- drafts with the names of the tasks
 abbrev drafts_of : Application → List TaskDraft → Named TaskDraft
 drafts_of app drafts = record { names = app.tasks.names; things = drafts }
 
 -- the application was read so
-pub record IsRead (d : Data) (app : Application) (profile cores tasks : Data) (queue_items set_items task_items : Items) (drafts : List TaskDraft)
+pub record IsRead (d : Data) (app : Application) (profile cores tasks : Data) (task_items : Items) (drafts : List TaskDraft)
     : Type 0 where
   pub keys : object_with file_keys d ≡ Ok tt
   pub profile_at : field (codes "profile") d ≡ Ok profile
@@ -55,70 +47,38 @@ pub record IsRead (d : Data) (app : Application) (profile cores tasks : Data) (q
   pub core_count : number_in 1 8 cores ≡ Ok app.cores
   pub entries : number_or 1 1 4 (get (codes "notes") d) ≡ Ok app.entries
   pub tick : number_or 0 0 (2 ^ 32 - 1) (get (codes "tick") d) ≡ Ok app.tick
-  pub queue_array : array_or_empty 32 (get (codes "queues") d) ≡ Ok queue_items
-  pub queues : queues_after nothing_named queue_items ≡ Ok app.queues
-  pub set_array : array_or_empty 32 (get (codes "sets") d) ≡ Ok set_items
-  pub sets : sets_after app.queues.names nothing_named set_items ≡ Ok app.sets
+  pub objects : objects_of d ≡ Ok app.objects
   pub task_array : array_in 1 32 tasks ≡ Ok task_items
   pub drafts_are : tasks_after nothing_named task_items ≡ Ok (drafts_of app drafts)
-  pub scripts : scripts_after (objects_of app) [] drafts ≡ Ok app.tasks.things
+  pub scripts : scripts_after app.objects [] drafts ≡ Ok app.tasks.things
 
-no_names : AreNames []
-no_names = record { named = refl; distinct = refl }
-
--- what is said of these names and things is said of them together
-said_named : {X : Type 0} (Is : Data → List ℕ → X → Type 0) (ds : Items) (named : Named X) (names : List (List ℕ)) (things : List X)
-    → named.names ≡ names → named.things ≡ things → SayEach Is ds names things → SayNamed Is ds named
-said_named Is ds named names things names_are things_are said =
-    subst (λ (ns : List (List ℕ)). SayEach Is ds ns named.things) (sym names_are) (subst (SayEach Is ds names) (sym things_are) said)
-
-pub read_takes : (d : Data) (app : Application) (profile cores tasks : Data) (queue_items set_items task_items : Items) (drafts : List TaskDraft)
-    → IsRead d app profile cores tasks queue_items set_items task_items drafts → Says d app queue_items set_items task_items × IsApplication app
-read_takes d app profile cores tasks queue_items set_items task_items drafts read =
+pub read_takes : (d : Data) (app : Application) (profile cores tasks : Data) (task_items : Items) (drafts : List TaskDraft)
+    → IsRead d app profile cores tasks task_items drafts → Says d app task_items × IsApplication app
+read_takes d app profile cores tasks task_items drafts read =
     let one = number_ok 1 1 profile 1 read.one in
     let core_count = number_ok 1 8 cores app.cores read.core_count in
     let entries = number_or_ok 1 1 4 (get (codes "notes") d) app.entries (omega arith) (omega arith) read.entries in
     let tick = number_or_ok 0 0 (2 ^ 32 - 1) (get (codes "tick") d) app.tick (omega arith) (omega arith) read.tick in
-    let queue_array = array_or_ok 32 (get (codes "queues") d) queue_items read.queue_array in
-    let set_array = array_or_ok 32 (get (codes "sets") d) set_items read.set_array in
+    let objects = objects_take d app.objects read.objects in
     let task_array = array_ok 1 32 tasks task_items read.task_array in
-    let queues =
-    named_take (λ before. queue_of before.names) IsQueue (AllByRecursion IsQueueShape) (each_takes queue_of IsQueue IsQueueShape queue.queue_takes)
-    queue_items nothing_named app.queues read.queues
-    (record { are_names = no_names; are_things = tt }) in
-    let sets =
-    named_take (set_of app.queues.names) (set.SaysSet app.queues.names) (set.AreSetsOf (length app.queues.names)) (set.set_takes app.queues.names)
-    set_items nothing_named app.sets read.sets
-    (record { are_names = no_names; are_things = set.no_sets (length app.queues.names) }) in
     let taken =
     named_take (λ before. task_of before.names) task.IsDraft (AllByRecursion task.IsDraftInLimits)
     (each_takes task_of task.IsDraft task.IsDraftInLimits task.task_takes) task_items nothing_named (drafts_of app drafts) read.drafts_are
     (record { are_names = no_names; are_things = tt }) in
-    let scripts = scripts_take (objects_of app) drafts [] app.tasks.things read.scripts in
-    let queues_said : AreQueues queue_items app.queues = said_named IsQueue queue_items app.queues queues.0 queues.1 queues.2.names_are queues.2.things_are queues.2.said in
-    let sets_said : AreSets app.queues.names set_items app.sets =
-    said_named (set.SaysSet app.queues.names) set_items app.sets sets.0 sets.1 sets.2.names_are sets.2.things_are sets.2.said in
+    let scripts = scripts_take app.objects drafts [] app.tasks.things read.scripts in
     let drafts_said : task.AreDrafts task_items app.tasks.names drafts =
     said_named task.IsDraft task_items (drafts_of app drafts) taken.0 taken.1 taken.2.names_are taken.2.things_are taken.2.said in
-    let scripts_said : AreScripts (objects_of app) drafts app.tasks.things = subst (AreScripts (objects_of app) drafts) (sym scripts.1) scripts.2 in
-    let tasks_said = task.tasks_said (objects_of app) task_items app.tasks.names drafts app.tasks.things drafts_said scripts_said in
-    let sizes = length_named IsQueue queue_items app.queues.names app.queues.things queues_said in
-    let set_sizes = length_named (set.SaysSet app.queues.names) set_items app.sets.names app.sets.things sets_said in
+    let scripts_said : AreScripts app.objects drafts app.tasks.things = subst (AreScripts app.objects drafts) (sym scripts.1) scripts.2 in
+    let tasks_said = task.tasks_said app.objects task_items app.tasks.names drafts app.tasks.things drafts_said scripts_said in
     let count = (length_named task.IsDraft task_items app.tasks.names drafts drafts_said).0 in
-    let same : length app.queues.things ≡ length app.queues.names = omega (arith, sizes) in
-    let same_sets : length app.sets.things ≡ length app.sets.names = omega (arith, set_sizes) in
-    let within = task.scripts_in_limits app drafts app.tasks.things (record { queues = same; sets = same_sets }) taken.2.kept.are_things scripts_said in (
+    let within = task.scripts_in_limits app drafts app.tasks.things objects.1 taken.2.kept.are_things scripts_said in (
       record {
         keys = object_ok file_keys d tt read.keys;
         profile_at = field_ok (codes "profile") d profile read.profile_at ∙ ap Some one.0;
         cores_at = field_ok (codes "cores") d cores read.cores_at ∙ ap Some core_count.0;
         entries_at = entries.0;
         tick_at = tick.0;
-        queues_at = queue_array.0;
-        queues = queues_said;
-        sets_at = set_array.0;
-        sets = sets_said;
-        one_set_each = sets.2.kept.are_things.one_each;
+        objects = objects.0;
         tasks_at = field_ok (codes "tasks") d tasks read.tasks_at ∙ ap Some task_array.0;
         tasks = tasks_said.0;
       },
@@ -128,14 +88,7 @@ read_takes d app profile cores tasks queue_items set_items task_items drafts rea
         some_entries = omega (arith, entries);
         few_entries = entries.2;
         tick = omega (arith, tick);
-        few_queues = omega (arith, queue_array, sizes);
-        queues = All-from_recursion IsQueueShape app.queues.things queues.2.kept.are_things;
-        named_queues = record { paired = sym same; names = queues.2.kept.are_names };
-        few_sets = omega (arith, set_array, set_sizes);
-        sets = All-from_recursion (IsSetShape app) app.sets.things
-            (set.sets_in_limits app (length app.queues.names) app.sets.things same sets.2.kept.are_things.shapes);
-        one_set_each = sets.2.kept.are_things.one_each;
-        named_sets = record { paired = sym same_sets; names = sets.2.kept.are_names };
+        objects = objects.1;
         some_tasks = omega (arith, task_array, count, tasks_said.1);
         few_tasks = omega (arith, task_array, count, tasks_said.1);
         tasks = All-from_recursion (IsScript app) app.tasks.things within;
@@ -161,13 +114,16 @@ app_with draft scripts = record {
   cores = draft.cores;
   entries = draft.entries;
   tick = draft.tick;
-  queues = draft.objects.queues;
-  sets = draft.objects.sets;
+  objects = draft.objects;
   tasks = record { names = draft.tasks.names; things = scripts };
 }
 
+app_is : (draft other : AppDraft) (scripts : List TaskScript) (app : Application) → draft ≡ other → done (app_with other scripts) ≡ done app
+    → app_with draft scripts ≡ app
+app_is draft other scripts app same e = ap (λ (draft : AppDraft). app_with draft scripts) same ∙ ok_is (app_with other scripts) app e
+
 pub app_takes : (d : Data) (app : Application) → app_of d ≡ Ok app
-    → (queue_items : Items) × (set_items : Items) × (task_items : Items) × Says d app queue_items set_items task_items × IsApplication app
+    → (task_items : Items) × Says d app task_items × IsApplication app
 unfolding draft_of
 app_takes d app e =
     let drafted = bind_ok (draft_of d) with_scripts app e in
@@ -180,23 +136,20 @@ app_takes d app e =
     let core_count = bind_ok (number_in 1 8 cores.0) _ drafted.0 one.2 in
     let entries = bind_ok (number_or 1 1 4 (get (codes "notes") d)) _ drafted.0 core_count.2 in
     let tick = bind_ok (number_or 0 0 (2 ^ 32 - 1) (get (codes "tick") d)) _ drafted.0 entries.2 in
-    let queue_items = bind_ok (array_or_empty 32 (get (codes "queues") d)) _ drafted.0 tick.2 in
-    let queues = bind_ok (queues_after nothing_named queue_items.0) _ drafted.0 queue_items.2 in
-    let set_items = bind_ok (array_or_empty 32 (get (codes "sets") d)) _ drafted.0 queues.2 in
-    let sets = bind_ok (sets_after queues.0.names nothing_named set_items.0) _ drafted.0 set_items.2 in
-    let task_items = bind_ok (array_in 1 32 tasks.0) _ drafted.0 sets.2 in
+    let objects = bind_ok (objects_of d) _ drafted.0 tick.2 in
+    let task_items = bind_ok (array_in 1 32 tasks.0) _ drafted.0 objects.2 in
     let drafts = bind_ok (tasks_after nothing_named task_items.0) _ drafted.0 task_items.2 in
     let draft : AppDraft = record {
       cores = core_count.0;
       entries = entries.0;
       tick = tick.0;
-      objects = record { queues = queues.0; sets = sets.0 };
+      objects = objects.0;
       tasks = drafts.0;
     } in
     let draft_is : draft ≡ drafted.0 = ok_is draft drafted.0 drafts.2 in
     let made = app_with draft scripts.0 in
-    let is : made ≡ app = ap (λ (draft : AppDraft). app_with draft scripts.0) draft_is ∙ ok_is _ app scripts.2 in
-    let all = read_takes d made profile.0 cores.0 tasks.0 queue_items.0 set_items.0 task_items.0 drafts.0.things (record {
+    let is : made ≡ app = app_is draft drafted.0 scripts.0 app draft_is scripts.2 in
+    let all = read_takes d made profile.0 cores.0 tasks.0 task_items.0 drafts.0.things (record {
       keys = keys.1;
       profile_at = profile.1;
       cores_at = cores.1;
@@ -205,16 +158,13 @@ app_takes d app e =
       core_count = core_count.1;
       entries = entries.1;
       tick = tick.1;
-      queue_array = queue_items.1;
-      queues = queues.1;
-      set_array = set_items.1;
-      sets = sets.1;
+      objects = objects.1;
       task_array = task_items.1;
       drafts_are = drafts.1;
-      scripts = ap (λ (draft : AppDraft). scripts_after draft.objects [] draft.tasks.things) draft_is ∙ scripts.1;
+      scripts = ap (λ (draft : AppDraft). scripts_after draft.objects [] draft.tasks.things) {x = draft} draft_is ∙ scripts.1;
     }) in
-    let says = subst (λ (app : Application). Says d app queue_items.0 set_items.0 task_items.0) is all.0 in
-    (queue_items.0, set_items.0, task_items.0, says, subst IsApplication is all.1)
+    let says = subst (λ (app : Application). Says d app task_items.0) {x = made} is all.0 in
+    (task_items.0, says, subst IsApplication {x = made} is all.1)
 
 -- ---- what a file says is read
 
@@ -223,25 +173,21 @@ number_or_again : (otherwise least most : ℕ) (o : Option Data) (n : ℕ) → I
 number_or_again otherwise least most None n h low high = ap Ok (sym h)
 number_or_again otherwise least most (Some d) n h low high = number_again least most d n h low high
 
-array_or_again : (most : ℕ) (o : Option Data) (ds : Items) → IsArrayOrEmpty o ds → items_len ds ≤ most → array_or_empty most o ≡ Ok ds
-array_or_again most None ds h few = ap Ok (sym h)
-array_or_again most (Some d) ds h few = array_again 0 most d ds h (omega arith) few
-
 -- the draft of an application whose scripts are those of drafts
 abbrev draft_from : Application → List TaskDraft → AppDraft
 draft_from app drafts = record {
   cores = app.cores;
   entries = app.entries;
   tick = app.tick;
-  objects = objects_of app;
+  objects = app.objects;
   tasks = drafts_of app drafts;
 }
 
 -- what was read so is the answer
-draft_read : (d : Data) (app : Application) (profile cores tasks : Data) (queue_items set_items task_items : Items) (drafts : List TaskDraft)
-    → IsRead d app profile cores tasks queue_items set_items task_items drafts → draft_of d ≡ Ok (draft_from app drafts)
+draft_read : (d : Data) (app : Application) (profile cores tasks : Data) (task_items : Items) (drafts : List TaskDraft)
+    → IsRead d app profile cores tasks task_items drafts → draft_of d ≡ Ok (draft_from app drafts)
 unfolding draft_of
-draft_read d app profile cores tasks queue_items set_items task_items drafts read =
+draft_read d app profile cores tasks task_items drafts read =
     then_is (object_with file_keys d) _ tt _ read.keys
     (then_is (field (codes "profile") d) _ profile _ read.profile_at
     (then_is (field (codes "cores") d) _ cores _ read.cores_at
@@ -250,32 +196,24 @@ draft_read d app profile cores tasks queue_items set_items task_items drafts rea
     (then_is (number_in 1 8 cores) _ app.cores _ read.core_count
     (then_is (number_or 1 1 4 (get (codes "notes") d)) _ app.entries _ read.entries
     (then_is (number_or 0 0 (2 ^ 32 - 1) (get (codes "tick") d)) _ app.tick _ read.tick
-    (then_is (array_or_empty 32 (get (codes "queues") d)) _ queue_items _ read.queue_array
-    (then_is (queues_after nothing_named queue_items) _ app.queues _ read.queues
-    (then_is (array_or_empty 32 (get (codes "sets") d)) _ set_items _ read.set_array
-    (then_is (sets_after app.queues.names nothing_named set_items) _ app.sets _ read.sets
+    (then_is (objects_of d) _ app.objects _ read.objects
     (then_is (array_in 1 32 tasks) _ task_items _ read.task_array
     (then_is (tasks_after nothing_named task_items) _ (drafts_of app drafts) _ read.drafts_are
-    refl)))))))))))))
+    refl))))))))))
 
-app_read : (d : Data) (app : Application) (profile cores tasks : Data) (queue_items set_items task_items : Items) (drafts : List TaskDraft)
-    → IsRead d app profile cores tasks queue_items set_items task_items drafts → app_of d ≡ Ok app
-app_read d app profile cores tasks queue_items set_items task_items drafts read =
-    then_is (draft_of d) with_scripts (draft_from app drafts) _ (draft_read d app profile cores tasks queue_items set_items task_items drafts read)
-    (then_is (scripts_after (objects_of app) [] drafts) _ app.tasks.things _ read.scripts refl)
+app_read : (d : Data) (app : Application) (profile cores tasks : Data) (task_items : Items) (drafts : List TaskDraft)
+    → IsRead d app profile cores tasks task_items drafts → app_of d ≡ Ok app
+app_read d app profile cores tasks task_items drafts read =
+    then_is (draft_of d) with_scripts (draft_from app drafts) _ (draft_read d app profile cores tasks task_items drafts read)
+    (then_is (scripts_after app.objects [] drafts) _ app.tasks.things _ read.scripts refl)
 
-pub app_again : (d : Data) (app : Application) (queue_items set_items task_items : Items) → Says d app queue_items set_items task_items → IsApplication app
+pub app_again : (d : Data) (app : Application) (task_items : Items) → Says d app task_items → IsApplication app
     → app_of d ≡ Ok app
-app_again d app queue_items set_items task_items says limits =
-    let sizes = length_named IsQueue queue_items app.queues.names app.queues.things says.queues in
-    let shapes = recursion_from_All IsQueueShape app.queues.things limits.queues in
-    let set_sizes = length_named (set.SaysSet app.queues.names) set_items app.sets.names app.sets.things says.sets in
-    let set_limits = recursion_from_All (IsSetShape app) app.sets.things limits.sets in
-    let set_shapes = set.sets_of_limits app (length app.queues.names) app.sets.things (sym limits.named_queues.paired) set_limits in
+app_again d app task_items says limits =
     let scripts = recursion_from_All (IsScript app) app.tasks.things limits.tasks in
-    let split = task.tasks_split app (objects_of app) task_items app.tasks.names app.tasks.things says.tasks scripts in
+    let split = task.tasks_split app app.objects task_items app.tasks.names app.tasks.things says.tasks scripts in
     let count = (length_named task.IsDraft task_items app.tasks.names split.0 split.1).0 in
-    app_read d app (number (unsigned 1)) (number (unsigned app.cores)) (array task_items) queue_items set_items task_items split.0 (record {
+    app_read d app (number (unsigned 1)) (number (unsigned app.cores)) (array task_items) task_items split.0 (record {
       keys = object_again file_keys d says.keys;
       profile_at = field_again (codes "profile") d _ says.profile_at;
       cores_at = field_again (codes "cores") d _ says.cores_at;
@@ -284,18 +222,12 @@ app_again d app queue_items set_items task_items says limits =
       core_count = limits_again 1 8 app.cores (omega (arith, limits.some_cores)) limits.few_cores;
       entries = number_or_again 1 1 4 (get (codes "notes") d) app.entries says.entries_at (omega (arith, limits.some_entries)) limits.few_entries;
       tick = number_or_again 0 0 (2 ^ 32 - 1) (get (codes "tick") d) app.tick says.tick_at (omega arith) (omega (arith, limits.tick));
-      queue_array = array_or_again 32 (get (codes "queues") d) queue_items says.queues_at (omega (arith, sizes, limits.few_queues));
-      queues = named_again (λ before. queue_of before.names) IsQueue (AllByRecursion IsQueueShape) (AllByRecursion-first IsQueueShape)
-          (each_again queue_of IsQueue IsQueueShape queue.queue_again) queue_items nothing_named app.queues.names app.queues.things says.queues limits.named_queues.names shapes;
-      set_array = array_or_again 32 (get (codes "sets") d) set_items says.sets_at (omega (arith, set_sizes, limits.few_sets));
-      sets = named_again (set_of app.queues.names) (set.SaysSet app.queues.names) (set.AreSetsOf (length app.queues.names))
-          (set.sets_first (length app.queues.names)) (set.set_again app.queues.names) set_items nothing_named app.sets.names app.sets.things says.sets limits.named_sets.names
-          (record { shapes = set_shapes; one_each = limits.one_set_each });
+      objects = objects_again d app.objects says.objects limits.objects;
       task_array = array_again 1 32 (array task_items) task_items refl (omega (arith, count, limits.some_tasks, limits.named_tasks.paired))
           (omega (arith, count, limits.few_tasks, limits.named_tasks.paired));
       drafts_are = named_again (λ before. task_of before.names) task.IsDraft (AllByRecursion task.IsReadable) (AllByRecursion-first task.IsReadable)
           (each_again task_of task.IsDraft task.IsReadable task.draft_again) task_items nothing_named app.tasks.names split.0 split.1 limits.named_tasks.names split.2;
-      scripts = scripts_again (objects_of app) split.0 [] app.tasks.things split.3;
+      scripts = scripts_again app.objects split.0 [] app.tasks.things split.3;
     })
 
 -- ---- the bytes of a file
@@ -305,7 +237,7 @@ file_takes bytes app e =
     let text = chosen (is_utf8 bytes) _ _ app e in
     let d = bind_ok (ok_or (read bytes) _) _ app text.1 in
     let taken = app_takes d.0 app d.2 in
-    ((d.0, IsUtf8-from_is_utf8 bytes text.0, ok_or_ok (read bytes) d.0 _ d.1, taken.0, taken.1, taken.2, taken.3), taken.4)
+    ((d.0, IsUtf8-from_is_utf8 bytes text.0, ok_or_ok (read bytes) d.0 _ d.1, taken.0, taken.1), taken.2)
 
 -- the JSON value of a text decides
 pub text_is_file : (text : List ℕ) (d : Data) → read text ≡ Some d → app_of_text text ≡ app_of d
@@ -343,7 +275,7 @@ kept_app : (d : Data) (draft : AppDraft) (r : Result (List TaskScript) AppError)
     → IsOkAnd (r >>= λ scripts. Ok (app_with draft scripts)) IsApplication
 kept_app d draft (Ok scripts) drafted e h =
     (app_takes d (app_with draft scripts)
-    (then_is (draft_of d) with_scripts draft _ drafted (then_is (scripts_after draft.objects [] draft.tasks.things) _ scripts _ e refl))).4
+    (then_is (draft_of d) with_scripts draft _ drafted (then_is (scripts_after draft.objects [] draft.tasks.things) _ scripts _ e refl))).2
 kept_app d draft (Err x) drafted e h = absurd cc
 
 -- a draft whose scripts were checked is an application within the limits
@@ -362,7 +294,7 @@ fault_found d draft e drafted h = then_is (draft_of d) with_scripts draft (Err e
 
 pub file_again : (bytes : List ℕ) (app : Application) → FileSays bytes app → IsApplication app → app_of_bytes bytes ≡ Ok app
 file_again bytes app says limits =
-    rw (is_utf8-from_IsUtf8 bytes says.1) (text_is_file bytes says.0 says.2) ∙ app_again says.0 app says.3 says.4 says.5 says.6 limits
+    rw (is_utf8-from_IsUtf8 bytes says.1) (text_is_file bytes says.0 says.2) ∙ app_again says.0 app says.3 says.4 limits
 
 pub is_accepted : (bytes : List ℕ) (r : Result Application AppError) → GivesOrNoMemory (λ app. app) r (app_of_bytes bytes)
     → IfOk r (FileSays bytes) × IfOk r IsApplication

@@ -8,8 +8,8 @@ use Rattle.rd_app.specs.declared.instr.Instr.{Instr}
 use Rattle.serde_json.specs.Data.{Data, Items, no_items, item}
 use Rattle.serde_json.specs.Events.{items_len}
 use Rattle.rd_app.specs.Application.{is_final}
+use Rattle.rd_app.specs.Objects.{NamedObjects}
 use Rattle.rd_script.specs.File.{TaskDraft, instr_of_line, line_ends, lines_after, ends, instrs_of, scripts_after, checked}
-use Rattle.rd_script.specs.Objects.{NamedObjects}
 use Rattle.rd_script.specs.Spelling.{◌>>=◌}
 use Rattle.rd_app.specs.TaskScript.{TaskScript}
 

@@ -7,7 +7,7 @@ use Rattle.serde_json.specs.View.{view, items_view, members_view}
 use Rattle.serde_json.specs.declared.value.Value.{Value}
 use Rattle.serde_json.specs.Events.{items_len}
 use Rattle.serde_json.proofs.Views.{items_len-items_view}
-use Rattle.rd_script.specs.File.{keys_of}
+use Rattle.rd_script.specs.Values.{keys_of}
 
 -- the keys of a map, all tested
 pub keys_all : (p : List ℕ → Bool) (es : List (String Global × Value))

@@ -3,10 +3,11 @@ pub mod FileLemmas
 pub mod Steps
 pub mod KeywordLaws
 pub mod SpellingLaws
-pub mod Values
+pub mod ValueLaws
 pub mod NamedLaws
 pub mod QueueLaws
 pub mod SetLaws
+pub mod ObjectLaws
 pub mod ScriptLaws
 pub mod TaskLaws
 pub mod AppLaws

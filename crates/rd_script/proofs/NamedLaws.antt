@@ -8,8 +8,7 @@ use Rattle.rd_text.specs.Names.{AreNames}
 use Rattle.rd_text.proofs.Offered.{AreNames-push, IsNewName, IsNewName-in}
 use Rattle.rd_script.specs.declared.error.AppError.{AppError}
 use Rattle.rd_app.specs.Named.{Named}
-use Rattle.rd_script.specs.File.{named_after, with_named}
-use Rattle.rd_script.specs.Says.{SayEach}
+use Rattle.rd_script.specs.Values.{named_after, with_named, SayEach, SayNamed}
 use Rattle.rd_script.proofs.Steps.{bind_ok, then_is}
 
 -- what holds of each, one by one
@@ -24,6 +23,15 @@ AllByRecursion-last P (y ∷ ys) x h = AllByRecursion-last P ys x h.1
 pub AllByRecursion-first : {X : Type 0} (P : X → Type 0) (xs ys : List X) → AllByRecursion P (xs ++ ys) → AllByRecursion P xs
 AllByRecursion-first P [] ys h = tt
 AllByRecursion-first P (x ∷ xs) ys h = (h.0, AllByRecursion-first P xs ys h.1)
+
+pub no_names : AreNames []
+no_names = record { named = refl; distinct = refl }
+
+-- what is said of these names and things is said of them together
+pub said_named : {X : Type 0} (Is : Data → List ℕ → X → Type 0) (ds : Items) (named : Named X) (names : List (List ℕ)) (things : List X)
+    → named.names ≡ names → named.things ≡ things → SayEach Is ds names things → SayNamed Is ds named
+said_named Is ds named names things names_are things_are said =
+    subst (λ (ns : List (List ℕ)). SayEach Is ds ns named.things) (sym names_are) (subst (SayEach Is ds names) (sym things_are) said)
 
 -- there are as many names as things
 pub length_named : {X : Type 0} (Is : Data → List ℕ → X → Type 0) (ds : Items) (names : List (List ℕ)) (things : List X) → SayEach Is ds names things

@@ -1,13 +1,13 @@
 -- A queue that is read is spelled by its value, and what spells a queue is read.
 use Rattle.std.proofs.Common.{◌≡◌, ◌∙◌, ℕ, codes, List, Some, Ok, refl, ap, subst, arith}
 use Rattle.serde_json.specs.Data.{Data, number, unsigned, string}
-use Rattle.rd_app.specs.declared.app.QueueShape.{QueueShape}
-use Rattle.rd_app.specs.Application.{IsQueueShape}
+use Rattle.rd_app.specs.declared.objects.QueueShape.{QueueShape}
+use Rattle.rd_app.specs.Objects.{IsQueueShape}
+use Rattle.rd_script.specs.Values.{object_with, field, number_in, new_name}
+use Rattle.rd_script.specs.Objects.{IsQueue, queue_keys, queue_of}
 use Rattle.rd_text.proofs.Offered.{IsNewName}
-use Rattle.rd_script.specs.Says.{IsQueue}
-use Rattle.rd_script.specs.File.{object_with, field, number_in, new_name, queue_keys, queue_of}
 use Rattle.rd_script.proofs.Steps.{bind_ok, then_is}
-use Rattle.rd_script.proofs.Values.{object_again, field_again, name_again, limits_again, object_ok, field_ok, number_ok, name_ok}
+use Rattle.rd_script.proofs.ValueLaws.{object_again, field_again, name_again, limits_again, object_ok, field_ok, number_ok, name_ok}
 
 pub queue_takes : (names : List (List ℕ)) (d : Data) (q : List ℕ × QueueShape) → queue_of names d ≡ Ok q
     → IsQueue d q.0 q.1 × IsNewName names q.0 × IsQueueShape q.1

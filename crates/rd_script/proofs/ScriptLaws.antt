@@ -6,7 +6,9 @@ use Rattle.rd_app.specs.declared.instr.Instr.{Instr}
 use Rattle.rd_app.specs.declared.instr.Instr.TheVariants.{Local}
 use Rattle.rd_app.specs.declared.instr.LocalInstr.TheVariants as local
 use Rattle.rd_app.specs.Application.{Application, IsWithin, IsScript, is_final}
-use Rattle.rd_script.specs.Objects.{NamedObjects, objects_of}
+use Rattle.rd_app.specs.Objects.{AreObjects, NamedObjects}
+use Rattle.rd_script.specs.File.{TaskDraft, instr_of_line, lines_after, ends, instrs_of, scripts_after}
+use Rattle.rd_script.specs.Says.{IsLine, AreLines, IsCode}
 use Rattle.rd_script.specs.Spelling.{◌>>=◌}
 use Rattle.serde_json.specs.Data.{Data, null, boolean, number, string, array, object, Items, no_items, item}
 use Rattle.serde_json.specs.Events.{items_len}
@@ -15,11 +17,9 @@ use Rattle.std.specs.List.{AllByRecursion, slice_get}
 use Rattle.std.specs.Prelude.{option_map, unwrap_or, slice_index_or}
 use Rattle.std.proofs.lemmas.List.{append-nil}
 use Rattle.std.proofs.lemmas.List.Elements.{All-from_recursion}
-use Rattle.rd_script.specs.File.{TaskDraft, instr_of_line, lines_after, ends, instrs_of, scripts_after}
-use Rattle.rd_script.specs.Says.{IsLine, AreLines, IsCode}
 use Rattle.rd_app.specs.TaskScript.{TaskScript}
 use Rattle.rd_text.specs.Words.{words_of}
-use Rattle.rd_script.proofs.SpellingLaws.{AreNamedObjects, instr_takes, instr_again, spells_within}
+use Rattle.rd_script.proofs.SpellingLaws.{instr_takes, instr_again, spells_within}
 use Rattle.rd_script.proofs.Steps.{bind_ok, guard_ok, ok_or_ok}
 
 -- ---- the texts of a task
@@ -63,8 +63,8 @@ length_lines objects len no_items (i ∷ code) h = absurd h
 length_lines objects len (item d ds) [] h = absurd h
 length_lines objects len (item d ds) (i ∷ code) h = ap suc (length_lines objects len ds code h.1)
 
-within_lines : (app : Application) (len : ℕ) (ds : Items) (code : List Instr) → AreNamedObjects app
-    → AreLines (objects_of app) len ds code → AllByRecursion (IsWithin app len) code
+within_lines : (app : Application) (len : ℕ) (ds : Items) (code : List Instr) → AreObjects app.objects
+    → AreLines app.objects len ds code → AllByRecursion (IsWithin app len) code
 within_lines app len no_items [] sizes h = tt
 within_lines app len no_items (i ∷ code) sizes h = absurd h
 within_lines app len (item d ds) [] sizes h = absurd h
@@ -118,10 +118,10 @@ last_final [] k e = refl
 last_final (i ∷ code) zero e = e
 last_final (i ∷ code) (suc k) e = last_final code k e
 
-pub is_script : (app : Application) (lines : Items) (script : TaskScript) → AreNamedObjects app → script.priority ≤ 31
-    → 1 ≤ items_len lines → items_len lines ≤ 256 → IsCode (objects_of app) lines script.code → IsScript app script
+pub is_script : (app : Application) (lines : Items) (script : TaskScript) → AreObjects app.objects → script.priority ≤ 31
+    → 1 ≤ items_len lines → items_len lines ≤ 256 → IsCode app.objects lines script.code → IsScript app script
 is_script app lines script sizes low some few h =
-    let len = length_lines (objects_of app) (items_len lines) lines script.code h.0 in
+    let len = length_lines app.objects (items_len lines) lines script.code h.0 in
     let within = within_lines app (items_len lines) lines script.code sizes h.0 in
     record {
       priority = low;

@@ -12,18 +12,18 @@ use Rattle.std.proofs.lemmas.Map.Keys.{IsDistinct-push}
 use Rattle.std.proofs.lemmas.Map.Steps.{length-le_from_distinct_below}
 use Rattle.serde_json.specs.Data.{Data, null, boolean, number, unsigned, string, array, object, Items, no_items, item}
 use Rattle.serde_json.specs.Find.{get, as_array, as_str}
-use Rattle.rd_app.specs.Application.{Application, IsSetShape, members_of}
+use Rattle.rd_app.specs.Objects.{IsSetShape, NamedObjects, members_of}
+use Rattle.rd_script.specs.Values.{is_object_with, object_with, field, number_in, new_name}
+use Rattle.rd_script.specs.Objects.{IsMember, AreMembers, IsSet, SaysSet, set_keys, member_of, members_after, set_of}
 use Rattle.rd_app.specs.Named.{Named}
 use Rattle.rd_app.specs.QueueSetShape.{QueueSetShape}
 use Rattle.rd_script.specs.declared.error.AppError.TheVariants as fault
-use Rattle.rd_script.specs.Says.{IsMember, AreMembers, IsSet}
 use Rattle.rd_script.specs.Spelling.{index_of}
-use Rattle.rd_script.specs.File.{is_object_with, object_with, field, number_in, new_name, set_keys, member_of, members_after, set_of}
 use Rattle.rd_script.proofs.NamedLaws.{AllByRecursion-push, AllByRecursion-last, AllByRecursion-first}
 use Rattle.rd_script.proofs.ScriptLaws.{text_is}
 use Rattle.rd_script.proofs.SpellingLaws.{then_some, named_ok, index_again, index_there}
 use Rattle.rd_script.proofs.Steps.{bind_ok, ok_or_ok, then_is}
-use Rattle.rd_script.proofs.Values.{object_again, field_again, name_again, limits_again, object_ok, field_ok, number_ok, name_ok}
+use Rattle.rd_script.proofs.ValueLaws.{object_again, field_again, name_again, limits_again, object_ok, field_ok, number_ok, name_ok}
 use Rattle.rd_text.specs.Words.{name_of}
 use Rattle.rd_text.proofs.Offered.{IsNewName}
 
@@ -129,10 +129,6 @@ members_again queues others members (item d ds) (queue ∷ more) h once =
     (members_again queues others (members ++ queue ∷ []) ds more h.1 (subst (λ (ms : List ℕ). IsDistinct nat_eq (others ++ ms)) (sym same) once) ∙ ap Ok same)
 
 -- ---- queue sets
-
--- what a value says of a set, over the names of all queues
-abbrev pub SaysSet : List (List ℕ) → Data → List ℕ → QueueSetShape → Type 0
-SaysSet queues d name set = (texts : Items) × IsSet queues d name set texts
 
 -- a set of so many queues
 pub record IsSetOf (queues : ℕ) (set : QueueSetShape) : Type 0 where
@@ -250,31 +246,31 @@ set_again queues before d name set h new all =
     (then_is (members_after queues (members_of sets) [] h.0) _ set.members _ (members_again queues (members_of sets) [] h.0 set.members said.members once)
     refl))))))
 
--- ---- the sets of an application
+-- ---- the sets among objects
 
-pub sets_in_limits : (app : Application) (queues : ℕ) (sets : List QueueSetShape) → length app.queues.things ≡ queues → AllByRecursion (IsSetOf queues) sets
-    → AllByRecursion (IsSetShape app) sets
-sets_in_limits app queues [] same all = tt
-sets_in_limits app queues (set ∷ sets) same all =
+pub sets_in_limits : (o : NamedObjects) (queues : ℕ) (sets : List QueueSetShape) → length o.queues.things ≡ queues → AllByRecursion (IsSetOf queues) sets
+    → AllByRecursion (IsSetShape o) sets
+sets_in_limits o queues [] same all = tt
+sets_in_limits o queues (set ∷ sets) same all =
     let there = subst (λ (n : ℕ). AllByRecursion (λ queue. queue < n) set.members) (sym same) all.0.members in
-    let shape : IsSetShape app set = record {
+    let shape : IsSetShape o set = record {
       some = omega (arith, all.0.some);
       few = all.0.few;
-      members = All-from_recursion (λ queue. queue < length app.queues.things) set.members there;
+      members = All-from_recursion (λ queue. queue < length o.queues.things) set.members there;
     } in
-    (shape, sets_in_limits app queues sets same all.1)
+    (shape, sets_in_limits o queues sets same all.1)
 
-pub sets_of_limits : (app : Application) (queues : ℕ) (sets : List QueueSetShape) → length app.queues.things ≡ queues → AllByRecursion (IsSetShape app) sets
+pub sets_of_limits : (o : NamedObjects) (queues : ℕ) (sets : List QueueSetShape) → length o.queues.things ≡ queues → AllByRecursion (IsSetShape o) sets
     → AllByRecursion (IsSetOf queues) sets
-sets_of_limits app queues [] same all = tt
-sets_of_limits app queues (set ∷ sets) same all =
-    let there = recursion_from_All (λ queue. queue < length app.queues.things) set.members all.0.members in
+sets_of_limits o queues [] same all = tt
+sets_of_limits o queues (set ∷ sets) same all =
+    let there = recursion_from_All (λ queue. queue < length o.queues.things) set.members all.0.members in
     let of_queues : IsSetOf queues set = record {
       some = omega (arith, all.0.some);
       few = all.0.few;
       members = subst (λ (n : ℕ). AllByRecursion (λ queue. queue < n) set.members) same there;
     } in
-    (of_queues, sets_of_limits app queues sets same all.1)
+    (of_queues, sets_of_limits o queues sets same all.1)
 
 -- ---- how the code reads members
 

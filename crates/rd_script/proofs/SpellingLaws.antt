@@ -9,7 +9,7 @@ use Rattle.std.proofs.lemmas.Bool.Decides.{nat_tests}
 use Rattle.std.proofs.lemmas.List.Quantifiers.{position-Some}
 use Rattle.hex.specs.Hex.{decode_of}
 use Rattle.hex.proofs.HexLemmas.{decode_of-ok}
-use Rattle.rd_app.specs.declared.app.QueueShape.{QueueShape}
+use Rattle.rd_app.specs.declared.objects.QueueShape.{QueueShape}
 use Rattle.rd_app.specs.declared.instr.Instr.{Instr}
 use Rattle.rd_app.specs.declared.instr.Instr.TheVariants as instruction
 use Rattle.rd_app.specs.declared.instr.QueueCall.{QueueCall}
@@ -17,6 +17,7 @@ use Rattle.rd_app.specs.declared.instr.QueueCall.TheVariants as call
 use Rattle.rd_app.specs.declared.instr.Operand.{Operand}
 use Rattle.rd_app.specs.declared.instr.Operand.TheVariants as operand
 use Rattle.rd_app.specs.Application.{Application, IsOperand, IsCallFor, IsWithin, max_delay}
+use Rattle.rd_app.specs.Objects.{AreObjects, NamedObjects, names_in, shape_at}
 use Rattle.rd_script.specs.declared.error.AppError.TheVariants as fault
 use Rattle.rd_script.specs.declared.keyword.Parameter.{Parameter}
 use Rattle.rd_script.specs.declared.keyword.Parameter.TheVariants.{Register, Number, Target, Data, Time, Name}
@@ -29,7 +30,6 @@ use Rattle.rd_script.specs.declared.keyword.QueueKeyword.TheVariants.{Send, Fron
 use Rattle.rd_script.specs.declared.keyword.SetKeyword.{SetKeyword}
 use Rattle.rd_script.specs.declared.keyword.SetKeyword.TheVariants.{Select}
 use Rattle.rd_script.specs.Keywords.{Makes, Row, Value, keywords, keyword_of, local_row, operands_of, queue_row, row_of, set_row, text_of, Written}
-use Rattle.rd_script.specs.Objects.{NamedObjects, names_in, objects_of, queue_shape}
 use Rattle.rd_script.specs.Spelling.{register_of, target_of, operand_of, time_of, index_named, index_of, value_of, is_formed, are_formed}
 use Rattle.rd_script.specs.Spelling.{made_of, instr_made, is_call_for, is_for_queue, instr_named, instr_of, next_value, Reading, AreOperands, IsForQueue, Spells, SpellsRow}
 use Rattle.rd_text.specs.Words.{bytes_of, is_name, is_some_word, name_of, number_of}
@@ -64,7 +64,7 @@ named_ok names word name number is found =
 
 for_queue_takes : (objects : NamedObjects) (i : Instr) → is_for_queue objects i ≡ true → IsForQueue objects i
 for_queue_takes objects (instruction.Local instr) e = tt
-for_queue_takes objects (instruction.Queue queue made) e = call_takes (queue_shape objects queue) made e
+for_queue_takes objects (instruction.Queue queue made) e = call_takes (shape_at objects queue) made e
 for_queue_takes objects (instruction.Set set made) e = tt
 
 -- where no word is left, none is in the form of an operand that is
@@ -134,7 +134,7 @@ index_again names name number is = ap (λ o. ok_or o fault.Name) is
 
 for_queue_again : (objects : NamedObjects) (i : Instr) → IsForQueue objects i → is_for_queue objects i ≡ true
 for_queue_again objects (instruction.Local instr) h = refl
-for_queue_again objects (instruction.Queue queue made) h = call_again (queue_shape objects queue) made h
+for_queue_again objects (instruction.Queue queue made) h = call_again (shape_at objects queue) made h
 for_queue_again objects (instruction.Set set made) h = refl
 
 -- what names a thing is a name
@@ -152,7 +152,7 @@ formed_again objects len Number word value e = ap is_some e
 formed_again objects len Target word value e = ap is_some e
 formed_again objects len Data word value e = ap is_some e
 formed_again objects len Time word value e = ap is_some e
-formed_again objects len (Name kind) word value e = name_formed (names_in objects kind) word value e
+formed_again objects len (Name kind) word value e = name_formed (names_in objects [] kind) word value e
 
 both_true : (a b : Bool) → a ≡ true → b ≡ true → (a && b) ≡ true
 both_true a b e f = rw (e, f) refl
@@ -269,11 +269,6 @@ time_there word wait =
       | false ↦ either_there (register_of word) (number_of word) wait (register_small word)
     ]
 
--- there are as many names as objects
-pub record AreNamedObjects (app : Application) : Type 0 where
-  pub queues : length app.queues.things ≡ length app.queues.names
-  pub sets : length app.sets.things ≡ length app.sets.names
-
 -- what an operand of that kind may stand for
 abbrev IsValue : Application → ℕ → (parameter : Parameter) → Value parameter → Type 0
 IsValue app len Register register = register < 8
@@ -281,20 +276,20 @@ IsValue app len Number value = Unit {0}
 IsValue app len Target target = target < len
 IsValue app len Data bytes = length bytes ≤ 256
 IsValue app len Time wait = IsOperand wait
-IsValue app len (Name kind) number = number < length (names_in (objects_of app) kind)
+IsValue app len (Name kind) number = number < length (names_in app.objects [] kind)
 
 value_there : (app : Application) (len : ℕ) (parameter : Parameter) (word : List ℕ) (value : Value parameter)
-    → value_of (objects_of app) len parameter word ≡ Some value → IsValue app len parameter value
+    → value_of app.objects len parameter word ≡ Some value → IsValue app len parameter value
 value_there app len Register word value e = register_small word value e
 value_there app len Number word value e = tt
 value_there app len Target word value e = target_small len word value e
 value_there app len Data word value e = bytes_few word value e
 value_there app len Time word value e = time_there word value e
-value_there app len (Name kind) word value e = index_there (names_in (objects_of app) kind) word value e
+value_there app len (Name kind) word value e = index_there (names_in app.objects [] kind) word value e
 
 -- Whatever its operands stand for, what a keyword makes is within the application.
 abbrev MakesWithin : Application → ℕ → (parameters : List Parameter) → Makes parameters → Type 0
-MakesWithin app len [] made = IsForQueue (objects_of app) made → IsWithin app len made
+MakesWithin app len [] made = IsForQueue app.objects made → IsWithin app len made
 MakesWithin app len (parameter ∷ others) make = (value : Value parameter) → IsValue app len parameter value → MakesWithin app len others (make value)
 
 abbrev RowWithin : Application → ℕ → Row → Type 0
@@ -311,37 +306,37 @@ local_within app len of.Jump = λ target there fits. there
 local_within app len of.JumpZero = λ register there target also_there fits. (there, also_there)
 local_within app len of.End = λ fits. tt
 
-queue_within : (app : Application) (len : ℕ) → AreNamedObjects app → (k : QueueKeyword) → RowWithin app len (queue_row k)
-queue_within app len sizes Send = λ queue named wait there fits. (rw sizes.queues named, there, fits)
-queue_within app len sizes Front = λ queue named wait there fits. (rw sizes.queues named, there, fits)
-queue_within app len sizes Receive = λ queue named wait there fits. (rw sizes.queues named, there, fits)
-queue_within app len sizes Peek = λ queue named wait there fits. (rw sizes.queues named, there, fits)
-queue_within app len sizes Overwrite = λ queue named fits. (rw sizes.queues named, tt, fits)
-queue_within app len sizes Reset = λ queue named fits. (rw sizes.queues named, tt, fits)
-queue_within app len sizes Count = λ queue named fits. (rw sizes.queues named, tt, fits)
-queue_within app len sizes Spaces = λ queue named fits. (rw sizes.queues named, tt, fits)
-queue_within app len sizes AddToSet = λ queue named set also_named fits. (rw sizes.queues named, rw sizes.sets also_named, fits)
-queue_within app len sizes RemoveFromSet = λ queue named set also_named fits. (rw sizes.queues named, rw sizes.sets also_named, fits)
+queue_within : (app : Application) (len : ℕ) → AreObjects app.objects → (k : QueueKeyword) → RowWithin app len (queue_row k)
+queue_within app len sizes Send = λ queue named wait there fits. (rw (← sizes.named_queues.paired) named, there, fits)
+queue_within app len sizes Front = λ queue named wait there fits. (rw (← sizes.named_queues.paired) named, there, fits)
+queue_within app len sizes Receive = λ queue named wait there fits. (rw (← sizes.named_queues.paired) named, there, fits)
+queue_within app len sizes Peek = λ queue named wait there fits. (rw (← sizes.named_queues.paired) named, there, fits)
+queue_within app len sizes Overwrite = λ queue named fits. (rw (← sizes.named_queues.paired) named, tt, fits)
+queue_within app len sizes Reset = λ queue named fits. (rw (← sizes.named_queues.paired) named, tt, fits)
+queue_within app len sizes Count = λ queue named fits. (rw (← sizes.named_queues.paired) named, tt, fits)
+queue_within app len sizes Spaces = λ queue named fits. (rw (← sizes.named_queues.paired) named, tt, fits)
+queue_within app len sizes AddToSet = λ queue named set also_named fits. (rw (← sizes.named_queues.paired) named, rw (← sizes.named_sets.paired) also_named, fits)
+queue_within app len sizes RemoveFromSet = λ queue named set also_named fits. (rw (← sizes.named_queues.paired) named, rw (← sizes.named_sets.paired) also_named, fits)
 
-set_within : (app : Application) (len : ℕ) → AreNamedObjects app → (k : SetKeyword) → RowWithin app len (set_row k)
-set_within app len sizes Select = λ set named wait there fits. (rw sizes.sets named, there)
+set_within : (app : Application) (len : ℕ) → AreObjects app.objects → (k : SetKeyword) → RowWithin app len (set_row k)
+set_within app len sizes Select = λ set named wait there fits. (rw (← sizes.named_sets.paired) named, there)
 
-row_within : (app : Application) (len : ℕ) → AreNamedObjects app → (k : Keyword) → RowWithin app len (row_of k)
+row_within : (app : Application) (len : ℕ) → AreObjects app.objects → (k : Keyword) → RowWithin app len (row_of k)
 row_within app len sizes (keyword.Local k) = local_within app len k
 row_within app len sizes (keyword.Queue k) = queue_within app len sizes k
 row_within app len sizes (keyword.Set k) = set_within app len sizes k
 
 operands_within : (app : Application) (len : ℕ) (parameters : List Parameter) (make : Makes parameters) (words : List (List ℕ)) (i : Instr)
-    → MakesWithin app len parameters make → AreOperands (objects_of app) len parameters make words i → IsForQueue (objects_of app) i → IsWithin app len i
-operands_within app len [] make words i within h fits = subst (λ i. IsForQueue (objects_of app) i → IsWithin app len i) h.1 within fits
+    → MakesWithin app len parameters make → AreOperands app.objects len parameters make words i → IsForQueue app.objects i → IsWithin app len i
+operands_within app len [] make words i within h fits = subst (λ i. IsForQueue app.objects i → IsWithin app len i) h.1 within fits
 operands_within app len (parameter ∷ others) make words i within h fits =
     let there = value_there app len parameter h.0 h.2 h.4 in
     operands_within app len others (make h.2) h.1 i (within h.2 there) h.5 fits
 
 spelled_within : (app : Application) (len : ℕ) (of : Row) (words : List (List ℕ)) (i : Instr)
-    → RowWithin app len of → SpellsRow (objects_of app) len of words i → IsForQueue (objects_of app) i → IsWithin app len i
+    → RowWithin app len of → SpellsRow app.objects len of words i → IsForQueue app.objects i → IsWithin app len i
 spelled_within app len (Written text operands make) words i within h fits = operands_within app len operands make h.0 i within h.2 fits
 
-pub spells_within : (app : Application) (len : ℕ) (words : List (List ℕ)) (i : Instr) → AreNamedObjects app
-    → Spells (objects_of app) len words i → IsWithin app len i
+pub spells_within : (app : Application) (len : ℕ) (words : List (List ℕ)) (i : Instr) → AreObjects app.objects
+    → Spells app.objects len words i → IsWithin app len i
 spells_within app len words i sizes h = spelled_within app len (row_of h.0) words i (row_within app len sizes h.0) h.1 h.2

@@ -6,15 +6,15 @@ use Rattle.serde_json.specs.Find.{get}
 use Rattle.std.specs.List.{AllByRecursion}
 use Rattle.rd_app.specs.declared.instr.Instr.{Instr}
 use Rattle.rd_app.specs.Application.{Application, IsScript}
-use Rattle.rd_script.specs.Objects.{NamedObjects, objects_of}
-use Rattle.rd_script.specs.Says.{SayEach, AreTasks, AreLines}
+use Rattle.rd_app.specs.Objects.{AreObjects, NamedObjects}
+use Rattle.rd_script.specs.Values.{SayEach, is_object_with, object_with, field, number_in, array_in, new_name}
+use Rattle.rd_script.specs.File.{are_texts, TaskDraft, task_keys, task_of}
+use Rattle.rd_script.specs.Says.{AreTasks, AreLines}
 use Rattle.rd_app.specs.TaskScript.{TaskScript}
-use Rattle.rd_script.specs.File.{is_object_with, object_with, field, number_in, array_in, new_name, are_texts, TaskDraft, task_keys, task_of}
 use Rattle.rd_script.proofs.Steps.{bind_ok, guard_ok, then_is}
-use Rattle.rd_script.proofs.Values.{object_again, field_again, name_again, array_again, limits_again, object_ok, field_ok, number_ok, array_ok, name_ok}
+use Rattle.rd_script.proofs.ValueLaws.{object_again, field_again, name_again, array_again, limits_again, object_ok, field_ok, number_ok, array_ok, name_ok}
 use Rattle.rd_text.proofs.Offered.{IsNewName}
 use Rattle.rd_script.proofs.ScriptLaws.{AreScripts, is_script, length_lines}
-use Rattle.rd_script.proofs.SpellingLaws.{AreNamedObjects}
 
 -- what a value says of a task
 pub record IsDraft (d : Data) (name : List ℕ) (draft : TaskDraft) : Type 0 where
@@ -88,8 +88,8 @@ tasks_said objects (item d ds) (n ∷ names) (draft ∷ drafts) (s ∷ scripts) 
       ap suc rest.1,
     )
 
-pub scripts_in_limits : (app : Application) (drafts : List TaskDraft) (scripts : List TaskScript) → AreNamedObjects app
-    → AllByRecursion IsDraftInLimits drafts → AreScripts (objects_of app) drafts scripts → AllByRecursion (IsScript app) scripts
+pub scripts_in_limits : (app : Application) (drafts : List TaskDraft) (scripts : List TaskScript) → AreObjects app.objects
+    → AllByRecursion IsDraftInLimits drafts → AreScripts app.objects drafts scripts → AllByRecursion (IsScript app) scripts
 scripts_in_limits app [] [] sizes a b = tt
 scripts_in_limits app [] (s ∷ scripts) sizes a b = absurd b
 scripts_in_limits app (draft ∷ drafts) [] sizes a b = absurd b

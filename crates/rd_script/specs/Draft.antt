@@ -6,7 +6,7 @@ use Rattle.rd_script.specs.declared.file.AppDraft.{AppDraft}
 use Rattle.rd_script.specs.declared.file.TaskDraft.{TaskDraft}
 use Rattle.rd_script.specs.declared.objects.NamedArray.{NamedArray}
 use Rattle.rd_script.specs.File as file
-use Rattle.rd_script.specs.Objects.{objects_view}
+use Rattle.rd_script.specs.Objects.{drafts_view}
 use Rattle.rd_text.specs.Words.{texts}
 
 abbrev pub task_draft_view : TaskDraft → file.TaskDraft
@@ -23,6 +23,6 @@ app_draft_view draft = record {
   cores = draft.cores;
   entries = draft.entries;
   tick = draft.tick;
-  objects = objects_view draft.objects;
+  objects = drafts_view draft.objects;
   tasks = task_drafts_view draft.tasks;
 }

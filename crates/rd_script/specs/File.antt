@@ -1,159 +1,27 @@
 -- The application of a file's JSON value, or the first fault that is met: of an object first its
 -- keys, and then what stands at them, in the order below.
-use Rattle.std.specs.Prelude.{ℕ, ◌≡◌, ◌≢◌, ◌-◌, ◌^◌, ◌&&◌, ◌⊎◌, Bool, true, false, not, codes}
-use Rattle.std.specs.Prelude.{List, [], ◌∷◌, ◌++◌, length, slice_get, nat_le, if◌then◌else◌}
-use Rattle.std.specs.Prelude.{Option, Some, None, is_some, option_map, option_and_then, unwrap_or}
-use Rattle.std.specs.Prelude.{Result, Ok, Err, IsOk, ok_or, nat_eq, ⊤}
-use Rattle.std.specs.List.{list_all, list_any}
-use Rattle.std.specs.Str.{bytes_eq, is_utf8}
-use Rattle.serde_json.specs.Data.{Data, Items, no_items, item, Members, no_members, member}
+use Rattle.std.specs.Prelude.{ℕ, ◌≡◌, ◌≢◌, ◌-◌, ◌^◌, ◌&&◌, ◌⊎◌, Bool, true, false, codes}
+use Rattle.std.specs.Prelude.{List, [], ◌∷◌, ◌++◌, length, slice_get, if◌then◌else◌}
+use Rattle.std.specs.Prelude.{is_some, option_map, unwrap_or, Result, Ok, Err, IsOk, ok_or, ⊤}
+use Rattle.std.specs.Str.{is_utf8}
+use Rattle.serde_json.specs.Data.{Data, Items, no_items, item}
 use Rattle.serde_json.specs.Events.{items_len}
-use Rattle.serde_json.specs.Find.{get, as_number, as_u64, as_str, as_array, as_object}
+use Rattle.serde_json.specs.Find.{get, as_str}
 use Rattle.serde_json.specs.Read.{read}
 use Rattle.rd_notify.specs.declared.entries.TheConstants.{MAX_ENTRIES}
-use Rattle.rd_queue.specs.declared.item.TheConstants.{MAX_ITEM_SIZE}
-use Rattle.rd_queue.specs.declared.queue.TheConstants.{MAX_ITEMS}
-use Rattle.rd_queue.specs.declared.queue_set.TheConstants.{MAX_HANDLES}
-use Rattle.rd_app.specs.declared.app.TheConstants.{MAX_CODE, MAX_CORES, MAX_PRIORITY}
-use Rattle.rd_app.specs.declared.app.TheConstants.{MAX_QUEUES, MAX_SETS, MAX_TASKS}
-use Rattle.rd_app.specs.declared.app.QueueShape.{QueueShape}
+use Rattle.rd_app.specs.declared.app.TheConstants.{MAX_CODE, MAX_CORES, MAX_PRIORITY, MAX_TASKS}
+use Rattle.rd_app.specs.declared.instr.Instr.{Instr}
+use Rattle.rd_app.specs.Application.{Application, is_final}
+use Rattle.rd_app.specs.Named.{Named}
+use Rattle.rd_app.specs.Objects.{NamedObjects}
+use Rattle.rd_app.specs.TaskScript.{TaskScript}
 use Rattle.rd_script.specs.declared.error.AppError.{AppError}
 use Rattle.rd_script.specs.declared.error.AppError.TheVariants as fault
-use Rattle.rd_app.specs.declared.instr.Instr.{Instr}
-use Rattle.rd_app.specs.Application.{Application, is_final, members_of}
-use Rattle.rd_app.specs.Named.{Named}
-use Rattle.rd_app.specs.QueueSetShape.{QueueSetShape}
-use Rattle.rd_script.specs.Objects.{NamedObjects}
-use Rattle.rd_script.specs.Spelling.{◌>>=◌, index_of, instr_of}
-use Rattle.rd_app.specs.TaskScript.{TaskScript}
-use Rattle.rd_text.specs.Words.{words_of, is_name, name_of}
-
--- ---- values
-
-abbrev pub keys_of : Members → List (List ℕ)
-keys_of no_members = []
-keys_of (member key d ms) = key ∷ keys_of ms
-
-abbrev pub has_only : List (List ℕ) → Members → Bool
-has_only known ms = list_all (λ key. list_any (bytes_eq key) known) (keys_of ms)
-
--- is it an object with no other keys than these?
-abbrev pub is_object_with : List (List ℕ) → Data → Bool
-is_object_with known d = unwrap_or (option_map (has_only known) (as_object d)) false
-
-abbrev pub object_with : List (List ℕ) → Data → Result ⊤ AppError
-object_with known d = if is_object_with known d then Ok tt else Err fault.Shape
-
--- what stands at a key
-abbrev pub field : List ℕ → Data → Result Data AppError
-field key d = ok_or (get key d) fault.Shape
-
-abbrev pub in_limits : ℕ → ℕ → ℕ → Result ℕ AppError
-in_limits least most n = if nat_le least n && nat_le n most then Ok n else Err fault.Limit
-
-abbrev pub number_in : ℕ → ℕ → Data → Result ℕ AppError
-number_in least most d = do
-  n ← ok_or (option_and_then as_u64 (as_number d)) fault.Shape
-  in_limits least most n
-
--- the same of a key that may be left out
-abbrev pub number_or : ℕ → ℕ → ℕ → Option Data → Result ℕ AppError
-number_or otherwise least most None = Ok otherwise
-number_or otherwise least most (Some d) = number_in least most d
-
-abbrev pub array_in : ℕ → ℕ → Data → Result Items AppError
-array_in least most d = do
-  ds ← ok_or (as_array d) fault.Shape
-  _ ← in_limits least most (items_len ds)
-  Ok ds
-
-abbrev pub array_or_empty : ℕ → Option Data → Result Items AppError
-array_or_empty most None = Ok no_items
-array_or_empty most (Some d) = array_in 0 most d
-
--- a name that is none of those before it
-abbrev pub new_name : List (List ℕ) → Data → Result (List ℕ) AppError
-new_name names d = do
-  name ← ok_or (as_str d) fault.Shape
-  if is_name name && not (list_any (bytes_eq name) names) then Ok name else Err fault.Name
-
--- ---- arrays of named things
-
-abbrev pub nothing_named : {X : Type 0} → Named X
-nothing_named = record { names = []; things = [] }
-
--- one more thing of that name
-abbrev pub with_named : {X : Type 0} → Named X → List ℕ → X → Named X
-with_named before name thing = record {
-  names = before.names ++ name ∷ [];
-  things = before.things ++ thing ∷ [];
-}
-
--- those before, and those of the array, each read over those before it
-abbrev pub named_after : {X : Type 0} → (Named X → Data → Result (List ℕ × X) AppError)
-    → Named X → Items
-    → Result (Named X) AppError
-named_after read before no_items = Ok before
-named_after read before (item d ds) = do
-  thing ← read before d
-  named_after read (with_named before thing.0 thing.1) ds
-
--- ---- queues
-
-abbrev pub queue_keys : List (List ℕ)
-queue_keys = codes "name" ∷ codes "length" ∷ codes "item" ∷ []
-
-unfoldable pub queue_of : List (List ℕ) → Data → Result (List ℕ × QueueShape) AppError
-queue_of names d = do
-  _ ← object_with queue_keys d
-  name ← field (codes "name") d
-  capacity ← field (codes "length") d
-  item_size ← field (codes "item") d
-  name ← new_name names name
-  capacity ← number_in 1 MAX_ITEMS capacity
-  item_size ← number_in 1 MAX_ITEM_SIZE item_size
-  Ok (name, record { capacity = capacity; item_size = item_size })
-
-abbrev pub queues_after : Named QueueShape → Items → Result (Named QueueShape) AppError
-queues_after before ds = named_after (λ before. queue_of before.names) before ds
-
--- ---- queue sets
-
-abbrev pub set_keys : List (List ℕ)
-set_keys = codes "name" ∷ codes "length" ∷ codes "members" ∷ []
-
--- the number of the queue of that name, which isn't a member already: one of the others
-abbrev pub member_of : List (List ℕ) → List ℕ → Data → Result ℕ AppError
-member_of queues others d = do
-  text ← ok_or (as_str d) fault.Shape
-  name ← ok_or (name_of text) fault.Name
-  queue ← index_of queues name
-  if list_any (nat_eq queue) others then Err fault.Name else Ok queue
-
--- the members before, and those of the array; the others are the members of other sets
-abbrev pub members_after : List (List ℕ) → List ℕ → List ℕ → Items → Result (List ℕ) AppError
-members_after queues others members no_items = Ok members
-members_after queues others members (item d ds) = do
-  queue ← member_of queues (others ++ members) d
-  members_after queues others (members ++ queue ∷ []) ds
-
--- a set over the names of all queues and the sets before it
-unfoldable pub set_of : List (List ℕ) → Named QueueSetShape → Data
-    → Result (List ℕ × QueueSetShape) AppError
-set_of queues before d = do
-  _ ← object_with set_keys d
-  name ← field (codes "name") d
-  capacity ← field (codes "length") d
-  members ← field (codes "members") d
-  name ← new_name before.names name
-  capacity ← number_in 1 MAX_HANDLES capacity
-  members ← ok_or (as_array members) fault.Shape
-  members ← members_after queues (members_of before.things) [] members
-  Ok (name, record { capacity = capacity; members = members })
-
-abbrev pub sets_after : List (List ℕ) → Named QueueSetShape → Items
-    → Result (Named QueueSetShape) AppError
-sets_after queues before ds = named_after (set_of queues) before ds
+use Rattle.rd_script.specs.Objects.{file_keys, objects_of}
+use Rattle.rd_script.specs.Spelling.{◌>>=◌, instr_of}
+use Rattle.rd_script.specs.Values.{array_in, field, named_after, new_name, nothing_named}
+use Rattle.rd_script.specs.Values.{number_in, number_or, object_with}
+use Rattle.rd_text.specs.Words.{words_of}
 
 -- ---- tasks
 
@@ -227,12 +95,6 @@ scripts_after objects scripts (draft ∷ drafts) = do
 
 -- ---- the file
 
-abbrev pub file_keys : List (List ℕ)
-file_keys =
-    codes "profile" ∷ codes "cores" ∷ codes "notes" ∷ codes "tick" ∷ codes "queues" ∷ codes "sets"
-    ∷ codes "tasks"
-    ∷ []
-
 -- what a file says, its scripts not read yet
 pub record AppDraft : Type 0 where
   pub cores : ℕ
@@ -251,17 +113,14 @@ draft_of d = do
   cores ← number_in 1 MAX_CORES cores
   entries ← number_or 1 1 MAX_ENTRIES (get (codes "notes") d)
   tick ← number_or 0 0 (2 ^ 32 - 1) (get (codes "tick") d)
-  queues ← array_or_empty MAX_QUEUES (get (codes "queues") d)
-  queues ← queues_after nothing_named queues
-  sets ← array_or_empty MAX_SETS (get (codes "sets") d)
-  sets ← sets_after queues.names nothing_named sets
+  objects ← objects_of d
   tasks ← array_in 1 MAX_TASKS tasks
   tasks ← tasks_after nothing_named tasks
   Ok (record {
     cores = cores;
     entries = entries;
     tick = tick;
-    objects = record { queues = queues; sets = sets };
+    objects = objects;
     tasks = tasks;
   })
 
@@ -273,8 +132,7 @@ with_scripts draft = do
     cores = draft.cores;
     entries = draft.entries;
     tick = draft.tick;
-    queues = draft.objects.queues;
-    sets = draft.objects.sets;
+    objects = draft.objects;
     tasks = record { names = draft.tasks.names; things = scripts };
   })
 
@@ -295,11 +153,6 @@ app_of_bytes bytes = if is_utf8 bytes then app_of_text bytes else Err fault.NotJ
 abbrev pub checked : {X : Type 0} → Result X AppError → Result ⊤ AppError
 checked (Ok x) = Ok tt
 checked (Err e) = Err e
-
--- What was returned, seen by view, is what reading gives.
-abbrev pub Gives : {X Y : Type 0} → (X → Y) → Result X AppError → Result Y AppError → Type 0
-Gives view (Ok x) read = read ≡ Ok (view x)
-Gives view (Err e) read = read ≡ Err e
 
 -- The same, unless memory ran out, which it does only where there is no fault.
 abbrev pub GivesFaultFirst : {X Y : Type 0} → (X → Y) → Result X AppError → Result Y AppError

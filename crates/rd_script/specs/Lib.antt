@@ -1,7 +1,8 @@
 -- What the contracts of this crate cite.
 pub mod Keywords
-pub mod Objects
 pub mod Spelling
+pub mod Values
+pub mod Objects
 pub mod File
 pub mod Draft
 pub mod Says

@@ -1,41 +1,143 @@
--- The objects that instructions name.
-use Rattle.std.specs.Prelude.{ℕ, List, [], slice_index_or}
-use Rattle.rd_text.specs.declared.kind.Kind.{Kind}
-use Rattle.rd_text.specs.declared.kind.Kind.TheVariants as kind
-use Rattle.rd_app.specs.declared.app.QueueShape.{QueueShape}
-use Rattle.rd_app.specs.Application.{Application}
+-- The objects of a file: what its value says of each kind, and of all.
+use Rattle.std.specs.Prelude.{ℕ, ◌≡◌, true, codes, List, [], ◌∷◌, ◌++◌, nat_eq}
+use Rattle.std.specs.Prelude.{if◌then◌else◌, Some, Result, Ok, Err, ok_or}
+use Rattle.std.specs.List.{IsDistinct, list_any}
+use Rattle.serde_json.specs.Data.{Data, number, unsigned, string, array, Items, no_items, item}
+use Rattle.serde_json.specs.Find.{get, as_str, as_array}
+use Rattle.rd_queue.specs.declared.item.TheConstants.{MAX_ITEM_SIZE}
+use Rattle.rd_queue.specs.declared.queue.TheConstants.{MAX_ITEMS}
+use Rattle.rd_queue.specs.declared.queue_set.TheConstants.{MAX_HANDLES}
+use Rattle.rd_app.specs.declared.objects.QueueShape.{QueueShape}
+use Rattle.rd_app.specs.declared.objects.TheConstants.{MAX_QUEUES, MAX_SETS}
 use Rattle.rd_app.specs.Named.{Named}
+use Rattle.rd_app.specs.Objects.{NamedObjects, members_of}
 use Rattle.rd_app.specs.QueueSetShape.{QueueSetShape}
+use Rattle.rd_script.specs.declared.error.AppError.{AppError}
+use Rattle.rd_script.specs.declared.error.AppError.TheVariants as fault
 use Rattle.rd_script.specs.declared.objects.NamedArray.{NamedArray}
-use Rattle.rd_script.specs.declared.objects.NamedObjects as code
-use Rattle.rd_text.specs.Words.{texts}
+use Rattle.rd_script.specs.declared.objects.ObjectDrafts.{ObjectDrafts}
+use Rattle.rd_script.specs.Spelling.{◌>>=◌, index_named, index_of}
+use Rattle.rd_script.specs.Values.{SayNamed, SaysNamed, array_or_empty, field, is_object_with}
+use Rattle.rd_script.specs.Values.{named_after, named_at, new_name, number_in, object_with}
+use Rattle.rd_text.specs.Words.{name_of, texts}
 
--- the objects of a file, which go by number
-pub record NamedObjects : Type 0 where
-  pub queues : Named QueueShape
-  pub sets : Named QueueSetShape
+-- ---- all kinds
 
 -- what a contract sees of the code's
 abbrev pub array_view : {X : Type 0} {N : ℕ} → NamedArray X N → Named X
-array_view array = record { names = texts array.names.items; things = array.things.items }
+array_view named = record { names = texts named.names.items; things = named.things.items }
 
-abbrev pub objects_view : code.NamedObjects → NamedObjects
-objects_view objects = record {
-  queues = array_view objects.queues;
-  sets = array_view objects.sets;
-}
+abbrev pub drafts_view : ObjectDrafts → NamedObjects
+drafts_view drafts = record { queues = array_view drafts.queues; sets = array_view drafts.sets }
 
--- those of an application
-abbrev pub objects_of : Application → NamedObjects
-objects_of app = record { queues = app.queues; sets = app.sets }
+abbrev pub file_keys : List (List ℕ)
+file_keys =
+    codes "profile" ∷ codes "cores" ∷ codes "notes" ∷ codes "tick" ∷ codes "queues" ∷ codes "sets"
+    ∷ codes "tasks"
+    ∷ []
 
--- the shape of a queue
-abbrev pub queue_shape : NamedObjects → ℕ → QueueShape
-queue_shape objects queue =
-    slice_index_or objects.queues.things queue (record { capacity = 0; item_size = 0 })
+-- ---- queues
 
--- the names of a kind; instructions name no tasks
-abbrev pub names_in : NamedObjects → Kind → List (List ℕ)
-names_in objects kind.Queue = objects.queues.names
-names_in objects kind.Set = objects.sets.names
-names_in objects kind.Task = []
+abbrev pub queue_keys : List (List ℕ)
+queue_keys = codes "name" ∷ codes "length" ∷ codes "item" ∷ []
+
+unfoldable pub queue_of : List (List ℕ) → Data → Result (List ℕ × QueueShape) AppError
+queue_of names d = do
+  _ ← object_with queue_keys d
+  name ← field (codes "name") d
+  capacity ← field (codes "length") d
+  item_size ← field (codes "item") d
+  name ← new_name names name
+  capacity ← number_in 1 MAX_ITEMS capacity
+  item_size ← number_in 1 MAX_ITEM_SIZE item_size
+  Ok (name, record { capacity = capacity; item_size = item_size })
+
+abbrev pub queues_after : Named QueueShape → Items → Result (Named QueueShape) AppError
+queues_after before ds = named_after (λ before. queue_of before.names) before ds
+
+pub record IsQueue (d : Data) (name : List ℕ) (shape : QueueShape) : Type 0 where
+  pub keys : is_object_with queue_keys d ≡ true
+  pub name_at : get (codes "name") d ≡ Some (string name)
+  pub length_at : get (codes "length") d ≡ Some (number (unsigned shape.capacity))
+  pub item_at : get (codes "item") d ≡ Some (number (unsigned shape.item_size))
+
+-- ---- queue sets
+
+abbrev pub set_keys : List (List ℕ)
+set_keys = codes "name" ∷ codes "length" ∷ codes "members" ∷ []
+
+-- the number of the queue of that name, which isn't a member already: one of the others
+abbrev pub member_of : List (List ℕ) → List ℕ → Data → Result ℕ AppError
+member_of queues others d = do
+  text ← ok_or (as_str d) fault.Shape
+  name ← ok_or (name_of text) fault.Name
+  queue ← index_of queues name
+  if list_any (nat_eq queue) others then Err fault.Name else Ok queue
+
+-- the members before, and those of the array; the others are the members of other sets
+abbrev pub members_after : List (List ℕ) → List ℕ → List ℕ → Items → Result (List ℕ) AppError
+members_after queues others members no_items = Ok members
+members_after queues others members (item d ds) = do
+  queue ← member_of queues (others ++ members) d
+  members_after queues others (members ++ queue ∷ []) ds
+
+-- a set over the names of all queues and the sets before it
+unfoldable pub set_of : List (List ℕ) → Named QueueSetShape → Data
+    → Result (List ℕ × QueueSetShape) AppError
+set_of queues before d = do
+  _ ← object_with set_keys d
+  name ← field (codes "name") d
+  capacity ← field (codes "length") d
+  members ← field (codes "members") d
+  name ← new_name before.names name
+  capacity ← number_in 1 MAX_HANDLES capacity
+  members ← ok_or (as_array members) fault.Shape
+  members ← members_after queues (members_of before.things) [] members
+  Ok (name, record { capacity = capacity; members = members })
+
+abbrev pub sets_after : List (List ℕ) → Named QueueSetShape → Items
+    → Result (Named QueueSetShape) AppError
+sets_after queues before ds = named_after (set_of queues) before ds
+
+-- a text that names the queue of that number
+abbrev pub IsMember : List (List ℕ) → Data → ℕ → Type 0
+IsMember queues d queue =
+    (text : List ℕ) × (d ≡ string text) × (index_named queues text ≡ Some queue)
+
+abbrev pub AreMembers : List (List ℕ) → Items → List ℕ → Type 0
+AreMembers queues no_items [] = Unit {0}
+AreMembers queues (item d ds) (queue ∷ members) =
+    IsMember queues d queue × AreMembers queues ds members
+AreMembers queues _ _ = ⊥
+
+pub record IsSet
+    (queues : List (List ℕ))
+    (d : Data)
+    (name : List ℕ)
+    (set : QueueSetShape)
+    (texts : Items)
+    : Type 0 where
+  pub keys : is_object_with set_keys d ≡ true
+  pub name_at : get (codes "name") d ≡ Some (string name)
+  pub length_at : get (codes "length") d ≡ Some (number (unsigned set.capacity))
+  pub members_at : get (codes "members") d ≡ Some (array texts)
+  pub members : AreMembers queues texts set.members
+
+-- what a value says of a set, over the names of all queues
+abbrev pub SaysSet : List (List ℕ) → Data → List ℕ → QueueSetShape → Type 0
+SaysSet queues d name set = (texts : Items) × IsSet queues d name set texts
+
+-- ---- all kinds
+
+-- the objects of a file's value, or the first fault that is met
+abbrev pub objects_of : Data → Result NamedObjects AppError
+objects_of d = do
+  queues ← named_at (λ before. queue_of before.names) MAX_QUEUES (codes "queues") d
+  sets ← named_at (set_of queues.names) MAX_SETS (codes "sets") d
+  Ok (record { queues = queues; sets = sets })
+
+-- what a value says of its objects
+pub record SaysObjects (d : Data) (o : NamedObjects) : Type 0 where
+  pub queues : SaysNamed IsQueue (codes "queues") d o.queues
+  pub sets : SaysNamed (SaysSet o.queues.names) (codes "sets") d o.sets
+  pub one_set_each : IsDistinct nat_eq (members_of o.sets.things)

@@ -7,7 +7,7 @@ use Rattle.std.specs.Prelude.{Result, Ok, Err, ok_or}
 use Rattle.std.specs.Option.{option_or}
 use Rattle.std.specs.Str.{bytes_eq}
 use Rattle.rd_text.specs.Words.{number_of, bytes_of, is_name, name_of}
-use Rattle.rd_app.specs.declared.app.QueueShape.{QueueShape}
+use Rattle.rd_app.specs.declared.objects.QueueShape.{QueueShape}
 use Rattle.rd_app.specs.declared.instr.Operand.{Operand}
 use Rattle.rd_app.specs.declared.instr.Operand.TheVariants as operand
 use Rattle.rd_app.specs.declared.instr.Instr.{Instr}
@@ -15,6 +15,7 @@ use Rattle.rd_app.specs.declared.instr.Instr.TheVariants.{Local, Queue, Set}
 use Rattle.rd_app.specs.declared.instr.QueueCall.{QueueCall}
 use Rattle.rd_app.specs.declared.instr.QueueCall.TheVariants as call
 use Rattle.rd_app.specs.Application.{max_delay, IsCallFor}
+use Rattle.rd_app.specs.Objects.{NamedObjects, names_in, shape_at}
 use Rattle.rd_script.specs.declared.error.AppError.{AppError}
 use Rattle.rd_script.specs.declared.error.AppError.TheVariants as fault
 use Rattle.rd_script.specs.declared.keyword.Parameter.{Parameter}
@@ -22,7 +23,6 @@ use Rattle.rd_script.specs.declared.keyword.Parameter.TheVariants.{Register, Num
 use Rattle.rd_script.specs.declared.keyword.Parameter.TheVariants.{Data, Time, Name}
 use Rattle.rd_script.specs.declared.keyword.Keyword.{Keyword}
 use Rattle.rd_script.specs.Keywords.{Makes, Row, Value, keyword_of, operands_of, row_of, Written}
-use Rattle.rd_script.specs.Objects.{NamedObjects, names_in, queue_shape}
 
 -- ---- what a word stands for
 
@@ -64,7 +64,7 @@ value_of objects len Number word = number_of word
 value_of objects len Target word = target_of len word
 value_of objects len Data word = bytes_of word
 value_of objects len Time word = time_of word
-value_of objects len (Name kind) word = index_named (names_in objects kind) word
+value_of objects len (Name kind) word = index_named (names_in objects [] kind) word
 
 -- has it the form of such an operand, whatever it names?
 abbrev pub is_formed : ℕ → Parameter → List ℕ → Bool
@@ -141,7 +141,7 @@ is_call_for shape (call.RemoveFromSet set) = true
 -- the same of an instruction, over these objects
 abbrev pub is_for_queue : NamedObjects → Instr → Bool
 is_for_queue objects (Local instr) = true
-is_for_queue objects (Queue queue call) = is_call_for (queue_shape objects queue) call
+is_for_queue objects (Queue queue call) = is_call_for (shape_at objects queue) call
 is_for_queue objects (Set set call) = true
 
 -- the instruction that the words make, and else the fault of words that have the forms asked for
@@ -184,7 +184,7 @@ SpellsRow objects len (Written text operands make) words instr =
 -- A call of a queue is one for that queue: only a queue with room for one item is overwritten.
 abbrev pub IsForQueue : NamedObjects → Instr → Type 0
 IsForQueue objects (Local instr) = Unit {0}
-IsForQueue objects (Queue queue call) = IsCallFor (queue_shape objects queue) call
+IsForQueue objects (Queue queue call) = IsCallFor (shape_at objects queue) call
 IsForQueue objects (Set set call) = Unit {0}
 
 -- The words are a keyword and its operands: over these objects, in a script of that length.

@@ -7,3 +7,4 @@ mod keyword;
 mod objects;
 mod reader;
 mod spelling;
+mod values;

@@ -1,13 +1,35 @@
-//! The objects of a file, which its instructions name.
+//! The objects of a file, which its instructions name. A kind has its array, read value by value,
+//! and a row or a field in what is said of all kinds.
 
-ghost use Rattle.std.specs.Prelude.{◌≡◌};
-ghost use Rattle.rd_script.specs.Objects.{names_in, objects_view};
+ghost use Rattle.std.specs.Prelude.{◌≡◌, ◌≤◌, [], ◌++◌, length, nat_eq, IfOk};
+ghost use Rattle.std.specs.List.{list_any};
+ghost use Rattle.serde_json.specs.View.{view, items_view};
+ghost use Rattle.rd_app.specs.Objects.{members_of, names_in, objects_view, AreObjects};
+ghost use Rattle.rd_script.specs.Objects.{array_view, drafts_view, file_keys, objects_of};
+ghost use Rattle.rd_script.specs.Objects.{queue_of, queues_after};
+ghost use Rattle.rd_script.specs.Objects.{member_of, members_after, set_of, sets_after};
+ghost use Rattle.rd_script.specs.Values.{Gives, nothing_named};
 ghost use Rattle.rd_text.specs.Words.{texts};
 
+use crate::error::AppError;
+use crate::reader::index_of;
+use crate::values::{array_or_empty, field, new_name, number, object_with};
 use arrayvec::ArrayVec;
-use rd_app::app::{MAX_QUEUES, MAX_SETS, QueueShape};
+use rd_app::objects::{MAX_QUEUES, MAX_SETS, Named, NamedObjects, QueueShape, SetShape};
+use rd_queue::item::MAX_ITEM_SIZE;
+use rd_queue::queue::MAX_ITEMS;
+use rd_queue::queue_set::MAX_HANDLES;
 use rd_text::kind::Kind;
+use rd_text::names::Names;
+use rd_text::words::is_name;
+use serde_json::Value;
+use std::alloc::{AllocError, Global};
 use std::marker::Model;
+
+/// The keys of a file, among them one for each kind of object.
+pub(crate) const FILE_KEYS: [&str; 7] = [
+    "profile", "cores", "notes", "tick", "queues", "sets", "tasks",
+];
 
 /// Things of one kind in a file, with their names, which lie in its value. They go by number: the
 /// index in both.
@@ -34,15 +56,15 @@ impl Model for SetDraft {
 
 /// What the instructions of a file name, each kind in its order.
 #[derive(Debug, Drop)]
-pub(crate) struct NamedObjects<'a> {
+pub(crate) struct ObjectDrafts<'a> {
     pub(crate) queues: NamedArray<'a, QueueShape, MAX_QUEUES>,
     pub(crate) sets: NamedArray<'a, SetDraft, MAX_SETS>,
 }
 
-impl<'a> NamedObjects<'a> {
+impl<'a> ObjectDrafts<'a> {
     /// The names of a kind. Instructions name no tasks.
     pub(crate) fn names(&self, kind: Kind) -> &[&'a str]
-        ensures { texts result.now ≡ names_in (objects_view self.now) kind }
+        ensures { texts result.now ≡ names_in (drafts_view self.now) [] kind }
     {
         match kind {
             Kind::Queue => self.queues.names.as_slice(),
@@ -50,4 +72,178 @@ impl<'a> NamedObjects<'a> {
             Kind::Task => &[],
         }
     }
+}
+
+#[tactic(auto, unfolding(crate::specs::Objects::queue_of))]
+fn read_queue<'a>(value: &'a Value, names: &[&str]) -> Result<(&'a str, QueueShape), AppError>
+    ensures { Gives (λ queue. (queue.0.now, queue.1))
+        result (queue_of (texts names.now) (view value.now)) }
+{
+    object_with(value, &["name", "length", "item"])?;
+    let name = field(value, "name")?;
+    let capacity = field(value, "length")?;
+    let item_size = field(value, "item")?;
+    let name = new_name(name, names)?;
+    let capacity = number(capacity, 1, MAX_ITEMS as u64)? as usize;
+    let item_size = number(item_size, 1, MAX_ITEM_SIZE as u64)? as usize;
+    Ok((
+        name,
+        QueueShape {
+            capacity,
+            item_size,
+        },
+    ))
+}
+
+fn read_queues(values: &[Value]) -> Result<NamedArray<'_, QueueShape, MAX_QUEUES>, AppError>
+    requires { length values.now ≤ MAX_QUEUES }
+    ensures { Gives array_view result (queues_after nothing_named (items_view values.now)) }
+{
+    let mut names = ArrayVec::new();
+    let mut things = ArrayVec::new();
+    for value in values {
+        let (name, shape) = read_queue(value, names.as_slice())?;
+        names.push(name);
+        things.push(shape);
+    }
+    Ok(NamedArray { names, things })
+}
+
+// Is the queue a member of one of these sets?
+fn is_member(queue: usize, sets: &[SetDraft]) -> bool
+    ensures { result ≡ list_any (λ set. list_any (nat_eq queue) set.members) sets.now }
+{
+    sets.iter()
+        .any(|set| set.members.as_slice().contains(&queue))
+}
+
+// Is the queue a member of one of these sets, or one of these?
+#[tactic(auto, using(crate::proofs::SetLaws::taken_is))]
+fn is_taken(queue: usize, sets: &[SetDraft], members: &[usize]) -> bool
+    ensures { result ≡ list_any (nat_eq queue) (members_of sets.now ++ members.now) }
+{
+    is_member(queue, sets) || members.contains(&queue)
+}
+
+// The number of the queue of that name, which is no member of these sets, and none of these.
+fn read_member(
+    value: &Value,
+    queues: &[&str],
+    sets: &[SetDraft],
+    members: &[usize],
+) -> Result<usize, AppError>
+    ensures { result
+        ≡ member_of (texts queues.now) (members_of sets.now ++ members.now) (view value.now) }
+{
+    let name = value.as_str().ok_or(AppError::Shape)?;
+    if !is_name(name.as_bytes()) {
+        return Err(AppError::Name);
+    }
+    let queue = index_of(name, queues)?;
+    if is_taken(queue, sets, members) {
+        return Err(AppError::Name);
+    }
+    Ok(queue)
+}
+
+fn read_members(
+    values: &[Value],
+    queues: &[&str],
+    sets: &[SetDraft],
+) -> Result<ArrayVec<usize, MAX_QUEUES>, AppError>
+    requires { length queues.now ≤ MAX_QUEUES }
+    ensures { Gives (λ members. members.items) result
+        (members_after (texts queues.now) (members_of sets.now) [] (items_view values.now)) }
+{
+    let mut members = ArrayVec::new();
+    for value in values {
+        members.push(read_member(value, queues, sets, members.as_slice())?);
+    }
+    Ok(members)
+}
+
+#[tactic(auto, unfolding(crate::specs::Objects::set_of))]
+fn read_set<'a>(
+    value: &'a Value,
+    queues: &[&str],
+    names: &[&str],
+    sets: &[SetDraft],
+) -> Result<(&'a str, SetDraft), AppError>
+    requires { length queues.now ≤ MAX_QUEUES }
+    ensures { Gives (λ set. (set.0.now, set.1))
+        result (set_of (texts queues.now) (record { names = texts names.now; things = sets.now })
+        (view value.now)) }
+{
+    object_with(value, &["name", "length", "members"])?;
+    let name = field(value, "name")?;
+    let capacity = field(value, "length")?;
+    let members = field(value, "members")?;
+    let name = new_name(name, names)?;
+    let capacity = number(capacity, 1, MAX_HANDLES as u64)? as usize;
+    let members = members.as_array().ok_or(AppError::Shape)?;
+    let members = read_members(members.as_slice(), queues, sets)?;
+    Ok((name, SetDraft { capacity, members }))
+}
+
+fn read_sets<'a>(
+    values: &'a [Value],
+    queues: &[&str],
+) -> Result<NamedArray<'a, SetDraft, MAX_SETS>, AppError>
+    requires sets { length values.now ≤ MAX_SETS }
+    requires queues { length queues.now ≤ MAX_QUEUES }
+    ensures { Gives array_view
+        result (sets_after (texts queues.now) nothing_named (items_view values.now)) }
+{
+    let mut names = ArrayVec::new();
+    let mut things = ArrayVec::new();
+    for value in values {
+        let (name, draft) = read_set(value, queues, names.as_slice(), things.as_slice())?;
+        names.push(name);
+        things.push(draft);
+    }
+    Ok(NamedArray { names, things })
+}
+
+/// The objects of a file, the queues before the sets, whose members they are.
+pub(crate) fn read_objects(file: &Value) -> Result<ObjectDrafts<'_>, AppError>
+    ensures { Gives drafts_view result (objects_of (view file.now)) }
+{
+    let queues = read_queues(array_or_empty(file.get("queues"), MAX_QUEUES)?)?;
+    let sets = array_or_empty(file.get("sets"), MAX_SETS)?;
+    let sets = read_sets(sets, queues.names.as_slice())?;
+    Ok(ObjectDrafts { queues, sets })
+}
+
+// The queue sets of drafts.
+fn keep_sets(alloc: Global, drafts: &[SetDraft]) -> Result<Vec<SetShape>, AllocError>
+    ensures { IfOk result (λ sets. sets.items ≡ drafts.now) }
+{
+    let mut sets = Vec::new(alloc);
+    for draft in drafts {
+        let draft: &SetDraft = draft;
+        let members = draft.members.as_slice().to_vec(alloc)?;
+        sets.push(SetShape::new(draft.capacity, members))?;
+    }
+    Ok(sets)
+}
+
+/// The objects of drafts, which are within the limits.
+pub(crate) fn keep_objects(
+    alloc: Global,
+    drafts: &ObjectDrafts<'_>,
+) -> Result<NamedObjects, AllocError>
+    requires { AreObjects (drafts_view drafts.now) }
+    ensures { IfOk result (λ objects. objects_view objects ≡ drafts_view drafts.now) }
+{
+    let ObjectDrafts { queues, sets } = drafts;
+    Ok(NamedObjects {
+        queues: Named {
+            names: Names::new(alloc, queues.names.as_slice())?,
+            things: queues.things.as_slice().to_vec(alloc)?,
+        },
+        sets: Named {
+            names: Names::new(alloc, sets.names.as_slice())?,
+            things: keep_sets(alloc, sets.things.as_slice())?,
+        },
+    })
 }

@@ -2,7 +2,7 @@
 
 ghost use Rattle.std.specs.Prelude.{◌≡◌};
 ghost use Rattle.rd_script.specs.declared.keyword.Parameter.TheVariants as parameter;
-ghost use Rattle.rd_script.specs.Objects.{objects_view};
+ghost use Rattle.rd_script.specs.Objects.{drafts_view};
 ghost use Rattle.rd_script.specs.Spelling.{register_of, target_of, operand_of, time_of};
 ghost use Rattle.rd_script.specs.Spelling.{index_named, index_of, is_formed, are_formed};
 ghost use Rattle.rd_script.specs.Spelling.{Takes};
@@ -10,7 +10,7 @@ ghost use Rattle.rd_text.specs.Words.{texts};
 
 use crate::error::AppError;
 use crate::keyword::Parameter;
-use crate::objects::NamedObjects;
+use crate::objects::ObjectDrafts;
 use rd_app::instr::{MAX_DELAY, Operand};
 use rd_bytes::bytes::Bytes;
 use rd_text::kind::Kind;
@@ -93,19 +93,19 @@ fn is_formed(parameter: Parameter, word: &[u8], len: usize) -> bool
 /// Reads the words after a keyword, in a script of that length over those objects.
 #[derive(Debug, Drop)]
 pub(crate) struct Reader<'a> {
-    objects: &'a NamedObjects<'a>,
+    objects: &'a ObjectDrafts<'a>,
     len: usize,
     words: Words<'a>,
 }
 
 impl<'a> Model for Reader<'a> {
-    ghost use Rattle.rd_script.specs.Objects.{objects_view};
+    ghost use Rattle.rd_script.specs.Objects.{drafts_view};
     ghost use Rattle.rd_script.specs.Spelling.{Reading};
 
     ghost Value = { Reading };
 
     ghost view = { λ r. record {
-      objects = objects_view r.objects.now;
+      objects = drafts_view r.objects.now;
       len = r.len;
       words = r.words;
     } };
@@ -113,9 +113,9 @@ impl<'a> Model for Reader<'a> {
 
 impl<'a> Reader<'a> {
     /// Reads these words.
-    pub(crate) fn new(objects: &'a NamedObjects<'a>, len: usize, words: Words<'a>) -> Reader<'a>
+    pub(crate) fn new(objects: &'a ObjectDrafts<'a>, len: usize, words: Words<'a>) -> Reader<'a>
         ensures { result ≡ record {
-          objects = objects_view objects.now;
+          objects = drafts_view objects.now;
           len = len;
           words = words.entry;
         } }

@@ -3,15 +3,15 @@
 ghost use Rattle.std.specs.Prelude.{◌≡◌};
 ghost use Rattle.rd_text.specs.Words.{words_of};
 ghost use Rattle.rd_script.specs.Keywords.{local_row, queue_row, row_of, set_row};
-ghost use Rattle.rd_script.specs.Objects.{objects_view};
+ghost use Rattle.rd_script.specs.Objects.{drafts_view};
 ghost use Rattle.rd_script.specs.Spelling.{instr_made, is_call_for, is_for_queue, instr_of};
 
 use crate::error::AppError;
 use crate::keyword::{Keyword, LocalKeyword, QueueKeyword, SetKeyword, keyword_of};
-use crate::objects::NamedObjects;
+use crate::objects::ObjectDrafts;
 use crate::reader::Reader;
-use rd_app::app::QueueShape;
 use rd_app::instr::{Instr, LocalInstr, QueueCall, SetCall};
+use rd_app::objects::QueueShape;
 use rd_queue::end::End;
 use rd_text::kind::Kind;
 use rd_text::words::Words;
@@ -130,8 +130,8 @@ fn is_call_for(shape: &QueueShape, call: &QueueCall) -> bool
 }
 
 // The same of an instruction, over these objects.
-fn is_for_queue(instr: &Instr, objects: &NamedObjects<'_>) -> bool
-    ensures { result ≡ is_for_queue (objects_view objects.now) instr.now }
+fn is_for_queue(instr: &Instr, objects: &ObjectDrafts<'_>) -> bool
+    ensures { result ≡ is_for_queue (drafts_view objects.now) instr.now }
 {
     match instr {
         Instr::Queue { queue, call } => {
@@ -147,10 +147,10 @@ fn is_for_queue(instr: &Instr, objects: &NamedObjects<'_>) -> bool
 #[tactic(auto, unfolding(crate::specs::Spelling::instr_of))]
 pub(crate) fn read_instr(
     text: &[u8],
-    objects: &NamedObjects<'_>,
+    objects: &ObjectDrafts<'_>,
     len: usize,
 ) -> Result<Instr, AppError>
-    ensures { result ≡ instr_of (objects_view objects.now) len (words_of text.now) }
+    ensures { result ≡ instr_of (drafts_view objects.now) len (words_of text.now) }
 {
     let mut words = Words::new(text);
     let word = words.next().ok_or(AppError::Instr)?;

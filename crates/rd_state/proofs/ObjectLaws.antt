@@ -13,7 +13,8 @@ use Rattle.rd_queue.specs.SetChanges.{set_applied, set_inverse_of, SetFits}
 use Rattle.rd_queue.specs.SetSnapshot.{SetSnapshot}
 use Rattle.rd_queue.proofs.Offered.{queue_change_is_undone, set_change_is_undone}
 use Rattle.rd_app.specs.QueueSetShape.{QueueSetShape}
-use Rattle.rd_app.specs.Application.{Application, IsApplication, IsQueueShape, IsSetShape, set_at_boot, shape_at}
+use Rattle.rd_app.specs.Application.{Application, IsApplication}
+use Rattle.rd_app.specs.Objects.{IsQueueShape, IsSetShape, set_at_boot, shape_at}
 use Rattle.rd_wait.proofs.Offered.{replaced_back}
 use Rattle.rd_state.specs.declared.objects.ObjectChange.{ObjectChange}
 use Rattle.rd_state.specs.declared.objects.ObjectChange.TheVariants.{Queue, Set}
@@ -90,21 +91,21 @@ object_numbers o (Set number change) = ap (λ (sets : ℕ). record (numbers_in o
 no_shape : QueueSetShape
 no_shape = record { capacity = 0; members = [] }
 
-set_at_boot-there : (app : Application) (queue : ℕ) → IfSome (set_at_boot app queue) (λ set. set < length app.sets.things)
-set_at_boot-there app queue = by_answer (set_at_boot app queue) refl
+set_at_boot-there : (app : Application) (queue : ℕ) → IfSome (set_at_boot app.objects queue) (λ set. set < length app.objects.sets.things)
+set_at_boot-there app queue = by_answer (set_at_boot app.objects queue) refl
   where
-    by_answer : (o : Option ℕ) → set_at_boot app queue ≡ o → IfSome o (λ set. set < length app.sets.things)
+    by_answer : (o : Option ℕ) → set_at_boot app.objects queue ≡ o → IfSome o (λ set. set < length app.objects.sets.things)
     by_answer None e = tt
-    by_answer (Some set) e = (position-Some (λ (s : QueueSetShape). list_any (nat_eq queue) s.members) app.sets.things set no_shape e).0
+    by_answer (Some set) e = (position-Some (λ (s : QueueSetShape). list_any (nat_eq queue) s.members) app.objects.sets.things set no_shape e).0
 
 -- Nobody waits at a new queue, and it has no items.
-IsQueueFor-new_queue : (app : Application) (queue tasks sets : ℕ) → IsApplication app → queue < length app.queues.things
-    → tasks ≡ length app.tasks.things → sets ≡ length app.sets.things → IsQueueFor tasks sets (new_queue app queue)
+IsQueueFor-new_queue : (app : Application) (queue tasks sets : ℕ) → IsApplication app → queue < length app.objects.queues.things
+    → tasks ≡ length app.tasks.things → sets ≡ length app.objects.sets.things → IsQueueFor tasks sets (new_queue app queue)
 IsQueueFor-new_queue app queue tasks sets limits there same_tasks same_sets =
-    let shape : IsQueueShape (shape_at app queue) = All-get_or IsQueueShape app.queues.things queue _ there limits.queues in (
+    let shape : IsQueueShape (shape_at app.objects queue) = All-get_or IsQueueShape app.objects.queues.things queue _ there limits.objects.queues in (
       record {
         room = omega arith;
-        items = All-nil (λ (item : List ℕ). length item ≡ (shape_at app queue).item_size);
+        items = All-nil (λ (item : List ℕ). length item ≡ (shape_at app.objects queue).item_size);
         some_room = shape.0;
         few = shape.1;
         some_bytes = shape.2;
@@ -117,8 +118,8 @@ IsQueueFor-new_queue app queue tasks sets limits there same_tasks same_sets =
       sym same_sets,
     )
 
-IsQueueFor-first_queues : (app : Application) (n tasks sets : ℕ) → IsApplication app → n ≤ length app.queues.things → tasks ≡ length app.tasks.things
-    → sets ≡ length app.sets.things → All (IsQueueFor tasks sets) (first_queues app n)
+IsQueueFor-first_queues : (app : Application) (n tasks sets : ℕ) → IsApplication app → n ≤ length app.objects.queues.things → tasks ≡ length app.tasks.things
+    → sets ≡ length app.objects.sets.things → All (IsQueueFor tasks sets) (first_queues app n)
 IsQueueFor-first_queues app zero tasks sets limits few same_tasks same_sets = All-nil (IsQueueFor tasks sets)
 IsQueueFor-first_queues app (suc n) tasks sets limits few same_tasks same_sets =
     All-push (IsQueueFor tasks sets) (first_queues app n) (new_queue app n)
@@ -130,7 +131,7 @@ length-first_queues app zero = refl
 length-first_queues app (suc n) = omega (arith, length_push (first_queues app n) (new_queue app n), length-first_queues app n)
 
 -- Nobody waits at a new set, and it has no handles.
-IsSetFor-new_set : (app : Application) (n queues tasks : ℕ) (shape : QueueSetShape) → n ≡ tasks → IsSetShape app shape
+IsSetFor-new_set : (app : Application) (n queues tasks : ℕ) (shape : QueueSetShape) → n ≡ tasks → IsSetShape app.objects shape
     → IsSetFor tasks queues (new_set n queues shape)
 IsSetFor-new_set app n queues tasks shape same limits = (
   record {
@@ -148,26 +149,26 @@ IsSetFor-new_set app n queues tasks shape same limits = (
 pub AreSizedObjects-new : (app : Application) (tasks : ℕ) → IsApplication app → tasks ≡ length app.tasks.things
     → AreSizedObjects tasks (new_objects app)
 AreSizedObjects-new app tasks limits same =
-    let n = length app.queues.things in
+    let n = length app.objects.queues.things in
     let made = new_set (length app.tasks.things) n in
     let IsMade : SetSnapshot → Type 0 = IsSetFor tasks n in
-    let sets : All IsMade (map made app.sets.things) =
-    All-map IsMade made app.sets.things
-    (All-weaker (IsSetShape app) (λ q. IsMade (made q)) (λ q h. IsSetFor-new_set app (length app.tasks.things) n tasks q (sym same) h)
-    app.sets.things limits.sets) in
+    let sets : All IsMade (map made app.objects.sets.things) =
+    All-map IsMade made app.objects.sets.things
+    (All-weaker (IsSetShape app.objects) (λ q. IsMade (made q)) (λ q h. IsSetFor-new_set app (length app.tasks.things) n tasks q (sym same) h)
+    app.objects.sets.things limits.objects.sets) in
     record {
-      queues = IsQueueFor-first_queues app n tasks (length (map made app.sets.things)) limits (omega arith) same (length-map app.sets.things made);
-      sets = subst (λ q. All (IsSetFor tasks q) (map made app.sets.things)) (sym (length-first_queues app n)) sets;
+      queues = IsQueueFor-first_queues app n tasks (length (map made app.objects.sets.things)) limits (omega arith) same (length-map app.objects.sets.things made);
+      sets = subst (λ q. All (IsSetFor tasks q) (map made app.objects.sets.things)) (sym (length-first_queues app n)) sets;
     }
 
 -- the shapes of the queues so far
-shape_of-first_queues : (app : Application) (n : ℕ) → n ≤ length app.queues.things → map shape_of (first_queues app n) ≡ take n app.queues.things
+shape_of-first_queues : (app : Application) (n : ℕ) → n ≤ length app.objects.queues.things → map shape_of (first_queues app n) ≡ take n app.objects.queues.things
 shape_of-first_queues app zero few = refl
 shape_of-first_queues app (suc n) few =
     map-append shape_of (first_queues app n) (new_queue app n ∷ [])
-    ∙ ap (λ before. before ++ shape_at app n ∷ []) (shape_of-first_queues app n (omega (arith, few)))
-    ∙ sym (take_more app.queues.things n (record { capacity = 0; item_size = 0 }) (omega (arith, few)))
-    ∙ ap (λ k. take k app.queues.things) (let one_more : n + 1 ≡ suc n = omega arith in one_more)
+    ∙ ap (λ before. before ++ shape_at app.objects n ∷ []) (shape_of-first_queues app n (omega (arith, few)))
+    ∙ sym (take_more app.objects.queues.things n (record { capacity = 0; item_size = 0 }) (omega (arith, few)))
+    ∙ ap (λ k. take k app.objects.queues.things) (let one_more : n + 1 ≡ suc n = omega arith in one_more)
 
 room_of-new_sets : (tasks queues : ℕ) (shapes : List QueueSetShape)
     → map room_of (map (new_set tasks queues) shapes) ≡ map (λ (shape : QueueSetShape). shape.capacity) shapes
@@ -177,6 +178,6 @@ room_of-new_sets tasks queues (shape ∷ shapes) = ap (λ rest. shape.capacity �
 -- The objects of boot have the sizes that the application gives them.
 pub AreShaped-new : (app : Application) → AreShaped app (new_objects app)
 AreShaped-new app = record {
-  queues = shape_of-first_queues app (length app.queues.things) (omega arith) ∙ take_all (length app.queues.things) app.queues.things (omega arith);
-  sets = room_of-new_sets (length app.tasks.things) (length app.queues.things) app.sets.things;
+  queues = shape_of-first_queues app (length app.objects.queues.things) (omega arith) ∙ take_all (length app.objects.queues.things) app.objects.queues.things (omega arith);
+  sets = room_of-new_sets (length app.tasks.things) (length app.objects.queues.things) app.objects.sets.things;
 }

@@ -62,5 +62,5 @@ nobody_selects tasks queues (shape ∷ shapes) zero = refl
 nobody_selects tasks queues (shape ∷ shapes) (suc set) = nobody_selects tasks queues shapes set
 
 pub waiting_at-before_scheduling : (app : Application) (place : Place) → waiting_at (before_scheduling app) place ≡ []
-waiting_at-before_scheduling app (Queue queue list) = nobody_waits_at app list queue (length app.queues.things)
-waiting_at-before_scheduling app (Set set) = nobody_selects (length app.tasks.things) (length app.queues.things) app.sets.things set
+waiting_at-before_scheduling app (Queue queue list) = nobody_waits_at app list queue (length app.objects.queues.things)
+waiting_at-before_scheduling app (Set set) = nobody_selects (length app.tasks.things) (length app.objects.queues.things) app.objects.sets.things set

@@ -10,8 +10,9 @@ use Rattle.rd_queue.specs.SetSnapshot.{SetSnapshot}
 use Rattle.rd_queue.specs.Sets.{empty_set}
 use Rattle.rd_queue.specs.Sizes.{IsSizedQueue, IsSizedSet}
 use Rattle.rd_queue.specs.declared.queue_set.TheConstants.{MAX_HANDLES}
-use Rattle.rd_app.specs.declared.app.QueueShape.{QueueShape}
-use Rattle.rd_app.specs.Application.{Application, set_at_boot, shape_at}
+use Rattle.rd_app.specs.declared.objects.QueueShape.{QueueShape}
+use Rattle.rd_app.specs.Application.{Application}
+use Rattle.rd_app.specs.Objects.{set_at_boot, shape_at}
 use Rattle.rd_app.specs.QueueSetShape.{QueueSetShape}
 use Rattle.rd_state.specs.declared.objects.ObjectChange.{ObjectChange}
 use Rattle.rd_state.specs.declared.objects.ObjectChange.TheVariants.{Queue, Set}
@@ -84,16 +85,16 @@ room_of set = set.capacity
 
 -- The objects have the sizes that the application gives them.
 pub record AreShaped (app : Application) (o : ObjectsSnapshot) : Type 0 where
-  pub queues : map shape_of o.queues ≡ app.queues.things
-  pub sets : map room_of o.sets ≡ map (λ set. set.capacity) app.sets.things
+  pub queues : map shape_of o.queues ≡ app.objects.queues.things
+  pub sets : map room_of o.sets ≡ map (λ set. set.capacity) app.objects.sets.things
 
 -- a queue with nothing in it, at which every task can wait, in the set that has it as a member
 abbrev pub new_queue : Application → ℕ → QueueSnapshot
 new_queue app queue =
     as_member_of
-    (empty_queue (shape_at app queue).capacity (shape_at app queue).item_size
-    (length app.tasks.things) (length app.sets.things))
-    (set_at_boot app queue)
+    (empty_queue (shape_at app.objects queue).capacity (shape_at app.objects queue).item_size
+    (length app.tasks.things) (length app.objects.sets.things))
+    (set_at_boot app.objects queue)
 
 -- the first n queues
 abbrev pub first_queues : Application → ℕ → List QueueSnapshot
@@ -111,8 +112,8 @@ new_set tasks queues shape = empty_set shape.capacity queues tasks
 -- the objects at boot
 abbrev pub new_objects : Application → ObjectsSnapshot
 new_objects app = record {
-  queues = first_queues app (length app.queues.things);
-  sets = map (new_set (length app.tasks.things) (length app.queues.things)) app.sets.things;
+  queues = first_queues app (length app.objects.queues.things);
+  sets = map (new_set (length app.tasks.things) (length app.objects.queues.things)) app.objects.sets.things;
 }
 
 -- the objects after a change of one

@@ -11,7 +11,8 @@ ghost use Rattle.rd_state.specs.Objects.{objects_with_queue, objects_with_set, q
 ghost use Rattle.rd_state.specs.Objects.{HasRoomForHandles, ObjectFits};
 
 use crate::whole::{Whole, all_same, copy_all};
-use rd_app::app::{App, SetShape};
+use rd_app::app::App;
+use rd_app::objects::SetShape;
 use rd_bytes::no_memory::NoMemory;
 use rd_queue::change::QueueChange;
 use rd_queue::end::End;
@@ -79,15 +80,15 @@ impl Whole for QueueSet {
 
 // An empty queue of an application, in its set.
 fn new_queue(alloc: Global, app: &App, queue: usize) -> Result<Queue, NoMemory>
-    requires { queue < length app.now.queues.things }
+    requires { queue < length app.now.objects.queues.things }
     ensures { IfOk result (λ made. made ≡ new_queue app.now queue) }
 {
     app.limits();
-    let shape = &app.queues()[queue];
+    let shape = &app.objects().queues()[queue];
     let tasks = app.priorities().len();
-    let sets = app.sets().len();
+    let sets = app.objects().sets().len();
     let mut made = Queue::new(alloc, shape.capacity, shape.item_size, tasks, sets)?;
-    if let Some(set) = app.set_of(queue) {
+    if let Some(set) = app.objects().set_of(queue) {
         made.join_set(set);
     }
     Ok(made)
@@ -95,10 +96,11 @@ fn new_queue(alloc: Global, app: &App, queue: usize) -> Result<Queue, NoMemory>
 
 // The empty queues of an application.
 fn new_queues(alloc: Global, app: &App) -> Result<Vec<Queue>, NoMemory>
-    ensures { IfOk result (λ queues. queues.items ≡ first_queues app.now (length app.now.queues.things)) }
+    ensures { IfOk result (λ queues.
+        queues.items ≡ first_queues app.now (length app.now.objects.queues.things)) }
 {
-    let mut queues = Vec::with_capacity(alloc, app.queues().len())?;
-    for number in 0..app.queues().len() {
+    let mut queues = Vec::with_capacity(alloc, app.objects().queues().len())?;
+    for number in 0..app.objects().queues().len() {
         queues.push(new_queue(alloc, app, number)?)?;
     }
     Ok(queues)
@@ -141,7 +143,12 @@ impl Objects {
         let tasks = app.priorities().len();
         Ok(Objects {
             queues: new_queues(alloc, app)?,
-            sets: new_sets(alloc, app.sets(), app.queues().len(), tasks)?,
+            sets: new_sets(
+                alloc,
+                app.objects().sets(),
+                app.objects().queues().len(),
+                tasks,
+            )?,
         })
     }
 

@@ -24,8 +24,10 @@ use Rattle.rd_timeline.specs.History.{state_after}
 -- one task over a queue for items of one byte, in a set with room for one handle
 abbrev over_a_set : ℕ → List Instr → Application
 over_a_set capacity code = record builtin {
-  queues = record { names = codes "q0" ∷ []; things = record { capacity = capacity; item_size = 1 } ∷ [] };
-  sets = record { names = codes "s0" ∷ []; things = record { capacity = 1; members = 0 ∷ [] } ∷ [] };
+  objects = record (builtin.objects) {
+    queues = record { names = codes "q0" ∷ []; things = record { capacity = capacity; item_size = 1 } ∷ [] };
+    sets = record { names = codes "s0" ∷ []; things = record { capacity = 1; members = 0 ∷ [] } ∷ [] };
+  };
   tasks = record { names = codes "t0" ∷ []; things = record { priority = 1; code = code } ∷ [] };
 }
 

@@ -24,7 +24,9 @@ use Rattle.rd_timeline.specs.History.{state_after}
 abbrev over_a_queue : ℕ → List TaskScript → Application
 over_a_queue cores scripts = record builtin {
   cores = cores;
-  queues = record { names = codes "q0" ∷ []; things = record { capacity = 1; item_size = 1 } ∷ [] };
+  objects = record (builtin.objects) {
+    queues = record { names = codes "q0" ∷ []; things = record { capacity = 1; item_size = 1 } ∷ [] };
+  };
   tasks = record { names = codes "t0" ∷ codes "t1" ∷ codes "t2" ∷ []; things = scripts };
 }
 

@@ -16,7 +16,7 @@ overflow_cast-result c =
       ap (λ (t : Snapshot). length t.objects.queues) c.state-2.ensures.state,
       ap length c.requires.caller.valid.in_limits.objects.queues,
       length-map s.objects.queues shape_of,
-      c.limits.ensures.few_queues,
+      c.limits.ensures.objects.few_queues,
     ) in
     omega (arith, few)
 
@@ -31,6 +31,6 @@ overflow_add-result c =
       ap (λ (t : Snapshot). length t.objects.queues) c.state-2.ensures.state,
       ap length c.requires.caller.valid.in_limits.objects.queues,
       length-map s.objects.queues shape_of,
-      c.limits.ensures.few_queues,
+      c.limits.ensures.objects.few_queues,
     ) in
     omega (arith, few)

@@ -1,5 +1,5 @@
 -- The goals of check_code that the check left open.
-use Rattle.rd_script.specs.Objects.{objects_view}
+use Rattle.rd_script.specs.Objects.{drafts_view}
 use Rattle.serde_json.specs.View.{items_view}
 use Rattle.rd_script.proofs.FileLemmas.{items_count}
 use Rattle.rd_script.proofs.CheckLaws.{check_is}
@@ -7,4 +7,4 @@ use Rattle.rd_script.proofs.file.check_code.Goals as goal
 
 pub loop-line-init : goal.loop-line-init
 loop-line-init c =
-    rw (← items_count c.args.lines.now) (check_is (objects_view c.args.objects.now) (items_view c.args.lines.now))
+    rw (← items_count c.args.lines.now) (check_is (drafts_view c.args.objects.now) (items_view c.args.lines.now))

@@ -1,14 +1,14 @@
 -- The goals of check_scripts that the check left open.
 use Rattle.std.proofs.Common.{◌∙◌, ◌+◌, [], List, ap, drop, map, sym}
 use Rattle.rd_script.specs.Draft.{task_draft_view}
+use Rattle.rd_script.specs.Objects.{drafts_view}
 use Rattle.rd_script.specs.File.{TaskDraft, checked, scripts_after}
-use Rattle.rd_script.specs.Objects.{objects_view}
 use Rattle.rd_script.proofs.CheckLaws.{map_from, scripts_checked}
 use Rattle.rd_script.proofs.file.check_scripts.Goals as goal
 
 pub loop-draft-preserved : goal.loop-draft-preserved
 loop-draft-preserved c =
-    let objects = objects_view c.args.objects.now in
+    let objects = drafts_view c.args.objects.now in
     let drafts = c.args.drafts.now in
     let index = c.loop-draft.draft-index in
     let draft = c.draft-item.result in

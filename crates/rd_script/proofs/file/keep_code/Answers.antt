@@ -4,15 +4,15 @@ use Rattle.std.proofs.lemmas.List.{drop_all}
 use Rattle.serde_json.specs.Data.{Items}
 use Rattle.serde_json.specs.View.{view, items_view}
 use Rattle.serde_json.specs.declared.value.Value.{Value}
+use Rattle.rd_script.specs.Objects.{drafts_view}
 use Rattle.rd_script.specs.File.{lines_after}
-use Rattle.rd_script.specs.Objects.{objects_view}
 use Rattle.rd_script.proofs.CheckLaws.{code_kept, line_is_ok, lines_are_ok}
 use Rattle.rd_script.proofs.FileLemmas.{items_count, items_from}
 use Rattle.rd_script.proofs.file.keep_code.Goals as goal
 
 pub unwrap-requires : goal.unwrap-requires
 unwrap-requires c =
-    let objects = objects_view c.args.objects.now in
+    let objects = drafts_view c.args.objects.now in
     let lines = c.args.lines.now in
     let index = c.loop-line.line-index in
     let line = c.line-item.result in
@@ -24,7 +24,7 @@ unwrap-requires c =
 
 pub returns : goal.returns
 returns c =
-    let objects = objects_view c.args.objects.now in
+    let objects = drafts_view c.args.objects.now in
     let lines = c.args.lines.now in
     let code = c.loop-line.code.items in
     let none : drop c.loop-line.line-index lines ≡ [] = drop_all c.loop-line.line-index lines c.loop-line-test.false in

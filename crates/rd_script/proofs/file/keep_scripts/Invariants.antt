@@ -1,13 +1,13 @@
 -- What holds in each turn of keep_scripts's loop.
 use Rattle.std.proofs.Common.{◌≡◌, [], drop, map}
 use Rattle.rd_script.specs.Draft.{task_draft_view}
+use Rattle.rd_script.specs.Objects.{drafts_view}
 use Rattle.rd_script.specs.File.{scripts_after}
-use Rattle.rd_script.specs.Objects.{objects_view}
 use Rattle.rd_script.proofs.file.keep_scripts.Given as goal
 
 -- the scripts so far, and those of the drafts that are left
 abbrev pub invariant-loop-draft : goal.invariant-loop-draft
 invariant-loop-draft l =
-    let objects = objects_view l.objects in
+    let objects = drafts_view l.objects in
     scripts_after objects l.scripts.items (map task_draft_view (drop l.draft-index l.drafts))
     ≡ scripts_after objects [] (map task_draft_view l.drafts)

@@ -2,7 +2,8 @@
 use Rattle.std.proofs.Common.{◌≡◌, drop, length, map}
 use Rattle.serde_json.specs.View.{items_view}
 use Rattle.rd_script.specs.Draft.{task_draft_view}
-use Rattle.rd_script.specs.File.{nothing_named, tasks_after}
+use Rattle.rd_script.specs.Values.{nothing_named}
+use Rattle.rd_script.specs.File.{tasks_after}
 use Rattle.rd_text.specs.Words.{texts}
 use Rattle.rd_script.proofs.file.read_tasks.Given as goal
 

@@ -8,7 +8,7 @@ use Rattle.serde_json.specs.Events.{items_len}
 use Rattle.serde_json.specs.Find.{get}
 use Rattle.rd_script.specs.declared.error.AppError.TheVariants as fault
 use Rattle.rd_text.specs.Words.{is_name}
-use Rattle.rd_script.specs.File.{is_object_with, object_with, field, in_limits, number_in, array_in, new_name}
+use Rattle.rd_script.specs.Values.{is_object_with, object_with, field, in_limits, number_in, array_in, new_name}
 use Rattle.rd_script.proofs.Steps.{bind_ok, guard_ok, ok_or_ok, then_is}
 use Rattle.rd_text.proofs.Offered.{and_left, and_right, not_true}
 

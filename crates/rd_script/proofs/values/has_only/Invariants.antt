@@ -3,9 +3,9 @@ use Rattle.std.proofs.Common.{◌≡◌, string_bytes}
 use Rattle.std.specs.List.{list_all, list_any}
 use Rattle.std.specs.Str.{bytes_eq}
 use Rattle.serde_json.specs.View.{members_view}
-use Rattle.rd_script.specs.File.{has_only}
+use Rattle.rd_script.specs.Values.{has_only}
 use Rattle.rd_text.specs.Words.{texts}
-use Rattle.rd_script.proofs.file.has_only.Given as goal
+use Rattle.rd_script.proofs.values.has_only.Given as goal
 
 -- the keys that are left decide
 abbrev pub invariant-loop-key : goal.invariant-loop-key

@@ -3,7 +3,7 @@ use Rattle.std.proofs.Common.{◌≡◌, drop}
 use Rattle.std.specs.List.{list_any}
 use Rattle.std.specs.Str.{bytes_eq}
 use Rattle.rd_text.specs.Words.{texts}
-use Rattle.rd_script.proofs.file.stands.Given as goal
+use Rattle.rd_script.proofs.values.stands.Given as goal
 
 -- the names that are left decide
 abbrev pub invariant-loop-other : goal.invariant-loop-other

@@ -1,9 +1,10 @@
 -- What holds in each turn of read_queues's loop.
 use Rattle.std.proofs.Common.{◌≡◌, drop, length}
 use Rattle.serde_json.specs.View.{items_view}
-use Rattle.rd_script.specs.File.{nothing_named, queues_after}
+use Rattle.rd_script.specs.Values.{nothing_named}
+use Rattle.rd_script.specs.Objects.{queues_after}
 use Rattle.rd_text.specs.Words.{texts}
-use Rattle.rd_script.proofs.file.read_queues.Given as goal
+use Rattle.rd_script.proofs.objects.read_queues.Given as goal
 
 -- the queues so far, and those that are left
 abbrev pub invariant-loop-value : goal.invariant-loop-value

@@ -1,11 +1,11 @@
 -- What holds in each turn of read_members's loop.
 use Rattle.std.proofs.Common.{◌≡◌, [], drop, length}
 use Rattle.serde_json.specs.View.{items_view}
-use Rattle.rd_app.specs.Application.{members_of}
-use Rattle.rd_script.specs.File.{members_after}
+use Rattle.rd_app.specs.Objects.{members_of}
+use Rattle.rd_script.specs.Objects.{members_after}
 use Rattle.rd_text.specs.Words.{texts}
 use Rattle.rd_script.proofs.SetLaws.{ArePlaced}
-use Rattle.rd_script.proofs.file.read_members.Given as goal
+use Rattle.rd_script.proofs.objects.read_members.Given as goal
 
 -- the members so far, and those that are left
 abbrev pub invariant-loop-value : goal.invariant-loop-value

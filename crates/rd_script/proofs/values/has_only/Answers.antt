@@ -4,7 +4,7 @@ use Rattle.std.specs.List.{list_any, list_all}
 use Rattle.std.specs.Str.{bytes_eq}
 use Rattle.rd_text.specs.Words.{texts}
 use Rattle.rd_script.proofs.FileLemmas.{keys_all}
-use Rattle.rd_script.proofs.file.has_only.Goals as goal
+use Rattle.rd_script.proofs.values.has_only.Goals as goal
 
 pub loop-key-init : goal.loop-key-init
 loop-key-init c =

@@ -3,13 +3,13 @@ use Rattle.std.proofs.Common.{rules, ◌≡◌, ◌∙◌, ◌+◌, [], ◌∷�
 use Rattle.std.proofs.lemmas.List.{length-map}
 use Rattle.serde_json.specs.Data.{item}
 use Rattle.serde_json.specs.View.{view, items_view}
-use Rattle.rd_app.specs.Application.{members_of}
-use Rattle.rd_script.specs.File.{member_of, members_after}
+use Rattle.rd_app.specs.Objects.{members_of}
+use Rattle.rd_script.specs.Objects.{member_of, members_after}
 use Rattle.rd_text.specs.Words.{texts}
 use Rattle.rd_script.proofs.FileLemmas.{items_from}
 use Rattle.rd_script.proofs.SetLaws.{none_placed, placed_push}
 use Rattle.rd_script.proofs.Steps.{then_is}
-use Rattle.rd_script.proofs.file.read_members.Goals as goal
+use Rattle.rd_script.proofs.objects.read_members.Goals as goal
 
 pub loop-value-init : goal.loop-value-init
 loop-value-init c = rw (c.new-members.ensures) (record { so_far = search rules; placed = none_placed (length (texts c.args.queues.now)) })

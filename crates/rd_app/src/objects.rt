@@ -1,0 +1,140 @@
+//! The objects of an application, as they are to be made. A kind has a field or a row in each of
+//! these.
+
+ghost use Rattle.std.specs.Prelude.{◌≡◌, ◌<◌, length, IfOk, IfSome};
+ghost use Rattle.rd_app.specs.Objects.{names_in, no_objects, objects_view, set_at_boot};
+
+use rd_text::kind::Kind;
+use rd_text::names::Names;
+use std::alloc::{AllocError, Global};
+use std::marker::Model;
+
+/// How many queues an application has at the most.
+pub const MAX_QUEUES: usize = 32;
+
+/// How many queue sets an application has at the most.
+pub const MAX_SETS: usize = 32;
+
+/// A queue to be made: room for 1 to 64 items of 1 to 64 bytes each.
+#[derive(Clone, Copy, Debug, Default, PartialEq, Eq)]
+pub struct QueueShape {
+    pub capacity: usize,
+    pub item_size: usize,
+}
+
+/// A queue set to be made: room for 1 to 2,048 handles (`xQueueCreateSet`), and the queues that are
+/// its members at boot, by number.
+#[derive(Debug, Drop)]
+pub struct SetShape {
+    capacity: usize,
+    members: Vec<usize>,
+}
+
+impl Model for SetShape {
+    ghost use Rattle.rd_app.specs.QueueSetShape.{QueueSetShape};
+
+    ghost Value = { QueueSetShape };
+
+    ghost view = { λ s. record { capacity = s.capacity; members = s.members.items } };
+}
+
+impl SetShape {
+    /// A set with room for `capacity` handles, 1 to 2,048, whose members at boot are these queues.
+    pub fn new(capacity: usize, members: Vec<usize>) -> SetShape
+        ensures { result ≡ record { capacity = capacity; members = members.items } }
+    {
+        SetShape { capacity, members }
+    }
+
+    /// How many handles there is room for.
+    pub fn capacity(&self) -> usize
+        ensures { result ≡ self.now.capacity }
+    {
+        self.capacity
+    }
+
+    /// The queues that are members at boot, by number.
+    pub fn members(&self) -> &[usize]
+        ensures { result.now ≡ self.now.members }
+    {
+        self.members.as_slice()
+    }
+}
+
+/// Things of one kind, with their names. They go by number: the index in both.
+#[derive(Debug, Drop)]
+pub struct Named<T> {
+    /// Their names.
+    pub names: Names,
+    /// The things.
+    pub things: Vec<T>,
+}
+
+/// What objects there are, each kind by number.
+#[derive(Debug, Drop)]
+pub struct NamedObjects {
+    /// The queues, at most 32.
+    pub queues: Named<QueueShape>,
+    /// The queue sets, at most 32.
+    pub sets: Named<SetShape>,
+}
+
+impl NamedObjects {
+    /// No objects of any kind.
+    pub fn none(alloc: Global) -> Result<NamedObjects, AllocError>
+        ensures { IfOk result (λ objects. objects_view objects ≡ no_objects) }
+    {
+        Ok(NamedObjects {
+            queues: Named {
+                names: Names::new(alloc, &[])?,
+                things: Vec::new(alloc),
+            },
+            sets: Named {
+                names: Names::new(alloc, &[])?,
+                things: Vec::new(alloc),
+            },
+        })
+    }
+
+    /// The queues, by number.
+    pub fn queues(&self) -> &[QueueShape]
+        ensures { result.now ≡ (objects_view self.now).queues.things }
+    {
+        self.queues.things.as_slice()
+    }
+
+    /// The queue sets, by number.
+    pub fn sets(&self) -> &[SetShape]
+        ensures { result.now ≡ (objects_view self.now).sets.things }
+    {
+        self.sets.things.as_slice()
+    }
+
+    /// The set that the queue is a member of at boot, if it is one of any.
+    pub fn set_of(&self, queue: usize) -> Option<usize>
+        ensures set { result ≡ set_at_boot (objects_view self.now) queue }
+        ensures within { IfSome result (λ set. set < length (objects_view self.now).sets.things) }
+    {
+        self.sets
+            .things
+            .iter()
+            .position(|set| set.members.contains(&queue))
+    }
+
+    /// The names of a kind, among these objects and the tasks of these names.
+    pub(crate) fn names<'a>(&'a self, tasks: &'a Names, kind: Kind) -> &'a Names
+        ensures { result.now ≡ names_in (objects_view self.now) tasks.now kind }
+    {
+        match kind {
+            Kind::Queue => &self.queues.names,
+            Kind::Set => &self.sets.names,
+            Kind::Task => tasks,
+        }
+    }
+}
+
+/// The limits of objects, as numbers.
+pub fn limits_of_objects()
+    ensures queues { MAX_QUEUES ≡ 32 }
+    ensures sets { MAX_SETS ≡ 32 }
+{}

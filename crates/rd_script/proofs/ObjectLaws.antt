@@ -1,0 +1,116 @@
+-- The objects that are read are those that their file says, within the limits, and what a file says of objects is read.
+use Rattle.std.proofs.Common.{◌≡◌, ◌∙◌, ℕ, ◌≤◌, codes, List, [], ◌∷◌, ◌++◌, length, Option, Some, None, Result, Ok, refl, sym, ap, subst, arith}
+use Rattle.std.specs.List.{AllByRecursion}
+use Rattle.std.proofs.lemmas.List.Elements.{All-from_recursion, recursion_from_All}
+use Rattle.serde_json.specs.Data.{Data, Items, no_items}
+use Rattle.serde_json.specs.Events.{items_len}
+use Rattle.serde_json.specs.Find.{get}
+use Rattle.rd_app.specs.Named.{AreNamed, Named}
+use Rattle.rd_app.specs.Objects.{AreObjects, IsQueueShape, IsSetShape, NamedObjects}
+use Rattle.rd_text.proofs.Offered.{IsNewName}
+use Rattle.rd_script.specs.declared.error.AppError.{AppError}
+use Rattle.rd_script.specs.Objects.{IsQueue, objects_of, queue_of, SaysObjects, SaysSet, set_of}
+use Rattle.rd_script.specs.Values.{array_or_empty, IsArrayOrEmpty, named_at, nothing_named, SaysNamed}
+use Rattle.rd_script.proofs.NamedLaws.{AllByRecursion-first, each_again, each_takes, length_named, named_again, named_take, no_names, said_named}
+use Rattle.rd_script.proofs.QueueLaws as queue
+use Rattle.rd_script.proofs.SetLaws as set
+use Rattle.rd_script.proofs.Steps.{bind_ok, then_is}
+use Rattle.rd_script.proofs.ValueLaws.{array_again, array_ok}
+
+array_or_ok : (most : ℕ) (o : Option Data) (ds : Items) → array_or_empty most o ≡ Ok ds → IsArrayOrEmpty o ds × (items_len ds ≤ most)
+array_or_ok most None ds e = let is : no_items ≡ ds = cc in (sym is, omega (arith, ap items_len is))
+array_or_ok most (Some d) ds e = let a = array_ok 0 most d ds e in (a.0, a.2)
+
+array_or_again : (most : ℕ) (o : Option Data) (ds : Items) → IsArrayOrEmpty o ds → items_len ds ≤ most → array_or_empty most o ≡ Ok ds
+array_or_again most None ds h few = ap Ok (sym h)
+array_or_again most (Some d) ds h few = array_again 0 most d ds h (omega arith) few
+
+-- ---- one kind
+
+-- what was read of an array is what it says, each thing has a name of its own, and they are within limits
+record AreRead {X : Type 0} (Is : Data → List ℕ → X → Type 0) (InLimits : List X → Type 0) (most : ℕ) (key : List ℕ) (d : Data) (named : Named X)
+    : Type 0 where
+  said : SaysNamed Is key d named
+  named_each : AreNamed named
+  few : length named.things ≤ most
+  in_limits : InLimits named.things
+
+named_taken : {X : Type 0} (read : Named X → Data → Result (List ℕ × X) AppError) (Is : Data → List ℕ → X → Type 0) (InLimits : List X → Type 0)
+    → ((before : Named X) (d : Data) (t : List ℕ × X) → read before d ≡ Ok t → InLimits before.things
+    → Is d t.0 t.1 × IsNewName before.names t.0 × InLimits (before.things ++ t.1 ∷ []))
+    → InLimits [] → (most : ℕ) (key : List ℕ) (d : Data) (named : Named X) → named_at read most key d ≡ Ok named → AreRead Is InLimits most key d named
+named_taken read Is InLimits takes none most key d named e =
+    let ds = bind_ok (array_or_empty most (get key d)) _ named e in
+    let are = array_or_ok most (get key d) ds.0 ds.1 in
+    let taken = named_take read Is InLimits takes ds.0 nothing_named named ds.2 (record { are_names = no_names; are_things = none }) in
+    let said = said_named Is ds.0 named taken.0 taken.1 taken.2.names_are taken.2.things_are taken.2.said in
+    let sizes = length_named Is ds.0 named.names named.things said in
+    record {
+      said = (ds.0, are.0, said);
+      named_each = record { paired = omega (arith, sizes); names = taken.2.kept.are_names };
+      few = omega (arith, are.1, sizes);
+      in_limits = taken.2.kept.are_things;
+    }
+
+named_read : {X : Type 0} (read : Named X → Data → Result (List ℕ × X) AppError) (Is : Data → List ℕ → X → Type 0) (InLimits : List X → Type 0)
+    → ((xs ys : List X) → InLimits (xs ++ ys) → InLimits xs)
+    → ((before : Named X) (d : Data) (name : List ℕ) (x : X) → Is d name x → IsNewName before.names name → InLimits (before.things ++ x ∷ [])
+    → read before d ≡ Ok (name, x))
+    → (most : ℕ) (key : List ℕ) (d : Data) (named : Named X) → AreRead Is InLimits most key d named → named_at read most key d ≡ Ok named
+named_read read Is InLimits first again most key d named are =
+    let ds = are.said.0 in
+    let sizes = length_named Is ds named.names named.things are.said.2 in
+    then_is (array_or_empty most (get key d)) _ ds _ (array_or_again most (get key d) ds are.said.1 (omega (arith, sizes, are.few)))
+    (named_again read Is InLimits first again ds nothing_named named.names named.things are.said.2 are.named_each.names are.in_limits)
+
+-- ---- all kinds
+
+objects_made : (d : Data) (o : NamedObjects) → named_at (λ before. queue_of before.names) 32 (codes "queues") d ≡ Ok o.queues
+    → named_at (set_of o.queues.names) 32 (codes "sets") d ≡ Ok o.sets → SaysObjects d o × AreObjects o
+objects_made d o queues_read sets_read =
+    let queues = named_taken (λ before. queue_of before.names) IsQueue (AllByRecursion IsQueueShape)
+    (each_takes queue_of IsQueue IsQueueShape queue.queue_takes) tt 32 (codes "queues") d o.queues queues_read in
+    let sets = named_taken (set_of o.queues.names) (SaysSet o.queues.names) (set.AreSetsOf (length o.queues.names)) (set.set_takes o.queues.names)
+    (set.no_sets (length o.queues.names)) 32 (codes "sets") d o.sets sets_read in (
+      record { queues = queues.said; sets = sets.said; one_set_each = sets.in_limits.one_each },
+      record {
+        named_queues = queues.named_each;
+        few_queues = queues.few;
+        queues = All-from_recursion IsQueueShape o.queues.things queues.in_limits;
+        named_sets = sets.named_each;
+        few_sets = sets.few;
+        sets = All-from_recursion (IsSetShape o) o.sets.things
+            (set.sets_in_limits o (length o.queues.names) o.sets.things (sym queues.named_each.paired) sets.in_limits.shapes);
+        one_set_each = sets.in_limits.one_each;
+      },
+    )
+
+pub objects_take : (d : Data) (o : NamedObjects) → objects_of d ≡ Ok o → SaysObjects d o × AreObjects o
+objects_take d o e =
+    let queues = bind_ok (named_at (λ before. queue_of before.names) 32 (codes "queues") d) _ o e in
+    let sets = bind_ok (named_at (set_of queues.0.names) 32 (codes "sets") d) _ o queues.2 in
+    let made : NamedObjects = record { queues = queues.0; sets = sets.0 } in
+    let is : made ≡ o = cc in
+    subst (λ (o : NamedObjects). SaysObjects d o × AreObjects o) {x = made} is (objects_made d made queues.1 sets.1)
+
+pub objects_again : (d : Data) (o : NamedObjects) → SaysObjects d o → AreObjects o → objects_of d ≡ Ok o
+objects_again d o says limits =
+    let of_queues = set.sets_of_limits o (length o.queues.names) o.sets.things (sym limits.named_queues.paired)
+    (recursion_from_All (IsSetShape o) o.sets.things limits.sets) in
+    then_is (named_at (λ before. queue_of before.names) 32 (codes "queues") d) _ o.queues _
+    (named_read (λ before. queue_of before.names) IsQueue (AllByRecursion IsQueueShape) (AllByRecursion-first IsQueueShape)
+    (each_again queue_of IsQueue IsQueueShape queue.queue_again) 32 (codes "queues") d o.queues (record {
+      said = says.queues;
+      named_each = limits.named_queues;
+      few = limits.few_queues;
+      in_limits = recursion_from_All IsQueueShape o.queues.things limits.queues;
+    }))
+    (then_is (named_at (set_of o.queues.names) 32 (codes "sets") d) _ o.sets _
+    (named_read (set_of o.queues.names) (SaysSet o.queues.names) (set.AreSetsOf (length o.queues.names)) (set.sets_first (length o.queues.names))
+    (set.set_again o.queues.names) 32 (codes "sets") d o.sets (record {
+      said = says.sets;
+      named_each = limits.named_sets;
+      few = limits.few_sets;
+      in_limits = record { shapes = of_queues; one_each = limits.one_set_each };
+    }))
+    refl)
