@@ -10,15 +10,15 @@ use Rattle.rd_text.specs.declared.kind.Kind.{Kind}
 use Rattle.rd_app.specs.declared.instr.Operand.{Operand}
 use Rattle.rd_app.specs.declared.instr.Operand.TheVariants.{Number, Register}
 use Rattle.rd_app.specs.declared.instr.Instr.{Instr}
-use Rattle.rd_app.specs.declared.instr.Instr.TheVariants.{Local, Queue, Set}
+use Rattle.rd_app.specs.declared.instr.Instr.TheVariants.{Local, Queue, QueueSet}
 use Rattle.rd_app.specs.declared.instr.LocalInstr.{LocalInstr}
 use Rattle.rd_app.specs.declared.instr.LocalInstr.TheVariants as local
 use Rattle.rd_app.specs.declared.instr.QueueCall.{QueueCall}
 use Rattle.rd_app.specs.declared.instr.QueueCall.TheVariants.{Send, Receive, Peek}
 use Rattle.rd_app.specs.declared.instr.QueueCall.TheVariants.{Overwrite, Reset, Count, Spaces}
 use Rattle.rd_app.specs.declared.instr.QueueCall.TheVariants.{AddToSet, RemoveFromSet}
-use Rattle.rd_app.specs.declared.instr.SetCall.{SetCall}
-use Rattle.rd_app.specs.declared.instr.SetCall.TheVariants.{Select}
+use Rattle.rd_app.specs.declared.instr.QueueSetCall.{QueueSetCall}
+use Rattle.rd_app.specs.declared.instr.QueueSetCall.TheVariants.{Select}
 use Rattle.rd_queue.specs.declared.waiting_list.WaitingList.{WaitingList}
 use Rattle.rd_queue.specs.declared.waiting_list.WaitingList.TheVariants.{Receiving, Sending}
 use Rattle.rd_app.specs.TaskScript.{TaskScript}
@@ -75,19 +75,19 @@ IsLocalWithin len local.End = Unit {0}
 
 -- The registers that a call of a queue names are there, and of so many sets the one that it names.
 abbrev pub IsQueueCall : ℕ → QueueCall → Type 0
-IsQueueCall sets (Send end wait) = IsOperand wait
-IsQueueCall sets (Receive wait) = IsOperand wait
-IsQueueCall sets (Peek wait) = IsOperand wait
-IsQueueCall sets Overwrite = Unit {0}
-IsQueueCall sets Reset = Unit {0}
-IsQueueCall sets Count = Unit {0}
-IsQueueCall sets Spaces = Unit {0}
-IsQueueCall sets (AddToSet set) = set < sets
-IsQueueCall sets (RemoveFromSet set) = set < sets
+IsQueueCall queue_set_count (Send end wait) = IsOperand wait
+IsQueueCall queue_set_count (Receive wait) = IsOperand wait
+IsQueueCall queue_set_count (Peek wait) = IsOperand wait
+IsQueueCall queue_set_count Overwrite = Unit {0}
+IsQueueCall queue_set_count Reset = Unit {0}
+IsQueueCall queue_set_count Count = Unit {0}
+IsQueueCall queue_set_count Spaces = Unit {0}
+IsQueueCall queue_set_count (AddToSet queue_set) = queue_set < queue_set_count
+IsQueueCall queue_set_count (RemoveFromSet queue_set) = queue_set < queue_set_count
 
 -- The registers that a call of a queue set names are there.
-abbrev pub IsSetCall : SetCall → Type 0
-IsSetCall (Select wait) = IsOperand wait
+abbrev pub IsQueueSetCall : QueueSetCall → Type 0
+IsQueueSetCall (Select wait) = IsOperand wait
 
 -- The call is one for a queue of that shape: only a queue for one item is overwritten.
 abbrev pub IsCallFor : QueueShape → QueueCall → Type 0
@@ -98,8 +98,8 @@ IsCallFor shape Overwrite = shape.capacity ≡ 1
 IsCallFor shape Reset = Unit {0}
 IsCallFor shape Count = Unit {0}
 IsCallFor shape Spaces = Unit {0}
-IsCallFor shape (AddToSet set) = Unit {0}
-IsCallFor shape (RemoveFromSet set) = Unit {0}
+IsCallFor shape (AddToSet queue_set) = Unit {0}
+IsCallFor shape (RemoveFromSet queue_set) = Unit {0}
 
 -- the list of its queue where a task waits for a call, if that has a block time
 abbrev pub list_of_call : QueueCall → Option WaitingList
@@ -110,17 +110,18 @@ list_of_call Overwrite = None
 list_of_call Reset = None
 list_of_call Count = None
 list_of_call Spaces = None
-list_of_call (AddToSet set) = None
-list_of_call (RemoveFromSet set) = None
+list_of_call (AddToSet queue_set) = None
+list_of_call (RemoveFromSet queue_set) = None
 
 -- Registers, instructions of the script and objects are there.
 abbrev pub IsWithin : Application → ℕ → Instr → Type 0
 IsWithin app len (Local instr) = IsLocalWithin len instr
 IsWithin app len (Queue queue call) =
     (queue < length app.objects.queues.things)
-    × IsQueueCall (length app.objects.sets.things) call
+    × IsQueueCall (length app.objects.queue_sets.things) call
     × IsCallFor (shape_at app.objects queue) call
-IsWithin app len (Set set call) = (set < length app.objects.sets.things) × IsSetCall call
+IsWithin app len (QueueSet queue_set call) =
+    (queue_set < length app.objects.queue_sets.things) × IsQueueSetCall call
 
 -- does the script never go on at the next instruction?
 abbrev pub is_local_final : LocalInstr → Bool
@@ -137,7 +138,7 @@ is_local_final local.End = true
 abbrev pub is_final : Instr → Bool
 is_final (Local instr) = is_local_final instr
 is_final (Queue queue call) = false
-is_final (Set set call) = false
+is_final (QueueSet queue_set call) = false
 
 pub record IsScript (app : Application) (script : TaskScript) : Type 0 where
   pub priority : script.priority ≤ MAX_PRIORITY

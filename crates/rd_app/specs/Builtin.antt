@@ -1,5 +1,6 @@
 -- The built-in application: one task that sends three times to a queue with room for two items.
-use Rattle.std.specs.Prelude.{codes, [], ◌∷◌}
+use Rattle.std.specs.Prelude.{codes, List, [], ◌∷◌}
+use Rattle.rd_app.specs.declared.instr.Instr.{Instr}
 use Rattle.rd_app.specs.declared.instr.Operand.TheVariants.{Number}
 use Rattle.rd_app.specs.declared.instr.Instr.TheVariants.{Local, Queue}
 use Rattle.rd_app.specs.declared.instr.LocalInstr.TheVariants.{Data, End}
@@ -7,6 +8,16 @@ use Rattle.rd_app.specs.declared.instr.QueueCall.TheVariants.{Send}
 use Rattle.rd_queue.specs.declared.end.End.TheVariants.{Back}
 use Rattle.rd_app.specs.Application.{Application}
 use Rattle.rd_app.specs.Objects.{no_objects}
+
+-- the instructions of its task
+abbrev pub builtin_code : List Instr
+builtin_code =
+    Local (Data (65 ∷ []))
+    ∷ Queue 0 (Send Back (Number 0))
+    ∷ Queue 0 (Send Back (Number 0))
+    ∷ Queue 0 (Send Back (Number 0))
+    ∷ Local End
+    ∷ []
 
 abbrev pub builtin : Application
 builtin = record {
@@ -21,15 +32,6 @@ builtin = record {
   };
   tasks = record {
     names = codes "t0" ∷ [];
-    things = record {
-      priority = 1;
-      code =
-          Local (Data (65 ∷ []))
-          ∷ Queue 0 (Send Back (Number 0))
-          ∷ Queue 0 (Send Back (Number 0))
-          ∷ Queue 0 (Send Back (Number 0))
-          ∷ Local End
-          ∷ [];
-    } ∷ [];
+    things = record { priority = 1; code = builtin_code } ∷ [];
   };
 }

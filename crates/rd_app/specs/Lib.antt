@@ -1,6 +1,6 @@
 -- What the contracts of this crate cite.
 pub mod TaskScript
-pub mod QueueSetShape
+pub mod QueueSetShapeView
 pub mod Objects
 pub mod Application
 pub mod Named

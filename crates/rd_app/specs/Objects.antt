@@ -1,38 +1,39 @@
 -- The objects of an application, and the limits that each keeps.
-use Rattle.std.specs.Prelude.{ℕ, ◌<◌, ◌≤◌, List, [], length, map, slice_index_or, All, Option, nat_eq, position}
+use Rattle.std.specs.Prelude.{ℕ, ◌<◌, ◌≤◌, List, [], length, map, slice_index_or, All, Option}
+use Rattle.std.specs.Prelude.{nat_eq, position}
 use Rattle.std.specs.List.{IsDistinct, concat, list_any}
 use Rattle.rd_text.specs.declared.kind.Kind.{Kind}
 use Rattle.rd_text.specs.declared.kind.Kind.TheVariants as kind
 use Rattle.rd_queue.specs.declared.item.TheConstants.{MAX_ITEM_SIZE}
 use Rattle.rd_queue.specs.declared.queue.TheConstants.{MAX_ITEMS}
 use Rattle.rd_queue.specs.declared.queue_set.TheConstants.{MAX_HANDLES}
-use Rattle.rd_app.specs.declared.objects.TheConstants.{MAX_QUEUES, MAX_SETS}
+use Rattle.rd_app.specs.declared.objects.TheConstants.{MAX_QUEUES, MAX_QUEUE_SETS}
 use Rattle.rd_app.specs.declared.objects.QueueShape.{QueueShape}
 use Rattle.rd_app.specs.declared.objects.NamedObjects as code
 use Rattle.rd_app.specs.Named.{AreNamed, Named, named_view}
-use Rattle.rd_app.specs.QueueSetShape.{QueueSetShape}
+use Rattle.rd_app.specs.QueueSetShapeView.{QueueSetShapeView}
 
 pub record NamedObjects : Type 0 where
   pub queues : Named QueueShape
-  pub sets : Named QueueSetShape
+  pub queue_sets : Named QueueSetShapeView
 
 abbrev pub no_objects : NamedObjects
 no_objects = record {
   queues = record { names = []; things = [] };
-  sets = record { names = []; things = [] };
+  queue_sets = record { names = []; things = [] };
 }
 
 -- what a contract sees of the code's
 abbrev pub objects_view : code.NamedObjects → NamedObjects
 objects_view objects = record {
   queues = named_view objects.queues;
-  sets = named_view objects.sets;
+  queue_sets = named_view objects.queue_sets;
 }
 
 -- the names of a kind, among these objects and the tasks of these names
 abbrev pub names_in : NamedObjects → List (List ℕ) → Kind → List (List ℕ)
 names_in o tasks kind.Queue = o.queues.names
-names_in o tasks kind.Set = o.sets.names
+names_in o tasks kind.QueueSet = o.queue_sets.names
 names_in o tasks kind.Task = tasks
 
 -- the shape of a queue
@@ -40,12 +41,13 @@ abbrev pub shape_at : NamedObjects → ℕ → QueueShape
 shape_at o queue = slice_index_or o.queues.things queue (record { capacity = 0; item_size = 0 })
 
 -- the set that a queue is a member of at boot, if it is one of any
-abbrev pub set_at_boot : NamedObjects → ℕ → Option ℕ
-set_at_boot o queue = position (λ set. list_any (nat_eq queue) set.members) o.sets.things
+abbrev pub queue_set_at_boot : NamedObjects → ℕ → Option ℕ
+queue_set_at_boot o queue =
+    position (λ queue_set. list_any (nat_eq queue) queue_set.members) o.queue_sets.things
 
 -- the members of all these sets, one set after another
-abbrev pub members_of : List QueueSetShape → List ℕ
-members_of sets = concat (map (λ set. set.members) sets)
+abbrev pub members_of : List QueueSetShapeView → List ℕ
+members_of queue_sets = concat (map (λ queue_set. queue_set.members) queue_sets)
 
 abbrev pub IsQueueShape : QueueShape → Type 0
 IsQueueShape queue =
@@ -55,16 +57,16 @@ IsQueueShape queue =
     × (queue.item_size ≤ MAX_ITEM_SIZE)
 
 -- There is room for handles, and the members are queues.
-pub record IsSetShape (o : NamedObjects) (set : QueueSetShape) : Type 0 where
-  pub some : 0 < set.capacity
-  pub few : set.capacity ≤ MAX_HANDLES
-  pub members : All (λ queue. queue < length o.queues.things) set.members
+pub record IsQueueSetShape (o : NamedObjects) (queue_set : QueueSetShapeView) : Type 0 where
+  pub some : 0 < queue_set.capacity
+  pub few : queue_set.capacity ≤ MAX_HANDLES
+  pub members : All (λ queue. queue < length o.queues.things) queue_set.members
 
 pub record AreObjects (o : NamedObjects) : Type 0 where
   pub named_queues : AreNamed o.queues
   pub few_queues : length o.queues.things ≤ MAX_QUEUES
   pub queues : All IsQueueShape o.queues.things
-  pub named_sets : AreNamed o.sets
-  pub few_sets : length o.sets.things ≤ MAX_SETS
-  pub sets : All (IsSetShape o) o.sets.things
-  pub one_set_each : IsDistinct nat_eq (members_of o.sets.things)
+  pub named_queue_sets : AreNamed o.queue_sets
+  pub few_queue_sets : length o.queue_sets.things ≤ MAX_QUEUE_SETS
+  pub queue_sets : All (IsQueueSetShape o) o.queue_sets.things
+  pub one_queue_set_each : IsDistinct nat_eq (members_of o.queue_sets.things)

@@ -5,7 +5,7 @@ ghost use Rattle.std.specs.Prelude.{All, Some, IfOk};
 ghost use Rattle.std.specs.Str.{bytes_eq};
 ghost use Rattle.rd_app.specs.Application.{IsApplication, IsWithin, names_of, code_of};
 ghost use Rattle.rd_app.specs.Application.{priorities_of};
-ghost use Rattle.rd_app.specs.Builtin.{builtin};
+ghost use Rattle.rd_app.specs.Builtin.{builtin, builtin_code};
 ghost use Rattle.rd_app.specs.Inside.{application_of};
 ghost use Rattle.rd_app.specs.Objects.{objects_view};
 
@@ -104,6 +104,29 @@ fn priorities_of(alloc: Global, scripts: &[Script]) -> Result<Vec<u8>, AllocErro
     Ok(priorities)
 }
 
+// The instructions of the built-in application's task. (One by one: to drop an array of them costs
+// a proof of its own.)
+fn builtin_code(alloc: Global) -> Result<Vec<Instr>, AllocError>
+    ensures { IfOk result (λ code. code.items ≡ builtin_code) }
+{
+    let data = LocalInstr::Data {
+        bytes: Bytes::from_slice(b"\x41"),
+    };
+    let call = QueueCall::Send {
+        end: End::Back,
+        wait: Operand::Number { value: 0 },
+    };
+    let mut code = Vec::with_capacity(alloc, 5)?;
+    code.push(Instr::Local { instr: data })?;
+    code.push(Instr::Queue { queue: 0, call })?;
+    code.push(Instr::Queue { queue: 0, call })?;
+    code.push(Instr::Queue { queue: 0, call })?;
+    code.push(Instr::Local {
+        instr: LocalInstr::End,
+    })?;
+    Ok(code)
+}
+
 impl App {
     /// The application of these parts, which are within the limits.
     pub fn new(alloc: Global, parts: Parts) -> Result<App, AllocError>
@@ -122,36 +145,20 @@ impl App {
             capacity: 2,
             item_size: 1,
         };
-        let call = QueueCall::Send {
-            end: End::Back,
-            wait: Operand::Number { value: 0 },
-        };
-        let code = vec![in alloc;
-            Instr::Local {
-                instr: LocalInstr::Data {
-                    bytes: Bytes::from_slice(b"\x41")
-                }
-            },
-            Instr::Queue { queue: 0, call },
-            Instr::Queue { queue: 0, call },
-            Instr::Queue { queue: 0, call },
-            Instr::Local {
-                instr: LocalInstr::End
-            },
-        ]?;
-        let mut objects = NamedObjects::none(alloc)?;
-        objects.queues = Named {
+        let queues = Named {
             names: Names::new(alloc, &["q0"])?,
             things: vec![in alloc; queue]?,
         };
+        let mut scripts = Vec::with_capacity(alloc, 1)?;
+        scripts.push(Script::new(1, builtin_code(alloc)?))?;
         let parts = Parts {
             cores: 1,
             entries: 1,
             tick: 0,
-            objects,
+            objects: NamedObjects::of_queues(alloc, queues)?,
             tasks: Named {
                 names: Names::new(alloc, &["t0"])?,
-                things: vec![in alloc; Script::new(1, code)]?,
+                things: scripts,
             },
         };
         App::new(alloc, parts)

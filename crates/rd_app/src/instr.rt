@@ -66,14 +66,14 @@ pub enum QueueCall {
     /// `spaces Q`: the number of free slots (`uxQueueSpacesAvailable`).
     Spaces,
     /// `setadd Q S`: makes the queue a member of the set (`xQueueAddToSet`).
-    AddToSet { set: usize },
+    AddToSet { queue_set: usize },
     /// `setdel Q S`: the queue is no longer a member of the set (`xQueueRemoveFromSet`).
-    RemoveFromSet { set: usize },
+    RemoveFromSet { queue_set: usize },
 }
 
 /// A call of a queue set.
 #[derive(Clone, Copy, Debug, PartialEq, Eq)]
-pub enum SetCall {
+pub enum QueueSetCall {
     /// `select S T`: takes the set's first handle, that of a member with an item, and waits for one
     /// up to the block time (`xQueueSelectFromSet`).
     Select { wait: Operand },
@@ -83,11 +83,19 @@ pub enum SetCall {
 #[derive(Debug, Drop)]
 pub enum Instr {
     /// One that touches nothing but its own task.
-    Local { instr: LocalInstr },
+    Local {
+        instr: LocalInstr,
+    },
     /// A call of a queue.
-    Queue { queue: usize, call: QueueCall },
+    Queue {
+        queue: usize,
+        call: QueueCall,
+    },
     /// A call of a queue set.
-    Set { set: usize, call: SetCall },
+    QueueSet {
+        queue_set: usize,
+        call: QueueSetCall,
+    },
 }
 
 /// How many registers a task has, as a number.

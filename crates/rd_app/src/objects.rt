@@ -2,7 +2,8 @@
 //! these.
 
 ghost use Rattle.std.specs.Prelude.{◌≡◌, ◌<◌, length, IfOk, IfSome};
-ghost use Rattle.rd_app.specs.Objects.{names_in, no_objects, objects_view, set_at_boot};
+ghost use Rattle.rd_app.specs.Named.{named_view};
+ghost use Rattle.rd_app.specs.Objects.{names_in, no_objects, objects_view, queue_set_at_boot};
 
 use rd_text::kind::Kind;
 use rd_text::names::Names;
@@ -13,7 +14,7 @@ use std::marker::Model;
 pub const MAX_QUEUES: usize = 32;
 
 /// How many queue sets an application has at the most.
-pub const MAX_SETS: usize = 32;
+pub const MAX_QUEUE_SETS: usize = 32;
 
 /// A queue to be made: room for 1 to 64 items of 1 to 64 bytes each.
 #[derive(Clone, Copy, Debug, Default, PartialEq, Eq)]
@@ -25,25 +26,25 @@ pub struct QueueShape {
 /// A queue set to be made: room for 1 to 2,048 handles (`xQueueCreateSet`), and the queues that are
 /// its members at boot, by number.
 #[derive(Debug, Drop)]
-pub struct SetShape {
+pub struct QueueSetShape {
     capacity: usize,
     members: Vec<usize>,
 }
 
-impl Model for SetShape {
-    ghost use Rattle.rd_app.specs.QueueSetShape.{QueueSetShape};
+impl Model for QueueSetShape {
+    ghost use Rattle.rd_app.specs.QueueSetShapeView.{QueueSetShapeView};
 
-    ghost Value = { QueueSetShape };
+    ghost Value = { QueueSetShapeView };
 
     ghost view = { λ s. record { capacity = s.capacity; members = s.members.items } };
 }
 
-impl SetShape {
+impl QueueSetShape {
     /// A set with room for `capacity` handles, 1 to 2,048, whose members at boot are these queues.
-    pub fn new(capacity: usize, members: Vec<usize>) -> SetShape
+    pub fn new(capacity: usize, members: Vec<usize>) -> QueueSetShape
         ensures { result ≡ record { capacity = capacity; members = members.items } }
     {
-        SetShape { capacity, members }
+        QueueSetShape { capacity, members }
     }
 
     /// How many handles there is room for.
@@ -76,7 +77,7 @@ pub struct NamedObjects {
     /// The queues, at most 32.
     pub queues: Named<QueueShape>,
     /// The queue sets, at most 32.
-    pub sets: Named<SetShape>,
+    pub queue_sets: Named<QueueSetShape>,
 }
 
 impl NamedObjects {
@@ -89,11 +90,20 @@ impl NamedObjects {
                 names: Names::new(alloc, &[])?,
                 things: Vec::new(alloc),
             },
-            sets: Named {
+            queue_sets: Named {
                 names: Names::new(alloc, &[])?,
                 things: Vec::new(alloc),
             },
         })
+    }
+
+    /// These queues, and no objects of any other kind.
+    pub fn of_queues(alloc: Global, queues: Named<QueueShape>) -> Result<NamedObjects, AllocError>
+        ensures { IfOk result
+            (λ objects. objects_view objects ≡ record no_objects { queues = named_view queues }) }
+    {
+        let none = NamedObjects::none(alloc)?;
+        Ok(NamedObjects { queues, ..none })
     }
 
     /// The queues, by number.
@@ -104,21 +114,22 @@ impl NamedObjects {
     }
 
     /// The queue sets, by number.
-    pub fn sets(&self) -> &[SetShape]
-        ensures { result.now ≡ (objects_view self.now).sets.things }
+    pub fn queue_sets(&self) -> &[QueueSetShape]
+        ensures { result.now ≡ (objects_view self.now).queue_sets.things }
     {
-        self.sets.things.as_slice()
+        self.queue_sets.things.as_slice()
     }
 
     /// The set that the queue is a member of at boot, if it is one of any.
     pub fn set_of(&self, queue: usize) -> Option<usize>
-        ensures set { result ≡ set_at_boot (objects_view self.now) queue }
-        ensures within { IfSome result (λ set. set < length (objects_view self.now).sets.things) }
+        ensures queue_set { result ≡ queue_set_at_boot (objects_view self.now) queue }
+        ensures within { IfSome result
+            (λ queue_set. queue_set < length (objects_view self.now).queue_sets.things) }
     {
-        self.sets
+        self.queue_sets
             .things
             .iter()
-            .position(|set| set.members.contains(&queue))
+            .position(|queue_set| queue_set.members.contains(&queue))
     }
 
     /// The names of a kind, among these objects and the tasks of these names.
@@ -127,7 +138,7 @@ impl NamedObjects {
     {
         match kind {
             Kind::Queue => &self.queues.names,
-            Kind::Set => &self.sets.names,
+            Kind::QueueSet => &self.queue_sets.names,
             Kind::Task => tasks,
         }
     }
@@ -136,5 +147,5 @@ impl NamedObjects {
 /// The limits of objects, as numbers.
 pub fn limits_of_objects()
     ensures queues { MAX_QUEUES ≡ 32 }
-    ensures sets { MAX_SETS ≡ 32 }
+    ensures queue_sets { MAX_QUEUE_SETS ≡ 32 }
 {}

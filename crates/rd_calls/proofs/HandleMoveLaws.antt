@@ -2,7 +2,7 @@
 use Rattle.std.proofs.Common.{◌≡◌, ◌∙◌, ℕ, zero, suc, true, false, cond, List, length, refl, ap, sym}
 use Rattle.std.specs.Prelude.{◌+◌, Option, None, Some, Result, Ok, Err, nat_lt}
 use Rattle.rd_app.specs.declared.instr.Instr.{Instr}
-use Rattle.rd_app.specs.declared.instr.Instr.TheVariants.{Local, Queue, Set}
+use Rattle.rd_app.specs.declared.instr.Instr.TheVariants.{Local, Queue, QueueSet}
 use Rattle.rd_app.specs.declared.instr.LocalInstr.{LocalInstr}
 use Rattle.rd_app.specs.declared.instr.LocalInstr.TheVariants.{Add, Move, Data, Pack, Unpack, Jump, JumpZero, End}
 use Rattle.rd_app.specs.declared.instr.LocalInstr.TheVariants as local
@@ -15,8 +15,8 @@ use Rattle.rd_kernel.specs.declared.outcome.Outcome.TheVariants.{Returns, Waits,
 use Rattle.rd_kernel.specs.Outcomes.{Called, concluded}
 use Rattle.rd_kernel.specs.Waking.{is_due, timed_out, woken}
 use Rattle.rd_queue_calls.specs.QueueCalls.{queue_outcome}
-use Rattle.rd_queue_calls.specs.SetCalls.{set_outcome}
-use Rattle.rd_queue_calls.specs.SetLaws.{handles_in}
+use Rattle.rd_queue_calls.specs.QueueSetCalls.{queue_set_outcome}
+use Rattle.rd_queue_calls.specs.QueueSetLaws.{handles_in}
 use Rattle.rd_queue_calls.proofs.Offered.{handles_go_by_calls, handles_woken_at}
 use Rattle.rd_calls.specs.declared.moves.Move.TheVariants as move
 use Rattle.rd_calls.specs.HandleMoves.{HandlesGoByMoves, handles_performed, handles_run}
@@ -36,7 +36,7 @@ of_local s core task End = refl
 
 -- what becomes of a caller
 of_concluded : (s : Snapshot) (outcome : Outcome) (core task : ℕ) → handles_in (concluded (record { state = s; outcome = outcome }) core task) ≡ handles_in s
-of_concluded s (Returns answer) core task = refl
+of_concluded s (Returns value) core task = refl
 of_concluded s (Waits place deadline) core task = refl
 of_concluded s (Fails cause) core task = refl
 
@@ -45,9 +45,9 @@ of_instr priorities s core task (Local instr) = of_local s core task instr
 of_instr priorities s core task (Queue queue call) =
     let called = queue_outcome priorities s task queue call in
     of_concluded called.state called.outcome core task ∙ handles_go_by_calls.of_queues priorities s task queue call
-of_instr priorities s core task (Set number call) =
-    let called = set_outcome priorities s task number call in
-    of_concluded called.state called.outcome core task ∙ handles_go_by_calls.of_sets priorities s task number call
+of_instr priorities s core task (QueueSet number call) =
+    let called = queue_set_outcome priorities s task number call in
+    of_concluded called.state called.outcome core task ∙ handles_go_by_calls.of_queue_sets priorities s task number call
 
 -- those whose time is up
 of_timed_out : (priorities : List ℕ) (n : ℕ) (s : Snapshot) → handles_in (timed_out priorities n s) ≡ handles_in s

@@ -8,7 +8,7 @@ use Rattle.std.proofs.lemmas.List.{length-map}
 use Rattle.std.proofs.lemmas.List.Elements.{All-get_or}
 use Rattle.std.proofs.Math.Nat.{mod-lt}
 use Rattle.rd_app.specs.declared.instr.Instr.{Instr}
-use Rattle.rd_app.specs.declared.instr.Instr.TheVariants.{Local, Queue, Set}
+use Rattle.rd_app.specs.declared.instr.Instr.TheVariants.{Local, Queue, QueueSet}
 use Rattle.rd_app.specs.declared.instr.LocalInstr.TheVariants.{Add, Move, Data, Pack, Unpack, Jump, JumpZero, End}
 use Rattle.rd_app.specs.declared.instr.LocalInstr.TheVariants as local
 use Rattle.rd_state.specs.declared.phase.Phase.TheVariants.{Run, Ended}
@@ -18,8 +18,8 @@ use Rattle.rd_state.specs.Settled.{seating_of, settled, IsSettled}
 use Rattle.rd_state.specs.Sizes.{IsSized}
 use Rattle.rd_state.specs.Snapshot.{Snapshot, task_at, core_at, with_task}
 use Rattle.rd_state.specs.Valid.{IsValid, PhaseFitsCall, place_of_call, seats_to_run}
-use Rattle.rd_state.specs.Objects.{room_of, shape_of}
-use Rattle.rd_app.specs.QueueSetShape.{QueueSetShape}
+use Rattle.rd_state.specs.Objects.{capacity_of, shape_of}
+use Rattle.rd_app.specs.QueueSetShapeView.{QueueSetShapeView}
 use Rattle.rd_state.proofs.Offered.{scheduling_settles, stays_settled, SeatsKept, SeatsKept-settled, SeatsKept-rotated, SeatsKept-then}
 use Rattle.rd_calls.specs.Local.{unpacked}
 use Rattle.rd_calls.specs.Step.{performed, next_instr, core_step, ticked, tick_step}
@@ -29,7 +29,7 @@ use Rattle.rd_kernel.proofs.Offered.{IsValid-consistent, IsConsistent, IsConsist
 use Rattle.rd_kernel.proofs.Offered.{all_have_time_left, RunsInstr, IsConsistent-advanced, IsConsistent-stopped, IsConsistent-with_pc, due_idle}
 use Rattle.rd_kernel.proofs.Offered.{is_task_on_core, room_in_ready, runs_on_core, runs_outside_calls, TimedOut, TimedOut-so_far}
 use Rattle.rd_kernel.proofs.Offered.{have_time_left_below}
-use Rattle.rd_queue_calls.proofs.Offered.{IsConsistent-queue_call, IsConsistent-set_call, queue_call-tick, set_call-tick}
+use Rattle.rd_queue_calls.proofs.Offered.{IsConsistent-queue_call, IsConsistent-queue_set_call, queue_call-tick, queue_set_call-tick}
 
 -- ---- a move of a core
 
@@ -38,8 +38,8 @@ IsConsistent-performed : (app : Application) (s : Snapshot) (core task : ℕ) (i
     → 1 ≤ seats_to_run (task_at s task).phase → core < length s.cores → core_at s core ≡ Some task
     → instr_at app task (task_at s task).pc ≡ instr → IsWithin app (length (code_of app task)) instr
     → (is_final instr ≡ false → (task_at s task).pc + 1 < length (code_of app task))
-    → length s.objects.queues ≡ length app.objects.queues.things → length s.objects.sets ≡ length app.objects.sets.things → IsConsistent app (all_have_time_left s.tick) (performed (priorities_of app) s core task instr)
-IsConsistent-performed app s core task instr valid there runs has_core e is within next queues sets =
+    → length s.objects.queues ≡ length app.objects.queues.things → length s.objects.queue_sets ≡ length app.objects.queue_sets.things → IsConsistent app (all_have_time_left s.tick) (performed (priorities_of app) s core task instr)
+IsConsistent-performed app s core task instr valid there runs has_core e is within next queues queue_sets =
     let D = all_have_time_left s.tick in
     let at = IsConsistent-valid app s valid in
     let x = task_at s task in
@@ -85,8 +85,8 @@ IsConsistent-performed app s core task instr valid there runs has_core e is with
         (IsConsistent-valid app s valid)
     by_instr (Queue queue call) within next calls further jumps =
         IsConsistent-queue_call app s core task queue call (calls refl) (omega (arith, within.0, queues))
-    by_instr (Set set call) within next calls further jumps =
-        IsConsistent-set_call app s core task set call (calls refl) (omega (arith, within.0, sets))
+    by_instr (QueueSet queue_set call) within next calls further jumps =
+        IsConsistent-queue_set_call app s core task queue_set call (calls refl) (omega (arith, within.0, queue_sets))
 
 -- The last instruction of a script doesn't go on at the next.
 not_last : (app : Application) (script : TaskScript) (pc : ℕ) → IsScript app script → pc < length script.code
@@ -110,10 +110,10 @@ IsConsistent-next_instr app s core task limits valid has_core e =
     let within = valid.in_limits.pcs task there in
     let fits = All-get_or (IsWithin app (length script.code)) script.code pc (Local End) within ok.within in
     let queues : length s.objects.queues ≡ length app.objects.queues.things = sym (length-map s.objects.queues shape_of) ∙ ap length valid.in_limits.objects.queues in
-    let sets : length s.objects.sets ≡ length app.objects.sets.things =
-    sym (length-map s.objects.sets room_of) ∙ ap length valid.in_limits.objects.sets ∙ length-map app.objects.sets.things (λ (set : QueueSetShape). set.capacity) in
+    let queue_sets : length s.objects.queue_sets ≡ length app.objects.queue_sets.things =
+    sym (length-map s.objects.queue_sets capacity_of) ∙ ap length valid.in_limits.objects.queue_sets ∙ length-map app.objects.queue_sets.things (λ (queue_set : QueueSetShapeView). queue_set.capacity) in
     IsConsistent-performed app s core task (next_instr app s task) valid there (runs_on_core app s core task valid has_core e) has_core e refl fits
-    (not_last app script pc ok within) queues sets
+    (not_last app script pc ok within) queues queue_sets
 
 performed-tick : (priorities : List ℕ) (s : Snapshot) (core task : ℕ) (instr : Instr) → (performed priorities s core task instr).tick ≡ s.tick
 performed-tick priorities s core task (Local (local.Set register value)) = refl
@@ -126,7 +126,7 @@ performed-tick priorities s core task (Local (Jump target)) = refl
 performed-tick priorities s core task (Local (JumpZero register target)) = refl
 performed-tick priorities s core task (Local End) = refl
 performed-tick priorities s core task (Queue queue call) = queue_call-tick priorities s core task queue call
-performed-tick priorities s core task (Set set call) = set_call-tick priorities s core task set call
+performed-tick priorities s core task (QueueSet queue_set call) = queue_set_call-tick priorities s core task queue_set call
 
 pub IsValid-step : (app : Application) (s s' : Snapshot) (core task : ℕ) → IsApplication app → IsValid app s → core < length s.cores
     → core_at s core ≡ Some task

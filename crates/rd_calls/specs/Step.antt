@@ -2,8 +2,8 @@
 use Rattle.std.specs.Prelude.{ℕ, ◌≡◌, ◌+◌, ◌*◌, ◌%◌, ◌<◌, ◌≤◌, List, length, drop, position, nat_lt}
 use Rattle.std.specs.Prelude.{if◌then◌else◌, Option, None, Some, is_some, Result, Ok, Err}
 use Rattle.rd_app.specs.declared.instr.Instr.{Instr}
-use Rattle.rd_app.specs.declared.instr.Instr.TheVariants.{Local, Queue, Set}
-use Rattle.rd_app.specs.Application.{Application, IsQueueCall, IsSetCall, instr_at}
+use Rattle.rd_app.specs.declared.instr.Instr.TheVariants.{Local, Queue, QueueSet}
+use Rattle.rd_app.specs.Application.{Application, IsQueueCall, IsQueueSetCall, instr_at}
 use Rattle.rd_app.specs.Application.{priorities_of}
 use Rattle.rd_text.specs.declared.refusal.Refusal.{Refusal}
 use Rattle.rd_text.specs.declared.refusal.Refusal.TheVariants.{NoTask, TickLimit}
@@ -19,7 +19,7 @@ use Rattle.rd_kernel.specs.Costs.{ending_cost}
 use Rattle.rd_kernel.specs.Outcomes.{concluded}
 use Rattle.rd_kernel.specs.Waking.{timed_out}
 use Rattle.rd_queue_calls.specs.QueueCalls.{dropped_by, queue_call_cost, queue_outcome}
-use Rattle.rd_queue_calls.specs.SetCalls.{set_outcome}
+use Rattle.rd_queue_calls.specs.QueueSetCalls.{queue_set_outcome}
 use Rattle.rd_calls.specs.declared.moves.Move.{Move}
 use Rattle.rd_calls.specs.declared.moves.Move.TheVariants.{Core, Tick}
 
@@ -28,8 +28,8 @@ abbrev pub performed : List ℕ → Snapshot → ℕ → ℕ → Instr → Snaps
 performed priorities s core task (Local instr) = local_step s core task instr
 performed priorities s core task (Queue queue call) =
     concluded (queue_outcome priorities s task queue call) core task
-performed priorities s core task (Set set call) =
-    concluded (set_outcome priorities s task set call) core task
+performed priorities s core task (QueueSet queue_set call) =
+    concluded (queue_set_outcome priorities s task queue_set call) core task
 
 -- the instruction that a task stands at
 abbrev pub next_instr : Application → Snapshot → ℕ → Instr
@@ -88,7 +88,7 @@ policy_of s = move_from s.turn (position is_some (drop s.turn s.cores))
 abbrev pub dropped_by_instr : Snapshot → Instr → ℕ
 dropped_by_instr s (Local instr) = 0
 dropped_by_instr s (Queue queue call) = dropped_by s queue call
-dropped_by_instr s (Set set call) = 0
+dropped_by_instr s (QueueSet queue_set call) = 0
 
 abbrev pub dropped_by_task : Application → Snapshot → Option ℕ → ℕ
 dropped_by_task app s None = 0
@@ -120,8 +120,9 @@ pub record IsPlayed (app : Application) (s : Snapshot) (move : Move) (s' : Snaps
 abbrev pub NamesParts : Numbers → Instr → Type 0
 NamesParts numbers (Local instr) = NamesRegisters instr
 NamesParts numbers (Queue queue call) =
-    (queue < numbers.queues) × IsQueueCall numbers.sets call
-NamesParts numbers (Set set call) = (set < numbers.sets) × IsSetCall call
+    (queue < numbers.queue_count) × IsQueueCall numbers.queue_set_count call
+NamesParts numbers (QueueSet queue_set call) =
+    (queue_set < numbers.queue_set_count) × IsQueueSetCall call
 
 -- What an instruction takes in a record at the most: a call, what becomes of its caller, and the
 -- bytes that it drops.

@@ -36,7 +36,7 @@ fn register_at(editing: &Editing, task: usize, register: usize) -> u32
 }
 
 // A register gets a value, and the script goes on.
-fn put_register(
+fn assign_register(
     editing: &mut Editing,
     task: usize,
     register: usize,
@@ -54,7 +54,7 @@ fn put_register(
 }
 
 // The data becomes these bytes, and the script goes on.
-fn put_bytes(
+fn assign_bytes(
     alloc: Global,
     editing: &mut Editing,
     task: usize,
@@ -101,23 +101,23 @@ pub fn do_local(
     ensures err { OnErr result (KeepsBase editing.old editing.new) }
 {
     match instr {
-        LocalInstr::Set { register, value } => put_register(editing, task, *register, *value),
+        LocalInstr::Set { register, value } => assign_register(editing, task, *register, *value),
         LocalInstr::Add { register, value } => {
             let sum = register_at(editing, task, *register).wrapping_add(*value);
-            put_register(editing, task, *register, sum)
+            assign_register(editing, task, *register, sum)
         }
         LocalInstr::Move { into, from } => {
             let value = register_at(editing, task, *from);
-            put_register(editing, task, *into, value)
+            assign_register(editing, task, *into, value)
         }
-        LocalInstr::Data { bytes } => put_bytes(alloc, editing, task, bytes.as_slice()),
+        LocalInstr::Data { bytes } => assign_bytes(alloc, editing, task, bytes.as_slice()),
         LocalInstr::Pack { register } => {
             let bytes = register_at(editing, task, *register).to_le_bytes();
-            put_bytes(alloc, editing, task, &bytes)
+            assign_bytes(alloc, editing, task, &bytes)
         }
         LocalInstr::Unpack { register } => {
             let value = unpacked(editing.state().task(task).bytes());
-            put_register(editing, task, *register, value)
+            assign_register(editing, task, *register, value)
         }
         LocalInstr::Jump { target } => set_pc(editing, task, *target),
         LocalInstr::JumpZero { register, target } => {

@@ -17,7 +17,7 @@ use rd_bytes::no_memory::NoMemory;
 use rd_kernel::conclude::conclude;
 use rd_kernel::steps::set_turn;
 use rd_queue_calls::calls::call_queue;
-use rd_queue_calls::selecting::call_set;
+use rd_queue_calls::selecting::call_queue_set;
 use rd_state::editing::Editing;
 use std::alloc::Global;
 
@@ -45,8 +45,8 @@ fn perform(
             let outcome = call_queue(app, editing, task, *queue, *call)?;
             conclude(editing, core, task, outcome)
         }
-        Instr::Set { set, call } => {
-            let outcome = call_set(app, editing, task, *set, *call)?;
+        Instr::QueueSet { queue_set, call } => {
+            let outcome = call_queue_set(app, editing, task, *queue_set, *call)?;
             conclude(editing, core, task, outcome)
         }
     }

@@ -24,7 +24,7 @@ use Rattle.rd_state.specs.Valid.{times_in_list, times_on_cores, times_waiting_at
 use Rattle.rd_state.specs.Waiting.{HasPlace, waiting_at}
 use Rattle.rd_state.proofs.Offered.{one_if, times_in_list-cons, times_in_list-joined, times_on_cores-set, IsSizedList-waiting_at}
 use Rattle.rd_kernel.specs.declared.outcome.Outcome.TheVariants.{Waits}
-use Rattle.rd_kernel.specs.Outcomes.{Called, IsCalling, blocked, call_answers, call_fails, concluded, passed, returned, stopped}
+use Rattle.rd_kernel.specs.Outcomes.{Called, IsCalling, blocked, call_returns, call_fails, concluded, passed, returned, stopped}
 use Rattle.rd_kernel.specs.Tasks.{with_idle_core, with_pc, with_phase, advanced}
 use Rattle.rd_kernel.specs.Waking.{deadline_of, is_due, may_wait, with_waiter, woken_first, woken_one}
 use Rattle.rd_kernel.proofs.ConsistentLaws.{TaskMoves, IsConsistent, IsConsistent-moved}
@@ -120,11 +120,11 @@ IsConsistent-advanced app D s task registers bytes there runs within at =
     (IsConsistent-values_and_pc app D s task ((task_at s task).pc + 1) registers bytes there runs within at)
 
 -- A call returns.
-pub IsConsistent-returned : (app : Application) (D : ℕ → Phase → Type 0) (s : Snapshot) (task answer : ℕ) → task < length s.tasks
+pub IsConsistent-returned : (app : Application) (D : ℕ → Phase → Type 0) (s : Snapshot) (task value : ℕ) → task < length s.tasks
     → 1 ≤ seats_to_run (task_at s task).phase → (task_at s task).pc + 1 < length (code_of app task) → D task Run → IsConsistent app D s
-    → IsConsistent app D (returned s task answer)
-IsConsistent-returned app D s task answer there runs within asked at =
-    let x = record (task_at s task) { registers = set (task_at s task).registers 0 answer } in
+    → IsConsistent app D (returned s task value)
+IsConsistent-returned app D s task value there runs within asked at =
+    let x = record (task_at s task) { registers = set (task_at s task).registers 0 value } in
     let one = with_task s task x in
     let there_one : task < length one.tasks = omega (arith, there, length-set s.tasks task x) in
     let runs_still : 1 ≤ seats_to_run (task_at one task).phase = subst (λ (t : TaskSnapshot). 1 ≤ seats_to_run t.phase) (sym (task_now s task x there)) runs in
@@ -133,7 +133,7 @@ IsConsistent-returned app D s task answer there runs within asked at =
     let there_two : task < length two.tasks = omega (arith, there_one, length-set one.tasks task y) in
     IsConsistent-with_pc app D two task ((task_at s task).pc + 1) there_two (ap (λ (t : TaskSnapshot). t.phase) (task_now one task y there_one)) within
     (IsConsistent-with_run app D one task there_one runs_still asked
-    (IsConsistent-with_values app D s task (set (task_at s task).registers 0 answer) (task_at s task).bytes there at))
+    (IsConsistent-with_values app D s task (set (task_at s task).registers 0 value) (task_at s task).bytes there at))
 
 -- ---- a task that leaves its core
 
@@ -234,12 +234,12 @@ IsConsistent-blocked app s core task place wait there runs has_core e has_place 
     by_time (is_ahead s.tick deadline) refl
 
 -- The call is done, somebody else may have been woken, and it returns.
-pub IsConsistent-passed : (app : Application) (tick : ℕ) (s p : Snapshot) (task answer : ℕ) → task < length s.tasks → 1 ≤ seats_to_run (task_at s task).phase
+pub IsConsistent-passed : (app : Application) (tick : ℕ) (s p : Snapshot) (task value : ℕ) → task < length s.tasks → 1 ≤ seats_to_run (task_at s task).phase
     → (task_at s task).pc + 1 < length (code_of app task) → length s.tasks ≡ length app.tasks.things
-    → AfterWaking app (all_have_time_left tick) s p task → IsConsistent app (all_have_time_left tick) (returned p task answer)
-IsConsistent-passed app tick s p task answer there runs within tasks wakes =
+    → AfterWaking app (all_have_time_left tick) s p task → IsConsistent app (all_have_time_left tick) (returned p task value)
+IsConsistent-passed app tick s p task value there runs within tasks wakes =
     let same = wakes.same_caller in
-    IsConsistent-returned app (all_have_time_left tick) p task answer (omega (arith, there, tasks, wakes.consistent.tasks))
+    IsConsistent-returned app (all_have_time_left tick) p task value (omega (arith, there, tasks, wakes.consistent.tasks))
     (subst (λ (t : TaskSnapshot). 1 ≤ seats_to_run t.phase) (sym same) runs)
     (subst (λ (t : TaskSnapshot). t.pc + 1 < length (code_of app task)) (sym same) within) tt wakes.consistent
 
@@ -280,10 +280,10 @@ IsConsistent-done app s p core task waiting done =
     (AfterWaking-woken_first app (all_have_time_left s.tick) p waiting task done.waiters (λ t deadline. tt) done.runs done.consistent)
 
 -- A call that changes nothing but its caller's answer.
-pub IsConsistent-answered : (app : Application) (s : Snapshot) (core task answer : ℕ) (instr : Instr) → RunsInstr app s core task instr
-    → IsConsistent app (all_have_time_left s.tick) (concluded (call_answers s answer) core task)
-IsConsistent-answered app s core task answer instr calls =
-    IsConsistent-returned app (all_have_time_left s.tick) s task answer calls.there calls.runs calls.within tt (IsConsistent-valid app s calls.valid)
+pub IsConsistent-returned_alone : (app : Application) (s : Snapshot) (core task value : ℕ) (instr : Instr) → RunsInstr app s core task instr
+    → IsConsistent app (all_have_time_left s.tick) (concluded (call_returns s value) core task)
+IsConsistent-returned_alone app s core task value instr calls =
+    IsConsistent-returned app (all_have_time_left s.tick) s task value calls.there calls.runs calls.within tt (IsConsistent-valid app s calls.valid)
 
 -- A call either can't be done, or it ends so.
 pub IsConsistent-or_blocked : (app : Application) (s : Snapshot) (core task : ℕ) (instr : Instr) (place : Place) (wait : Operand) (cannot : Bool)

@@ -9,18 +9,18 @@ use Rattle.std.proofs.lemmas.List.Elements.{All-get_or, All-from_get_or}
 use Rattle.rd_queue.specs.declared.waiting_list.WaitingList.{WaitingList}
 use Rattle.rd_queue.specs.declared.waiting_list.WaitingList.TheVariants.{Receiving, Sending}
 use Rattle.rd_queue.specs.QueueSnapshot.{QueueSnapshot}
-use Rattle.rd_queue.specs.SetSnapshot.{SetSnapshot}
-use Rattle.rd_queue.specs.Sets.{with_waiting_tasks}
+use Rattle.rd_queue.specs.QueueSetSnapshot.{QueueSetSnapshot}
+use Rattle.rd_queue.specs.QueueSets.{with_waiting_tasks}
 use Rattle.rd_queue.specs.Queues.{tasks_in_list, with_items, with_waiting}
 use Rattle.rd_state.specs.declared.phase.Phase.{Phase}
 use Rattle.rd_state.specs.declared.phase.Place.{Place}
-use Rattle.rd_state.specs.declared.phase.Place.TheVariants.{Queue, Set}
+use Rattle.rd_state.specs.declared.phase.Place.TheVariants.{Queue, QueueSet}
 use Rattle.rd_app.specs.Application.{Application, code_of, instr_at, priorities_of}
 use Rattle.rd_wait.specs.Joined.{IsInOrder}
 use Rattle.rd_state.specs.Settled.{seating_of}
 use Rattle.rd_state.specs.Sizes.{IsSized}
-use Rattle.rd_state.specs.Snapshot.{Snapshot, TaskSnapshot, no_task, task_at, queue_at, set_at, with_task, with_queue, with_set}
-use Rattle.rd_state.specs.Objects.{ObjectsSnapshot, no_queue, no_set, numbers_in, AreShaped, room_of, shape_of}
+use Rattle.rd_state.specs.Snapshot.{Snapshot, TaskSnapshot, no_task, task_at, queue_at, queue_set_at, with_task, with_queue, with_queue_set}
+use Rattle.rd_state.specs.Objects.{ObjectsSnapshot, no_queue, no_queue_set, numbers_in, AreShaped, capacity_of, shape_of}
 use Rattle.rd_state.specs.Valid.{IsNotWaiting, IsValid, ListsInOrder, PlacedOnce, PhaseFitsCall, HasTimeLeft, WaitsAtPlaces}
 use Rattle.rd_state.specs.Valid.{seats_to_run, times_in_list, times_on_cores, times_waiting_at}
 use Rattle.rd_state.specs.Waiting.{HasPlace, IsPlace, list_number, objects_then, place_kind, place_list, place_number, same_place, waiting_at}
@@ -156,8 +156,8 @@ waiting_then o (Queue queue list) (Queue number other) tasks there =
     ∙ ap (λ m. cond (nat_eq number queue) m old) (tasks_in_list-with list other tasks was)
     ∙ by_number (nat_eq (list_number other) (list_number list)) (nat_eq number queue) tasks (tasks_in_list other was) old
     (λ e. ap (λ n. tasks_in_list other (get_or o.queues n no_queue)) (sym (same_number number queue e)))
-waiting_then o (Set set) (Set number) tasks there =
-    read_changed (λ (q : SetSnapshot). q.waiting) o.sets set number (with_waiting_tasks (get_or o.sets set no_set) tasks) no_set there
+waiting_then o (QueueSet queue_set) (QueueSet number) tasks there =
+    read_changed (λ (q : QueueSetSnapshot). q.waiting) o.queue_sets queue_set number (with_waiting_tasks (get_or o.queue_sets queue_set no_queue_set) tasks) no_queue_set there
 waiting_then o place other tasks there = refl
 
 -- Objects that have changed in something else than their shapes and who waits where.
@@ -182,30 +182,30 @@ pub ContentsChange-queue : (s : Snapshot) (queue : ℕ) (now : QueueSnapshot) �
     → shape_of now ≡ shape_of (queue_at s queue) → IsSameWaiting now (queue_at s queue) → ContentsChange s.objects (with_queue s queue now).objects
 ContentsChange-queue s queue now there shape kept = record {
   waiting = λ place. waiting_at-with_queue s queue now place there kept;
-  shapes = λ app was. record { queues = map_kept shape_of s.objects.queues queue now no_queue shape ∙ was.queues; sets = was.sets };
+  shapes = λ app was. record { queues = map_kept shape_of s.objects.queues queue now no_queue shape ∙ was.queues; queue_sets = was.queue_sets };
 }
 
-pub waiting_at-with_set : (s : Snapshot) (set : ℕ) (now : SetSnapshot) (place : Place) → set < length s.objects.sets
-    → now.waiting ≡ (set_at s set).waiting → waiting_at (with_set s set now) place ≡ waiting_at s place
-waiting_at-with_set s set now (Set other) there kept = read_kept (λ (q : SetSnapshot). q.waiting) s.objects.sets set other now no_set there kept
-waiting_at-with_set s set now place there kept = refl
+pub waiting_at-with_queue_set : (s : Snapshot) (queue_set : ℕ) (now : QueueSetSnapshot) (place : Place) → queue_set < length s.objects.queue_sets
+    → now.waiting ≡ (queue_set_at s queue_set).waiting → waiting_at (with_queue_set s queue_set now) place ≡ waiting_at s place
+waiting_at-with_queue_set s queue_set now (QueueSet other) there kept = read_kept (λ (q : QueueSetSnapshot). q.waiting) s.objects.queue_sets queue_set other now no_queue_set there kept
+waiting_at-with_queue_set s queue_set now place there kept = refl
 
-pub ContentsChange-set : (s : Snapshot) (set : ℕ) (now : SetSnapshot) → set < length s.objects.sets
-    → room_of now ≡ room_of (set_at s set) → now.waiting ≡ (set_at s set).waiting → ContentsChange s.objects (with_set s set now).objects
-ContentsChange-set s set now there room kept = record {
-  waiting = λ place. waiting_at-with_set s set now place there kept;
-  shapes = λ app was. record { queues = was.queues; sets = map_kept room_of s.objects.sets set now no_set room ∙ was.sets };
+pub ContentsChange-queue_set : (s : Snapshot) (queue_set : ℕ) (now : QueueSetSnapshot) → queue_set < length s.objects.queue_sets
+    → capacity_of now ≡ capacity_of (queue_set_at s queue_set) → now.waiting ≡ (queue_set_at s queue_set).waiting → ContentsChange s.objects (with_queue_set s queue_set now).objects
+ContentsChange-queue_set s queue_set now there room kept = record {
+  waiting = λ place. waiting_at-with_queue_set s queue_set now place there kept;
+  shapes = λ app was. record { queues = was.queues; queue_sets = map_kept capacity_of s.objects.queue_sets queue_set now no_queue_set room ∙ was.queue_sets };
 }
 
 -- Who waits where is none of an object's shape.
 shapes_then : (app : Application) (o : ObjectsSnapshot) (place : Place) (tasks : List ℕ) → AreShaped app o → AreShaped app (objects_then o place tasks)
 shapes_then app o (Queue queue list) tasks was = record {
   queues = map_kept shape_of o.queues queue (with_waiting list tasks (get_or o.queues queue no_queue)) no_queue refl ∙ was.queues;
-  sets = was.sets;
+  queue_sets = was.queue_sets;
 }
-shapes_then app o (Set set) tasks was = record {
+shapes_then app o (QueueSet queue_set) tasks was = record {
   queues = was.queues;
-  sets = map_kept room_of o.sets set (with_waiting_tasks (get_or o.sets set no_set) tasks) no_set refl ∙ was.sets;
+  queue_sets = map_kept capacity_of o.queue_sets queue_set (with_waiting_tasks (get_or o.queue_sets queue_set no_queue_set) tasks) no_queue_set refl ∙ was.queue_sets;
 }
 
 -- A place where somebody waits is there.
@@ -218,9 +218,9 @@ place_there s (Queue queue Sending) task some = elim (cases_lt queue (length s.o
   | inl lt ↦ lt
   | inr ge ↦ absurd (omega (arith, some, ap (λ (q : QueueSnapshot). times_in_list task q.sending) (get_or_past s.objects.queues queue no_queue ge)))
 ]
-place_there s (Set set) task some = elim (cases_lt set (length s.objects.sets)) [
+place_there s (QueueSet queue_set) task some = elim (cases_lt queue_set (length s.objects.queue_sets)) [
   | inl lt ↦ lt
-  | inr ge ↦ absurd (omega (arith, some, ap (λ (q : SetSnapshot). times_in_list task q.waiting) (get_or_past s.objects.sets set no_set ge)))
+  | inr ge ↦ absurd (omega (arith, some, ap (λ (q : QueueSetSnapshot). times_in_list task q.waiting) (get_or_past s.objects.queue_sets queue_set no_queue_set ge)))
 ]
 
 -- A place is known by its numbers.
@@ -234,11 +234,11 @@ list_again Sending = refl
 
 abbrev place_from : ℕ → ℕ → ℕ → Place
 place_from zero list number = Queue number (list_from list)
-place_from (suc kind) list number = Set number
+place_from (suc kind) list number = QueueSet number
 
 place_again : (place : Place) → place_from (place_kind place) (place_list place) (place_number place) ≡ place
 place_again (Queue queue list) = ap (Queue queue) (list_again list)
-place_again (Set set) = refl
+place_again (QueueSet queue_set) = refl
 
 both : (a b : Bool) → (a && b) ≡ true → (a ≡ true) × (b ≡ true)
 both true b e = (refl, e)
@@ -328,11 +328,11 @@ pub IsConsistent-items : (app : Application) (D : ℕ → Phase → Type 0) (s :
 IsConsistent-items app D s queue items there =
     IsConsistent-queue_replaced app D s queue (with_items (queue_at s queue) items) there refl (record { receiving = refl; sending = refl })
 
-pub IsConsistent-set_replaced : (app : Application) (D : ℕ → Phase → Type 0) (s : Snapshot) (set : ℕ) (now : SetSnapshot) → set < length s.objects.sets
-    → room_of now ≡ room_of (set_at s set) → now.waiting ≡ (set_at s set).waiting
-    → IsConsistent app D s → IsConsistent app D (with_set s set now)
-IsConsistent-set_replaced app D s set now there room kept =
-    IsConsistent-contents app D s (with_set s set now).objects (ContentsChange-set s set now there room kept)
+pub IsConsistent-queue_set_replaced : (app : Application) (D : ℕ → Phase → Type 0) (s : Snapshot) (queue_set : ℕ) (now : QueueSetSnapshot) → queue_set < length s.objects.queue_sets
+    → capacity_of now ≡ capacity_of (queue_set_at s queue_set) → now.waiting ≡ (queue_set_at s queue_set).waiting
+    → IsConsistent app D s → IsConsistent app D (with_queue_set s queue_set now)
+IsConsistent-queue_set_replaced app D s queue_set now there room kept =
+    IsConsistent-contents app D s (with_queue_set s queue_set now).objects (ContentsChange-queue_set s queue_set now there room kept)
 
 -- Who is seated changes as scheduling changes it.
 pub IsConsistent-seats : (app : Application) (D : ℕ → Phase → Type 0) (s z : Snapshot) → SeatsKept (priorities_of app) (seating_of s) (seating_of z)

@@ -1,9 +1,9 @@
 -- The laws of rd_kernel that crates above stand on. No other of its proofs is used there.
 pub use Rattle.rd_kernel.proofs.ConsistentLaws.{IsConsistent, IsConsistent-deadlines, IsConsistent-items, IsConsistent-queue_replaced}
-pub use Rattle.rd_kernel.proofs.ConsistentLaws.{IsConsistent-seats, IsConsistent-set_replaced, IsConsistent-valid, IsSameWaiting, IsValid-consistent}
-pub use Rattle.rd_kernel.proofs.ConsistentLaws.{all_have_time_left, place_there, task_now, waiting_at-with_queue, waiting_at-with_set}
+pub use Rattle.rd_kernel.proofs.ConsistentLaws.{IsConsistent-seats, IsConsistent-queue_set_replaced, IsConsistent-valid, IsSameWaiting, IsValid-consistent}
+pub use Rattle.rd_kernel.proofs.ConsistentLaws.{all_have_time_left, place_there, task_now, waiting_at-with_queue, waiting_at-with_queue_set}
 pub use Rattle.rd_kernel.proofs.WakingLaws.{TimedOut, TimedOut-so_far, first_tries_wait, have_time_left_below}
-pub use Rattle.rd_kernel.proofs.CallLaws.{IsConsistent-advanced, IsConsistent-answered, IsConsistent-done, IsConsistent-failed}
+pub use Rattle.rd_kernel.proofs.CallLaws.{IsConsistent-advanced, IsConsistent-returned_alone, IsConsistent-done, IsConsistent-failed}
 pub use Rattle.rd_kernel.proofs.CallLaws.{IsConsistent-or_blocked, IsConsistent-returned, IsConsistent-stopped, IsConsistent-with_pc}
 pub use Rattle.rd_kernel.proofs.CallLaws.{IsConsistent-with_values, IsDone, RunsInstr, due_idle, first_waits, is_task_on_core, or_blocked-tick}
 pub use Rattle.rd_kernel.proofs.CallLaws.{room_in_ready, runs_on_core, runs_outside_calls, waits_is_task, woken_first-tick}

@@ -33,15 +33,15 @@ pub record Called : Type 0 where
   pub outcome : Outcome
 
 -- a call that returns
-abbrev pub call_answers : Snapshot → ℕ → Called
-call_answers s answer = record { state = s; outcome = Returns answer }
+abbrev pub call_returns : Snapshot → ℕ → Called
+call_returns s value = record { state = s; outcome = Returns value }
 
 -- pdPASS; errQUEUE_FULL and errQUEUE_EMPTY
 abbrev pub call_passes : Snapshot → Called
-call_passes s = call_answers s 1
+call_passes s = call_returns s 1
 
 abbrev pub call_fails : Snapshot → Called
-call_fails s = call_answers s 0
+call_fails s = call_returns s 0
 
 -- A call that can't be done waits at a place, where its block time lasts, and else fails.
 abbrev pub blocked : List ℕ → Snapshot → ℕ → Place → Operand → Called
@@ -60,8 +60,8 @@ passed priorities s place = call_passes (woken_first priorities s place)
 
 -- the caller after its call: the answer stands in r0 and the script goes on
 abbrev pub returned : Snapshot → ℕ → ℕ → Snapshot
-returned s task answer =
-    with_pc (with_phase (with_register s task 0 answer) task Run) task ((task_at s task).pc + 1)
+returned s task value =
+    with_pc (with_phase (with_register s task 0 value) task Run) task ((task_at s task).pc + 1)
 
 -- the caller off its core, in another phase
 abbrev pub stopped : Snapshot → ℕ → ℕ → Phase → Snapshot
@@ -72,13 +72,13 @@ abbrev pub concluded : Called → ℕ → ℕ → Snapshot
 concluded called core task = concluded_as called.state core task called.outcome
   where
     concluded_as : Snapshot → ℕ → ℕ → Outcome → Snapshot
-    concluded_as s core task (Returns answer) = returned s task answer
+    concluded_as s core task (Returns value) = returned s task value
     concluded_as s core task (Waits place deadline) = stopped s core task (Wait place deadline)
     concluded_as s core task (Fails cause) = stopped s core task (Failed cause)
 
 -- A task that is to wait, waits at a place that is there, until a deadline that is one.
 abbrev pub IsSizedOutcome : Numbers → Outcome → Type 0
-IsSizedOutcome numbers (Returns answer) = Unit {0}
+IsSizedOutcome numbers (Returns value) = Unit {0}
 IsSizedOutcome numbers (Waits place deadline) = IsSizedPhase numbers (Wait place deadline)
 IsSizedOutcome numbers (Fails cause) = Unit {0}
 

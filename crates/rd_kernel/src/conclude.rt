@@ -45,7 +45,7 @@ pub fn conclude(
     ensures err { OnErr result (KeepsBase editing.old editing.new) }
 {
     match outcome {
-        Outcome::Returns(answer) => return_from(editing, task, answer),
+        Outcome::Returns(value) => return_from(editing, task, value),
         Outcome::Waits { place, deadline } => {
             stop(editing, core, task, Phase::Wait { place, deadline })
         }

@@ -1,4 +1,4 @@
-//! Single changes in the middle of a step.
+//! Single changes in the middle of a move.
 ghost use Rattle.std.specs.Prelude.{◌≡◌, ◌+◌, ◌<◌, ◌≤◌, length, IsOk, OnOk, OnErr};
 ghost use Rattle.rd_bytes.specs.declared.bytes.TheConstants.{MAX_BYTES};
 ghost use Rattle.rd_app.specs.declared.app.TheConstants.{MAX_CODE};
@@ -99,15 +99,15 @@ pub fn set_phase(editing: &mut Editing, task: usize, phase: Phase) -> Result<(),
 }
 
 /// Ends a task's call: its answer stands in r0, and its script goes on.
-pub fn return_from(editing: &mut Editing, task: usize, answer: u32) -> Result<(), NoMemory>
+pub fn return_from(editing: &mut Editing, task: usize, value: u32) -> Result<(), NoMemory>
     requires task { task < length editing.old.now.tasks }
     requires pc { (task_at editing.old.now task).pc < MAX_CODE }
     ensures ok { OnOk result
-        (Reaches editing.old editing.new (returned editing.old.now task answer) ending_cost) }
+        (Reaches editing.old editing.new (returned editing.old.now task value) ending_cost) }
     ensures err { OnErr result (KeepsBase editing.old editing.new) }
 {
     let pc = editing.state().task(task).pc();
-    set_register(editing, task, 0, answer)?;
+    set_register(editing, task, 0, value)?;
     set_phase(editing, task, Phase::Run)?;
     set_pc(editing, task, pc + 1)
 }

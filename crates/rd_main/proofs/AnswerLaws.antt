@@ -3,32 +3,23 @@ use Rattle.std.proofs.Common.{◌≡◌, ◌∙◌, ℕ, ◌<◌, ◌≤◌, Lis
 use Rattle.std.proofs.Common.{refl, ap, subst, sym, arith, inl, inr}
 use Rattle.std.specs.Prelude.{All, IfSome}
 use Rattle.std.specs.Global.{Vec}
-use Rattle.std.proofs.lemmas.List.{length-map, take_all}
+use Rattle.std.proofs.lemmas.List.{take_all}
 use Rattle.rd_app.specs.Application.{Application, IsApplication, names_of}
-use Rattle.rd_app.specs.QueueSetShape.{QueueSetShape}
 use Rattle.rd_state.specs.Snapshot.{Snapshot}
 use Rattle.rd_state.specs.Valid.{IsValid}
-use Rattle.rd_state.specs.Objects.{room_of, shape_of}
 use Rattle.rd_timeline.specs.Course.{Course}
 use Rattle.rd_main.specs.Answers.{Adds, IsAnswer, IsShown, IsView, no_memory, number_named, room_in}
 use Rattle.rd_command.specs.Commands.{Asked, Step, Tick, Back, Show, ShowCores}
 use Rattle.rd_reply.specs.Pages.{LacksRoom, KeepsFront}
-use Rattle.rd_reply.specs.Names.{all_names, SeatedAreNamed}
+use Rattle.rd_reply.specs.Names.{SeatedAreNamed}
 use Rattle.rd_reply.specs.Replies.{line_of, cores_text}
 
--- Each queue, each set and each task of the state has a name.
-queues_named : (app : Application) (s : Snapshot) → IsApplication app → IsValid app s → length s.objects.queues ≡ length app.objects.queues.names
-queues_named app s limits valid = omega (arith, limits.objects.named_queues.paired, ap length valid.in_limits.objects.queues, length-map s.objects.queues shape_of)
-
-sets_named : (app : Application) (s : Snapshot) → IsApplication app → IsValid app s → length s.objects.sets ≡ length app.objects.sets.names
-sets_named app s limits valid =
-    omega (arith, limits.objects.named_sets.paired, ap length valid.in_limits.objects.sets, length-map s.objects.sets room_of, length-map app.objects.sets.things (λ (set : QueueSetShape). set.capacity))
-
+-- Each task of the state has a name.
 tasks_named : (app : Application) (s : Snapshot) → IsApplication app → IsValid app s → length s.tasks ≡ length app.tasks.names
 tasks_named app s limits valid = omega (arith, limits.named_tasks.paired, valid.in_limits.tasks)
 
 -- Who runs and who is ready has a name.
-pub seated_named : (app : Application) (s : Snapshot) → IsApplication app → IsValid app s → SeatedAreNamed (all_names app) s
+pub seated_named : (app : Application) (s : Snapshot) → IsApplication app → IsValid app s → SeatedAreNamed app s
 seated_named app s limits valid =
     let tasks = tasks_named app s limits valid in
     record {
@@ -72,4 +63,4 @@ answer_with_less less room old new (Some Tick) line within is = is
 answer_with_less less room old new (Some (Back count)) line within is = is
 answer_with_less less room old new (Some (Show kind name)) line within is =
     (view_with_less less room (number_named name (names_of kind old.app)) _ line within is.0, is.1)
-answer_with_less less room old new (Some ShowCores) line within is = (shown_with_less less room (cores_text (all_names old.app) old.target) line within is.0, is.1)
+answer_with_less less room old new (Some ShowCores) line within is = (shown_with_less less room (cores_text old.app old.target) line within is.0, is.1)

@@ -9,11 +9,10 @@ use Rattle.rd_text.specs.declared.kind.Kind.TheVariants as kind
 use Rattle.rd_calls.specs.Step.{step}
 use Rattle.rd_calls.specs.declared.moves.Move.{Move}
 use Rattle.rd_calls.specs.declared.moves.Move.TheVariants as move
-use Rattle.rd_state.specs.Snapshot.{queue_at, set_at, task_at}
+use Rattle.rd_state.specs.Snapshot.{queue_at, queue_set_at, task_at}
 use Rattle.rd_timeline.specs.Course.{Course, IsWhyNot}
 use Rattle.rd_command.specs.Commands.{Asked, Step, Tick, Back, Show, ShowCores}
-use Rattle.rd_reply.specs.Names.{all_names}
-use Rattle.rd_reply.specs.Replies.{line_of, reply_text, queue_text, set_text, task_text}
+use Rattle.rd_reply.specs.Replies.{line_of, reply_text, queue_text, queue_set_text, task_text}
 use Rattle.rd_reply.specs.Replies.{cores_text}
 use Rattle.rd_reply.specs.Replies.{is_task}
 use Rattle.rd_text.specs.declared.refusal.Refusal.TheVariants.{TooFar, NoSuch, NoMemory, Syntax}
@@ -86,11 +85,11 @@ number_named name names = position (bytes_eq name) names
 -- what a view shows of the thing of a kind with that number, which has that name
 abbrev pub view_text : Course → Kind → List ℕ → ℕ → List ℕ
 view_text course kind.Queue name queue =
-    queue_text (all_names course.app) name (queue_at course.target queue)
-view_text course kind.Set name set =
-    set_text (all_names course.app) name (set_at course.target set)
+    queue_text course.app name (queue_at course.target queue)
+view_text course kind.QueueSet name queue_set =
+    queue_set_text course.app name (queue_set_at course.target queue_set)
 view_text course kind.Task name task =
-    task_text (all_names course.app) name (position (is_task task) course.target.cores)
+    task_text course.app name (position (is_task task) course.target.cores)
     (task_at course.target task)
 
 abbrev pub NamedLine : ℕ → Course → Kind → List ℕ → List ℕ → Type 0
@@ -98,7 +97,7 @@ NamedLine room course kind name line =
     IsView room (number_named name (names_of kind course.app)) (view_text course kind name) line
 
 abbrev pub CoresLine : ℕ → Course → List ℕ → Type 0
-CoresLine room course line = IsShown room (cores_text (all_names course.app) course.target) line
+CoresLine room course line = IsShown room (cores_text course.app course.target) line
 
 -- The line is the text of a reply that meets this.
 abbrev pub IsReplyLine : (Reply → Type 0) → List ℕ → Type 0

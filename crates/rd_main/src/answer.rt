@@ -14,7 +14,8 @@ ghost use Rattle.rd_reply.specs.Replies.{line_of};
 use rd_calls::moves::Move;
 use rd_command::command::{Command, parse_line};
 use rd_reply::reply::{
-    MAX_REPLY, Reply, append_reply_reserved, core_of, show_cores, show_queue, show_set, show_task,
+    MAX_REPLY, Reply, append_reply_reserved, core_of, show_cores, show_queue, show_queue_set,
+    show_task,
 };
 use rd_text::kind::Kind;
 use rd_text::refusal::Refusal;
@@ -106,7 +107,7 @@ fn show_named(
     timeline.keeps();
     match kind {
         Kind::Queue => show_queue(answers, app, name, target.queue(number)),
-        Kind::Set => show_set(answers, app, name, target.set(number)),
+        Kind::QueueSet => show_queue_set(answers, app, name, target.queue_set(number)),
         Kind::Task => {
             let core = core_of(target.cores(), number);
             show_task(answers, app, name, core, target.task(number))

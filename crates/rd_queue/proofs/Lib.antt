@@ -1,5 +1,7 @@
 -- The files of lemmas of rd_queue.
 pub mod SharedLaws
+pub mod ItemLaws
+pub mod ItemRingLaws
 pub mod QueueLaws
-pub mod SetLaws
+pub mod QueueSetLaws
 pub mod Offered

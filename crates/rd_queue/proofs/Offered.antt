@@ -1,3 +1,3 @@
 -- The laws of rd_queue that crates above stand on. No other of its proofs is used there.
 pub use Rattle.rd_queue.proofs.QueueLaws.{queue_change_is_undone}
-pub use Rattle.rd_queue.proofs.SetLaws.{set_change_is_undone}
+pub use Rattle.rd_queue.proofs.QueueSetLaws.{queue_set_change_is_undone}

@@ -27,7 +27,7 @@ queue_applied queue TakeFront = with_items queue (drop 1 queue.items)
 queue_applied queue (SetItem index item) = with_items queue (slice_set queue.items index item)
 queue_applied queue Clear = with_items queue []
 queue_applied queue (Fill bytes) = with_items queue (items_in queue.item_size bytes)
-queue_applied queue (SetMember set) = as_member_of queue set
+queue_applied queue (SetMember queue_set) = as_member_of queue queue_set
 
 -- the change that undoes a change made at this queue
 abbrev pub queue_inverse_of : QueueSnapshot → QueueChange → QueueChange
@@ -42,7 +42,7 @@ queue_inverse_of queue TakeFront = PutFront (slice_index_or queue.items 0 [])
 queue_inverse_of queue (SetItem index item) = SetItem index (slice_index_or queue.items index [])
 queue_inverse_of queue Clear = Fill (concat queue.items)
 queue_inverse_of queue (Fill bytes) = Clear
-queue_inverse_of queue (SetMember set) = SetMember queue.set
+queue_inverse_of queue (SetMember queue_set) = SetMember queue.queue_set
 
 -- the change that puts an item at an end
 abbrev pub put_at : End → List ℕ → QueueChange
@@ -63,8 +63,9 @@ pub record HasRoomForAll (queue : QueueSnapshot) (bytes : List ℕ) : Type 0 whe
 -- The change names what is there, and there is room.
 abbrev pub QueueFits : QueueSnapshot → QueueChange → Type 0
 QueueFits queue (InsWait list index task) =
-    (index ≤ length (tasks_in_list list queue)) × (length (tasks_in_list list queue) < queue.tasks)
-    × (task < queue.tasks)
+    (index ≤ length (tasks_in_list list queue))
+    × (length (tasks_in_list list queue) < queue.task_count)
+    × (task < queue.task_count)
 QueueFits queue (DelWait list index) = index < length (tasks_in_list list queue)
 QueueFits queue (PutBack item) = HasRoomFor queue item
 QueueFits queue TakeBack = 0 < length queue.items
@@ -74,7 +75,7 @@ QueueFits queue (SetItem index item) =
     (index < length queue.items) × (length item ≡ queue.item_size)
 QueueFits queue Clear = Unit {0}
 QueueFits queue (Fill bytes) = HasRoomForAll queue bytes
-QueueFits queue (SetMember set) = IfSome set (λ s. s < queue.sets)
+QueueFits queue (SetMember queue_set) = IfSome queue_set (λ s. s < queue.queue_set_count)
 
 -- the bytes that a change carries
 abbrev pub queue_saved_bytes : QueueChange → ℕ
@@ -87,7 +88,7 @@ queue_saved_bytes TakeFront = 0
 queue_saved_bytes (SetItem index item) = length item
 queue_saved_bytes Clear = 0
 queue_saved_bytes (Fill bytes) = length bytes
-queue_saved_bytes (SetMember set) = 0
+queue_saved_bytes (SetMember queue_set) = 0
 
 -- A change that is undone leaves the queue as it was, and what undoes it fits. The queue with the
 -- change made is one, with room for as many tasks, among as many sets.
@@ -95,8 +96,8 @@ pub record QueueIsUndone (queue : QueueSnapshot) (change : QueueChange) : Type 0
   pub back : queue_applied (queue_applied queue change) (queue_inverse_of queue change) ≡ queue
   pub fits : QueueFits (queue_applied queue change) (queue_inverse_of queue change)
   pub sized : IsSizedQueue (queue_applied queue change)
-  pub tasks : (queue_applied queue change).tasks ≡ queue.tasks
-  pub sets : (queue_applied queue change).sets ≡ queue.sets
+  pub task_count : (queue_applied queue change).task_count ≡ queue.task_count
+  pub queue_set_count : (queue_applied queue change).queue_set_count ≡ queue.queue_set_count
 
 -- whichever change it is, at whichever queue it fits
 abbrev pub EachQueueChangeIsUndone : Type 0

@@ -1,8 +1,9 @@
 -- The files of definitions of rd_queue.
 pub mod QueueSnapshot
 pub mod Queues
-pub mod SetSnapshot
-pub mod Sets
+pub mod ItemRings
+pub mod QueueSetSnapshot
+pub mod QueueSets
 pub mod Sizes
 pub mod Changes
-pub mod SetChanges
+pub mod QueueSetChanges

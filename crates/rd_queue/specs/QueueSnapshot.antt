@@ -11,6 +11,6 @@ pub record QueueSnapshot : Type 0 where
   pub item_size : ℕ
   pub receiving : List ℕ
   pub sending : List ℕ
-  pub tasks : ℕ
-  pub set : Option ℕ
-  pub sets : ℕ
+  pub task_count : ℕ
+  pub queue_set : Option ℕ
+  pub queue_set_count : ℕ

@@ -7,15 +7,15 @@ use Rattle.rd_queue.specs.QueueSnapshot.{QueueSnapshot}
 
 -- a new queue in no set, at which that many tasks can wait in each list, among that many sets
 abbrev pub empty_queue : ℕ → ℕ → ℕ → ℕ → QueueSnapshot
-empty_queue capacity item_size tasks sets = record {
+empty_queue capacity item_size task_count queue_set_count = record {
   items = [];
   capacity = capacity;
   item_size = item_size;
   receiving = [];
   sending = [];
-  tasks = tasks;
-  set = None;
-  sets = sets;
+  task_count = task_count;
+  queue_set = None;
+  queue_set_count = queue_set_count;
 }
 
 -- how many items of that size lie in these bytes, one after the other, and which these are
@@ -35,7 +35,7 @@ with_items queue items = record queue { items = items }
 
 -- the queue as a member of that set, or of none, in place of its own
 abbrev pub as_member_of : QueueSnapshot → Option ℕ → QueueSnapshot
-as_member_of queue set = record queue { set = set }
+as_member_of queue queue_set = record queue { queue_set = queue_set }
 
 -- Are they one list?
 abbrev pub same_list : WaitingList → WaitingList → Bool

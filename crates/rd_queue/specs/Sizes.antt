@@ -4,11 +4,12 @@ use Rattle.rd_queue.specs.declared.item.TheConstants.{MAX_ITEM_SIZE}
 use Rattle.rd_queue.specs.declared.queue.TheConstants.{MAX_ITEMS}
 use Rattle.rd_queue.specs.declared.queue_set.TheConstants.{MAX_HANDLES}
 use Rattle.rd_queue.specs.QueueSnapshot.{QueueSnapshot}
-use Rattle.rd_queue.specs.SetSnapshot.{SetSnapshot}
+use Rattle.rd_queue.specs.QueueSetSnapshot.{QueueSetSnapshot}
 
 -- Those that wait are tasks, of which there are so many, and no more than there are.
 abbrev pub IsSizedList : ℕ → List ℕ → Type 0
-IsSizedList tasks waiting = All (λ task. task < tasks) waiting × (length waiting ≤ tasks)
+IsSizedList task_count waiting =
+    All (λ task. task < task_count) waiting × (length waiting ≤ task_count)
 
 pub record IsSizedQueue (queue : QueueSnapshot) : Type 0 where
   pub room : length queue.items ≤ queue.capacity
@@ -17,13 +18,13 @@ pub record IsSizedQueue (queue : QueueSnapshot) : Type 0 where
   pub few : queue.capacity ≤ MAX_ITEMS
   pub some_bytes : 0 < queue.item_size
   pub small : queue.item_size ≤ MAX_ITEM_SIZE
-  pub receiving : IsSizedList queue.tasks queue.receiving
-  pub sending : IsSizedList queue.tasks queue.sending
-  pub set : IfSome queue.set (λ set. set < queue.sets)
+  pub receiving : IsSizedList queue.task_count queue.receiving
+  pub sending : IsSizedList queue.task_count queue.sending
+  pub queue_set : IfSome queue.queue_set (λ queue_set. queue_set < queue.queue_set_count)
 
-pub record IsSizedSet (set : SetSnapshot) : Type 0 where
-  pub room : length set.handles ≤ set.capacity
-  pub handles : All (λ queue. queue < set.queues) set.handles
-  pub some_room : 0 < set.capacity
-  pub few : set.capacity ≤ MAX_HANDLES
-  pub waiting : IsSizedList set.tasks set.waiting
+pub record IsSizedQueueSet (queue_set : QueueSetSnapshot) : Type 0 where
+  pub room : length queue_set.handles ≤ queue_set.capacity
+  pub handles : All (λ queue. queue < queue_set.queue_count) queue_set.handles
+  pub some_room : 0 < queue_set.capacity
+  pub few : queue_set.capacity ≤ MAX_HANDLES
+  pub waiting : IsSizedList queue_set.task_count queue_set.waiting

@@ -49,7 +49,7 @@ pub enum QueueChange {
     },
     /// The queue becomes a member of that set, or of none.
     SetMember {
-        set: Option<usize>,
+        queue_set: Option<usize>,
     },
 }
 
@@ -95,8 +95,10 @@ impl Queue {
             QueueChange::SetItem { index, item } => self.set_item(*index, item.as_slice()),
             QueueChange::Clear => self.clear(),
             QueueChange::Fill { items } => self.fill(items.as_slice()),
-            QueueChange::SetMember { set: Some(set) } => self.join_set(*set),
-            QueueChange::SetMember { set: None } => self.leave_set(),
+            QueueChange::SetMember {
+                queue_set: Some(queue_set),
+            } => self.join_set(*queue_set),
+            QueueChange::SetMember { queue_set: None } => self.leave_set(),
         }
     }
 
@@ -135,7 +137,9 @@ impl Queue {
                 items: self.saved_items(alloc)?,
             }),
             QueueChange::Fill { .. } => Ok(QueueChange::Clear),
-            QueueChange::SetMember { .. } => Ok(QueueChange::SetMember { set: self.set_of() }),
+            QueueChange::SetMember { .. } => Ok(QueueChange::SetMember {
+                queue_set: self.set_of(),
+            }),
         }
     }
 }

@@ -9,6 +9,9 @@ use std::marker::Model;
 /// How many bytes an item has at the most.
 pub const MAX_ITEM_SIZE: usize = 64;
 
+// What fills an item up.
+const ZEROS: [u8; MAX_ITEM_SIZE] = [0; MAX_ITEM_SIZE];
+
 /// An item by value: 0 to 64 bytes.
 #[derive(Debug, Drop)]
 pub struct Item {
@@ -39,18 +42,12 @@ impl Item {
         requires { size ≤ MAX_ITEM_SIZE }
         ensures { result ≡ fitted size bytes.now }
     {
-        let mut item = ArrayVec::new();
-        for index in 0..size {
-            item.push(bytes.get(index).copied().unwrap_or(0));
-        }
-        Item { bytes: item }
-    }
-
-    /// Whether the other item has the same bytes.
-    pub fn same(&self, other: &Item) -> bool
-        ensures { IsTrue result ↔ (self.now ≡ other.now) }
-    {
-        self.as_slice() == other.as_slice()
+        let count = bytes.len().min(size);
+        let mut item = Item::new(&bytes[..count]);
+        item.bytes
+            .try_extend_from_slice(&ZEROS[..size - count])
+            .unwrap();
+        item
     }
 
     /// The item's bytes.

@@ -6,5 +6,5 @@ pub mod end;
 pub mod item;
 pub mod queue;
 pub mod queue_set;
-pub mod set_change;
+pub mod queue_set_change;
 pub mod waiting_list;

@@ -5,7 +5,6 @@ ghost use Rattle.std.specs.Prelude.{take, drop, insert, remove, slice_get, slice
 ghost use Rattle.std.specs.Prelude.{slice_set, IsTrue, IsOk, IsErr, IfOk, IfSome, OnOk, OnErr};
 ghost use Rattle.rd_queue.specs.Sizes.{IsSizedQueue};
 ghost use Rattle.std.specs.List.{concat};
-ghost use Rattle.std.specs.VecDeque.{deque_capacity};
 ghost use Rattle.rd_queue.specs.Queues.{count_in, empty_queue, fitted, items_in, with_items};
 ghost use Rattle.rd_queue.specs.Queues.{tasks_in_list, as_member_of, with_waiting};
 ghost use Rattle.rd_queue.specs.Changes.{HasRoomForAll, put_at, queue_applied};
@@ -16,9 +15,9 @@ use crate::item::{Item, MAX_ITEM_SIZE};
 use crate::waiting_list::WaitingList;
 use rd_bytes::no_memory::NoMemory;
 use rd_bytes::saved::SavedBytes;
+use rd_ring::ring::ByteRing;
 use rd_wait::prio_list::PrioList;
 use std::alloc::{AllocError, Global};
-use std::collections::VecDeque;
 use std::marker::Model;
 
 /// How many items a queue has room for at the most.
@@ -36,118 +35,74 @@ pub struct Empty;
 /// the queue set that it is a member of. All its memory is taken by `new`.
 #[derive(Debug, Drop)]
 pub struct Queue {
-    items: VecDeque<Item>,
+    ring: ByteRing,
     capacity: usize,
     item_size: usize,
     receiving: PrioList,
     sending: PrioList,
-    set: Option<usize>,
-    sets: usize,
+    queue_set: Option<usize>,
+    queue_set_count: usize,
 }
 
 impl Model for Queue {
-    ghost use Rattle.std.specs.Prelude.{◌≡◌, ◌<◌, ◌≤◌, length, All, IfSome};
-    ghost use Rattle.std.specs.VecDeque.{deque_capacity};
+    ghost use Rattle.std.specs.Prelude.{◌≡◌, ◌<◌, ◌≤◌, All, IfSome};
     ghost use Rattle.rd_queue.specs.declared.item.TheConstants.{MAX_ITEM_SIZE};
     ghost use Rattle.rd_queue.specs.declared.queue.TheConstants.{MAX_ITEMS};
+    ghost use Rattle.rd_queue.specs.ItemRings.{HoldsItems};
+    ghost use Rattle.rd_queue.specs.Queues.{items_in};
     ghost use Rattle.rd_queue.specs.QueueSnapshot.{QueueSnapshot};
 
     ghost Value = { QueueSnapshot };
 
     ghost view = { λ q. record {
-      items = q.items.items;
+      items = items_in q.item_size q.ring.bytes;
       capacity = q.capacity;
       item_size = q.item_size;
       receiving = q.receiving.tasks;
       sending = q.sending.tasks;
-      tasks = q.receiving.room;
-      set = q.set;
-      sets = q.sets;
+      task_count = q.receiving.capacity;
+      queue_set = q.queue_set;
+      queue_set_count = q.queue_set_count;
     } };
 
-    // The items fit in the room, each has the size, and the room is reserved: for 1 to 64 items of
-    // 1 to 64 bytes. Both lists have the same room, and those that wait are tasks. The queue is a
-    // member of a set that is there, or of none.
-    ghost invariant = { λ q. (length q.items.items ≤ q.capacity)
-        × All (λ item. length item ≡ q.item_size) q.items.items
-        × (q.capacity ≤ deque_capacity q.items) × (0 < q.capacity) × (q.capacity ≤ MAX_ITEMS)
-        × (0 < q.item_size) × (q.item_size ≤ MAX_ITEM_SIZE)
-        × (q.sending.room ≡ q.receiving.room)
-        × All (λ task. task < q.receiving.room) q.receiving.tasks
-        × All (λ task. task < q.receiving.room) q.sending.tasks
-        × IfSome q.set (λ set. set < q.sets) };
-}
-
-// Whether the items are equal, one by one.
-fn same_items(items: &VecDeque<Item>, others: &VecDeque<Item>) -> bool
-    ensures { IsTrue result ↔ (items.now.items ≡ others.now.items) }
-{
-    if items.len() != others.len() {
-        return false;
-    }
-    for index in 0..items.len() {
-        if !items[index].same(&others[index]) {
-            return false;
-        }
-    }
-    true
-}
-
-// The items' bytes, one after the other.
-fn bytes_of(alloc: Global, items: &VecDeque<Item>) -> Result<SavedBytes, NoMemory>
-    ensures bytes { IfOk result (λ saved. saved ≡ concat items.now.items) }
-    ensures short { length (concat items.now.items) ≤ 16 → IsOk result }
-{
-    let mut saved = SavedBytes::new(alloc);
-    for index in 0..items.len() {
-        saved.append(items[index].as_slice())?;
-    }
-    Ok(saved)
-}
-
-// Puts the items of that size that these bytes are, one after the other, at the back.
-fn push_all(items: &mut VecDeque<Item>, size: usize, bytes: &[u8])
-    requires some { 0 < size }
-    requires small { size ≤ MAX_ITEM_SIZE }
-    requires whole { length bytes.now ≡ count_in size bytes.now * size }
-    requires room { length items.old.items + count_in size bytes.now ≤ deque_capacity items.old }
-    ensures items { items.new.items ≡ items.old.items ++ items_in size bytes.now }
-    ensures capacity { deque_capacity items.new ≡ deque_capacity items.old }
-{
-    let mut rest = bytes;
-    for _index in 0..bytes.len() / size {
-        let (item, after) = rest.split_at(size);
-        items.push_back_reserved(Item::new(item));
-        rest = after;
-    }
+    // The ring is one of whole items, 1 to 64 of them at the most, of 1 to 64 bytes. Both lists have
+    // the same room, and those that wait are tasks. The queue is a member of a set that is there, or
+    // of none.
+    ghost invariant = { λ q. HoldsItems q.ring q.capacity q.item_size
+        × (0 < q.capacity) × (q.capacity ≤ MAX_ITEMS) × (q.item_size ≤ MAX_ITEM_SIZE)
+        × (q.sending.capacity ≡ q.receiving.capacity)
+        × All (λ task. task < q.receiving.capacity) q.receiving.tasks
+        × All (λ task. task < q.receiving.capacity) q.sending.tasks
+        × IfSome q.queue_set (λ queue_set. queue_set < q.queue_set_count) };
 }
 
 impl Queue {
     /// An empty queue with room for `capacity` items, 1 to 64, of `item_size` bytes, 1 to 64
-    /// (`xQueueCreate`), at which `tasks` tasks can wait in each list. It is in none of the `sets`
-    /// queue sets.
+    /// (`xQueueCreate`), at which `task_count` tasks can wait in each list. It is in none of the
+    /// `queue_set_count` queue sets.
     pub fn new(
         alloc: Global,
         capacity: usize,
         item_size: usize,
-        tasks: usize,
-        sets: usize,
+        task_count: usize,
+        queue_set_count: usize,
     ) -> Result<Queue, AllocError>
         requires some_room { 0 < capacity }
         requires few { capacity ≤ MAX_ITEMS }
         requires some_bytes { 0 < item_size }
         requires small { item_size ≤ MAX_ITEM_SIZE }
-        ensures { IfOk result (λ queue. queue ≡ empty_queue capacity item_size tasks sets) }
+        ensures { IfOk result (λ queue.
+            queue ≡ empty_queue capacity item_size task_count queue_set_count) }
     {
-        let items = VecDeque::with_capacity(alloc, capacity)?;
+        let ring = ByteRing::new(alloc, capacity * item_size)?;
         Ok(Queue {
-            items,
+            ring,
             capacity,
             item_size,
-            receiving: PrioList::new(alloc, tasks)?,
-            sending: PrioList::new(alloc, tasks)?,
-            set: None,
-            sets,
+            receiving: PrioList::new(alloc, task_count)?,
+            sending: PrioList::new(alloc, task_count)?,
+            queue_set: None,
+            queue_set_count,
         })
     }
 
@@ -155,18 +110,14 @@ impl Queue {
     pub fn copy(&self, alloc: Global) -> Result<Queue, AllocError>
         ensures { IfOk result (λ queue. queue ≡ self.now) }
     {
-        let mut items = VecDeque::with_capacity(alloc, self.capacity)?;
-        for index in 0..self.items.len() {
-            items.push_back_reserved(Item::new(self.item(index)));
-        }
         Ok(Queue {
-            items,
+            ring: self.ring.copy(alloc)?,
             capacity: self.capacity,
             item_size: self.item_size,
             receiving: self.receiving.copy(alloc)?,
             sending: self.sending.copy(alloc)?,
-            set: self.set,
-            sets: self.sets,
+            queue_set: self.queue_set,
+            queue_set_count: self.queue_set_count,
         })
     }
 
@@ -177,11 +128,20 @@ impl Queue {
     {
         self.capacity == other.capacity
             && self.item_size == other.item_size
-            && same_items(&self.items, &other.items)
+            && self.same_items(other)
             && self.receiving.same(&other.receiving)
             && self.sending.same(&other.sending)
-            && self.set == other.set
-            && self.sets == other.sets
+            && self.queue_set == other.queue_set
+            && self.queue_set_count == other.queue_set_count
+    }
+
+    // Whether the other queue, with the same room and the same item size, has the same items.
+    fn same_items(&self, other: &Queue) -> bool
+        requires capacity { self.now.capacity ≡ other.now.capacity }
+        requires size { self.now.item_size ≡ other.now.item_size }
+        ensures { IsTrue result ↔ (self.now.items ≡ other.now.items) }
+    {
+        self.ring.same(&other.ring)
     }
 
     /// The sizes that every queue keeps.
@@ -198,7 +158,7 @@ impl Queue {
         ensures within { result ≤ self.now.capacity }
         ensures few { result ≤ MAX_ITEMS }
     {
-        self.items.len()
+        self.ring.len() / self.item_size
     }
 
     /// How many slots are free (`uxQueueSpacesAvailable`).
@@ -206,7 +166,22 @@ impl Queue {
         ensures spaces { result + length self.now.items ≡ self.now.capacity }
         ensures few { result ≤ MAX_ITEMS }
     {
-        self.capacity - self.items.len()
+        self.capacity - self.count()
+    }
+
+    // Whether there is no item.
+    fn is_empty(&self) -> bool
+        ensures { IsTrue result ↔ (self.now.items ≡ []) }
+    {
+        self.ring.len() == 0
+    }
+
+    // Whether there is no free slot.
+    fn is_full(&self) -> bool
+        ensures full { IsTrue result ↔ (length self.now.items ≡ self.now.capacity) }
+        ensures room { length self.now.items ≤ self.now.capacity }
+    {
+        self.ring.len() == self.ring.capacity()
     }
 
     /// How many items there is room for.
@@ -230,8 +205,7 @@ impl Queue {
         ensures item { result.now ≡ slice_index_or self.now.items index [] }
         ensures short { length result.now ≤ MAX_ITEM_SIZE }
     {
-        let item = &self.items[index];
-        item.as_slice()
+        self.ring.piece(index * self.item_size, self.item_size)
     }
 
     /// The item at the front.
@@ -249,7 +223,25 @@ impl Queue {
         ensures item { result.now ≡ slice_index_or self.now.items (length self.now.items - 1) [] }
         ensures short { length result.now ≤ MAX_ITEM_SIZE }
     {
-        self.item(self.items.len() - 1)
+        self.item(self.count() - 1)
+    }
+
+    // Puts an item at the back of a queue that isn't full.
+    fn push_back(&mut self, item: &[u8])
+        requires room { length self.old.items < self.old.capacity }
+        requires size { length item.now ≡ self.old.item_size }
+        ensures { self.new ≡ with_items self.old (self.old.items ++ item.now ∷ []) }
+    {
+        self.ring.push_back(item);
+    }
+
+    // Puts an item at the front of a queue that isn't full.
+    fn push_front(&mut self, item: &[u8])
+        requires room { length self.old.items < self.old.capacity }
+        requires size { length item.now ≡ self.old.item_size }
+        ensures { self.new ≡ with_items self.old (item.now ∷ self.old.items) }
+    {
+        self.ring.push_front(item);
     }
 
     /// Puts an item at the back (`xQueueSendToBack`). A full queue refuses, and stays as it was.
@@ -260,10 +252,10 @@ impl Queue {
             (self.new ≡ with_items self.old (self.old.items ++ item.now ∷ [])) }
         ensures err { OnErr result (self.new ≡ self.old) }
     {
-        if self.items.len() == self.capacity {
+        if self.is_full() {
             return Err(Full);
         }
-        self.items.push_back_reserved(Item::new(item));
+        self.push_back(item);
         Ok(())
     }
 
@@ -274,10 +266,10 @@ impl Queue {
         ensures ok { OnOk result (self.new ≡ with_items self.old (item.now ∷ self.old.items)) }
         ensures err { OnErr result (self.new ≡ self.old) }
     {
-        if self.items.len() == self.capacity {
+        if self.is_full() {
             return Err(Full);
         }
-        self.items.push_front_reserved(Item::new(item));
+        self.push_front(item);
         Ok(())
     }
 
@@ -288,8 +280,8 @@ impl Queue {
         requires size { length item.now ≡ self.old.item_size }
         ensures { self.new ≡ with_items self.old (item.now ∷ []) }
     {
-        self.items.truncate(0);
-        self.items.push_back_reserved(Item::new(item));
+        self.clear();
+        self.push_back(item);
     }
 
     /// Puts the item that these bytes make, cut or filled up with zero bytes to the item size, at
@@ -301,8 +293,8 @@ impl Queue {
     {
         let item = Item::fitted(bytes, self.item_size);
         match end {
-            End::Back => self.items.push_back_reserved(item),
-            End::Front => self.items.push_front_reserved(item),
+            End::Back => self.push_back(item.as_slice()),
+            End::Front => self.push_front(item.as_slice()),
         }
     }
 
@@ -313,7 +305,8 @@ impl Queue {
         ensures { self.new
             ≡ queue_applied self.old (SetItem index (fitted self.old.item_size bytes.now)) }
     {
-        self.items[index] = Item::fitted(bytes, self.item_size);
+        let item = Item::fitted(bytes, self.item_size);
+        self.set_item(index, item.as_slice());
     }
 
     /// The item at the front (`xQueuePeek`). An empty queue refuses.
@@ -321,10 +314,10 @@ impl Queue {
         ensures empty { IsErr result ↔ (self.now.items ≡ []) }
         ensures item { IfOk result (λ item. slice_get self.now.items 0 ≡ Some item.now) }
     {
-        match self.items.front() {
-            Some(item) => Ok(item.as_slice()),
-            None => Err(Empty),
+        if self.is_empty() {
+            return Err(Empty);
         }
+        Ok(self.first())
     }
 
     /// Takes the item at the front (`xQueueReceive`). An empty queue refuses, and stays as it was.
@@ -334,7 +327,12 @@ impl Queue {
         ensures item { IfOk result (λ item. slice_get self.old.items 0 ≡ Some item) }
         ensures err { OnErr result (self.new ≡ self.old) }
     {
-        self.items.pop_front().ok_or(Empty)
+        if self.is_empty() {
+            return Err(Empty);
+        }
+        let item = Item::new(self.first());
+        self.ring.drop_front(self.item_size);
+        Ok(item)
     }
 
     /// Puts an item back at the front: what undoes `take`.
@@ -343,7 +341,7 @@ impl Queue {
         requires size { length item.now ≡ self.old.item_size }
         ensures { self.new ≡ with_items self.old (item.now ∷ self.old.items) }
     {
-        self.items.push_front_reserved(Item::new(item));
+        self.push_front(item);
     }
 
     /// Takes the item at the back out again: what undoes `put_back`.
@@ -353,7 +351,9 @@ impl Queue {
         ensures rest { self.new
             ≡ with_items self.old (take (length self.old.items - 1) self.old.items) }
     {
-        self.items.pop_back().unwrap()
+        let item = Item::new(self.last());
+        self.ring.pop_back(self.item_size);
+        item
     }
 
     /// Puts an item in the place of the one at `index`. It takes no memory.
@@ -362,8 +362,7 @@ impl Queue {
         requires size { length item.now ≡ self.old.item_size }
         ensures { self.new ≡ with_items self.old (slice_set self.old.items index item.now) }
     {
-        let target = &mut self.items[index];
-        *target = Item::new(item);
+        self.ring.set_piece(index * self.item_size, item);
     }
 
     /// Empties the queue; those who wait stay (`xQueueReset`, but for whom it wakes). It takes no
@@ -371,7 +370,7 @@ impl Queue {
     pub fn clear(&mut self)
         ensures { self.new ≡ with_items self.old [] }
     {
-        self.items.truncate(0);
+        self.ring.clear();
     }
 
     /// Fills an empty queue with the items that these bytes are, one after the other: what undoes
@@ -380,7 +379,7 @@ impl Queue {
         requires { HasRoomForAll self.old bytes.now }
         ensures { self.new ≡ with_items self.old (items_in self.old.item_size bytes.now) }
     {
-        push_all(&mut self.items, self.item_size, bytes);
+        self.ring.push_back(bytes);
     }
 
     /// The bytes of all items, one after the other, the front first. Up to 16 of them take no
@@ -389,13 +388,16 @@ impl Queue {
         ensures bytes { IfOk result (λ saved. saved ≡ concat self.now.items) }
         ensures short { length (concat self.now.items) ≤ 16 → IsOk result }
     {
-        bytes_of(alloc, &self.items)
+        let (front, back) = self.ring.halves();
+        let mut saved = SavedBytes::from_slice(alloc, front)?;
+        saved.append(back)?;
+        Ok(saved)
     }
 
     /// The tasks that wait to receive, or to send.
     pub fn waiting(&self, list: WaitingList) -> &PrioList
         ensures tasks { result.now.tasks ≡ tasks_in_list list self.now }
-        ensures room { result.now.room ≡ self.now.tasks }
+        ensures room { result.now.capacity ≡ self.now.task_count }
     {
         match list {
             WaitingList::Receiving => &self.receiving,
@@ -406,8 +408,8 @@ impl Queue {
     /// Puts a task into a waiting list at `index`.
     pub fn insert(&mut self, list: WaitingList, index: usize, task: usize)
         requires within { index ≤ length (tasks_in_list list self.old) }
-        requires room { length (tasks_in_list list self.old) < self.old.tasks }
-        requires task { task < self.old.tasks }
+        requires room { length (tasks_in_list list self.old) < self.old.task_count }
+        requires task { task < self.old.task_count }
         ensures { self.new
             ≡ with_waiting list (insert (tasks_in_list list self.old) index task) self.old }
     {
@@ -432,19 +434,19 @@ impl Queue {
 
     /// The queue set that the queue is a member of, by number.
     pub fn set_of(&self) -> Option<usize>
-        ensures set { result ≡ self.now.set }
-        ensures there { IfSome result (λ set. set < self.now.sets) }
+        ensures queue_set { result ≡ self.now.queue_set }
+        ensures there { IfSome result (λ queue_set. queue_set < self.now.queue_set_count) }
     {
-        self.set
+        self.queue_set
     }
 
     /// Makes the queue a member of a set (`xQueueAddToSet`, but for when that is refused). It takes
     /// no memory.
-    pub fn join_set(&mut self, set: usize)
-        requires { set < self.old.sets }
-        ensures { self.new ≡ as_member_of self.old (Some set) }
+    pub fn join_set(&mut self, queue_set: usize)
+        requires { queue_set < self.old.queue_set_count }
+        ensures { self.new ≡ as_member_of self.old (Some queue_set) }
     {
-        self.set = Some(set);
+        self.queue_set = Some(queue_set);
     }
 
     /// Makes the queue a member of no set (`xQueueRemoveFromSet`, but for when that is refused). It
@@ -452,7 +454,7 @@ impl Queue {
     pub fn leave_set(&mut self)
         ensures { self.new ≡ as_member_of self.old None }
     {
-        self.set = None;
+        self.queue_set = None;
     }
 }
 

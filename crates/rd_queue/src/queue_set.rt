@@ -3,8 +3,8 @@
 ghost use Rattle.std.specs.Prelude.{◌≡◌, ◌+◌, ◌-◌, ◌<◌, ◌≤◌, ◌↔◌, [], ◌∷◌, ◌++◌, length};
 ghost use Rattle.std.specs.Prelude.{take, drop, insert, remove, slice_get, slice_index};
 ghost use Rattle.std.specs.Prelude.{IsTrue, IfOk};
-ghost use Rattle.rd_queue.specs.Sets.{empty_set, with_handles, with_waiting_tasks};
-ghost use Rattle.rd_queue.specs.Sizes.{IsSizedSet};
+ghost use Rattle.rd_queue.specs.QueueSets.{empty_queue_set, with_handles, with_waiting_tasks};
+ghost use Rattle.rd_queue.specs.Sizes.{IsSizedQueueSet};
 
 use rd_wait::prio_list::PrioList;
 use std::alloc::{AllocError, Global};
@@ -20,7 +20,7 @@ pub const MAX_HANDLES: usize = 2048;
 pub struct QueueSet {
     handles: VecDeque<usize>,
     capacity: usize,
-    queues: usize,
+    queue_count: usize,
     waiting: PrioList,
 }
 
@@ -28,51 +28,52 @@ impl Model for QueueSet {
     ghost use Rattle.std.specs.Prelude.{◌<◌, ◌≤◌, length, All};
     ghost use Rattle.std.specs.VecDeque.{deque_capacity};
     ghost use Rattle.rd_queue.specs.declared.queue_set.TheConstants.{MAX_HANDLES};
-    ghost use Rattle.rd_queue.specs.SetSnapshot.{SetSnapshot};
+    ghost use Rattle.rd_queue.specs.QueueSetSnapshot.{QueueSetSnapshot};
 
-    ghost Value = { SetSnapshot };
+    ghost Value = { QueueSetSnapshot };
 
     ghost view = { λ s. record {
       handles = s.handles.items;
       capacity = s.capacity;
-      queues = s.queues;
+      queue_count = s.queue_count;
       waiting = s.waiting.tasks;
-      tasks = s.waiting.room;
+      task_count = s.waiting.capacity;
     } };
 
     // The handles fit in the room, each is a queue, and the room is reserved: for 1 to 2048 of
     // them. Those that wait are tasks.
     ghost invariant = { λ s. (length s.handles.items ≤ s.capacity)
-        × All (λ queue. queue < s.queues) s.handles.items
+        × All (λ queue. queue < s.queue_count) s.handles.items
         × (s.capacity ≤ deque_capacity s.handles) × (0 < s.capacity) × (s.capacity ≤ MAX_HANDLES)
-        × All (λ task. task < s.waiting.room) s.waiting.tasks };
+        × All (λ task. task < s.waiting.capacity) s.waiting.tasks };
 }
 
 impl QueueSet {
-    /// An empty set with room for `capacity` handles, 1 to 2048, of `queues` queues
-    /// (`xQueueCreateSet`), at which `tasks` tasks can wait.
+    /// An empty set with room for `capacity` handles, 1 to 2048, of `queue_count` queues
+    /// (`xQueueCreateSet`), at which `task_count` tasks can wait.
     pub fn new(
         alloc: Global,
         capacity: usize,
-        queues: usize,
-        tasks: usize,
+        queue_count: usize,
+        task_count: usize,
     ) -> Result<QueueSet, AllocError>
         requires some_room { 0 < capacity }
         requires few { capacity ≤ MAX_HANDLES }
-        ensures { IfOk result (λ set. set ≡ empty_set capacity queues tasks) }
+        ensures { IfOk result (λ queue_set.
+            queue_set ≡ empty_queue_set capacity queue_count task_count) }
     {
         let handles = VecDeque::with_capacity(alloc, capacity)?;
         Ok(QueueSet {
             handles,
             capacity,
-            queues,
-            waiting: PrioList::new(alloc, tasks)?,
+            queue_count,
+            waiting: PrioList::new(alloc, task_count)?,
         })
     }
 
     /// An equal set.
     pub fn copy(&self, alloc: Global) -> Result<QueueSet, AllocError>
-        ensures { IfOk result (λ set. set ≡ self.now) }
+        ensures { IfOk result (λ queue_set. queue_set ≡ self.now) }
     {
         let mut handles = VecDeque::with_capacity(alloc, self.capacity)?;
         for index in 0..self.handles.len() {
@@ -81,7 +82,7 @@ impl QueueSet {
         Ok(QueueSet {
             handles,
             capacity: self.capacity,
-            queues: self.queues,
+            queue_count: self.queue_count,
             waiting: self.waiting.copy(alloc)?,
         })
     }
@@ -91,15 +92,14 @@ impl QueueSet {
     pub fn same(&self, other: &QueueSet) -> bool
         ensures { IsTrue result ↔ (self.now ≡ other.now) }
     {
-        self.capacity == other.capacity
-            && self.queues == other.queues
-            && self.handles == other.handles
-            && self.waiting.same(&other.waiting)
+        let has_same_sizes = self.capacity == other.capacity
+            && self.queue_count == other.queue_count;
+        has_same_sizes && self.handles == other.handles && self.waiting.same(&other.waiting)
     }
 
     /// The sizes that every set keeps.
     pub fn sizes(&self)
-        ensures { IsSizedSet self.now }
+        ensures { IsSizedQueueSet self.now }
     {
         self.waiting.as_slice();
     }
@@ -133,7 +133,7 @@ impl QueueSet {
     pub fn handle(&self, index: usize) -> usize
         requires { index < length self.now.handles }
         ensures handle { result ≡ slice_index self.now.handles index }
-        ensures queue { result < self.now.queues }
+        ensures queue { result < self.now.queue_count }
     {
         self.handles[index]
     }
@@ -142,7 +142,7 @@ impl QueueSet {
     pub fn first_handle(&self) -> usize
         requires { 0 < length self.now.handles }
         ensures handle { result ≡ slice_index self.now.handles 0 }
-        ensures queue { result < self.now.queues }
+        ensures queue { result < self.now.queue_count }
     {
         self.handle(0)
     }
@@ -151,7 +151,7 @@ impl QueueSet {
     pub fn last_handle(&self) -> usize
         requires { 0 < length self.now.handles }
         ensures handle { result ≡ slice_index self.now.handles (length self.now.handles - 1) }
-        ensures queue { result < self.now.queues }
+        ensures queue { result < self.now.queue_count }
     {
         self.handle(self.handles.len() - 1)
     }
@@ -159,7 +159,7 @@ impl QueueSet {
     /// Puts the handle of a queue at the back, as a send to a member does. It takes no memory.
     pub fn push_handle(&mut self, queue: usize)
         requires room { length self.old.handles < self.old.capacity }
-        requires queue { queue < self.old.queues }
+        requires queue { queue < self.old.queue_count }
         ensures { self.new ≡ with_handles self.old (self.old.handles ++ queue ∷ []) }
     {
         self.handles.push_back_reserved(queue);
@@ -189,7 +189,7 @@ impl QueueSet {
     /// Puts a handle back at the front: what undoes `take_handle`. It takes no memory.
     pub fn untake_handle(&mut self, queue: usize)
         requires room { length self.old.handles < self.old.capacity }
-        requires queue { queue < self.old.queues }
+        requires queue { queue < self.old.queue_count }
         ensures { self.new ≡ with_handles self.old (queue ∷ self.old.handles) }
     {
         self.handles.push_front_reserved(queue);
@@ -198,7 +198,7 @@ impl QueueSet {
     /// The tasks that wait to select.
     pub fn waiting(&self) -> &PrioList
         ensures tasks { result.now.tasks ≡ self.now.waiting }
-        ensures room { result.now.room ≡ self.now.tasks }
+        ensures room { result.now.capacity ≡ self.now.task_count }
     {
         &self.waiting
     }
@@ -206,8 +206,8 @@ impl QueueSet {
     /// Puts a task among those that wait, at `index`. It takes no memory.
     pub fn insert(&mut self, index: usize, task: usize)
         requires within { index ≤ length self.old.waiting }
-        requires room { length self.old.waiting < self.old.tasks }
-        requires task { task < self.old.tasks }
+        requires room { length self.old.waiting < self.old.task_count }
+        requires task { task < self.old.task_count }
         ensures { self.new ≡ with_waiting_tasks self.old (insert self.old.waiting index task) }
     {
         self.waiting.insert_at(index, task);

@@ -7,53 +7,53 @@ use Rattle.rd_wait.specs.Joined.{joined}
 use Rattle.rd_app.specs.declared.instr.Operand.{Operand}
 use Rattle.rd_app.specs.declared.instr.QueueCall.{QueueCall}
 use Rattle.rd_app.specs.declared.instr.QueueCall.TheVariants.{Send, Receive, Peek, Overwrite, Reset, Count, Spaces, AddToSet, RemoveFromSet}
-use Rattle.rd_app.specs.declared.instr.SetCall.{SetCall}
-use Rattle.rd_app.specs.declared.instr.SetCall.TheVariants.{Select}
+use Rattle.rd_app.specs.declared.instr.QueueSetCall.{QueueSetCall}
+use Rattle.rd_app.specs.declared.instr.QueueSetCall.TheVariants.{Select}
 use Rattle.rd_queue.specs.declared.end.End.{End}
 use Rattle.rd_queue.specs.declared.end.End.TheVariants.{Back}
 use Rattle.rd_queue.specs.declared.waiting_list.WaitingList.TheVariants.{Receiving, Sending}
-use Rattle.rd_queue.specs.SetSnapshot.{SetSnapshot}
-use Rattle.rd_queue.specs.Sets.{with_handles, with_waiting_tasks}
+use Rattle.rd_queue.specs.QueueSetSnapshot.{QueueSetSnapshot}
+use Rattle.rd_queue.specs.QueueSets.{with_handles, with_waiting_tasks}
 use Rattle.rd_state.specs.declared.phase.Cause.TheVariants.{SetFull}
 use Rattle.rd_state.specs.declared.phase.Place.{Place}
-use Rattle.rd_state.specs.declared.phase.Place.TheVariants.{Queue, Set}
+use Rattle.rd_state.specs.declared.phase.Place.TheVariants.{Queue, QueueSet}
 use Rattle.rd_state.specs.Phases.{kept_deadline, waits_at}
-use Rattle.rd_state.specs.Snapshot.{Snapshot, queue_at, set_at, task_at}
-use Rattle.rd_state.specs.Objects.{no_set}
+use Rattle.rd_state.specs.Snapshot.{Snapshot, queue_at, queue_set_at, task_at}
+use Rattle.rd_state.specs.Objects.{no_queue_set}
 use Rattle.rd_state.specs.Waiting.{objects_then, waiting_at}
-use Rattle.rd_kernel.specs.Outcomes.{Called, blocked, call_answers, call_fails, call_passes, passed}
+use Rattle.rd_kernel.specs.Outcomes.{Called, blocked, call_returns, call_fails, call_passes, passed}
 use Rattle.rd_kernel.specs.declared.outcome.Outcome.TheVariants.{Waits}
 use Rattle.rd_kernel.specs.Waking.{deadline_of, may_wait, objects_without, with_waiter, woken_at, woken_first, woken_one}
-use Rattle.rd_queue_calls.specs.Posts.{call_breaks, is_in_full_set, is_in_no_set, is_in_set, posted, replaced, membership_of, with_handle}
+use Rattle.rd_queue_calls.specs.Posts.{call_breaks, is_in_full_queue_set, is_in_no_queue_set, is_in_queue_set, posted, replaced, membership_of, with_handle}
 use Rattle.rd_queue_calls.specs.Posts.{with_member}
 use Rattle.rd_queue_calls.specs.QueueCalls.{is_empty, is_full, queue_outcome, outcome_with_room, with_item_over, with_item_peeked, with_item_sent}
 use Rattle.rd_queue_calls.specs.QueueCalls.{with_item_taken, with_no_items}
-use Rattle.rd_queue_calls.specs.SetCalls.{has_no_handle, set_outcome, with_handle_taken}
-use Rattle.rd_queue_calls.specs.SetLaws.{FailedSendsLeaveAll, HandlesGoByCalls, OverwritesPostOnce, handles_after, handles_in, handles_posted}
-use Rattle.rd_queue_calls.specs.SetLaws.{handles_selected}
-use Rattle.rd_queue_calls.specs.SetLaws.{handles_sent}
+use Rattle.rd_queue_calls.specs.QueueSetCalls.{has_no_handle, queue_set_outcome, with_handle_taken}
+use Rattle.rd_queue_calls.specs.QueueSetLaws.{FailedSendsLeaveAll, HandlesGoByCalls, OverwritesPostOnce, handles_after, handles_in, handles_posted}
+use Rattle.rd_queue_calls.specs.QueueSetLaws.{handles_selected}
+use Rattle.rd_queue_calls.specs.QueueSetLaws.{handles_sent}
 
 -- ---- who waits is none of the handles
 
 -- a set in the place of another
-handles_set : (sets : List SetSnapshot) (number : ℕ) (now : SetSnapshot)
-    → map (λ (q : SetSnapshot). q.handles) (set sets number now) ≡ set (map (λ (q : SetSnapshot). q.handles) sets) number now.handles
-handles_set [] number now = refl
-handles_set (q ∷ sets) zero now = refl
-handles_set (q ∷ sets) (suc number) now = ap (λ rest. q.handles ∷ rest) (handles_set sets number now)
+handles_queue_set : (queue_sets : List QueueSetSnapshot) (number : ℕ) (now : QueueSetSnapshot)
+    → map (λ (q : QueueSetSnapshot). q.handles) (set queue_sets number now) ≡ set (map (λ (q : QueueSetSnapshot). q.handles) queue_sets) number now.handles
+handles_queue_set [] number now = refl
+handles_queue_set (q ∷ queue_sets) zero now = refl
+handles_queue_set (q ∷ queue_sets) (suc number) now = ap (λ rest. q.handles ∷ rest) (handles_queue_set queue_sets number now)
 
 -- other tasks that wait at one
-handles_kept : (sets : List SetSnapshot) (number : ℕ) (tasks : List ℕ)
-    → map (λ (q : SetSnapshot). q.handles) (set sets number (with_waiting_tasks (get_or sets number no_set) tasks)) ≡ map (λ (q : SetSnapshot). q.handles) sets
+handles_kept : (queue_sets : List QueueSetSnapshot) (number : ℕ) (tasks : List ℕ)
+    → map (λ (q : QueueSetSnapshot). q.handles) (set queue_sets number (with_waiting_tasks (get_or queue_sets number no_queue_set) tasks)) ≡ map (λ (q : QueueSetSnapshot). q.handles) queue_sets
 handles_kept [] number tasks = refl
-handles_kept (q ∷ sets) zero tasks = refl
-handles_kept (q ∷ sets) (suc number) tasks = ap (λ rest. q.handles ∷ rest) (handles_kept sets number tasks)
+handles_kept (q ∷ queue_sets) zero tasks = refl
+handles_kept (q ∷ queue_sets) (suc number) tasks = ap (λ rest. q.handles ∷ rest) (handles_kept queue_sets number tasks)
 
-handles_then : (s : Snapshot) (place : Place) (tasks : List ℕ) → map (λ (q : SetSnapshot). q.handles) (objects_then s.objects place tasks).sets ≡ handles_in s
+handles_then : (s : Snapshot) (place : Place) (tasks : List ℕ) → map (λ (q : QueueSetSnapshot). q.handles) (objects_then s.objects place tasks).queue_sets ≡ handles_in s
 handles_then s (Queue queue list) tasks = refl
-handles_then s (Set number) tasks = handles_kept s.objects.sets number tasks
+handles_then s (QueueSet number) tasks = handles_kept s.objects.queue_sets number tasks
 
-handles_without : (s : Snapshot) (place : Place) (o : Option ℕ) → map (λ (q : SetSnapshot). q.handles) (objects_without s.objects place o).sets ≡ handles_in s
+handles_without : (s : Snapshot) (place : Place) (o : Option ℕ) → map (λ (q : QueueSetSnapshot). q.handles) (objects_without s.objects place o).queue_sets ≡ handles_in s
 handles_without s place None = refl
 handles_without s place (Some index) = handles_then s place (remove (waiting_at s place) index)
 
@@ -99,13 +99,13 @@ handles_of_posts : (priorities : List ℕ) (s : Snapshot) (queue : ℕ) (member 
     → handles_in (posted priorities s queue member).state ≡ handles_posted s queue member
 handles_of_posts priorities s queue None = handles_woken_first priorities s (Queue queue Receiving)
 handles_of_posts priorities s queue (Some number) =
-    handles_woken_first priorities (with_handle s number queue) (Set number)
-    ∙ handles_set s.objects.sets number (with_handles (set_at s number) ((set_at s number).handles ++ queue ∷ []))
+    handles_woken_first priorities (with_handle s number queue) (QueueSet number)
+    ∙ handles_queue_set s.objects.queue_sets number (with_handles (queue_set_at s number) ((queue_set_at s number).handles ++ queue ∷ []))
 
 handles_of_sends : (priorities : List ℕ) (s : Snapshot) (task queue : ℕ) (end : End)
     → handles_in (outcome_with_room priorities s task queue end).state ≡ handles_sent s queue
 handles_of_sends priorities s task queue end =
-    elim (is_in_full_set s (membership_of s queue)) as (λ b.
+    elim (is_in_full_queue_set s (membership_of s queue)) as (λ b.
     handles_in (cond b (call_breaks s SetFull) (posted priorities (with_item_sent s task queue end) queue (membership_of s queue))).state
     ≡ cond b (handles_in s) (handles_posted s queue (membership_of s queue))) [
       | true ↦ refl
@@ -151,19 +151,19 @@ of_queues priorities s task queue Reset = handles_woken_first priorities (with_n
 of_queues priorities s task queue Count = refl
 of_queues priorities s task queue Spaces = refl
 of_queues priorities s task queue (AddToSet number) =
-    handles_of_joining s queue (Some number) (is_empty (queue_at s queue) && is_in_no_set (membership_of s queue))
+    handles_of_joining s queue (Some number) (is_empty (queue_at s queue) && is_in_no_queue_set (membership_of s queue))
 of_queues priorities s task queue (RemoveFromSet number) =
-    handles_of_joining s queue None (is_empty (queue_at s queue) && is_in_set number (membership_of s queue))
+    handles_of_joining s queue None (is_empty (queue_at s queue) && is_in_queue_set number (membership_of s queue))
 
-of_sets : (priorities : List ℕ) (s : Snapshot) (task number : ℕ) (call : SetCall)
-    → handles_in (set_outcome priorities s task number call).state ≡ handles_selected s number call
-of_sets priorities s task number (Select wait) =
-    handles_or_blocked priorities s task (Set number) wait (has_no_handle (set_at s number))
-    (call_answers (with_handle_taken s number) (slice_index (set_at s number).handles 0 + 1)) (set (handles_in s) number (drop 1 (set_at s number).handles))
-    (handles_set s.objects.sets number (with_handles (set_at s number) (drop 1 (set_at s number).handles)))
+of_queue_sets : (priorities : List ℕ) (s : Snapshot) (task number : ℕ) (call : QueueSetCall)
+    → handles_in (queue_set_outcome priorities s task number call).state ≡ handles_selected s number call
+of_queue_sets priorities s task number (Select wait) =
+    handles_or_blocked priorities s task (QueueSet number) wait (has_no_handle (queue_set_at s number))
+    (call_returns (with_handle_taken s number) (slice_index (queue_set_at s number).handles 0 + 1)) (set (handles_in s) number (drop 1 (queue_set_at s number).handles))
+    (handles_queue_set s.objects.queue_sets number (with_handles (queue_set_at s number) (drop 1 (queue_set_at s number).handles)))
 
 pub handles_go_by_calls : HandlesGoByCalls
-handles_go_by_calls = record { of_queues = of_queues; of_sets = of_sets }
+handles_go_by_calls = record { of_queues = of_queues; of_queue_sets = of_queue_sets }
 
 -- ---- what changes nothing else
 
@@ -178,7 +178,7 @@ failed_sends_leave_all = record {
       ap (λ b. cond b (blocked priorities s task (Queue queue Sending) wait) (outcome_with_room priorities s task queue end)) full
       ∙ ap (λ b. cond b (record { state = with_waiter priorities s (Queue queue Sending) task; outcome = Waits (Queue queue Sending) (deadline_of s task wait) })
       (call_fails s)) never;
-  full_set = λ priorities s task queue end wait room full.
+  full_queue_set = λ priorities s task queue end wait room full.
       ap (λ b. cond b (blocked priorities s task (Queue queue Sending) wait) (outcome_with_room priorities s task queue end)) room
       ∙ ap (λ b. cond b (call_breaks s SetFull) (posted priorities (with_item_sent s task queue end) queue (membership_of s queue))) full;
 }

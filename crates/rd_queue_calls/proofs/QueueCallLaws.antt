@@ -8,8 +8,8 @@ use Rattle.rd_app.specs.declared.instr.Instr.{Instr}
 use Rattle.rd_app.specs.declared.instr.Instr.TheVariants as instr
 use Rattle.rd_app.specs.declared.instr.QueueCall.{QueueCall}
 use Rattle.rd_app.specs.declared.instr.QueueCall.TheVariants.{Send, Receive, Peek, Overwrite, Reset, Count, Spaces, AddToSet, RemoveFromSet}
-use Rattle.rd_app.specs.declared.instr.SetCall.{SetCall}
-use Rattle.rd_app.specs.declared.instr.SetCall.TheVariants.{Select}
+use Rattle.rd_app.specs.declared.instr.QueueSetCall.{QueueSetCall}
+use Rattle.rd_app.specs.declared.instr.QueueSetCall.TheVariants.{Select}
 use Rattle.rd_app.specs.Application.{Application, code_of, priorities_of}
 use Rattle.rd_queue.specs.Changes.{put_at, queue_applied}
 use Rattle.rd_queue.specs.declared.end.End.{End}
@@ -18,28 +18,28 @@ use Rattle.rd_queue.specs.declared.waiting_list.WaitingList.{WaitingList}
 use Rattle.rd_queue.specs.declared.waiting_list.WaitingList.TheVariants.{Receiving, Sending}
 use Rattle.rd_queue.specs.QueueSnapshot.{QueueSnapshot}
 use Rattle.rd_queue.specs.Queues.{with_items}
-use Rattle.rd_queue.specs.SetSnapshot.{SetSnapshot}
-use Rattle.rd_queue.specs.Sets.{with_handles}
+use Rattle.rd_queue.specs.QueueSetSnapshot.{QueueSetSnapshot}
+use Rattle.rd_queue.specs.QueueSets.{with_handles}
 use Rattle.rd_state.specs.declared.phase.Cause.TheVariants.{SetFull}
 use Rattle.rd_state.specs.declared.phase.Place.{Place}
-use Rattle.rd_state.specs.declared.phase.Place.TheVariants.{Queue, Set}
+use Rattle.rd_state.specs.declared.phase.Place.TheVariants.{Queue, QueueSet}
 use Rattle.rd_state.specs.Sizes.{IsSized}
-use Rattle.rd_state.specs.Snapshot.{Snapshot, TaskSnapshot, no_task, task_at, queue_at, set_at, with_queue, with_set, items_at}
+use Rattle.rd_state.specs.Snapshot.{Snapshot, TaskSnapshot, no_task, task_at, queue_at, queue_set_at, with_queue, with_queue_set, items_at}
 use Rattle.rd_state.specs.Valid.{seats_to_run, times_in_list}
 use Rattle.rd_state.specs.Waiting.{HasPlace, waiting_at, waiting_in}
 use Rattle.rd_state.proofs.Offered.{queue_sized}
-use Rattle.rd_kernel.specs.Outcomes.{call_answers, call_fails, call_passes, concluded}
+use Rattle.rd_kernel.specs.Outcomes.{call_returns, call_fails, call_passes, concluded}
 use Rattle.rd_kernel.specs.Waking.{ReadyHasRoom}
-use Rattle.rd_kernel.proofs.Offered.{IsConsistent, IsConsistent-items, IsConsistent-queue_replaced, IsConsistent-set_replaced, IsConsistent-valid}
-use Rattle.rd_kernel.proofs.Offered.{IsSameWaiting, all_have_time_left, place_there, task_now, waiting_at-with_queue, waiting_at-with_set, IsDone}
-use Rattle.rd_kernel.proofs.Offered.{RunsInstr, IsConsistent-answered, IsConsistent-done, IsConsistent-failed, IsConsistent-or_blocked}
+use Rattle.rd_kernel.proofs.Offered.{IsConsistent, IsConsistent-items, IsConsistent-queue_replaced, IsConsistent-queue_set_replaced, IsConsistent-valid}
+use Rattle.rd_kernel.proofs.Offered.{IsSameWaiting, all_have_time_left, place_there, task_now, waiting_at-with_queue, waiting_at-with_queue_set, IsDone}
+use Rattle.rd_kernel.proofs.Offered.{RunsInstr, IsConsistent-returned_alone, IsConsistent-done, IsConsistent-failed, IsConsistent-or_blocked}
 use Rattle.rd_kernel.proofs.Offered.{IsConsistent-returned, IsConsistent-with_values, first_waits, or_blocked-tick, waits_is_task, woken_first-tick}
-use Rattle.rd_queue_calls.specs.Posts.{HasRoomToWake, call_breaks, is_in_full_set, is_in_no_set, is_in_set, posted, replaced, membership_of}
+use Rattle.rd_queue_calls.specs.Posts.{HasRoomToWake, call_breaks, is_in_full_queue_set, is_in_no_queue_set, is_in_queue_set, posted, replaced, membership_of}
 use Rattle.rd_queue_calls.specs.Posts.{with_handle, with_member}
 use Rattle.rd_queue_calls.specs.QueueCalls.{is_empty, is_full, queue_outcome, sent_item, outcome_with_room, with_item_over, with_item_peeked}
 use Rattle.rd_queue_calls.specs.QueueCalls.{with_item_sent}
 use Rattle.rd_queue_calls.specs.QueueCalls.{with_item_taken, with_no_items}
-use Rattle.rd_queue_calls.specs.SetCalls.{has_no_handle, set_outcome, with_handle_taken}
+use Rattle.rd_queue_calls.specs.QueueSetCalls.{has_no_handle, queue_set_outcome, with_handle_taken}
 
 -- ---- room to wake
 
@@ -64,11 +64,11 @@ room_after_queue s p queue now there kept room objects =
     room_after s p (with_queue s queue now) objects (λ place. waiting_at-with_queue s queue now place there kept) room
 
 -- and of a set
-pub room_after_set : (s p : Snapshot) (number : ℕ) (now : SetSnapshot) → number < length s.objects.sets → now.waiting ≡ (set_at s number).waiting → HasRoomToWake s
-    → p.objects ≡ (with_set s number now).objects → p.ready ≡ s.ready → length p.tasks ≡ length s.tasks
+pub room_after_queue_set : (s p : Snapshot) (number : ℕ) (now : QueueSetSnapshot) → number < length s.objects.queue_sets → now.waiting ≡ (queue_set_at s number).waiting → HasRoomToWake s
+    → p.objects ≡ (with_queue_set s number now).objects → p.ready ≡ s.ready → length p.tasks ≡ length s.tasks
     → (place : Place) → 0 < length (waiting_at p place) → ReadyHasRoom p
-room_after_set s p number now there kept room objects =
-    room_after s p (with_set s number now) objects (λ place. waiting_at-with_set s number now place there kept) room
+room_after_queue_set s p number now there kept room objects =
+    room_after s p (with_queue_set s number now) objects (λ place. waiting_at-with_queue_set s number now place there kept) room
 
 -- Other items, or another set, are none of who waits.
 pub items_keep : (queue : QueueSnapshot) (items : List (List ℕ)) → IsSameWaiting (with_items queue items) queue
@@ -79,10 +79,10 @@ put_keeps queue Back item = record { receiving = refl; sending = refl }
 put_keeps queue Front item = record { receiving = refl; sending = refl }
 
 -- The set of a queue is there.
-pub set_there : (s : Snapshot) (queue : ℕ) → IsSized s → queue < length s.objects.queues → IfSome (membership_of s queue) (λ set. set < length s.objects.sets)
-set_there s queue sized there =
+pub queue_set_there : (s : Snapshot) (queue : ℕ) → IsSized s → queue < length s.objects.queues → IfSome (membership_of s queue) (λ queue_set. queue_set < length s.objects.queue_sets)
+queue_set_there s queue sized there =
     let here = queue_sized s queue sized there in
-    subst (λ sets. IfSome (membership_of s queue) (λ set. set < sets)) here.2 here.0.set
+    subst (λ queue_sets. IfSome (membership_of s queue) (λ queue_set. queue_set < queue_sets)) here.2 here.0.queue_set
 
 -- ---- what a call leaves
 
@@ -115,25 +115,25 @@ with_items_done app s core task queue list instr items calls there =
 
 -- A queue gets other items, and its set a handle.
 with_handle_done : (app : Application) (s : Snapshot) (core task queue number : ℕ) (instr : Instr) (items : List (List ℕ))
-    → RunsInstr app s core task instr → queue < length s.objects.queues → number < length s.objects.sets
-    → IsDone app s (with_handle (with_queue s queue (with_items (queue_at s queue) items)) number queue) task (Set number)
-with_handle_done app s core task queue number instr items calls there has_set =
+    → RunsInstr app s core task instr → queue < length s.objects.queues → number < length s.objects.queue_sets
+    → IsDone app s (with_handle (with_queue s queue (with_items (queue_at s queue) items)) number queue) task (QueueSet number)
+with_handle_done app s core task queue number instr items calls there has_queue_set =
     let D = all_have_time_left s.tick in
     let now = with_items (queue_at s queue) items in
     let p = with_queue s queue now in
-    let handles = with_handles (set_at p number) ((set_at p number).handles ++ queue ∷ []) in
-    let q = with_set p number handles in
-    done_as app s q core task instr (Set number) calls
-    (IsConsistent-set_replaced app D p number handles has_set refl refl (IsConsistent-items app D s queue items there (IsConsistent-valid app s calls.valid)))
-    refl has_set
-    (waiting_at-with_set p number handles (Set number) has_set refl
-    ∙ waiting_at-with_queue s queue now (Set number) there (items_keep (queue_at s queue) items))
+    let handles = with_handles (queue_set_at p number) ((queue_set_at p number).handles ++ queue ∷ []) in
+    let q = with_queue_set p number handles in
+    done_as app s q core task instr (QueueSet number) calls
+    (IsConsistent-queue_set_replaced app D p number handles has_queue_set refl refl (IsConsistent-items app D s queue items there (IsConsistent-valid app s calls.valid)))
+    refl has_queue_set
+    (waiting_at-with_queue_set p number handles (QueueSet number) has_queue_set refl
+    ∙ waiting_at-with_queue s queue now (QueueSet number) there (items_keep (queue_at s queue) items))
 
 -- A queue becomes a member of a set, or of none.
 with_member_done : (app : Application) (s : Snapshot) (core task queue : ℕ) (member : Option ℕ) (instr : Instr)
     → RunsInstr app s core task instr → queue < length s.objects.queues → IsDone app s (with_member s queue member) task (Queue queue Receiving)
 with_member_done app s core task queue member instr calls there =
-    let now : QueueSnapshot = record (queue_at s queue) { set = member } in
+    let now : QueueSnapshot = record (queue_at s queue) { queue_set = member } in
     let p = with_queue s queue now in
     let kept : IsSameWaiting now (queue_at s queue) = record { receiving = refl; sending = refl } in
     done_as app s p core task instr (Queue queue Receiving) calls
@@ -142,13 +142,13 @@ with_member_done app s core task queue member instr calls there =
 
 -- The first handle leaves a set.
 with_handle_taken_done : (app : Application) (s : Snapshot) (core task number : ℕ) (instr : Instr)
-    → RunsInstr app s core task instr → number < length s.objects.sets → IsDone app s (with_handle_taken s number) task (Set number)
-with_handle_taken_done app s core task number instr calls has_set =
-    let now = with_handles (set_at s number) (drop 1 (set_at s number).handles) in
-    let p = with_set s number now in
-    done_as app s p core task instr (Set number) calls
-    (IsConsistent-set_replaced app (all_have_time_left s.tick) s number now has_set refl refl (IsConsistent-valid app s calls.valid)) refl has_set
-    (waiting_at-with_set s number now (Set number) has_set refl)
+    → RunsInstr app s core task instr → number < length s.objects.queue_sets → IsDone app s (with_handle_taken s number) task (QueueSet number)
+with_handle_taken_done app s core task number instr calls has_queue_set =
+    let now = with_handles (queue_set_at s number) (drop 1 (queue_set_at s number).handles) in
+    let p = with_queue_set s number now in
+    done_as app s p core task instr (QueueSet number) calls
+    (IsConsistent-queue_set_replaced app (all_have_time_left s.tick) s number now has_queue_set refl refl (IsConsistent-valid app s calls.valid)) refl has_queue_set
+    (waiting_at-with_queue_set s number now (QueueSet number) has_queue_set refl)
 
 -- The first item becomes the caller's data, and who else waits for one is woken.
 peeked : (app : Application) (s : Snapshot) (core task queue : ℕ) (instr : Instr) → RunsInstr app s core task instr → queue < length s.objects.queues
@@ -195,27 +195,27 @@ taken app s core task queue instr calls there =
 -- ---- each call
 
 -- A call that is done returns.
-returns_done : (app : Application) (s p : Snapshot) (core task answer : ℕ) (place : Place) → IsDone app s p task place
-    → IsConsistent app (all_have_time_left s.tick) (concluded (call_answers p answer) core task)
-returns_done app s p core task answer place done =
-    IsConsistent-returned app (all_have_time_left s.tick) p task answer done.there done.runs done.within tt done.consistent
+returns_done : (app : Application) (s p : Snapshot) (core task value : ℕ) (place : Place) → IsDone app s p task place
+    → IsConsistent app (all_have_time_left s.tick) (concluded (call_returns p value) core task)
+returns_done app s p core task value place done =
+    IsConsistent-returned app (all_have_time_left s.tick) p task value done.there done.runs done.within tt done.consistent
 
 -- An item was put.
 posts : (app : Application) (s : Snapshot) (core task queue : ℕ) (member : Option ℕ) (instr : Instr) (items : List (List ℕ))
-    → RunsInstr app s core task instr → queue < length s.objects.queues → IfSome member (λ set. set < length s.objects.sets)
+    → RunsInstr app s core task instr → queue < length s.objects.queues → IfSome member (λ queue_set. queue_set < length s.objects.queue_sets)
     → IsConsistent app (all_have_time_left s.tick)
     (concluded (posted (priorities_of app) (with_queue s queue (with_items (queue_at s queue) items)) queue member) core task)
-posts app s core task queue None instr items calls there has_set =
+posts app s core task queue None instr items calls there has_queue_set =
     IsConsistent-done app s (with_queue s queue (with_items (queue_at s queue) items)) core task (Queue queue Receiving)
     (with_items_done app s core task queue Receiving instr items calls there)
-posts app s core task queue (Some number) instr items calls there has_set =
-    IsConsistent-done app s (with_handle (with_queue s queue (with_items (queue_at s queue) items)) number queue) core task (Set number)
-    (with_handle_done app s core task queue number instr items calls there has_set)
+posts app s core task queue (Some number) instr items calls there has_queue_set =
+    IsConsistent-done app s (with_handle (with_queue s queue (with_items (queue_at s queue) items)) number queue) core task (QueueSet number)
+    (with_handle_done app s core task queue number instr items calls there has_queue_set)
 
 sends : (app : Application) (s : Snapshot) (core task queue : ℕ) (end : End) (instr : Instr) → RunsInstr app s core task instr → queue < length s.objects.queues
     → IsConsistent app (all_have_time_left s.tick) (concluded (outcome_with_room (priorities_of app) s task queue end) core task)
 sends app s core task queue end instr calls there =
-    elim (is_in_full_set s (membership_of s queue)) as (λ b.
+    elim (is_in_full_queue_set s (membership_of s queue)) as (λ b.
     IsConsistent app (all_have_time_left s.tick)
     (concluded (cond b (call_breaks s SetFull) (posted (priorities_of app) (with_item_sent s task queue end) queue (membership_of s queue))) core task)) [
       | true ↦ IsConsistent-failed app s core task SetFull instr calls
@@ -226,10 +226,10 @@ sends app s core task queue end instr calls there =
         (concluded (posted (priorities_of app) (with_item_sent s task queue end) queue (membership_of s queue)) core task)
     by_end Back =
         posts app s core task queue (membership_of s queue) instr (items_at s queue ++ sent_item s task queue ∷ []) calls there
-        (set_there s queue calls.valid.in_limits.sized there)
+        (queue_set_there s queue calls.valid.in_limits.sized there)
     by_end Front =
         posts app s core task queue (membership_of s queue) instr (sent_item s task queue ∷ items_at s queue) calls there
-        (set_there s queue calls.valid.in_limits.sized there)
+        (queue_set_there s queue calls.valid.in_limits.sized there)
 
 -- An item took the place of another.
 replaces : (app : Application) (s : Snapshot) (core task queue : ℕ) (member : Option ℕ) (instr : Instr) → RunsInstr app s core task instr
@@ -251,7 +251,7 @@ joins_or_not app s core task queue member instr can calls there =
       | true ↦
           returns_done app s (with_member s queue member) core task 1 (Queue queue Receiving)
           (with_member_done app s core task queue member instr calls there)
-      | false ↦ IsConsistent-answered app s core task 0 instr calls
+      | false ↦ IsConsistent-returned_alone app s core task 0 instr calls
     ]
 
 -- A call of a queue leaves what stands, and the tick.
@@ -281,34 +281,34 @@ IsConsistent-queue_call app s core task queue Reset calls there =
     IsConsistent-done app s (with_no_items s queue) core task (Queue queue Sending)
     (with_items_done app s core task queue Sending (instr.Queue queue Reset) [] calls there)
 IsConsistent-queue_call app s core task queue Count calls there =
-    IsConsistent-answered app s core task (length (items_at s queue)) (instr.Queue queue Count) calls
+    IsConsistent-returned_alone app s core task (length (items_at s queue)) (instr.Queue queue Count) calls
 IsConsistent-queue_call app s core task queue Spaces calls there =
-    IsConsistent-answered app s core task ((queue_at s queue).capacity - length (items_at s queue)) (instr.Queue queue Spaces) calls
+    IsConsistent-returned_alone app s core task ((queue_at s queue).capacity - length (items_at s queue)) (instr.Queue queue Spaces) calls
 IsConsistent-queue_call app s core task queue (AddToSet number) calls there =
-    joins_or_not app s core task queue (Some number) (instr.Queue queue (AddToSet number)) (is_empty (queue_at s queue) && is_in_no_set (membership_of s queue)) calls there
+    joins_or_not app s core task queue (Some number) (instr.Queue queue (AddToSet number)) (is_empty (queue_at s queue) && is_in_no_queue_set (membership_of s queue)) calls there
 IsConsistent-queue_call app s core task queue (RemoveFromSet number) calls there =
-    joins_or_not app s core task queue None (instr.Queue queue (RemoveFromSet number)) (is_empty (queue_at s queue) && is_in_set number (membership_of s queue)) calls
+    joins_or_not app s core task queue None (instr.Queue queue (RemoveFromSet number)) (is_empty (queue_at s queue) && is_in_queue_set number (membership_of s queue)) calls
     there
 
 -- and so does a call of a set.
-pub IsConsistent-set_call : (app : Application) (s : Snapshot) (core task number : ℕ) (call : SetCall) → RunsInstr app s core task (instr.Set number call)
-    → number < length s.objects.sets
-    → IsConsistent app (all_have_time_left s.tick) (concluded (set_outcome (priorities_of app) s task number call) core task)
-IsConsistent-set_call app s core task number (Select wait) calls there =
-    IsConsistent-or_blocked app s core task (instr.Set number (Select wait)) (Set number) wait (has_no_handle (set_at s number)) _ calls there refl
-    (returns_done app s (with_handle_taken s number) core task (slice_index (set_at s number).handles 0 + 1) (Set number)
-    (with_handle_taken_done app s core task number (instr.Set number (Select wait)) calls there))
+pub IsConsistent-queue_set_call : (app : Application) (s : Snapshot) (core task number : ℕ) (call : QueueSetCall) → RunsInstr app s core task (instr.QueueSet number call)
+    → number < length s.objects.queue_sets
+    → IsConsistent app (all_have_time_left s.tick) (concluded (queue_set_outcome (priorities_of app) s task number call) core task)
+IsConsistent-queue_set_call app s core task number (Select wait) calls there =
+    IsConsistent-or_blocked app s core task (instr.QueueSet number (Select wait)) (QueueSet number) wait (has_no_handle (queue_set_at s number)) _ calls there refl
+    (returns_done app s (with_handle_taken s number) core task (slice_index (queue_set_at s number).handles 0 + 1) (QueueSet number)
+    (with_handle_taken_done app s core task number (instr.QueueSet number (Select wait)) calls there))
 
 -- ---- the tick
 
 posts-tick : (priorities : List ℕ) (s : Snapshot) (core task queue : ℕ) (member : Option ℕ) → (concluded (posted priorities s queue member) core task).tick ≡ s.tick
 posts-tick priorities s core task queue None = woken_first-tick priorities s (Queue queue Receiving)
-posts-tick priorities s core task queue (Some number) = woken_first-tick priorities (with_handle s number queue) (Set number)
+posts-tick priorities s core task queue (Some number) = woken_first-tick priorities (with_handle s number queue) (QueueSet number)
 
 sends-tick : (priorities : List ℕ) (s : Snapshot) (core task queue : ℕ) (end : End)
     → (concluded (outcome_with_room priorities s task queue end) core task).tick ≡ s.tick
 sends-tick priorities s core task queue end =
-    elim (is_in_full_set s (membership_of s queue)) as (λ b.
+    elim (is_in_full_queue_set s (membership_of s queue)) as (λ b.
     (concluded (cond b (call_breaks s SetFull) (posted priorities (with_item_sent s task queue end) queue (membership_of s queue))) core task).tick ≡ s.tick) [
       | true ↦ refl
       | false ↦ posts-tick priorities (with_item_sent s task queue end) core task queue (membership_of s queue)
@@ -346,11 +346,11 @@ queue_call-tick priorities s core task queue Reset = woken_first-tick priorities
 queue_call-tick priorities s core task queue Count = refl
 queue_call-tick priorities s core task queue Spaces = refl
 queue_call-tick priorities s core task queue (AddToSet number) =
-    joins_or_not-tick s core task queue (Some number) (is_empty (queue_at s queue) && is_in_no_set (membership_of s queue))
+    joins_or_not-tick s core task queue (Some number) (is_empty (queue_at s queue) && is_in_no_queue_set (membership_of s queue))
 queue_call-tick priorities s core task queue (RemoveFromSet number) =
-    joins_or_not-tick s core task queue None (is_empty (queue_at s queue) && is_in_set number (membership_of s queue))
+    joins_or_not-tick s core task queue None (is_empty (queue_at s queue) && is_in_queue_set number (membership_of s queue))
 
-pub set_call-tick : (priorities : List ℕ) (s : Snapshot) (core task number : ℕ) (call : SetCall)
-    → (concluded (set_outcome priorities s task number call) core task).tick ≡ s.tick
-set_call-tick priorities s core task number (Select wait) =
-    or_blocked-tick priorities s core task (Set number) wait (has_no_handle (set_at s number)) _ refl
+pub queue_set_call-tick : (priorities : List ℕ) (s : Snapshot) (core task number : ℕ) (call : QueueSetCall)
+    → (concluded (queue_set_outcome priorities s task number call) core task).tick ≡ s.tick
+queue_set_call-tick priorities s core task number (Select wait) =
+    or_blocked-tick priorities s core task (QueueSet number) wait (has_no_handle (queue_set_at s number)) _ refl

@@ -1,5 +1,5 @@
 -- The files of definitions of rd_queue_calls.
 pub mod Posts
 pub mod QueueCalls
-pub mod SetCalls
-pub mod SetLaws
+pub mod QueueSetCalls
+pub mod QueueSetLaws

@@ -2,12 +2,12 @@
 use Rattle.std.specs.Prelude.{ℕ, ◌<◌, ◌++◌, ◌∷◌, [], Bool, true, false, List, Option, None, Some}
 use Rattle.std.specs.Prelude.{length, nat_eq}
 use Rattle.rd_queue.specs.declared.waiting_list.WaitingList.TheVariants.{Receiving}
-use Rattle.rd_queue.specs.SetSnapshot.{SetSnapshot}
-use Rattle.rd_queue.specs.Sets.{with_handles}
+use Rattle.rd_queue.specs.QueueSetSnapshot.{QueueSetSnapshot}
+use Rattle.rd_queue.specs.QueueSets.{with_handles}
 use Rattle.rd_state.specs.declared.phase.Cause.{Cause}
 use Rattle.rd_state.specs.declared.phase.Place.{Place}
-use Rattle.rd_state.specs.declared.phase.Place.TheVariants.{Queue, Set}
-use Rattle.rd_state.specs.Snapshot.{Snapshot, queue_at, set_at, with_queue, with_set}
+use Rattle.rd_state.specs.declared.phase.Place.TheVariants.{Queue, QueueSet}
+use Rattle.rd_state.specs.Snapshot.{Snapshot, queue_at, queue_set_at, with_queue, with_queue_set}
 use Rattle.rd_state.specs.Waiting.{HasPlace, waiting_at}
 use Rattle.rd_kernel.specs.declared.outcome.Outcome.TheVariants.{Fails}
 use Rattle.rd_kernel.specs.Outcomes.{Called, call_passes, passed}
@@ -15,45 +15,48 @@ use Rattle.rd_kernel.specs.Waking.{ReadyHasRoom}
 
 -- the set that a queue is a member of, if it is one of any
 abbrev pub membership_of : Snapshot → ℕ → Option ℕ
-membership_of s queue = (queue_at s queue).set
+membership_of s queue = (queue_at s queue).queue_set
 
 -- the queue as a member of that set, or of none
 abbrev pub with_member : Snapshot → ℕ → Option ℕ → Snapshot
-with_member s queue set = with_queue s queue (record (queue_at s queue) { set = set })
+with_member s queue queue_set =
+    with_queue s queue (record (queue_at s queue) { queue_set = queue_set })
 
 -- Is it a member of none? Of that one?
-abbrev pub is_in_no_set : Option ℕ → Bool
-is_in_no_set None = true
-is_in_no_set (Some set) = false
+abbrev pub is_in_no_queue_set : Option ℕ → Bool
+is_in_no_queue_set None = true
+is_in_no_queue_set (Some queue_set) = false
 
-abbrev pub is_in_set : ℕ → Option ℕ → Bool
-is_in_set set None = false
-is_in_set set (Some other) = nat_eq other set
+abbrev pub is_in_queue_set : ℕ → Option ℕ → Bool
+is_in_queue_set queue_set None = false
+is_in_queue_set queue_set (Some other) = nat_eq other queue_set
 
 -- Has the set that a queue is a member of no room for one handle more?
-abbrev pub is_full_set : SetSnapshot → Bool
-is_full_set set = nat_eq (length set.handles) set.capacity
+abbrev pub is_full_queue_set : QueueSetSnapshot → Bool
+is_full_queue_set queue_set = nat_eq (length queue_set.handles) queue_set.capacity
 
-abbrev pub is_in_full_set : Snapshot → Option ℕ → Bool
-is_in_full_set s None = false
-is_in_full_set s (Some set) = is_full_set (set_at s set)
+abbrev pub is_in_full_queue_set : Snapshot → Option ℕ → Bool
+is_in_full_queue_set s None = false
+is_in_full_queue_set s (Some queue_set) = is_full_queue_set (queue_set_at s queue_set)
 
 -- the queue's handle at the back of the set's
 abbrev pub with_handle : Snapshot → ℕ → ℕ → Snapshot
-with_handle s set queue =
-    with_set s set (with_handles (set_at s set) ((set_at s set).handles ++ queue ∷ []))
+with_handle s queue_set queue =
+    with_queue_set s queue_set
+    (with_handles (queue_set_at s queue_set) ((queue_set_at s queue_set).handles ++ queue ∷ []))
 
 -- An item that was put into a queue in no set wakes the first who waits to receive it. One that was
 -- put into a member makes its queue's handle the last of the set's, and wakes the first who waits
 -- to select: whoever waits at the member itself isn't woken.
 abbrev pub posted : List ℕ → Snapshot → ℕ → Option ℕ → Called
 posted priorities s queue None = passed priorities s (Queue queue Receiving)
-posted priorities s queue (Some set) = passed priorities (with_handle s set queue) (Set set)
+posted priorities s queue (Some queue_set) =
+    passed priorities (with_handle s queue_set queue) (QueueSet queue_set)
 
 -- An item that took the place of another posts nothing: it wakes a receiver of a queue in no set.
 abbrev pub replaced : List ℕ → Snapshot → ℕ → Option ℕ → Called
 replaced priorities s queue None = passed priorities s (Queue queue Receiving)
-replaced priorities s queue (Some set) = call_passes s
+replaced priorities s queue (Some queue_set) = call_passes s
 
 -- a call that leaves the state, and its task failed
 abbrev pub call_breaks : Snapshot → Cause → Called
@@ -61,4 +64,5 @@ call_breaks s cause = record { state = s; outcome = Fails cause }
 
 -- Wherever somebody waits, the ready list has room for one task more.
 abbrev pub HasRoomToWake : Snapshot → Type 0
-HasRoomToWake s = (place : Place) → HasPlace s place → 0 < length (waiting_at s place) → ReadyHasRoom s
+HasRoomToWake s =
+    (place : Place) → HasPlace s place → 0 < length (waiting_at s place) → ReadyHasRoom s

@@ -18,11 +18,12 @@ use Rattle.rd_state.specs.declared.phase.Cause.TheVariants.{SetFull}
 use Rattle.rd_state.specs.declared.phase.Place.TheVariants.{Queue}
 use Rattle.rd_state.specs.Snapshot.{Snapshot, task_at, queue_at, with_queue, items_at}
 use Rattle.rd_kernel.specs.Costs.{data_cost, item_cost, waking_cost}
-use Rattle.rd_kernel.specs.Outcomes.{Called, blocked, call_answers, call_fails}
+use Rattle.rd_kernel.specs.Outcomes.{Called, blocked, call_returns, call_fails}
 use Rattle.rd_kernel.specs.Outcomes.{call_passes, passed}
 use Rattle.rd_kernel.specs.Tasks.{with_bytes}
 use Rattle.rd_kernel.specs.Waking.{may_wait}
-use Rattle.rd_queue_calls.specs.Posts.{call_breaks, is_in_full_set, is_in_no_set, is_in_set}
+use Rattle.rd_queue_calls.specs.Posts.{call_breaks, is_in_full_queue_set, is_in_no_queue_set}
+use Rattle.rd_queue_calls.specs.Posts.{is_in_queue_set}
 use Rattle.rd_queue_calls.specs.Posts.{posted, replaced, membership_of, with_member}
 
 -- Is there no free slot? Is there no item?
@@ -67,7 +68,7 @@ with_no_items s queue = with_queue s queue (with_items (queue_at s queue) [])
 -- tries again when it runs.
 abbrev pub outcome_with_room : List ℕ → Snapshot → ℕ → ℕ → End → Called
 outcome_with_room priorities s task queue end =
-    if is_in_full_set s (membership_of s queue) then call_breaks s SetFull
+    if is_in_full_queue_set s (membership_of s queue) then call_breaks s SetFull
     else posted priorities (with_item_sent s task queue end) queue (membership_of s queue)
 
 -- xQueueSend, xQueueSendToBack, xQueueSendToFront: where there is room, the item is sent.
@@ -103,23 +104,23 @@ reset_outcome priorities s queue =
 
 -- uxQueueMessagesWaiting, uxQueueSpacesAvailable: how many items there are, and free slots
 abbrev pub count_outcome : Snapshot → ℕ → Called
-count_outcome s queue = call_answers s (length (items_at s queue))
+count_outcome s queue = call_returns s (length (items_at s queue))
 
 abbrev pub spaces_outcome : Snapshot → ℕ → Called
 spaces_outcome s queue =
-    call_answers s ((queue_at s queue).capacity - length (items_at s queue))
+    call_returns s ((queue_at s queue).capacity - length (items_at s queue))
 
 -- xQueueAddToSet: an empty queue in no set becomes a member.
 abbrev pub add_outcome : Snapshot → ℕ → ℕ → Called
-add_outcome s queue set =
-    if is_empty (queue_at s queue) && is_in_no_set (membership_of s queue)
-    then call_passes (with_member s queue (Some set))
+add_outcome s queue queue_set =
+    if is_empty (queue_at s queue) && is_in_no_queue_set (membership_of s queue)
+    then call_passes (with_member s queue (Some queue_set))
     else call_fails s
 
 -- xQueueRemoveFromSet: an empty queue leaves the set that it is a member of. Its handles stay.
 abbrev pub remove_outcome : Snapshot → ℕ → ℕ → Called
-remove_outcome s queue set =
-    if is_empty (queue_at s queue) && is_in_set set (membership_of s queue)
+remove_outcome s queue queue_set =
+    if is_empty (queue_at s queue) && is_in_queue_set queue_set (membership_of s queue)
     then call_passes (with_member s queue None)
     else call_fails s
 
@@ -133,8 +134,8 @@ queue_outcome priorities s task queue Overwrite = overwrite_outcome priorities s
 queue_outcome priorities s task queue Reset = reset_outcome priorities s queue
 queue_outcome priorities s task queue Count = count_outcome s queue
 queue_outcome priorities s task queue Spaces = spaces_outcome s queue
-queue_outcome priorities s task queue (AddToSet set) = add_outcome s queue set
-queue_outcome priorities s task queue (RemoveFromSet set) = remove_outcome s queue set
+queue_outcome priorities s task queue (AddToSet queue_set) = add_outcome s queue queue_set
+queue_outcome priorities s task queue (RemoveFromSet queue_set) = remove_outcome s queue queue_set
 
 -- What they take in a record at the most. An item that is put carries nothing; its handle is one
 -- change more.
@@ -165,32 +166,33 @@ dropped_by s queue Overwrite = 0
 dropped_by s queue Reset = length (concat (items_at s queue))
 dropped_by s queue Count = 0
 dropped_by s queue Spaces = 0
-dropped_by s queue (AddToSet set) = 0
-dropped_by s queue (RemoveFromSet set) = 0
+dropped_by s queue (AddToSet queue_set) = 0
+dropped_by s queue (RemoveFromSet queue_set) = 0
 
 -- the most of them all, beside the bytes that a reset drops
 abbrev pub queue_call_cost : ℕ
 queue_call_cost = receive_cost
 
 -- The queue has room for the item that is put, and the queue's set has none for its handle.
-abbrev pub IsIntoFullSet : Snapshot → ℕ → Type 0
-IsIntoFullSet s queue =
-    (is_full (queue_at s queue) ≡ false) × (is_in_full_set s (membership_of s queue) ≡ true)
+abbrev pub IsIntoFullQueueSet : Snapshot → ℕ → Type 0
+IsIntoFullQueueSet s queue =
+    (is_full (queue_at s queue) ≡ false) × (is_in_full_queue_set s (membership_of s queue) ≡ true)
 
 -- The call can't be done and may not wait, is refused, or only counts: it changes nothing.
 abbrev pub ChangesNothing : Snapshot → ℕ → ℕ → QueueCall → Type 0
 ChangesNothing s task queue (Send end wait) =
-    ((is_full (queue_at s queue) ≡ true) × (may_wait s task wait ≡ false)) ⊎ IsIntoFullSet s queue
+    ((is_full (queue_at s queue) ≡ true) × (may_wait s task wait ≡ false))
+    ⊎ IsIntoFullQueueSet s queue
 ChangesNothing s task queue (Receive wait) =
     (is_empty (queue_at s queue) ≡ true) × (may_wait s task wait ≡ false)
 ChangesNothing s task queue (Peek wait) =
     (is_empty (queue_at s queue) ≡ true) × (may_wait s task wait ≡ false)
 ChangesNothing s task queue Overwrite =
-    (is_empty (queue_at s queue) ≡ true) × (is_in_full_set s (membership_of s queue) ≡ true)
+    (is_empty (queue_at s queue) ≡ true) × (is_in_full_queue_set s (membership_of s queue) ≡ true)
 ChangesNothing s task queue Reset = ⊥
 ChangesNothing s task queue Count = Unit {0}
 ChangesNothing s task queue Spaces = Unit {0}
-ChangesNothing s task queue (AddToSet set) =
-    (is_empty (queue_at s queue) && is_in_no_set (membership_of s queue)) ≡ false
-ChangesNothing s task queue (RemoveFromSet set) =
-    (is_empty (queue_at s queue) && is_in_set set (membership_of s queue)) ≡ false
+ChangesNothing s task queue (AddToSet queue_set) =
+    (is_empty (queue_at s queue) && is_in_no_queue_set (membership_of s queue)) ≡ false
+ChangesNothing s task queue (RemoveFromSet queue_set) =
+    (is_empty (queue_at s queue) && is_in_queue_set queue_set (membership_of s queue)) ≡ false

@@ -10,9 +10,11 @@ ghost use Rattle.rd_state.specs.Snapshot.{queue_at, task_at};
 ghost use Rattle.rd_kernel.specs.Costs.{data_cost, item_cost};
 ghost use Rattle.rd_kernel.specs.Outcomes.{DoesCall, IsCalling};
 ghost use Rattle.rd_kernel.specs.Waking.{may_wait};
-ghost use Rattle.rd_queue_calls.specs.Posts.{is_in_full_set, is_in_no_set, is_in_set};
+ghost use Rattle.rd_queue_calls.specs.Posts.{is_in_full_queue_set, is_in_no_queue_set};
+ghost use Rattle.rd_queue_calls.specs.Posts.{is_in_queue_set};
 ghost use Rattle.rd_queue_calls.specs.Posts.{membership_of};
-ghost use Rattle.rd_queue_calls.specs.QueueCalls.{is_empty, is_full, ChangesNothing, IsIntoFullSet};
+ghost use Rattle.rd_queue_calls.specs.QueueCalls.{is_empty, is_full, ChangesNothing};
+ghost use Rattle.rd_queue_calls.specs.QueueCalls.{IsIntoFullQueueSet};
 ghost use Rattle.rd_queue_calls.specs.QueueCalls.{with_item_taken, outcome_with_room};
 ghost use Rattle.rd_queue_calls.specs.QueueCalls.{send_outcome, receive_outcome, peek_outcome};
 ghost use Rattle.rd_queue_calls.specs.QueueCalls.{overwrite_outcome, reset_outcome};
@@ -23,7 +25,7 @@ ghost use Rattle.rd_queue_calls.specs.QueueCalls.{overwrite_cost, reset_cost, me
 ghost use Rattle.rd_queue_calls.specs.QueueCalls.{queue_call_cost};
 ghost use Rattle.rd_kernel.specs.Tasks.{KeepsPc};
 
-use crate::posts::{is_in_full_set, post};
+use crate::posts::{is_in_full_queue_set, post};
 use rd_app::app::App;
 use rd_app::instr::{Operand, QueueCall};
 use rd_bytes::no_memory::NoMemory;
@@ -84,17 +86,17 @@ fn deliver(
         < (queue_at editing.old.now queue).capacity }
     ensures ok { IfOk result (DoesCall editing.old editing.new
         (outcome_with_room (priorities_of app.now) editing.old.now task queue end) send_cost) }
-    ensures full_set { is_in_full_set editing.old.now (membership_of editing.old.now queue) ≡ true
+    ensures full_queue_set { is_in_full_queue_set editing.old.now (membership_of editing.old.now queue) ≡ true
         → IsOk result }
     ensures stays { OnOk result (KeepsPc editing.old.now editing.new.now task) }
     ensures err { OnErr result (KeepsBase editing.old editing.new) }
 {
-    let set = editing.state().queue(queue).set_of();
-    if is_in_full_set(editing.state(), set) {
+    let queue_set = editing.state().queue(queue).set_of();
+    if is_in_full_queue_set(editing.state(), queue_set) {
         return Ok(Outcome::Fails(Cause::SetFull));
     }
     editing.transfer(Transfer::DataToQueue { task, queue, end })?;
-    post(app, editing, queue, set)
+    post(app, editing, queue, queue_set)
 }
 
 // Puts the task's data at an end of the queue (`xQueueSend`, `xQueueSendToFront`), or waits for
@@ -114,7 +116,7 @@ fn send(
         (send_outcome (priorities_of app.now) editing.old.now task queue end wait) send_cost) }
     ensures full { is_full (queue_at editing.old.now queue) ≡ true
         → may_wait editing.old.now task wait ≡ false → IsOk result }
-    ensures full_set { IsIntoFullSet editing.old.now queue → IsOk result }
+    ensures full_queue_set { IsIntoFullQueueSet editing.old.now queue → IsOk result }
     ensures stays { OnOk result (KeepsPc editing.old.now editing.new.now task) }
     ensures err { OnErr result (KeepsBase editing.old editing.new) }
 {
@@ -185,8 +187,8 @@ fn overwrite(
     requires queue { queue < length editing.old.now.objects.queues }
     ensures ok { IfOk result (DoesCall editing.old editing.new
         (overwrite_outcome (priorities_of app.now) editing.old.now task queue) overwrite_cost) }
-    ensures full_set { is_empty (queue_at editing.old.now queue) ≡ true
-        → is_in_full_set editing.old.now (membership_of editing.old.now queue) ≡ true
+    ensures full_queue_set { is_empty (queue_at editing.old.now queue) ≡ true
+        → is_in_full_queue_set editing.old.now (membership_of editing.old.now queue) ≡ true
         → IsOk result }
     ensures stays { OnOk result (KeepsPc editing.old.now editing.new.now task) }
     ensures err { OnErr result (KeepsBase editing.old editing.new) }
@@ -194,9 +196,9 @@ fn overwrite(
     if editing.state().queue(queue).count() == 0 {
         return deliver(app, editing, task, queue, End::Back);
     }
-    let set = editing.state().queue(queue).set_of();
+    let queue_set = editing.state().queue(queue).set_of();
     editing.transfer(Transfer::DataOverFront { task, queue })?;
-    match set {
+    match queue_set {
         Some(_) => Ok(Outcome::Returns(1)),
         None => pass(editing, app.priorities(), receiving(queue)),
     }
@@ -220,14 +222,14 @@ fn reset(app: &App, editing: &mut Editing, task: usize, queue: usize) -> Result<
 }
 
 // Makes an empty queue a member of the set, if it is one of none (`xQueueAddToSet`).
-fn add_to_set(editing: &mut Editing, queue: usize, set: usize) -> Result<Outcome, NoMemory>
+fn add_to_set(editing: &mut Editing, queue: usize, queue_set: usize) -> Result<Outcome, NoMemory>
     requires sized { IsSized editing.old.now }
     requires queue { queue < length editing.old.now.objects.queues }
-    requires set { set < length editing.old.now.objects.sets }
+    requires queue_set { queue_set < length editing.old.now.objects.queue_sets }
     ensures ok { IfOk result (DoesCall editing.old editing.new
-        (add_outcome editing.old.now queue set) member_cost) }
+        (add_outcome editing.old.now queue queue_set) member_cost) }
     ensures refused { (is_empty (queue_at editing.old.now queue)
-        && is_in_no_set (membership_of editing.old.now queue)) ≡ false → IsOk result }
+        && is_in_no_queue_set (membership_of editing.old.now queue)) ≡ false → IsOk result }
     ensures tasks { OnOk result (editing.new.now.tasks ≡ editing.old.now.tasks) }
     ensures err { OnErr result (KeepsBase editing.old editing.new) }
 {
@@ -235,29 +237,35 @@ fn add_to_set(editing: &mut Editing, queue: usize, set: usize) -> Result<Outcome
     if target.count() > 0 || target.set_of().is_some() {
         return Ok(Outcome::Returns(0));
     }
-    let change = QueueChange::SetMember { set: Some(set) };
+    let change = QueueChange::SetMember {
+        queue_set: Some(queue_set),
+    };
     let change = ObjectChange::Queue { queue, change };
     editing.change(Change::Object { change })?;
     Ok(Outcome::Returns(1))
 }
 
 // Takes an empty queue out of the set, if it is a member of that (`xQueueRemoveFromSet`).
-fn remove_from_set(editing: &mut Editing, queue: usize, set: usize) -> Result<Outcome, NoMemory>
+fn remove_from_set(
+    editing: &mut Editing,
+    queue: usize,
+    queue_set: usize,
+) -> Result<Outcome, NoMemory>
     requires sized { IsSized editing.old.now }
     requires queue { queue < length editing.old.now.objects.queues }
-    requires set { set < length editing.old.now.objects.sets }
+    requires queue_set { queue_set < length editing.old.now.objects.queue_sets }
     ensures ok { IfOk result (DoesCall editing.old editing.new
-        (remove_outcome editing.old.now queue set) member_cost) }
+        (remove_outcome editing.old.now queue queue_set) member_cost) }
     ensures refused { (is_empty (queue_at editing.old.now queue)
-        && is_in_set set (membership_of editing.old.now queue)) ≡ false → IsOk result }
+        && is_in_queue_set queue_set (membership_of editing.old.now queue)) ≡ false → IsOk result }
     ensures tasks { OnOk result (editing.new.now.tasks ≡ editing.old.now.tasks) }
     ensures err { OnErr result (KeepsBase editing.old editing.new) }
 {
     let target = editing.state().queue(queue);
-    if target.count() > 0 || target.set_of() != Some(set) {
+    if target.count() > 0 || target.set_of() != Some(queue_set) {
         return Ok(Outcome::Returns(0));
     }
-    let change = QueueChange::SetMember { set: None };
+    let change = QueueChange::SetMember { queue_set: None };
     let change = ObjectChange::Queue { queue, change };
     editing.change(Change::Object { change })?;
     Ok(Outcome::Returns(1))
@@ -274,7 +282,7 @@ pub fn call_queue(
 ) -> Result<Outcome, NoMemory>
     requires caller { IsCalling app.now editing.old.now task }
     requires queue { queue < length editing.old.now.objects.queues }
-    requires registers { IsQueueCall (length editing.old.now.objects.sets) call }
+    requires registers { IsQueueCall (length editing.old.now.objects.queue_sets) call }
     ensures ok { IfOk result (DoesCall editing.old editing.new
         (queue_outcome (priorities_of app.now) editing.old.now task queue call)
         (queue_call_cost + dropped_by editing.old.now queue call)) }
@@ -296,7 +304,7 @@ pub fn call_queue(
             let spaces = editing.state().queue(queue).spaces();
             Ok(Outcome::Returns(spaces as u32))
         }
-        QueueCall::AddToSet { set } => add_to_set(editing, queue, set),
-        QueueCall::RemoveFromSet { set } => remove_from_set(editing, queue, set),
+        QueueCall::AddToSet { queue_set } => add_to_set(editing, queue, queue_set),
+        QueueCall::RemoveFromSet { queue_set } => remove_from_set(editing, queue, queue_set),
     }
 }

@@ -1,7 +1,7 @@
 //! Laws of queue sets, in their own words.
 
-ghost use Rattle.rd_queue_calls.specs.SetLaws.{FailedSendsLeaveAll, HandlesGoByCalls};
-ghost use Rattle.rd_queue_calls.specs.SetLaws.{OverwritesPostOnce};
+ghost use Rattle.rd_queue_calls.specs.QueueSetLaws.{FailedSendsLeaveAll, HandlesGoByCalls};
+ghost use Rattle.rd_queue_calls.specs.QueueSetLaws.{OverwritesPostOnce};
 
 /// A send into a member with room adds just one handle, its number at the back of its set's; a
 /// select that answers a number takes just the one at the front; no other call changes handles.

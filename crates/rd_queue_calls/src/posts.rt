@@ -4,14 +4,14 @@ ghost use Rattle.std.specs.Prelude.{◌≡◌, ◌+◌, ◌<◌, length, false, 
 ghost use Rattle.rd_app.specs.Application.{priorities_of};
 ghost use Rattle.rd_kernel.specs.Costs.{waking_cost};
 ghost use Rattle.rd_kernel.specs.Outcomes.{DoesCall};
-ghost use Rattle.rd_queue_calls.specs.Posts.{is_in_full_set, posted, HasRoomToWake};
+ghost use Rattle.rd_queue_calls.specs.Posts.{is_in_full_queue_set, posted, HasRoomToWake};
 ghost use Rattle.rd_state.specs.Edit.{KeepsBase};
 
 use rd_app::app::App;
 use rd_bytes::no_memory::NoMemory;
 use rd_kernel::outcome::Outcome;
 use rd_kernel::waking::pass;
-use rd_queue::set_change::SetChange;
+use rd_queue::queue_set_change::QueueSetChange;
 use rd_queue::waiting_list::WaitingList;
 use rd_state::change::Change;
 use rd_state::editing::Editing;
@@ -20,13 +20,13 @@ use rd_state::phase::Place;
 use rd_state::state::State;
 
 /// Has the set that a queue is a member of, if it is one, no room for one handle more?
-pub fn is_in_full_set(state: &State, set: Option<usize>) -> bool
-    requires { IfSome set (λ set. set < length state.now.objects.sets) }
-    ensures { result ≡ is_in_full_set state.now set }
+pub fn is_in_full_queue_set(state: &State, queue_set: Option<usize>) -> bool
+    requires { IfSome queue_set (λ queue_set. queue_set < length state.now.objects.queue_sets) }
+    ensures { result ≡ is_in_full_queue_set state.now queue_set }
 {
-    match set {
+    match queue_set {
         None => false,
-        Some(set) => state.set(set).spaces() == 0,
+        Some(queue_set) => state.queue_set(queue_set).spaces() == 0,
     }
 }
 
@@ -36,24 +36,25 @@ pub fn post(
     app: &App,
     editing: &mut Editing,
     queue: usize,
-    set: Option<usize>,
+    queue_set: Option<usize>,
 ) -> Result<Outcome, NoMemory>
     requires queue { queue < length editing.old.now.objects.queues }
-    requires set { IfSome set (λ set. set < length editing.old.now.objects.sets) }
-    requires room { is_in_full_set editing.old.now set ≡ false }
+    requires queue_set { IfSome queue_set
+        (λ queue_set. queue_set < length editing.old.now.objects.queue_sets) }
+    requires room { is_in_full_queue_set editing.old.now queue_set ≡ false }
     requires ready { HasRoomToWake editing.old.now }
     requires priorities { length (priorities_of app.now) ≡ length editing.old.now.tasks }
     ensures ok { IfOk result (DoesCall editing.old editing.new
-        (posted (priorities_of app.now) editing.old.now queue set) (1 + waking_cost)) }
+        (posted (priorities_of app.now) editing.old.now queue queue_set) (1 + waking_cost)) }
     ensures err { OnErr result (KeepsBase editing.old editing.new) }
 {
-    let Some(set) = set else {
+    let Some(queue_set) = queue_set else {
         let list = WaitingList::Receiving;
         return pass(editing, app.priorities(), Place::Queue { queue, list });
     };
-    let _ = editing.state().set(set);
-    let change = SetChange::PushHandle { queue };
-    let change = ObjectChange::Set { set, change };
+    let _ = editing.state().queue_set(queue_set);
+    let change = QueueSetChange::PushHandle { queue };
+    let change = ObjectChange::QueueSet { queue_set, change };
     editing.change(Change::Object { change })?;
-    pass(editing, app.priorities(), Place::Set { set })
+    pass(editing, app.priorities(), Place::QueueSet { queue_set })
 }

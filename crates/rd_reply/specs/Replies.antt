@@ -7,21 +7,22 @@ use Rattle.rd_text.specs.declared.refusal.Refusal.{Refusal}
 use Rattle.rd_text.specs.declared.refusal.Refusal.TheVariants.{NoTask, TickLimit, TooFar}
 use Rattle.rd_text.specs.declared.refusal.Refusal.TheVariants.{MovesFull, NoSuch, NoMemory}
 use Rattle.rd_text.specs.declared.refusal.Refusal.TheVariants.{Syntax, LineTooLong}
+use Rattle.rd_app.specs.Application.{Application}
 use Rattle.rd_notify.specs.declared.entries.Entry.{Entry}
 use Rattle.rd_notify.specs.declared.entries.EntryState.{EntryState}
 use Rattle.rd_notify.specs.declared.entries.EntryState.TheVariants.{Idle, Waiting, Received}
 use Rattle.rd_queue.specs.declared.waiting_list.WaitingList.{WaitingList}
 use Rattle.rd_queue.specs.declared.waiting_list.WaitingList.TheVariants.{Receiving, Sending}
 use Rattle.rd_queue.specs.QueueSnapshot.{QueueSnapshot}
-use Rattle.rd_queue.specs.SetSnapshot.{SetSnapshot}
+use Rattle.rd_queue.specs.QueueSetSnapshot.{QueueSetSnapshot}
 use Rattle.rd_state.specs.declared.phase.Cause.{Cause}
 use Rattle.rd_state.specs.declared.phase.Cause.TheVariants.{SetFull}
 use Rattle.rd_state.specs.declared.phase.Phase.{Phase}
 use Rattle.rd_state.specs.declared.phase.Phase.TheVariants.{Run, Again, Wait, Ended, Failed}
 use Rattle.rd_state.specs.declared.phase.Place.{Place}
-use Rattle.rd_state.specs.declared.phase.Place.TheVariants.{Queue, Set}
+use Rattle.rd_state.specs.declared.phase.Place.TheVariants.{Queue, QueueSet}
 use Rattle.rd_state.specs.Snapshot.{Snapshot, TaskSnapshot}
-use Rattle.rd_reply.specs.Names.{AllNames, name_at, name_or_dash}
+use Rattle.rd_reply.specs.Names.{name_at, name_or_dash}
 use Rattle.rd_reply.specs.declared.reply.Reply.{Reply}
 use Rattle.rd_reply.specs.declared.reply.Reply.TheVariants.{Done, Refused}
 
@@ -78,21 +79,22 @@ list_name Receiving = codes "recv"
 list_name Sending = codes "send"
 
 -- a place where tasks wait, by the name of its queue or of its set
-abbrev pub place_text : AllNames → Place → List ℕ
-place_text names (Queue queue list) = list_name list ++ codes ":" ++ name_at names.queues queue
-place_text names (Set set) = codes "set:" ++ name_at names.sets set
+abbrev pub place_text : Application → Place → List ℕ
+place_text app (Queue queue list) =
+    list_name list ++ codes ":" ++ name_at app.objects.queues.names queue
+place_text app (QueueSet queue_set) = codes "set:" ++ name_at app.objects.queue_sets.names queue_set
 
 -- why a call failed
 abbrev pub cause_text : Cause → List ℕ
 cause_text SetFull = codes "SetFull"
 
-abbrev pub phase_text : AllNames → Phase → List ℕ
-phase_text names Run = codes "run"
-phase_text names (Again deadline) = codes "again:" ++ deadline_text deadline
-phase_text names (Wait place deadline) =
-    codes "wait:" ++ place_text names place ++ codes ":" ++ deadline_text deadline
-phase_text names Ended = codes "ended"
-phase_text names (Failed cause) = codes "failed:" ++ cause_text cause
+abbrev pub phase_text : Application → Phase → List ℕ
+phase_text app Run = codes "run"
+phase_text app (Again deadline) = codes "again:" ++ deadline_text deadline
+phase_text app (Wait place deadline) =
+    codes "wait:" ++ place_text app place ++ codes ":" ++ deadline_text deadline
+phase_text app Ended = codes "ended"
+phase_text app (Failed cause) = codes "failed:" ++ cause_text cause
 
 abbrev pub entry_state_text : EntryState → List ℕ
 entry_state_text Idle = codes "idle"
@@ -125,44 +127,46 @@ contents_text queue =
     ++ list_text bytes_text queue.items
 
 -- who waits to receive and to send, by the tasks' names
-abbrev pub waiting_text : AllNames → QueueSnapshot → List ℕ
-waiting_text names queue =
-    codes " recv " ++ list_text (name_at names.tasks) queue.receiving
-    ++ codes " send " ++ list_text (name_at names.tasks) queue.sending
+abbrev pub waiting_text : Application → QueueSnapshot → List ℕ
+waiting_text app queue =
+    codes " recv " ++ list_text (name_at app.tasks.names) queue.receiving
+    ++ codes " send " ++ list_text (name_at app.tasks.names) queue.sending
 
 -- the set that a queue is a member of, by its name; `-` for none
-abbrev pub membership_text : AllNames → QueueSnapshot → List ℕ
-membership_text names queue = codes " set " ++ name_or_dash names.sets queue.set
+abbrev pub membership_text : Application → QueueSnapshot → List ℕ
+membership_text app queue =
+    codes " set " ++ name_or_dash app.objects.queue_sets.names queue.queue_set
 
 -- a queue of that name
-abbrev pub queue_text : AllNames → List ℕ → QueueSnapshot → List ℕ
-queue_text names name queue =
-    codes "queue " ++ name ++ codes " " ++ contents_text queue ++ waiting_text names queue
-    ++ membership_text names queue
+abbrev pub queue_text : Application → List ℕ → QueueSnapshot → List ℕ
+queue_text app name queue =
+    codes "queue " ++ name ++ codes " " ++ contents_text queue ++ waiting_text app queue
+    ++ membership_text app queue
 
 -- what is in a queue set: handles, the oldest first, by the names of their queues
-abbrev pub handles_text : AllNames → SetSnapshot → List ℕ
-handles_text names set =
-    counts_text (length set.handles) set.capacity ++ codes " handles "
-    ++ list_text (name_at names.queues) set.handles
+abbrev pub handles_text : Application → QueueSetSnapshot → List ℕ
+handles_text app queue_set =
+    counts_text (length queue_set.handles) queue_set.capacity ++ codes " handles "
+    ++ list_text (name_at app.objects.queues.names) queue_set.handles
 
 -- who waits to select, by the tasks' names
-abbrev pub selecting_text : AllNames → SetSnapshot → List ℕ
-selecting_text names set = codes " wait " ++ list_text (name_at names.tasks) set.waiting
+abbrev pub selecting_text : Application → QueueSetSnapshot → List ℕ
+selecting_text app queue_set =
+    codes " wait " ++ list_text (name_at app.tasks.names) queue_set.waiting
 
 -- a queue set of that name
-abbrev pub set_text : AllNames → List ℕ → SetSnapshot → List ℕ
-set_text names name set =
-    codes "set " ++ name ++ codes " " ++ handles_text names set ++ selecting_text names set
+abbrev pub queue_set_text : Application → List ℕ → QueueSetSnapshot → List ℕ
+queue_set_text app name queue_set =
+    codes "set " ++ name ++ codes " " ++ handles_text app queue_set ++ selecting_text app queue_set
 
 abbrev pub ticks_text : Snapshot → List ℕ
 ticks_text s = codes " tick " ++ decimal s.tick ++ codes " turn " ++ decimal s.turn
 
 -- who runs and who is ready, by the tasks' names, with the tick and the turn
-abbrev pub cores_text : AllNames → Snapshot → List ℕ
-cores_text names s =
-    codes "cores " ++ list_text (name_or_dash names.tasks) s.cores
-    ++ codes " ready " ++ list_text (name_at names.tasks) s.ready ++ ticks_text s
+abbrev pub cores_text : Application → Snapshot → List ℕ
+cores_text app s =
+    codes "cores " ++ list_text (name_or_dash app.tasks.names) s.cores
+    ++ codes " ready " ++ list_text (name_at app.tasks.names) s.ready ++ ticks_text s
 
 -- what a task has, from its registers on
 abbrev pub state_text : TaskSnapshot → List ℕ
@@ -171,8 +175,8 @@ state_text task =
     ++ codes " notes " ++ list_text entry_text task.entries
 
 -- a task of that name that runs on that core, if on any
-abbrev pub task_text : AllNames → List ℕ → Option ℕ → TaskSnapshot → List ℕ
-task_text names name core task =
+abbrev pub task_text : Application → List ℕ → Option ℕ → TaskSnapshot → List ℕ
+task_text app name core task =
     codes "task " ++ name ++ codes " core " ++ running_core_text core
-    ++ codes " pc " ++ decimal task.pc ++ codes " phase " ++ phase_text names task.phase
+    ++ codes " pc " ++ decimal task.pc ++ codes " phase " ++ phase_text app task.phase
     ++ state_text task

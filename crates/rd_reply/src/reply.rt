@@ -4,17 +4,18 @@
 ghost use Rattle.std.specs.Prelude.{◌≡◌, ◌+◌, ◌++◌, ◌≤◌, decimal, length, position};
 ghost use Rattle.std.specs.Prelude.{All, IsOk, OnErr, OnOk, vec_capacity, vec_len};
 ghost use Rattle.rd_app.specs.Application.{names_of};
+ghost use Rattle.rd_state.specs.Objects.{numbers_named};
 ghost use Rattle.rd_state.specs.Waiting.{IsPlace};
-ghost use Rattle.rd_reply.specs.Names.{all_names, name_at, name_or_dash, numbers_named};
+ghost use Rattle.rd_reply.specs.Names.{name_at, name_or_dash};
 ghost use Rattle.rd_reply.specs.Names.{IsNamed, IsNamedOrNone, PlaceIsNamed};
-ghost use Rattle.rd_reply.specs.Names.{QueueIsNamed, SetIsNamed, SeatedAreNamed};
+ghost use Rattle.rd_reply.specs.Names.{QueueIsNamed, QueueSetIsNamed, SeatedAreNamed};
 ghost use Rattle.rd_reply.specs.Replies.{line_of, refusal_text, reply_text, list_text};
 ghost use Rattle.rd_reply.specs.Replies.{bytes_text, comma_at};
 ghost use Rattle.rd_reply.specs.Replies.{deadline_text, list_name, place_text, cause_text};
 ghost use Rattle.rd_reply.specs.Replies.{phase_text, entry_text};
 ghost use Rattle.rd_reply.specs.Replies.{counts_text, contents_text, waiting_text};
 ghost use Rattle.rd_reply.specs.Replies.{membership_text, queue_text};
-ghost use Rattle.rd_reply.specs.Replies.{handles_text, selecting_text, set_text};
+ghost use Rattle.rd_reply.specs.Replies.{handles_text, selecting_text, queue_set_text};
 ghost use Rattle.rd_reply.specs.Replies.{running_core_text, state_text, task_text, is_task};
 ghost use Rattle.rd_reply.specs.Replies.{ticks_text, cores_text};
 ghost use Rattle.rd_reply.specs.Pages.{Appends, LacksRoom, KeepsFront};
@@ -200,16 +201,17 @@ fn append_task_names(page: &mut Page<'_>, app: &App, tasks: &[usize])
 }
 
 // The names of the queues whose handles are in a set.
-fn append_handle_names(page: &mut Page<'_>, app: &App, set: &QueueSet)
-    requires { All (IsNamed app.now.objects.queues.names) set.now.handles }
-    ensures { Appends page.old page.new (list_text (name_at app.now.objects.queues.names) set.now.handles) }
+fn append_handle_names(page: &mut Page<'_>, app: &App, queue_set: &QueueSet)
+    requires { All (IsNamed app.now.objects.queues.names) queue_set.now.handles }
+    ensures { Appends page.old page.new
+        (list_text (name_at app.now.objects.queues.names) queue_set.now.handles) }
 {
-    if set.count() == 0 {
+    if queue_set.count() == 0 {
         return page.append("-");
     }
-    for index in 0..set.count() {
+    for index in 0..queue_set.count() {
         append_comma(page, index);
-        append_name(page, app, Kind::Queue, set.handle(index));
+        append_name(page, app, Kind::Queue, queue_set.handle(index));
     }
 }
 
@@ -283,8 +285,8 @@ fn list_name(list: WaitingList) -> &'static str
 
 // Where a task waits.
 fn append_place(page: &mut Page<'_>, app: &App, place: Place)
-    requires { IsPlace (numbers_named (all_names app.now)) place }
-    ensures { Appends page.old page.new (place_text (all_names app.now) place) }
+    requires { IsPlace (numbers_named app.now.objects) place }
+    ensures { Appends page.old page.new (place_text app.now place) }
 {
     match place {
         Place::Queue { queue, list } => {
@@ -292,9 +294,9 @@ fn append_place(page: &mut Page<'_>, app: &App, place: Place)
             page.append(":");
             append_name(page, app, Kind::Queue, queue);
         }
-        Place::Set { set } => {
+        Place::QueueSet { queue_set } => {
             page.append("set:");
-            append_name(page, app, Kind::Set, set);
+            append_name(page, app, Kind::QueueSet, queue_set);
         }
     }
 }
@@ -309,8 +311,8 @@ fn append_cause(page: &mut Page<'_>, cause: Cause)
 }
 
 fn append_phase(page: &mut Page<'_>, app: &App, phase: Phase)
-    requires { PlaceIsNamed (all_names app.now) phase }
-    ensures { Appends page.old page.new (phase_text (all_names app.now) phase) }
+    requires { PlaceIsNamed app.now phase }
+    ensures { Appends page.old page.new (phase_text app.now phase) }
 {
     match phase {
         Phase::Run => page.append("run"),
@@ -345,11 +347,11 @@ fn append_running_core(page: &mut Page<'_>, core: Option<usize>)
 /// Appends the view of a queue. An `Err` says that there is no memory for it, and comes only where
 /// the page has no room for it; the page may then have some part of it after what it had.
 pub fn show_queue(page: &mut Vec<u8>, app: &App, name: &str, queue: &Queue) -> Appended
-    requires { QueueIsNamed (all_names app.now) queue.now }
+    requires { QueueIsNamed app.now queue.now }
     ensures text { OnOk result (page.new.items
-        ≡ page.old.items ++ line_of (queue_text (all_names app.now) name.now queue.now)) }
+        ≡ page.old.items ++ line_of (queue_text app.now name.now queue.now)) }
     ensures full { OnErr result
-        (LacksRoom page.old (line_of (queue_text (all_names app.now) name.now queue.now))) }
+        (LacksRoom page.old (line_of (queue_text app.now name.now queue.now))) }
     ensures kept { KeepsFront page.old page.new }
 {
     let mut line = Page::new(page);
@@ -359,9 +361,9 @@ pub fn show_queue(page: &mut Vec<u8>, app: &App, name: &str, queue: &Queue) -> A
 
 // The line of a queue.
 fn append_queue(page: &mut Page<'_>, app: &App, name: &str, queue: &Queue)
-    requires { QueueIsNamed (all_names app.now) queue.now }
+    requires { QueueIsNamed app.now queue.now }
     ensures { Appends page.old page.new
-        (line_of (queue_text (all_names app.now) name.now queue.now)) }
+        (line_of (queue_text app.now name.now queue.now)) }
 {
     page.append("queue ");
     page.append(name);
@@ -392,8 +394,8 @@ fn append_contents(page: &mut Page<'_>, queue: &Queue)
 
 // Who waits at a queue.
 fn append_waiting(page: &mut Page<'_>, app: &App, queue: &Queue)
-    requires { QueueIsNamed (all_names app.now) queue.now }
-    ensures { Appends page.old page.new (waiting_text (all_names app.now) queue.now) }
+    requires { QueueIsNamed app.now queue.now }
+    ensures { Appends page.old page.new (waiting_text app.now queue.now) }
 {
     page.append(" recv ");
     append_task_names(page, app, queue.waiting(WaitingList::Receiving).as_slice());
@@ -403,58 +405,58 @@ fn append_waiting(page: &mut Page<'_>, app: &App, queue: &Queue)
 
 // The set that a queue is a member of.
 fn append_membership(page: &mut Page<'_>, app: &App, queue: &Queue)
-    requires { QueueIsNamed (all_names app.now) queue.now }
-    ensures { Appends page.old page.new (membership_text (all_names app.now) queue.now) }
+    requires { QueueIsNamed app.now queue.now }
+    ensures { Appends page.old page.new (membership_text app.now queue.now) }
 {
     page.append(" set ");
-    append_name_or_dash(page, app, Kind::Set, queue.set_of());
+    append_name_or_dash(page, app, Kind::QueueSet, queue.set_of());
 }
 
 /// Appends the view of a queue set. An `Err` says that there is no memory for it, and comes only
 /// where the page has no room for it; the page may then have some part of it after what it had.
-pub fn show_set(page: &mut Vec<u8>, app: &App, name: &str, set: &QueueSet) -> Appended
-    requires { SetIsNamed (all_names app.now) set.now }
+pub fn show_queue_set(page: &mut Vec<u8>, app: &App, name: &str, queue_set: &QueueSet) -> Appended
+    requires { QueueSetIsNamed app.now queue_set.now }
     ensures text { OnOk result (page.new.items
-        ≡ page.old.items ++ line_of (set_text (all_names app.now) name.now set.now)) }
+        ≡ page.old.items ++ line_of (queue_set_text app.now name.now queue_set.now)) }
     ensures full { OnErr result
-        (LacksRoom page.old (line_of (set_text (all_names app.now) name.now set.now))) }
+        (LacksRoom page.old (line_of (queue_set_text app.now name.now queue_set.now))) }
     ensures kept { KeepsFront page.old page.new }
 {
     let mut line = Page::new(page);
-    append_set(&mut line, app, name, set);
+    append_queue_set(&mut line, app, name, queue_set);
     line.end()
 }
 
 // The line of a queue set.
-fn append_set(page: &mut Page<'_>, app: &App, name: &str, set: &QueueSet)
-    requires { SetIsNamed (all_names app.now) set.now }
-    ensures { Appends page.old page.new (line_of (set_text (all_names app.now) name.now set.now)) }
+fn append_queue_set(page: &mut Page<'_>, app: &App, name: &str, queue_set: &QueueSet)
+    requires { QueueSetIsNamed app.now queue_set.now }
+    ensures { Appends page.old page.new (line_of (queue_set_text app.now name.now queue_set.now)) }
 {
     page.append("set ");
     page.append(name);
     page.append(" ");
-    append_handles(page, app, set);
-    append_selecting(page, app, set);
+    append_handles(page, app, queue_set);
+    append_selecting(page, app, queue_set);
     page.append("\n");
 }
 
 // What is in a set.
-fn append_handles(page: &mut Page<'_>, app: &App, set: &QueueSet)
-    requires { SetIsNamed (all_names app.now) set.now }
-    ensures { Appends page.old page.new (handles_text (all_names app.now) set.now) }
+fn append_handles(page: &mut Page<'_>, app: &App, queue_set: &QueueSet)
+    requires { QueueSetIsNamed app.now queue_set.now }
+    ensures { Appends page.old page.new (handles_text app.now queue_set.now) }
 {
-    append_counts(page, set.count(), set.capacity());
+    append_counts(page, queue_set.count(), queue_set.capacity());
     page.append(" handles ");
-    append_handle_names(page, app, set);
+    append_handle_names(page, app, queue_set);
 }
 
 // Who waits to select from a set.
-fn append_selecting(page: &mut Page<'_>, app: &App, set: &QueueSet)
-    requires { SetIsNamed (all_names app.now) set.now }
-    ensures { Appends page.old page.new (selecting_text (all_names app.now) set.now) }
+fn append_selecting(page: &mut Page<'_>, app: &App, queue_set: &QueueSet)
+    requires { QueueSetIsNamed app.now queue_set.now }
+    ensures { Appends page.old page.new (selecting_text app.now queue_set.now) }
 {
     page.append(" wait ");
-    append_task_names(page, app, set.waiting().as_slice());
+    append_task_names(page, app, queue_set.waiting().as_slice());
 }
 
 /// Appends the view of a task. An `Err` says that there is no memory for it, and comes only where
@@ -466,11 +468,11 @@ pub fn show_task(
     core: Option<usize>,
     task: &Task,
 ) -> Appended
-    requires { PlaceIsNamed (all_names app.now) task.now.phase }
+    requires { PlaceIsNamed app.now task.now.phase }
     ensures text { OnOk result (page.new.items
-        ≡ page.old.items ++ line_of (task_text (all_names app.now) name.now core task.now)) }
+        ≡ page.old.items ++ line_of (task_text app.now name.now core task.now)) }
     ensures full { OnErr result
-        (LacksRoom page.old (line_of (task_text (all_names app.now) name.now core task.now))) }
+        (LacksRoom page.old (line_of (task_text app.now name.now core task.now))) }
     ensures kept { KeepsFront page.old page.new }
 {
     let mut line = Page::new(page);
@@ -480,9 +482,9 @@ pub fn show_task(
 
 // The line of a task.
 fn append_task(page: &mut Page<'_>, app: &App, name: &str, core: Option<usize>, task: &Task)
-    requires { PlaceIsNamed (all_names app.now) task.now.phase }
+    requires { PlaceIsNamed app.now task.now.phase }
     ensures { Appends page.old page.new
-        (line_of (task_text (all_names app.now) name.now core task.now)) }
+        (line_of (task_text app.now name.now core task.now)) }
 {
     page.append("task ");
     page.append(name);
@@ -511,11 +513,11 @@ fn append_state(page: &mut Page<'_>, task: &Task)
 /// Appends the view of the cores. An `Err` says that there is no memory for it, and comes only
 /// where the page has no room for it; the page may then have some part of it after what it had.
 pub fn show_cores(page: &mut Vec<u8>, app: &App, state: &State) -> Appended
-    requires { SeatedAreNamed (all_names app.now) state.now }
+    requires { SeatedAreNamed app.now state.now }
     ensures text { OnOk result (page.new.items
-        ≡ page.old.items ++ line_of (cores_text (all_names app.now) state.now)) }
+        ≡ page.old.items ++ line_of (cores_text app.now state.now)) }
     ensures full { OnErr result
-        (LacksRoom page.old (line_of (cores_text (all_names app.now) state.now))) }
+        (LacksRoom page.old (line_of (cores_text app.now state.now))) }
     ensures kept { KeepsFront page.old page.new }
 {
     let mut line = Page::new(page);
@@ -525,8 +527,8 @@ pub fn show_cores(page: &mut Vec<u8>, app: &App, state: &State) -> Appended
 
 // The line of the cores.
 fn append_cores(page: &mut Page<'_>, app: &App, state: &State)
-    requires { SeatedAreNamed (all_names app.now) state.now }
-    ensures { Appends page.old page.new (line_of (cores_text (all_names app.now) state.now)) }
+    requires { SeatedAreNamed app.now state.now }
+    ensures { Appends page.old page.new (line_of (cores_text app.now state.now)) }
 {
     page.append("cores ");
     append_seat_names(page, app, state.cores());

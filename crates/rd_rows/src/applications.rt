@@ -4,10 +4,8 @@
 use crate::asserts::assert_same;
 use crate::programs::{assert_ending, run_file};
 use crate::tasks::{Row, assert_rows};
-use rd_app::app::App;
 use rd_script::error::AppError;
-use rd_script::file::read_app;
-use std::alloc::{AllocError, AllocGlobal, Global};
+use std::alloc::AllocGlobal;
 use std::process::Abort;
 use std::rt::Files;
 use std::test::Fail;
@@ -25,25 +23,15 @@ macro_rules! file_with_code {
 }
 
 // The file of two queues with these sets.
-macro_rules! file_with_sets {
-    ($sets:literal) => {
+macro_rules! file_with_queue_sets {
+    ($queue_sets:literal) => {
         concat!(
             r#"{"profile":1,"cores":1,"queues":[{"name":"q0","length":1,"item":1},"#,
             r#"{"name":"q1","length":1,"item":1}],"sets":["#,
-            $sets,
+            $queue_sets,
             r#"],"tasks":[{"name":"t0","priority":1,"code":["end"]}]}"#
         )
     };
-}
-
-/// The application of a file's text. What `read_app` promises of it is not asked for here.
-pub fn read(alloc: Global, text: &str) -> Result<App, AppError> {
-    read_app(alloc, text.as_bytes())
-}
-
-/// The built-in application, likewise.
-pub fn builtin_app(alloc: Global) -> Result<App, AllocError> {
-    App::builtin(alloc)
 }
 
 // What the program writes to its errors, by the fault that it finds.
@@ -157,41 +145,41 @@ const REFUSED_FILES: [Refused; 19] = [
     },
 ];
 
-const REFUSED_SETS: [Refused; 8] = [
+const REFUSED_QUEUE_SETS: [Refused; 8] = [
     Refused {
-        text: file_with_sets!(r#"{"name":"s0","length":1,"members":["q2"]}"#),
+        text: file_with_queue_sets!(r#"{"name":"s0","length":1,"members":["q2"]}"#),
         errors: NAME,
     },
     Refused {
-        text: file_with_sets!(r#"{"name":"s0","length":1,"members":["q0","q0"]}"#),
+        text: file_with_queue_sets!(r#"{"name":"s0","length":1,"members":["q0","q0"]}"#),
         errors: NAME,
     },
     Refused {
-        text: file_with_sets!(
+        text: file_with_queue_sets!(
             r#"{"name":"s0","length":1,"members":["q0"]},{"name":"s1","length":1,"members":["q0"]}"#
         ),
         errors: NAME,
     },
     Refused {
-        text: file_with_sets!(
+        text: file_with_queue_sets!(
             r#"{"name":"s0","length":1,"members":[]},{"name":"s0","length":1,"members":[]}"#
         ),
         errors: NAME,
     },
     Refused {
-        text: file_with_sets!(r#"{"name":"s0","length":0,"members":["q2"]}"#),
+        text: file_with_queue_sets!(r#"{"name":"s0","length":0,"members":["q2"]}"#),
         errors: LIMIT,
     },
     Refused {
-        text: file_with_sets!(r#"{"name":"s0","length":2049,"members":[]}"#),
+        text: file_with_queue_sets!(r#"{"name":"s0","length":2049,"members":[]}"#),
         errors: LIMIT,
     },
     Refused {
-        text: file_with_sets!(r#"{"name":"s0","length":1}"#),
+        text: file_with_queue_sets!(r#"{"name":"s0","length":1}"#),
         errors: SHAPE,
     },
     Refused {
-        text: file_with_sets!(r#"{"name":"s0","length":1,"members":[7]}"#),
+        text: file_with_queue_sets!(r#"{"name":"s0","length":1,"members":[7]}"#),
         errors: SHAPE,
     },
 ];
@@ -199,7 +187,7 @@ const REFUSED_SETS: [Refused; 8] = [
 #[test]
 fn refused_files(rt: HostRuntime) -> Result<(), Fail> {
     assert_refused(&rt, &REFUSED_FILES)?;
-    assert_refused(&rt, &REFUSED_SETS)
+    assert_refused(&rt, &REFUSED_QUEUE_SETS)
 }
 
 const ROWS: [Row; 4] = [
@@ -213,7 +201,7 @@ const ROWS: [Row; 4] = [
     },
     Row {
         name: "a set may have the name of a queue",
-        app: file_with_sets!(
+        app: file_with_queue_sets!(
             r#"{"name":"s0","length":2048,"members":["q1"]},{"name":"q0","length":1,"members":[]}"#
         ),
         commands: "show set s0\nshow set q0\nshow set q1\nshow queue q0\nshow queue q1\n",

@@ -1,5 +1,4 @@
-//! Tests that cross crates: files that are read, moves and runs of the timeline, and whole runs of
-//! the program.
+//! Whole runs of the program: what it is asked, what it answers, and how it ends.
 #![tactic(auto)]
 
 #[cfg(test)]
@@ -7,25 +6,15 @@ mod applications;
 #[cfg(test)]
 mod asserts;
 #[cfg(test)]
-mod items;
-#[cfg(test)]
-mod limits;
-#[cfg(test)]
 mod memory;
-#[cfg(test)]
-mod parts;
 #[cfg(test)]
 mod programs;
 #[cfg(test)]
+mod queue_sets;
+#[cfg(test)]
 mod queues;
 #[cfg(test)]
-mod records;
-#[cfg(test)]
 mod rows;
-#[cfg(test)]
-mod runs;
-#[cfg(test)]
-mod sets;
 #[cfg(test)]
 mod streams;
 #[cfg(test)]

@@ -3,11 +3,11 @@
 use std::io;
 use std::io::{ErrorKind, Read, Write};
 
-/// Gives `step` bytes a read. After `reads` reads it fails.
+/// Gives `chunk` bytes a read. After `reads` reads it fails.
 #[derive(Drop)]
 pub struct Source<'a> {
     pub rest: &'a [u8],
-    pub step: usize,
+    pub chunk: usize,
     pub reads: usize,
 }
 
@@ -16,7 +16,7 @@ impl<'a> Source<'a> {
     pub fn new(bytes: &'a [u8]) -> Source<'a> {
         Source {
             rest: bytes,
-            step: usize::MAX,
+            chunk: usize::MAX,
             reads: usize::MAX,
         }
     }
@@ -28,7 +28,7 @@ impl Read for Source<'_> {
             return Err(io::Error::from(ErrorKind::ConnectionReset));
         };
         self.reads = reads;
-        let count = buffer.len().min(self.rest.len()).min(self.step);
+        let count = buffer.len().min(self.rest.len()).min(self.chunk);
         let (now, later) = self.rest.split_at(count);
         buffer[..count].copy_from_slice(now);
         self.rest = later;

@@ -69,19 +69,6 @@ pub fn assert_ending(rt: &impl Abort, ending: &Ending, status: u8, output: &str,
     assert_same(rt, ending.errors.as_slice(), errors.as_bytes());
 }
 
-/// Fails unless the run ended with status 0 and these replies, at the first that differs. It wrote
-/// nothing to its errors.
-pub fn assert_replies(rt: &impl Abort, ending: &Ending, replies: &str) -> Result<(), Fail> {
-    let output = str::from_utf8(ending.output.as_slice())?;
-    for (reply, want) in output.lines().zip(replies.lines()) {
-        assert_same(rt, reply, want);
-    }
-    assert!(rt; output == replies);
-    assert_same(rt, ending.status, 0);
-    assert!(rt; ending.errors.is_empty());
-    Ok(())
-}
-
 // Fails unless each run on some words and these commands ends with this status, and writes this.
 fn assert_runs<H: Files + AllocGlobal + Abort>(
     rt: &H,

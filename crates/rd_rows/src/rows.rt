@@ -130,7 +130,7 @@ fn assert_session<H: Files + AllocGlobal + Abort>(rt: &H, session: Session) {
     let whole = answers(rt, Source::new(lines.as_bytes()));
     assert_eq!(rt; whole.as_slice(), replies.as_bytes(), "in {name}");
     let mut slow = Source::new(lines.as_bytes());
-    slow.step = 1;
+    slow.chunk = 1;
     let single = answers(rt, slow);
     assert_eq!(rt;
         single.as_slice(),
@@ -192,21 +192,21 @@ const LONG_LINES: [LongLine; 7] = [
     },
 ];
 
-// With `step` bytes a read.
+// With `chunk` bytes a read.
 fn assert_long_line<H: Files + AllocGlobal + Abort>(
     rt: &H,
     line: LongLine,
-    step: usize,
+    chunk: usize,
 ) -> Result<(), AllocError> {
     let LongLine { len, end, replies } = line;
     let bytes = padded_line(rt.alloc(), len, end.as_bytes())?;
     let mut source = Source::new(bytes.as_slice());
-    source.step = step;
+    source.chunk = chunk;
     let written = answers(rt, source);
     assert_eq!(rt;
         written.as_slice(),
         replies.as_bytes(),
-        "at {len}, {step} a read"
+        "at {len}, {chunk} a read"
     );
     Ok(())
 }
@@ -214,8 +214,8 @@ fn assert_long_line<H: Files + AllocGlobal + Abort>(
 #[test]
 fn long_lines(rt: HostRuntime) -> Result<(), Fail> {
     for line in &LONG_LINES {
-        for step in [1, 1000, usize::MAX] {
-            assert_long_line(&rt, *line, step)?;
+        for chunk in [1, 1000, usize::MAX] {
+            assert_long_line(&rt, *line, chunk)?;
         }
     }
     Ok(())
@@ -232,11 +232,11 @@ fn many_lines(rt: HostRuntime) -> Result<(), Fail> {
         expected.extend_from_slice(b"ok at 1\nok at 0\n")?;
         expected.extend_from_slice(EMPTY_QUEUE.as_bytes())?;
     }
-    for step in [7, 4096, usize::MAX] {
+    for chunk in [7, 4096, usize::MAX] {
         let mut source = Source::new(lines.as_slice());
-        source.step = step;
+        source.chunk = chunk;
         let written = answers(&rt, source);
-        assert!(rt; written.as_slice() == expected.as_slice(), "{step} a read");
+        assert!(rt; written.as_slice() == expected.as_slice(), "{chunk} a read");
     }
     Ok(())
 }
@@ -256,13 +256,13 @@ fn one_write_for_a_read(rt: HostRuntime) -> Result<(), Fail> {
 fn faults(rt: HostRuntime) -> Result<(), Fail> {
     let alloc = rt.alloc();
     let mut source = Source::new(b"step 0\nstep 0\nstep 0\n");
-    source.step = 10;
+    source.chunk = 10;
     source.reads = 1;
     let written = answers(&rt, source);
     assert_same(&rt, written.as_slice(), b"ok at 1\n".as_slice());
 
     let mut source = Source::new(b"step 0\nshow queue q0\nstep 0\n");
-    source.step = 7;
+    source.chunk = 7;
     let mut target = Target::new(Vec::new(alloc));
     target.writes_left = 1;
     run(&rt, &mut source, &mut target);

@@ -65,7 +65,7 @@ fn writes<H: Files + AllocGlobal + Abort, R: Read>(rt: &H, reader: &mut R, expec
 #[test]
 fn interrupted_reads(rt: HostRuntime) -> Result<(), Fail> {
     let mut source = Source::new(b"step 0\nstep 0\nback 1");
-    source.step = 3;
+    source.chunk = 3;
     let mut reader = Interrupting {
         source,
         is_next: false,

@@ -1,12 +1,7 @@
 //! Runs of applications with several tasks and cores: the file, what the program is asked, and what
 //! it answers.
 
-use crate::asserts::assert_same;
 use crate::programs::{assert_ending, run_file};
-use rd_calls::moves::Move;
-use rd_calls::policy::policy;
-use rd_script::file::read_app;
-use rd_timeline::timeline::Timeline;
 use std::alloc::AllocGlobal;
 use std::process::Abort;
 use std::rt::Files;
@@ -31,16 +26,14 @@ pub fn assert_rows<H: Files + AllocGlobal + Abort>(rt: &H, rows: &[Row]) -> Resu
     Ok(())
 }
 
-const ROUND_ROBIN: &str = concat!(
-    r#"{"profile":1,"cores":1,"#,
-    r#""tasks":[{"name":"t0","priority":1,"code":["jump 0"]},"#,
-    r#"{"name":"t1","priority":1,"code":["jump 0"]}]}"#,
-);
-
 const ROWS: [Row; 9] = [
     Row {
         name: "round_robin",
-        app: ROUND_ROBIN,
+        app: concat!(
+            r#"{"profile":1,"cores":1,"#,
+            r#""tasks":[{"name":"t0","priority":1,"code":["jump 0"]},"#,
+            r#"{"name":"t1","priority":1,"code":["jump 0"]}]}"#,
+        ),
         commands: "step 0\ntick\nstep 0\nshow cores\nback 3\nshow cores\n",
         replies: "ok at 1\nok at 2\nok at 3\ncores t1 ready t0 tick 1 turn 1\n\
                   ok at 0\ncores t0 ready t1 tick 0 turn 0\n",
@@ -176,30 +169,4 @@ const ROWS: [Row; 9] = [
 #[test]
 fn rows(rt: HostRuntime) -> Result<(), Fail> {
     assert_rows(&rt, &ROWS)
-}
-
-// The core, a tick since the turn is after the last core, and the core again.
-fn goes_by_policy(rt: &impl Abort, timeline: &mut Timeline) {
-    for at in 1..=3 {
-        assert!(rt; timeline.app().cores() == 1);
-        let action = policy(timeline.target());
-        let is_tick = matches!(action, Move::Tick);
-        assert_same(rt, is_tick, at == 2);
-        let done = if is_tick {
-            timeline.go(Move::Tick)
-        } else {
-            timeline.go(Move::Core { core: 0 })
-        };
-        assert_same(rt, done, Ok(at));
-    }
-}
-
-#[test]
-fn round_robin_by_policy(rt: HostRuntime) -> Result<(), Fail> {
-    let alloc = rt.alloc();
-    let app = read_app(alloc, ROUND_ROBIN.as_bytes())?;
-    let mut timeline = Timeline::new(alloc, app, 10)?;
-    goes_by_policy(&rt, &mut timeline);
-    timeline.close();
-    Ok(())
 }

@@ -12,9 +12,9 @@ use Rattle.rd_script.specs.declared.keyword.LocalKeyword.{LocalKeyword}
 use Rattle.rd_script.specs.declared.keyword.LocalKeyword.TheVariants as of
 use Rattle.rd_script.specs.declared.keyword.QueueKeyword.{QueueKeyword}
 use Rattle.rd_script.specs.declared.keyword.QueueKeyword.TheVariants.{Send, Front, Receive, Peek, Overwrite, Reset, Count, Spaces, AddToSet, RemoveFromSet}
-use Rattle.rd_script.specs.declared.keyword.SetKeyword.{SetKeyword}
-use Rattle.rd_script.specs.declared.keyword.SetKeyword.TheVariants.{Select}
-use Rattle.rd_script.specs.Keywords.{first_written, keyword_of, local_row, operands_of, queue_row, row_of, set_row, text_of, texts_of}
+use Rattle.rd_script.specs.declared.keyword.QueueSetKeyword.{QueueSetKeyword}
+use Rattle.rd_script.specs.declared.keyword.QueueSetKeyword.TheVariants.{Select}
+use Rattle.rd_script.specs.Keywords.{first_written, keyword_of, local_row, operands_of, queue_row, row_of, queue_set_row, text_of, texts_of}
 
 same_bytes : (xs ys : List ℕ) → bytes_eq xs ys ≡ true → xs ≡ ys
 same_bytes xs ys e = (bytes_eq-Decides xs ys).0 e
@@ -85,10 +85,10 @@ queue_again Spaces = refl
 queue_again AddToSet = refl
 queue_again RemoveFromSet = refl
 
-set_again : (k : SetKeyword) → keyword_of (text_of (set_row k)) ≡ Some (keyword.Set k)
-set_again Select = refl
+queue_set_again : (k : QueueSetKeyword) → keyword_of (text_of (queue_set_row k)) ≡ Some (keyword.QueueSet k)
+queue_set_again Select = refl
 
 pub keyword_again : (k : Keyword) → keyword_of (text_of (row_of k)) ≡ Some k
 keyword_again (keyword.Local k) = local_again k
 keyword_again (keyword.Queue k) = queue_again k
-keyword_again (keyword.Set k) = set_again k
+keyword_again (keyword.QueueSet k) = queue_set_again k

@@ -6,7 +6,7 @@ pub mod SpellingLaws
 pub mod ValueLaws
 pub mod NamedLaws
 pub mod QueueLaws
-pub mod SetLaws
+pub mod QueueSetLaws
 pub mod ObjectLaws
 pub mod ScriptLaws
 pub mod TaskLaws

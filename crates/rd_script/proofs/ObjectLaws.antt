@@ -6,14 +6,14 @@ use Rattle.serde_json.specs.Data.{Data, Items, no_items}
 use Rattle.serde_json.specs.Events.{items_len}
 use Rattle.serde_json.specs.Find.{get}
 use Rattle.rd_app.specs.Named.{AreNamed, Named}
-use Rattle.rd_app.specs.Objects.{AreObjects, IsQueueShape, IsSetShape, NamedObjects}
+use Rattle.rd_app.specs.Objects.{AreObjects, IsQueueShape, IsQueueSetShape, NamedObjects}
 use Rattle.rd_text.proofs.Offered.{IsNewName}
 use Rattle.rd_script.specs.declared.error.AppError.{AppError}
-use Rattle.rd_script.specs.Objects.{IsQueue, objects_of, queue_of, SaysObjects, SaysSet, set_of}
+use Rattle.rd_script.specs.Objects.{IsQueue, objects_of, queue_of, SaysObjects, SaysQueueSet, queue_set_of}
 use Rattle.rd_script.specs.Values.{array_or_empty, IsArrayOrEmpty, named_at, nothing_named, SaysNamed}
 use Rattle.rd_script.proofs.NamedLaws.{AllByRecursion-first, each_again, each_takes, length_named, named_again, named_take, no_names, said_named}
 use Rattle.rd_script.proofs.QueueLaws as queue
-use Rattle.rd_script.proofs.SetLaws as set
+use Rattle.rd_script.proofs.QueueSetLaws as queue_set
 use Rattle.rd_script.proofs.Steps.{bind_ok, then_is}
 use Rattle.rd_script.proofs.ValueLaws.{array_again, array_ok}
 
@@ -66,37 +66,37 @@ named_read read Is InLimits first again most key d named are =
 -- ---- all kinds
 
 objects_made : (d : Data) (o : NamedObjects) → named_at (λ before. queue_of before.names) 32 (codes "queues") d ≡ Ok o.queues
-    → named_at (set_of o.queues.names) 32 (codes "sets") d ≡ Ok o.sets → SaysObjects d o × AreObjects o
-objects_made d o queues_read sets_read =
+    → named_at (queue_set_of o.queues.names) 32 (codes "sets") d ≡ Ok o.queue_sets → SaysObjects d o × AreObjects o
+objects_made d o queues_read queue_sets_read =
     let queues = named_taken (λ before. queue_of before.names) IsQueue (AllByRecursion IsQueueShape)
     (each_takes queue_of IsQueue IsQueueShape queue.queue_takes) tt 32 (codes "queues") d o.queues queues_read in
-    let sets = named_taken (set_of o.queues.names) (SaysSet o.queues.names) (set.AreSetsOf (length o.queues.names)) (set.set_takes o.queues.names)
-    (set.no_sets (length o.queues.names)) 32 (codes "sets") d o.sets sets_read in (
-      record { queues = queues.said; sets = sets.said; one_set_each = sets.in_limits.one_each },
+    let queue_sets = named_taken (queue_set_of o.queues.names) (SaysQueueSet o.queues.names) (queue_set.AreQueueSetsOf (length o.queues.names)) (queue_set.queue_set_takes o.queues.names)
+    (queue_set.no_queue_sets (length o.queues.names)) 32 (codes "sets") d o.queue_sets queue_sets_read in (
+      record { queues = queues.said; queue_sets = queue_sets.said; one_queue_set_each = queue_sets.in_limits.one_each },
       record {
         named_queues = queues.named_each;
         few_queues = queues.few;
         queues = All-from_recursion IsQueueShape o.queues.things queues.in_limits;
-        named_sets = sets.named_each;
-        few_sets = sets.few;
-        sets = All-from_recursion (IsSetShape o) o.sets.things
-            (set.sets_in_limits o (length o.queues.names) o.sets.things (sym queues.named_each.paired) sets.in_limits.shapes);
-        one_set_each = sets.in_limits.one_each;
+        named_queue_sets = queue_sets.named_each;
+        few_queue_sets = queue_sets.few;
+        queue_sets = All-from_recursion (IsQueueSetShape o) o.queue_sets.things
+            (queue_set.queue_sets_in_limits o (length o.queues.names) o.queue_sets.things (sym queues.named_each.paired) queue_sets.in_limits.shapes);
+        one_queue_set_each = queue_sets.in_limits.one_each;
       },
     )
 
 pub objects_take : (d : Data) (o : NamedObjects) → objects_of d ≡ Ok o → SaysObjects d o × AreObjects o
 objects_take d o e =
     let queues = bind_ok (named_at (λ before. queue_of before.names) 32 (codes "queues") d) _ o e in
-    let sets = bind_ok (named_at (set_of queues.0.names) 32 (codes "sets") d) _ o queues.2 in
-    let made : NamedObjects = record { queues = queues.0; sets = sets.0 } in
+    let queue_sets = bind_ok (named_at (queue_set_of queues.0.names) 32 (codes "sets") d) _ o queues.2 in
+    let made : NamedObjects = record { queues = queues.0; queue_sets = queue_sets.0 } in
     let is : made ≡ o = cc in
-    subst (λ (o : NamedObjects). SaysObjects d o × AreObjects o) {x = made} is (objects_made d made queues.1 sets.1)
+    subst (λ (o : NamedObjects). SaysObjects d o × AreObjects o) {x = made} is (objects_made d made queues.1 queue_sets.1)
 
 pub objects_again : (d : Data) (o : NamedObjects) → SaysObjects d o → AreObjects o → objects_of d ≡ Ok o
 objects_again d o says limits =
-    let of_queues = set.sets_of_limits o (length o.queues.names) o.sets.things (sym limits.named_queues.paired)
-    (recursion_from_All (IsSetShape o) o.sets.things limits.sets) in
+    let of_queues = queue_set.queue_sets_of_limits o (length o.queues.names) o.queue_sets.things (sym limits.named_queues.paired)
+    (recursion_from_All (IsQueueSetShape o) o.queue_sets.things limits.queue_sets) in
     then_is (named_at (λ before. queue_of before.names) 32 (codes "queues") d) _ o.queues _
     (named_read (λ before. queue_of before.names) IsQueue (AllByRecursion IsQueueShape) (AllByRecursion-first IsQueueShape)
     (each_again queue_of IsQueue IsQueueShape queue.queue_again) 32 (codes "queues") d o.queues (record {
@@ -105,12 +105,12 @@ objects_again d o says limits =
       few = limits.few_queues;
       in_limits = recursion_from_All IsQueueShape o.queues.things limits.queues;
     }))
-    (then_is (named_at (set_of o.queues.names) 32 (codes "sets") d) _ o.sets _
-    (named_read (set_of o.queues.names) (SaysSet o.queues.names) (set.AreSetsOf (length o.queues.names)) (set.sets_first (length o.queues.names))
-    (set.set_again o.queues.names) 32 (codes "sets") d o.sets (record {
-      said = says.sets;
-      named_each = limits.named_sets;
-      few = limits.few_sets;
-      in_limits = record { shapes = of_queues; one_each = limits.one_set_each };
+    (then_is (named_at (queue_set_of o.queues.names) 32 (codes "sets") d) _ o.queue_sets _
+    (named_read (queue_set_of o.queues.names) (SaysQueueSet o.queues.names) (queue_set.AreQueueSetsOf (length o.queues.names)) (queue_set.queue_sets_first (length o.queues.names))
+    (queue_set.queue_set_again o.queues.names) 32 (codes "sets") d o.queue_sets (record {
+      said = says.queue_sets;
+      named_each = limits.named_queue_sets;
+      few = limits.few_queue_sets;
+      in_limits = record { shapes = of_queues; one_each = limits.one_queue_set_each };
     }))
     refl)

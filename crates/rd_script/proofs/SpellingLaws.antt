@@ -27,9 +27,9 @@ use Rattle.rd_script.specs.declared.keyword.LocalKeyword.{LocalKeyword}
 use Rattle.rd_script.specs.declared.keyword.LocalKeyword.TheVariants as of
 use Rattle.rd_script.specs.declared.keyword.QueueKeyword.{QueueKeyword}
 use Rattle.rd_script.specs.declared.keyword.QueueKeyword.TheVariants.{Send, Front, Receive, Peek, Overwrite, Reset, Count, Spaces, AddToSet, RemoveFromSet}
-use Rattle.rd_script.specs.declared.keyword.SetKeyword.{SetKeyword}
-use Rattle.rd_script.specs.declared.keyword.SetKeyword.TheVariants.{Select}
-use Rattle.rd_script.specs.Keywords.{Makes, Row, Value, keywords, keyword_of, local_row, operands_of, queue_row, row_of, set_row, text_of, Written}
+use Rattle.rd_script.specs.declared.keyword.QueueSetKeyword.{QueueSetKeyword}
+use Rattle.rd_script.specs.declared.keyword.QueueSetKeyword.TheVariants.{Select}
+use Rattle.rd_script.specs.Keywords.{Makes, Row, Value, keywords, keyword_of, local_row, operands_of, queue_row, row_of, queue_set_row, text_of, Written}
 use Rattle.rd_script.specs.Spelling.{register_of, target_of, operand_of, time_of, index_named, index_of, value_of, is_formed, are_formed}
 use Rattle.rd_script.specs.Spelling.{made_of, instr_made, is_call_for, is_for_queue, instr_named, instr_of, next_value, Reading, AreOperands, IsForQueue, Spells, SpellsRow}
 use Rattle.rd_text.specs.Words.{bytes_of, is_name, is_some_word, name_of, number_of}
@@ -52,8 +52,8 @@ call_takes shape call.Overwrite e = grind (arith, nat_tests)
 call_takes shape call.Reset e = tt
 call_takes shape call.Count e = tt
 call_takes shape call.Spaces e = tt
-call_takes shape (call.AddToSet set) e = tt
-call_takes shape (call.RemoveFromSet set) e = tt
+call_takes shape (call.AddToSet queue_set) e = tt
+call_takes shape (call.RemoveFromSet queue_set) e = tt
 
 -- a word that is a name, and the thing of that name
 pub named_ok : (names : List (List ℕ)) (word name : List ℕ) (number : ℕ) → name_of word ≡ Some name → index_of names name ≡ Ok number
@@ -65,7 +65,7 @@ named_ok names word name number is found =
 for_queue_takes : (objects : NamedObjects) (i : Instr) → is_for_queue objects i ≡ true → IsForQueue objects i
 for_queue_takes objects (instruction.Local instr) e = tt
 for_queue_takes objects (instruction.Queue queue made) e = call_takes (shape_at objects queue) made e
-for_queue_takes objects (instruction.Set set made) e = tt
+for_queue_takes objects (instruction.QueueSet queue_set made) e = tt
 
 -- where no word is left, none is in the form of an operand that is
 pub no_words : (len : ℕ) (parameters : List Parameter) (index : ℕ) → index < length parameters → are_formed len (drop index parameters) [] ≡ false
@@ -126,8 +126,8 @@ call_again shape call.Overwrite h = grind (arith, nat_tests)
 call_again shape call.Reset h = refl
 call_again shape call.Count h = refl
 call_again shape call.Spaces h = refl
-call_again shape (call.AddToSet set) h = refl
-call_again shape (call.RemoveFromSet set) h = refl
+call_again shape (call.AddToSet queue_set) h = refl
+call_again shape (call.RemoveFromSet queue_set) h = refl
 
 pub index_again : (names : List (List ℕ)) (name : List ℕ) (number : ℕ) → position (bytes_eq name) names ≡ Some number → index_of names name ≡ Ok number
 index_again names name number is = ap (λ o. ok_or o fault.Name) is
@@ -135,7 +135,7 @@ index_again names name number is = ap (λ o. ok_or o fault.Name) is
 for_queue_again : (objects : NamedObjects) (i : Instr) → IsForQueue objects i → is_for_queue objects i ≡ true
 for_queue_again objects (instruction.Local instr) h = refl
 for_queue_again objects (instruction.Queue queue made) h = call_again (shape_at objects queue) made h
-for_queue_again objects (instruction.Set set made) h = refl
+for_queue_again objects (instruction.QueueSet queue_set made) h = refl
 
 -- what names a thing is a name
 name_formed : (names : List (List ℕ)) (word : List ℕ) (number : ℕ) → index_named names word ≡ Some number → is_name word ≡ true
@@ -315,16 +315,16 @@ queue_within app len sizes Overwrite = λ queue named fits. (rw (← sizes.named
 queue_within app len sizes Reset = λ queue named fits. (rw (← sizes.named_queues.paired) named, tt, fits)
 queue_within app len sizes Count = λ queue named fits. (rw (← sizes.named_queues.paired) named, tt, fits)
 queue_within app len sizes Spaces = λ queue named fits. (rw (← sizes.named_queues.paired) named, tt, fits)
-queue_within app len sizes AddToSet = λ queue named set also_named fits. (rw (← sizes.named_queues.paired) named, rw (← sizes.named_sets.paired) also_named, fits)
-queue_within app len sizes RemoveFromSet = λ queue named set also_named fits. (rw (← sizes.named_queues.paired) named, rw (← sizes.named_sets.paired) also_named, fits)
+queue_within app len sizes AddToSet = λ queue named queue_set also_named fits. (rw (← sizes.named_queues.paired) named, rw (← sizes.named_queue_sets.paired) also_named, fits)
+queue_within app len sizes RemoveFromSet = λ queue named queue_set also_named fits. (rw (← sizes.named_queues.paired) named, rw (← sizes.named_queue_sets.paired) also_named, fits)
 
-set_within : (app : Application) (len : ℕ) → AreObjects app.objects → (k : SetKeyword) → RowWithin app len (set_row k)
-set_within app len sizes Select = λ set named wait there fits. (rw (← sizes.named_sets.paired) named, there)
+queue_set_within : (app : Application) (len : ℕ) → AreObjects app.objects → (k : QueueSetKeyword) → RowWithin app len (queue_set_row k)
+queue_set_within app len sizes Select = λ queue_set named wait there fits. (rw (← sizes.named_queue_sets.paired) named, there)
 
 row_within : (app : Application) (len : ℕ) → AreObjects app.objects → (k : Keyword) → RowWithin app len (row_of k)
 row_within app len sizes (keyword.Local k) = local_within app len k
 row_within app len sizes (keyword.Queue k) = queue_within app len sizes k
-row_within app len sizes (keyword.Set k) = set_within app len sizes k
+row_within app len sizes (keyword.QueueSet k) = queue_set_within app len sizes k
 
 operands_within : (app : Application) (len : ℕ) (parameters : List Parameter) (make : Makes parameters) (words : List (List ℕ)) (i : Instr)
     → MakesWithin app len parameters make → AreOperands app.objects len parameters make words i → IsForQueue app.objects i → IsWithin app len i

@@ -11,7 +11,7 @@ use Rattle.rd_app.specs.declared.instr.Instr.{Instr}
 use Rattle.rd_app.specs.declared.instr.Instr.TheVariants as instruction
 use Rattle.rd_app.specs.declared.instr.LocalInstr.TheVariants as local
 use Rattle.rd_app.specs.declared.instr.QueueCall.TheVariants as call
-use Rattle.rd_app.specs.declared.instr.SetCall.TheVariants as set_call
+use Rattle.rd_app.specs.declared.instr.QueueSetCall.TheVariants as queue_set_call
 use Rattle.rd_script.specs.declared.keyword.Parameter.{Parameter}
 use Rattle.rd_script.specs.declared.keyword.Parameter.TheVariants.{Register, Number, Target}
 use Rattle.rd_script.specs.declared.keyword.Parameter.TheVariants.{Data, Time, Name}
@@ -24,8 +24,8 @@ use Rattle.rd_script.specs.declared.keyword.QueueKeyword.TheVariants.{Send, Fron
 use Rattle.rd_script.specs.declared.keyword.QueueKeyword.TheVariants.{Overwrite, Reset, Count}
 use Rattle.rd_script.specs.declared.keyword.QueueKeyword.TheVariants.{Spaces, AddToSet}
 use Rattle.rd_script.specs.declared.keyword.QueueKeyword.TheVariants.{RemoveFromSet}
-use Rattle.rd_script.specs.declared.keyword.SetKeyword.{SetKeyword}
-use Rattle.rd_script.specs.declared.keyword.SetKeyword.TheVariants.{Select}
+use Rattle.rd_script.specs.declared.keyword.QueueSetKeyword.{QueueSetKeyword}
+use Rattle.rd_script.specs.declared.keyword.QueueSetKeyword.TheVariants.{Select}
 
 -- what an operand stands for; a name is that of the object with this number
 abbrev pub Value : Parameter → Type 0
@@ -54,8 +54,8 @@ operands_of (Written text operands make) = operands
 abbrev queue_name : Parameter
 queue_name = Name kind.Queue
 
-abbrev set_name : Parameter
-set_name = Name kind.Set
+abbrev queue_set_name : Parameter
+queue_set_name = Name kind.QueueSet
 
 -- ---- the rows
 
@@ -104,21 +104,21 @@ queue_row Count =
 queue_row Spaces =
     Written (codes "spaces") (queue_name ∷ []) (λ queue. instruction.Queue queue call.Spaces)
 queue_row AddToSet =
-    Written (codes "setadd") (queue_name ∷ set_name ∷ [])
-    (λ queue set. instruction.Queue queue (call.AddToSet set))
+    Written (codes "setadd") (queue_name ∷ queue_set_name ∷ [])
+    (λ queue queue_set. instruction.Queue queue (call.AddToSet queue_set))
 queue_row RemoveFromSet =
-    Written (codes "setdel") (queue_name ∷ set_name ∷ [])
-    (λ queue set. instruction.Queue queue (call.RemoveFromSet set))
+    Written (codes "setdel") (queue_name ∷ queue_set_name ∷ [])
+    (λ queue queue_set. instruction.Queue queue (call.RemoveFromSet queue_set))
 
-abbrev pub set_row : SetKeyword → Row
-set_row Select =
-    Written (codes "select") (set_name ∷ Time ∷ [])
-    (λ set wait. instruction.Set set (set_call.Select wait))
+abbrev pub queue_set_row : QueueSetKeyword → Row
+queue_set_row Select =
+    Written (codes "select") (queue_set_name ∷ Time ∷ [])
+    (λ queue_set wait. instruction.QueueSet queue_set (queue_set_call.Select wait))
 
 abbrev pub row_of : Keyword → Row
 row_of (keyword.Local of) = local_row of
 row_of (keyword.Queue of) = queue_row of
-row_of (keyword.Set of) = set_row of
+row_of (keyword.QueueSet of) = queue_set_row of
 
 abbrev pub local_keywords : List LocalKeyword
 local_keywords =
@@ -129,14 +129,14 @@ queue_keywords =
     Send ∷ Front ∷ Receive ∷ Peek ∷ Overwrite ∷ Reset ∷ Count ∷ Spaces ∷ AddToSet ∷ RemoveFromSet
     ∷ []
 
-abbrev pub set_keywords : List SetKeyword
-set_keywords = Select ∷ []
+abbrev pub queue_set_keywords : List QueueSetKeyword
+queue_set_keywords = Select ∷ []
 
 abbrev pub keywords : List Keyword
 keywords =
     map keyword.Local local_keywords
     ++ map keyword.Queue queue_keywords
-    ++ map keyword.Set set_keywords
+    ++ map keyword.QueueSet queue_set_keywords
 
 -- the keyword that is written so
 abbrev pub keyword_of : List ℕ → Option Keyword

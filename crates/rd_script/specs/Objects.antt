@@ -8,10 +8,10 @@ use Rattle.rd_queue.specs.declared.item.TheConstants.{MAX_ITEM_SIZE}
 use Rattle.rd_queue.specs.declared.queue.TheConstants.{MAX_ITEMS}
 use Rattle.rd_queue.specs.declared.queue_set.TheConstants.{MAX_HANDLES}
 use Rattle.rd_app.specs.declared.objects.QueueShape.{QueueShape}
-use Rattle.rd_app.specs.declared.objects.TheConstants.{MAX_QUEUES, MAX_SETS}
+use Rattle.rd_app.specs.declared.objects.TheConstants.{MAX_QUEUES, MAX_QUEUE_SETS}
 use Rattle.rd_app.specs.Named.{Named}
 use Rattle.rd_app.specs.Objects.{NamedObjects, members_of}
-use Rattle.rd_app.specs.QueueSetShape.{QueueSetShape}
+use Rattle.rd_app.specs.QueueSetShapeView.{QueueSetShapeView}
 use Rattle.rd_script.specs.declared.error.AppError.{AppError}
 use Rattle.rd_script.specs.declared.error.AppError.TheVariants as fault
 use Rattle.rd_script.specs.declared.objects.NamedArray.{NamedArray}
@@ -28,7 +28,8 @@ abbrev pub array_view : {X : Type 0} {N : ℕ} → NamedArray X N → Named X
 array_view named = record { names = texts named.names.items; things = named.things.items }
 
 abbrev pub drafts_view : ObjectDrafts → NamedObjects
-drafts_view drafts = record { queues = array_view drafts.queues; sets = array_view drafts.sets }
+drafts_view drafts =
+    record { queues = array_view drafts.queues; queue_sets = array_view drafts.queue_sets }
 
 abbrev pub file_keys : List (List ℕ)
 file_keys =
@@ -63,8 +64,8 @@ pub record IsQueue (d : Data) (name : List ℕ) (shape : QueueShape) : Type 0 wh
 
 -- ---- queue sets
 
-abbrev pub set_keys : List (List ℕ)
-set_keys = codes "name" ∷ codes "length" ∷ codes "members" ∷ []
+abbrev pub queue_set_keys : List (List ℕ)
+queue_set_keys = codes "name" ∷ codes "length" ∷ codes "members" ∷ []
 
 -- the number of the queue of that name, which isn't a member already: one of the others
 abbrev pub member_of : List (List ℕ) → List ℕ → Data → Result ℕ AppError
@@ -82,10 +83,10 @@ members_after queues others members (item d ds) = do
   members_after queues others (members ++ queue ∷ []) ds
 
 -- a set over the names of all queues and the sets before it
-unfoldable pub set_of : List (List ℕ) → Named QueueSetShape → Data
-    → Result (List ℕ × QueueSetShape) AppError
-set_of queues before d = do
-  _ ← object_with set_keys d
+unfoldable pub queue_set_of : List (List ℕ) → Named QueueSetShapeView → Data
+    → Result (List ℕ × QueueSetShapeView) AppError
+queue_set_of queues before d = do
+  _ ← object_with queue_set_keys d
   name ← field (codes "name") d
   capacity ← field (codes "length") d
   members ← field (codes "members") d
@@ -95,9 +96,9 @@ set_of queues before d = do
   members ← members_after queues (members_of before.things) [] members
   Ok (name, record { capacity = capacity; members = members })
 
-abbrev pub sets_after : List (List ℕ) → Named QueueSetShape → Items
-    → Result (Named QueueSetShape) AppError
-sets_after queues before ds = named_after (set_of queues) before ds
+abbrev pub queue_sets_after : List (List ℕ) → Named QueueSetShapeView → Items
+    → Result (Named QueueSetShapeView) AppError
+queue_sets_after queues before ds = named_after (queue_set_of queues) before ds
 
 -- a text that names the queue of that number
 abbrev pub IsMember : List (List ℕ) → Data → ℕ → Type 0
@@ -110,22 +111,22 @@ AreMembers queues (item d ds) (queue ∷ members) =
     IsMember queues d queue × AreMembers queues ds members
 AreMembers queues _ _ = ⊥
 
-pub record IsSet
+pub record IsQueueSet
     (queues : List (List ℕ))
     (d : Data)
     (name : List ℕ)
-    (set : QueueSetShape)
+    (queue_set : QueueSetShapeView)
     (texts : Items)
     : Type 0 where
-  pub keys : is_object_with set_keys d ≡ true
+  pub keys : is_object_with queue_set_keys d ≡ true
   pub name_at : get (codes "name") d ≡ Some (string name)
-  pub length_at : get (codes "length") d ≡ Some (number (unsigned set.capacity))
+  pub length_at : get (codes "length") d ≡ Some (number (unsigned queue_set.capacity))
   pub members_at : get (codes "members") d ≡ Some (array texts)
-  pub members : AreMembers queues texts set.members
+  pub members : AreMembers queues texts queue_set.members
 
 -- what a value says of a set, over the names of all queues
-abbrev pub SaysSet : List (List ℕ) → Data → List ℕ → QueueSetShape → Type 0
-SaysSet queues d name set = (texts : Items) × IsSet queues d name set texts
+abbrev pub SaysQueueSet : List (List ℕ) → Data → List ℕ → QueueSetShapeView → Type 0
+SaysQueueSet queues d name queue_set = (texts : Items) × IsQueueSet queues d name queue_set texts
 
 -- ---- all kinds
 
@@ -133,11 +134,11 @@ SaysSet queues d name set = (texts : Items) × IsSet queues d name set texts
 abbrev pub objects_of : Data → Result NamedObjects AppError
 objects_of d = do
   queues ← named_at (λ before. queue_of before.names) MAX_QUEUES (codes "queues") d
-  sets ← named_at (set_of queues.names) MAX_SETS (codes "sets") d
-  Ok (record { queues = queues; sets = sets })
+  queue_sets ← named_at (queue_set_of queues.names) MAX_QUEUE_SETS (codes "sets") d
+  Ok (record { queues = queues; queue_sets = queue_sets })
 
 -- what a value says of its objects
 pub record SaysObjects (d : Data) (o : NamedObjects) : Type 0 where
   pub queues : SaysNamed IsQueue (codes "queues") d o.queues
-  pub sets : SaysNamed (SaysSet o.queues.names) (codes "sets") d o.sets
-  pub one_set_each : IsDistinct nat_eq (members_of o.sets.things)
+  pub queue_sets : SaysNamed (SaysQueueSet o.queues.names) (codes "sets") d o.queue_sets
+  pub one_queue_set_each : IsDistinct nat_eq (members_of o.queue_sets.things)

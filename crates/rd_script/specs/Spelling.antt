@@ -11,7 +11,7 @@ use Rattle.rd_app.specs.declared.objects.QueueShape.{QueueShape}
 use Rattle.rd_app.specs.declared.instr.Operand.{Operand}
 use Rattle.rd_app.specs.declared.instr.Operand.TheVariants as operand
 use Rattle.rd_app.specs.declared.instr.Instr.{Instr}
-use Rattle.rd_app.specs.declared.instr.Instr.TheVariants.{Local, Queue, Set}
+use Rattle.rd_app.specs.declared.instr.Instr.TheVariants.{Local, Queue, QueueSet}
 use Rattle.rd_app.specs.declared.instr.QueueCall.{QueueCall}
 use Rattle.rd_app.specs.declared.instr.QueueCall.TheVariants as call
 use Rattle.rd_app.specs.Application.{max_delay, IsCallFor}
@@ -135,14 +135,14 @@ is_call_for shape call.Overwrite = shape.capacity == 1
 is_call_for shape call.Reset = true
 is_call_for shape call.Count = true
 is_call_for shape call.Spaces = true
-is_call_for shape (call.AddToSet set) = true
-is_call_for shape (call.RemoveFromSet set) = true
+is_call_for shape (call.AddToSet queue_set) = true
+is_call_for shape (call.RemoveFromSet queue_set) = true
 
 -- the same of an instruction, over these objects
 abbrev pub is_for_queue : NamedObjects → Instr → Bool
 is_for_queue objects (Local instr) = true
 is_for_queue objects (Queue queue call) = is_call_for (shape_at objects queue) call
-is_for_queue objects (Set set call) = true
+is_for_queue objects (QueueSet queue_set call) = true
 
 -- the instruction that the words make, and else the fault of words that have the forms asked for
 abbrev pub instr_named : Row → Reading → Result Instr AppError
@@ -185,7 +185,7 @@ SpellsRow objects len (Written text operands make) words instr =
 abbrev pub IsForQueue : NamedObjects → Instr → Type 0
 IsForQueue objects (Local instr) = Unit {0}
 IsForQueue objects (Queue queue call) = IsCallFor (shape_at objects queue) call
-IsForQueue objects (Set set call) = Unit {0}
+IsForQueue objects (QueueSet queue_set call) = Unit {0}
 
 -- The words are a keyword and its operands: over these objects, in a script of that length.
 abbrev pub Spells : NamedObjects → ℕ → List (List ℕ) → Instr → Type 0

@@ -1,10 +1,12 @@
 -- The values of a file: what stands there, or the first fault that is met, and which values say that.
 use Rattle.std.specs.Prelude.{ℕ, ◌≡◌, ◌&&◌, Bool, false, not, List, [], ◌∷◌, ◌++◌, nat_le}
-use Rattle.std.specs.Prelude.{if◌then◌else◌, Option, Some, None, option_map, option_and_then, unwrap_or}
+use Rattle.std.specs.Prelude.{if◌then◌else◌, Option, Some, None, option_map, option_and_then}
+use Rattle.std.specs.Prelude.{unwrap_or}
 use Rattle.std.specs.Prelude.{Result, Ok, Err, ok_or, ⊤}
 use Rattle.std.specs.List.{list_all, list_any}
 use Rattle.std.specs.Str.{bytes_eq}
-use Rattle.serde_json.specs.Data.{Data, number, unsigned, array, Items, no_items, item, Members, no_members, member}
+use Rattle.serde_json.specs.Data.{Data, number, unsigned, array, Items, no_items, item, Members}
+use Rattle.serde_json.specs.Data.{no_members, member}
 use Rattle.serde_json.specs.Events.{items_len}
 use Rattle.serde_json.specs.Find.{get, as_number, as_u64, as_str, as_array, as_object}
 use Rattle.rd_app.specs.Named.{Named}
@@ -112,7 +114,8 @@ abbrev pub SayNamed : {X : Type 0} → (Data → List ℕ → X → Type 0) → 
 SayNamed Is ds named = SayEach Is ds named.names named.things
 
 -- The array at a key says these things of these names.
-abbrev pub SaysNamed : {X : Type 0} → (Data → List ℕ → X → Type 0) → List ℕ → Data → Named X → Type 0
+abbrev pub SaysNamed : {X : Type 0} → (Data → List ℕ → X → Type 0) → List ℕ → Data → Named X
+    → Type 0
 SaysNamed Is key d named = (ds : Items) × IsArrayOrEmpty (get key d) ds × SayNamed Is ds named
 
 -- ---- what the code gives

@@ -133,7 +133,7 @@ fn is_final(instr: &Instr) -> bool
 {
     match instr {
         Instr::Local { instr } => is_local_final(instr),
-        Instr::Queue { .. } | Instr::Set { .. } => false,
+        Instr::Queue { .. } | Instr::QueueSet { .. } => false,
     }
 }
 

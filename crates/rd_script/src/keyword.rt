@@ -4,7 +4,7 @@ ghost use Rattle.std.specs.Prelude.{◌≡◌, IfSome, option_map};
 ghost use Rattle.rd_script.specs.Keywords.{keyword_of, row_of, operands_of};
 ghost use Rattle.rd_script.specs.Keywords.{first_written, texts_view};
 
-use Keyword::{Local, Queue, Set};
+use Keyword::{Local, Queue, QueueSet};
 use rd_text::kind::Kind;
 
 /// What an operand of an instruction is.
@@ -55,7 +55,7 @@ pub(crate) enum QueueKeyword {
 
 /// The first word of a call of a queue set.
 #[derive(Clone, Copy, Debug, PartialEq, Eq)]
-pub(crate) enum SetKeyword {
+pub(crate) enum QueueSetKeyword {
     Select,
 }
 
@@ -64,7 +64,7 @@ pub(crate) enum SetKeyword {
 pub(crate) enum Keyword {
     Local(LocalKeyword),
     Queue(QueueKeyword),
-    Set(SetKeyword),
+    QueueSet(QueueSetKeyword),
 }
 
 const REGISTER: Parameter = Parameter::Register;
@@ -79,7 +79,7 @@ const TIME: Parameter = Parameter::Time;
 
 const QUEUE: Parameter = Parameter::Name(Kind::Queue);
 
-const SET: Parameter = Parameter::Name(Kind::Set);
+const QUEUE_SET: Parameter = Parameter::Name(Kind::QueueSet);
 
 // Each keyword: as it is written, and its operands.
 const KEYWORDS: [(&str, &[Parameter], Keyword); 20] = [
@@ -100,9 +100,17 @@ const KEYWORDS: [(&str, &[Parameter], Keyword); 20] = [
     ("qreset", &[QUEUE], Queue(QueueKeyword::Reset)),
     ("count", &[QUEUE], Queue(QueueKeyword::Count)),
     ("spaces", &[QUEUE], Queue(QueueKeyword::Spaces)),
-    ("setadd", &[QUEUE, SET], Queue(QueueKeyword::AddToSet)),
-    ("setdel", &[QUEUE, SET], Queue(QueueKeyword::RemoveFromSet)),
-    ("select", &[SET, TIME], Set(SetKeyword::Select)),
+    ("setadd", &[QUEUE, QUEUE_SET], Queue(QueueKeyword::AddToSet)),
+    (
+        "setdel",
+        &[QUEUE, QUEUE_SET],
+        Queue(QueueKeyword::RemoveFromSet),
+    ),
+    (
+        "select",
+        &[QUEUE_SET, TIME],
+        QueueSet(QueueSetKeyword::Select),
+    ),
 ];
 
 /// The keyword that is written so, with its operands.

@@ -7,7 +7,7 @@ ghost use Rattle.serde_json.specs.View.{view, items_view};
 ghost use Rattle.rd_app.specs.Objects.{members_of, names_in, objects_view, AreObjects};
 ghost use Rattle.rd_script.specs.Objects.{array_view, drafts_view, file_keys, objects_of};
 ghost use Rattle.rd_script.specs.Objects.{queue_of, queues_after};
-ghost use Rattle.rd_script.specs.Objects.{member_of, members_after, set_of, sets_after};
+ghost use Rattle.rd_script.specs.Objects.{member_of, members_after, queue_set_of, queue_sets_after};
 ghost use Rattle.rd_script.specs.Values.{Gives, nothing_named};
 ghost use Rattle.rd_text.specs.Words.{texts};
 
@@ -15,7 +15,7 @@ use crate::error::AppError;
 use crate::reader::index_of;
 use crate::values::{array_or_empty, field, new_name, number, object_with};
 use arrayvec::ArrayVec;
-use rd_app::objects::{MAX_QUEUES, MAX_SETS, Named, NamedObjects, QueueShape, SetShape};
+use rd_app::objects::{MAX_QUEUE_SETS, MAX_QUEUES, Named, NamedObjects, QueueSetShape, QueueShape};
 use rd_queue::item::MAX_ITEM_SIZE;
 use rd_queue::queue::MAX_ITEMS;
 use rd_queue::queue_set::MAX_HANDLES;
@@ -41,15 +41,15 @@ pub(crate) struct NamedArray<'a, T, const N: usize> {
 
 /// A queue set's room, and its members, each of them once.
 #[derive(Debug, Default, Drop)]
-pub(crate) struct SetDraft {
+pub(crate) struct QueueSetDraft {
     pub(crate) capacity: usize,
     pub(crate) members: ArrayVec<usize, MAX_QUEUES>,
 }
 
-impl Model for SetDraft {
-    ghost use Rattle.rd_app.specs.QueueSetShape.{QueueSetShape};
+impl Model for QueueSetDraft {
+    ghost use Rattle.rd_app.specs.QueueSetShapeView.{QueueSetShapeView};
 
-    ghost Value = { QueueSetShape };
+    ghost Value = { QueueSetShapeView };
 
     ghost view = { λ s. record { capacity = s.capacity; members = s.members.items } };
 }
@@ -58,7 +58,7 @@ impl Model for SetDraft {
 #[derive(Debug, Drop)]
 pub(crate) struct ObjectDrafts<'a> {
     pub(crate) queues: NamedArray<'a, QueueShape, MAX_QUEUES>,
-    pub(crate) sets: NamedArray<'a, SetDraft, MAX_SETS>,
+    pub(crate) queue_sets: NamedArray<'a, QueueSetDraft, MAX_QUEUE_SETS>,
 }
 
 impl<'a> ObjectDrafts<'a> {
@@ -68,7 +68,7 @@ impl<'a> ObjectDrafts<'a> {
     {
         match kind {
             Kind::Queue => self.queues.names.as_slice(),
-            Kind::Set => self.sets.names.as_slice(),
+            Kind::QueueSet => self.queue_sets.names.as_slice(),
             Kind::Task => &[],
         }
     }
@@ -110,37 +110,39 @@ fn read_queues(values: &[Value]) -> Result<NamedArray<'_, QueueShape, MAX_QUEUES
 }
 
 // Is the queue a member of one of these sets?
-fn is_member(queue: usize, sets: &[SetDraft]) -> bool
-    ensures { result ≡ list_any (λ set. list_any (nat_eq queue) set.members) sets.now }
+fn is_member(queue: usize, queue_sets: &[QueueSetDraft]) -> bool
+    ensures { result
+        ≡ list_any (λ queue_set. list_any (nat_eq queue) queue_set.members) queue_sets.now }
 {
-    sets.iter()
-        .any(|set| set.members.as_slice().contains(&queue))
+    queue_sets
+        .iter()
+        .any(|queue_set| queue_set.members.as_slice().contains(&queue))
 }
 
 // Is the queue a member of one of these sets, or one of these?
-#[tactic(auto, using(crate::proofs::SetLaws::taken_is))]
-fn is_taken(queue: usize, sets: &[SetDraft], members: &[usize]) -> bool
-    ensures { result ≡ list_any (nat_eq queue) (members_of sets.now ++ members.now) }
+#[tactic(auto, using(crate::proofs::QueueSetLaws::taken_is))]
+fn is_taken(queue: usize, queue_sets: &[QueueSetDraft], members: &[usize]) -> bool
+    ensures { result ≡ list_any (nat_eq queue) (members_of queue_sets.now ++ members.now) }
 {
-    is_member(queue, sets) || members.contains(&queue)
+    is_member(queue, queue_sets) || members.contains(&queue)
 }
 
 // The number of the queue of that name, which is no member of these sets, and none of these.
 fn read_member(
     value: &Value,
     queues: &[&str],
-    sets: &[SetDraft],
+    queue_sets: &[QueueSetDraft],
     members: &[usize],
 ) -> Result<usize, AppError>
     ensures { result
-        ≡ member_of (texts queues.now) (members_of sets.now ++ members.now) (view value.now) }
+        ≡ member_of (texts queues.now) (members_of queue_sets.now ++ members.now) (view value.now) }
 {
     let name = value.as_str().ok_or(AppError::Shape)?;
     if !is_name(name.as_bytes()) {
         return Err(AppError::Name);
     }
     let queue = index_of(name, queues)?;
-    if is_taken(queue, sets, members) {
+    if is_taken(queue, queue_sets, members) {
         return Err(AppError::Name);
     }
     Ok(queue)
@@ -149,29 +151,30 @@ fn read_member(
 fn read_members(
     values: &[Value],
     queues: &[&str],
-    sets: &[SetDraft],
+    queue_sets: &[QueueSetDraft],
 ) -> Result<ArrayVec<usize, MAX_QUEUES>, AppError>
     requires { length queues.now ≤ MAX_QUEUES }
     ensures { Gives (λ members. members.items) result
-        (members_after (texts queues.now) (members_of sets.now) [] (items_view values.now)) }
+        (members_after (texts queues.now) (members_of queue_sets.now) [] (items_view values.now)) }
 {
     let mut members = ArrayVec::new();
     for value in values {
-        members.push(read_member(value, queues, sets, members.as_slice())?);
+        members.push(read_member(value, queues, queue_sets, members.as_slice())?);
     }
     Ok(members)
 }
 
-#[tactic(auto, unfolding(crate::specs::Objects::set_of))]
-fn read_set<'a>(
+#[tactic(auto, unfolding(crate::specs::Objects::queue_set_of))]
+fn read_queue_set<'a>(
     value: &'a Value,
     queues: &[&str],
     names: &[&str],
-    sets: &[SetDraft],
-) -> Result<(&'a str, SetDraft), AppError>
+    queue_sets: &[QueueSetDraft],
+) -> Result<(&'a str, QueueSetDraft), AppError>
     requires { length queues.now ≤ MAX_QUEUES }
-    ensures { Gives (λ set. (set.0.now, set.1))
-        result (set_of (texts queues.now) (record { names = texts names.now; things = sets.now })
+    ensures { Gives (λ queue_set. (queue_set.0.now, queue_set.1))
+        result (queue_set_of (texts queues.now)
+        (record { names = texts names.now; things = queue_sets.now })
         (view value.now)) }
 {
     object_with(value, &["name", "length", "members"])?;
@@ -181,23 +184,23 @@ fn read_set<'a>(
     let name = new_name(name, names)?;
     let capacity = number(capacity, 1, MAX_HANDLES as u64)? as usize;
     let members = members.as_array().ok_or(AppError::Shape)?;
-    let members = read_members(members.as_slice(), queues, sets)?;
-    Ok((name, SetDraft { capacity, members }))
+    let members = read_members(members.as_slice(), queues, queue_sets)?;
+    Ok((name, QueueSetDraft { capacity, members }))
 }
 
-fn read_sets<'a>(
+fn read_queue_sets<'a>(
     values: &'a [Value],
     queues: &[&str],
-) -> Result<NamedArray<'a, SetDraft, MAX_SETS>, AppError>
-    requires sets { length values.now ≤ MAX_SETS }
+) -> Result<NamedArray<'a, QueueSetDraft, MAX_QUEUE_SETS>, AppError>
+    requires queue_sets { length values.now ≤ MAX_QUEUE_SETS }
     requires queues { length queues.now ≤ MAX_QUEUES }
     ensures { Gives array_view
-        result (sets_after (texts queues.now) nothing_named (items_view values.now)) }
+        result (queue_sets_after (texts queues.now) nothing_named (items_view values.now)) }
 {
     let mut names = ArrayVec::new();
     let mut things = ArrayVec::new();
     for value in values {
-        let (name, draft) = read_set(value, queues, names.as_slice(), things.as_slice())?;
+        let (name, draft) = read_queue_set(value, queues, names.as_slice(), things.as_slice())?;
         names.push(name);
         things.push(draft);
     }
@@ -209,22 +212,25 @@ pub(crate) fn read_objects(file: &Value) -> Result<ObjectDrafts<'_>, AppError>
     ensures { Gives drafts_view result (objects_of (view file.now)) }
 {
     let queues = read_queues(array_or_empty(file.get("queues"), MAX_QUEUES)?)?;
-    let sets = array_or_empty(file.get("sets"), MAX_SETS)?;
-    let sets = read_sets(sets, queues.names.as_slice())?;
-    Ok(ObjectDrafts { queues, sets })
+    let queue_sets = array_or_empty(file.get("sets"), MAX_QUEUE_SETS)?;
+    let queue_sets = read_queue_sets(queue_sets, queues.names.as_slice())?;
+    Ok(ObjectDrafts { queues, queue_sets })
 }
 
 // The queue sets of drafts.
-fn keep_sets(alloc: Global, drafts: &[SetDraft]) -> Result<Vec<SetShape>, AllocError>
-    ensures { IfOk result (λ sets. sets.items ≡ drafts.now) }
+fn keep_queue_sets(
+    alloc: Global,
+    drafts: &[QueueSetDraft],
+) -> Result<Vec<QueueSetShape>, AllocError>
+    ensures { IfOk result (λ queue_sets. queue_sets.items ≡ drafts.now) }
 {
-    let mut sets = Vec::new(alloc);
+    let mut queue_sets = Vec::new(alloc);
     for draft in drafts {
-        let draft: &SetDraft = draft;
+        let draft: &QueueSetDraft = draft;
         let members = draft.members.as_slice().to_vec(alloc)?;
-        sets.push(SetShape::new(draft.capacity, members))?;
+        queue_sets.push(QueueSetShape::new(draft.capacity, members))?;
     }
-    Ok(sets)
+    Ok(queue_sets)
 }
 
 /// The objects of drafts, which are within the limits.
@@ -235,15 +241,15 @@ pub(crate) fn keep_objects(
     requires { AreObjects (drafts_view drafts.now) }
     ensures { IfOk result (λ objects. objects_view objects ≡ drafts_view drafts.now) }
 {
-    let ObjectDrafts { queues, sets } = drafts;
+    let ObjectDrafts { queues, queue_sets } = drafts;
     Ok(NamedObjects {
         queues: Named {
             names: Names::new(alloc, queues.names.as_slice())?,
             things: queues.things.as_slice().to_vec(alloc)?,
         },
-        sets: Named {
-            names: Names::new(alloc, sets.names.as_slice())?,
-            things: keep_sets(alloc, sets.things.as_slice())?,
+        queue_sets: Named {
+            names: Names::new(alloc, queue_sets.names.as_slice())?,
+            things: keep_queue_sets(alloc, queue_sets.things.as_slice())?,
         },
     })
 }

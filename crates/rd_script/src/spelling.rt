@@ -2,15 +2,15 @@
 
 ghost use Rattle.std.specs.Prelude.{◌≡◌};
 ghost use Rattle.rd_text.specs.Words.{words_of};
-ghost use Rattle.rd_script.specs.Keywords.{local_row, queue_row, row_of, set_row};
+ghost use Rattle.rd_script.specs.Keywords.{local_row, queue_row, row_of, queue_set_row};
 ghost use Rattle.rd_script.specs.Objects.{drafts_view};
 ghost use Rattle.rd_script.specs.Spelling.{instr_made, is_call_for, is_for_queue, instr_of};
 
 use crate::error::AppError;
-use crate::keyword::{Keyword, LocalKeyword, QueueKeyword, SetKeyword, keyword_of};
+use crate::keyword::{Keyword, LocalKeyword, QueueKeyword, QueueSetKeyword, keyword_of};
 use crate::objects::ObjectDrafts;
 use crate::reader::Reader;
-use rd_app::instr::{Instr, LocalInstr, QueueCall, SetCall};
+use rd_app::instr::{Instr, LocalInstr, QueueCall, QueueSetCall};
 use rd_app::objects::QueueShape;
 use rd_queue::end::End;
 use rd_text::kind::Kind;
@@ -79,26 +79,26 @@ fn queue_instr(keyword: QueueKeyword, reader: &mut Reader<'_>) -> Option<Instr>
         QueueKeyword::Count => QueueCall::Count,
         QueueKeyword::Spaces => QueueCall::Spaces,
         QueueKeyword::AddToSet => QueueCall::AddToSet {
-            set: reader.object(Kind::Set)?,
+            queue_set: reader.object(Kind::QueueSet)?,
         },
         QueueKeyword::RemoveFromSet => QueueCall::RemoveFromSet {
-            set: reader.object(Kind::Set)?,
+            queue_set: reader.object(Kind::QueueSet)?,
         },
     };
     Some(Instr::Queue { queue, call })
 }
 
 // A call of a queue set, of the words after its keyword.
-fn set_instr(keyword: SetKeyword, reader: &mut Reader<'_>) -> Option<Instr>
-    ensures { result ≡ instr_made (set_row keyword) reader.old }
+fn queue_set_instr(keyword: QueueSetKeyword, reader: &mut Reader<'_>) -> Option<Instr>
+    ensures { result ≡ instr_made (queue_set_row keyword) reader.old }
 {
-    let set = reader.object(Kind::Set)?;
+    let queue_set = reader.object(Kind::QueueSet)?;
     let call = match keyword {
-        SetKeyword::Select => SetCall::Select {
+        QueueSetKeyword::Select => QueueSetCall::Select {
             wait: reader.time()?,
         },
     };
-    Some(Instr::Set { set, call })
+    Some(Instr::QueueSet { queue_set, call })
 }
 
 // The instruction of a keyword and the words after it, if each stands for something.
@@ -108,7 +108,7 @@ fn instr_made(keyword: Keyword, reader: &mut Reader<'_>) -> Option<Instr>
     match keyword {
         Keyword::Local(keyword) => local_instr(keyword, reader),
         Keyword::Queue(keyword) => queue_instr(keyword, reader),
-        Keyword::Set(keyword) => set_instr(keyword, reader),
+        Keyword::QueueSet(keyword) => queue_set_instr(keyword, reader),
     }
 }
 
@@ -138,7 +138,7 @@ fn is_for_queue(instr: &Instr, objects: &ObjectDrafts<'_>) -> bool
             let shape = objects.queues.things.get(*queue).copied();
             is_call_for(&shape.unwrap_or_default(), call)
         }
-        Instr::Local { .. } | Instr::Set { .. } => true,
+        Instr::Local { .. } | Instr::QueueSet { .. } => true,
     }
 }
 

@@ -9,20 +9,20 @@ use Rattle.rd_queue.specs.declared.waiting_list.WaitingList.{WaitingList}
 use Rattle.rd_queue.specs.declared.waiting_list.WaitingList.TheVariants.{Receiving, Sending}
 use Rattle.rd_queue.specs.Queues.{tasks_in_list}
 use Rattle.rd_queue.specs.Sizes.{IsSizedList}
-use Rattle.rd_app.specs.QueueSetShape.{QueueSetShape}
+use Rattle.rd_app.specs.QueueSetShapeView.{QueueSetShapeView}
 use Rattle.rd_app.specs.Application.{Application}
 use Rattle.rd_state.specs.declared.phase.Place.{Place}
-use Rattle.rd_state.specs.declared.phase.Place.TheVariants.{Queue, Set}
+use Rattle.rd_state.specs.declared.phase.Place.TheVariants.{Queue, QueueSet}
 use Rattle.rd_state.specs.Boot.{before_scheduling}
-use Rattle.rd_state.specs.Objects.{IsQueueFor, first_queues, new_queue, new_set, no_queue, no_set}
+use Rattle.rd_state.specs.Objects.{IsQueueFor, first_queues, new_queue, new_queue_set, no_queue, no_queue_set}
 use Rattle.rd_state.specs.Sizes.{IsSized}
-use Rattle.rd_state.specs.Snapshot.{Snapshot, queue_at, set_at}
+use Rattle.rd_state.specs.Snapshot.{Snapshot, queue_at, queue_set_at}
 use Rattle.rd_state.specs.Waiting.{HasPlace, waiting_at}
-use Rattle.rd_state.proofs.ObjectLaws.{queue_in_sized, set_in_sized}
+use Rattle.rd_state.proofs.ObjectLaws.{queue_in_sized, queue_set_in_sized}
 
 -- A queue of the state has its sizes.
 pub queue_sized : (s : Snapshot) (queue : ℕ) → IsSized s → queue < length s.objects.queues
-    → IsQueueFor (length s.tasks) (length s.objects.sets) (queue_at s queue)
+    → IsQueueFor (length s.tasks) (length s.objects.queue_sets) (queue_at s queue)
 queue_sized s queue sized there = queue_in_sized (length s.tasks) s.objects queue sized.objects there
 
 -- Those who wait at a place are tasks, and no more than there are.
@@ -33,9 +33,9 @@ IsSizedList-waiting_at s (Queue queue Receiving) sized there =
 IsSizedList-waiting_at s (Queue queue Sending) sized there =
     let here = queue_sized s queue sized there in
     subst (λ n. IsSizedList n (queue_at s queue).sending) here.1 here.0.sending
-IsSizedList-waiting_at s (Set set) sized there =
-    let here = set_in_sized (length s.tasks) s.objects set sized.objects there in
-    subst (λ n. IsSizedList n (set_at s set).waiting) here.1 here.0.waiting
+IsSizedList-waiting_at s (QueueSet queue_set) sized there =
+    let here = queue_set_in_sized (length s.tasks) s.objects queue_set sized.objects there in
+    subst (λ n. IsSizedList n (queue_set_at s queue_set).waiting) here.1 here.0.waiting
 
 -- Nobody waits in either list of a new queue.
 nobody_waits : (app : Application) (list : WaitingList) (n : ℕ) → All (λ queue. tasks_in_list list queue ≡ []) (first_queues app n)
@@ -56,11 +56,11 @@ nobody_waits_at app list queue n = elim (cases_lt queue (length (first_queues ap
   | inr past ↦ ap (tasks_in_list list) (get_or_past (first_queues app n) queue no_queue past) ∙ nobody_waits_nowhere list
 ]
 
-nobody_selects : (tasks queues : ℕ) (shapes : List QueueSetShape) (set : ℕ) → (get_or (map (new_set tasks queues) shapes) set no_set).waiting ≡ []
-nobody_selects tasks queues [] set = refl
-nobody_selects tasks queues (shape ∷ shapes) zero = refl
-nobody_selects tasks queues (shape ∷ shapes) (suc set) = nobody_selects tasks queues shapes set
+nobody_selects : (task_count queue_count : ℕ) (shapes : List QueueSetShapeView) (queue_set : ℕ) → (get_or (map (new_queue_set task_count queue_count) shapes) queue_set no_queue_set).waiting ≡ []
+nobody_selects task_count queue_count [] queue_set = refl
+nobody_selects task_count queue_count (shape ∷ shapes) zero = refl
+nobody_selects task_count queue_count (shape ∷ shapes) (suc queue_set) = nobody_selects task_count queue_count shapes queue_set
 
 pub waiting_at-before_scheduling : (app : Application) (place : Place) → waiting_at (before_scheduling app) place ≡ []
 waiting_at-before_scheduling app (Queue queue list) = nobody_waits_at app list queue (length app.objects.queues.things)
-waiting_at-before_scheduling app (Set set) = nobody_selects (length app.tasks.things) (length app.objects.queues.things) app.objects.sets.things set
+waiting_at-before_scheduling app (QueueSet queue_set) = nobody_selects (length app.tasks.things) (length app.objects.queues.things) app.objects.queue_sets.things queue_set

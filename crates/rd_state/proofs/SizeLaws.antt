@@ -39,7 +39,7 @@ HasSizes-ready s tasks among few kept =
         tasks = record { tasks = kept.sized.tasks.tasks; phases = kept.sized.tasks.phases };
         objects = kept.sized.objects;
       };
-      room = kept.room;
+      capacity = kept.capacity;
     }
 
 -- a task has left the ready list
@@ -112,7 +112,7 @@ HasSizes-task s now task change new e =
     let sized = (task_law.each_is_undone (task_at all task) change (task_sized all task kept.sized fits.0) fits.1).sized in
     rw f (record {
       sized = IsSized-task all task (task_applied (task_at all task) change) sized (phase_then all task change kept.sized fits.0 fits.2) kept.sized;
-      room = kept.room ∙ sym (length-set s.tasks.items task _);
+      capacity = kept.capacity ∙ sym (length-set s.tasks.items task _);
     }))
 
 -- a change of an object
@@ -125,7 +125,7 @@ HasSizes-object s now change e =
     let sized = object_sized (length all.tasks) all.objects change kept.sized.objects fits in
     record {
       sized = IsSized-objects all (object_applied all.objects change) (sym (object_numbers all.objects change)) sized kept.sized;
-      room = kept.room;
+      capacity = kept.capacity;
     })
 
 -- the task that stands at an index of the vector
@@ -152,7 +152,7 @@ All-all_joined priorities (suc n) limit h =
 
 -- a new state
 pub HasSizes-new : (app : Application) (s : Inside) (n : ℕ) → IsApplication app → s.turn ≡ 0 → s.cores.items ≡ replicate app.cores None
-    → s.ready ≡ record { tasks = all_joined (priorities_of app) n; room = n } → s.tasks.items ≡ replicate n (fresh_task app.entries)
+    → s.ready ≡ record { tasks = all_joined (priorities_of app) n; capacity = n } → s.tasks.items ≡ replicate n (fresh_task app.entries)
     → n ≡ length app.tasks.things → s.objects ≡ new_objects app → HasSizes s
 HasSizes-new app s n limits turn cores ready tasks scripts objects =
     let count : length s.tasks.items ≡ n = omega (arith, ap length tasks, length-replicate n (fresh_task app.entries)) in
@@ -180,5 +180,5 @@ HasSizes-new app s n limits turn cores ready tasks scripts objects =
         objects =
             subst (AreSizedObjects (length s.tasks.items)) (sym objects) (AreSizedObjects-new app (length s.tasks.items) limits (count ∙ scripts));
       };
-      room = ap (λ (l : TaskList). l.room) ready ∙ sym count;
+      capacity = ap (λ (l : TaskList). l.capacity) ready ∙ sym count;
     }

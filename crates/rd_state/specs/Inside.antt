@@ -17,4 +17,4 @@ snapshot_of state = record {
 -- The sizes hold, and the ready list has room for every task.
 pub record HasSizes (state : Inside) : Type 0 where
   pub sized : IsSized (snapshot_of state)
-  pub room : state.ready.room ≡ length state.tasks.items
+  pub capacity : state.ready.capacity ≡ length state.tasks.items

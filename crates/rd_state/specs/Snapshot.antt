@@ -2,11 +2,12 @@
 use Rattle.std.specs.Prelude.{ℕ, ◌≡◌, List, [], Option, None, slice_index_or, slice_set}
 use Rattle.rd_notify.specs.declared.entries.Entry.{Entry}
 use Rattle.rd_queue.specs.QueueSnapshot.{QueueSnapshot}
-use Rattle.rd_queue.specs.SetSnapshot.{SetSnapshot}
+use Rattle.rd_queue.specs.QueueSetSnapshot.{QueueSetSnapshot}
 use Rattle.rd_state.specs.declared.phase.Phase.{Phase}
 use Rattle.rd_state.specs.declared.phase.Phase.TheVariants.{Run}
 use Rattle.rd_state.specs.Objects.{Numbers, ObjectsSnapshot, numbers_in, no_objects}
-use Rattle.rd_state.specs.Objects.{objects_with_queue, objects_with_set, queue_in, set_in}
+use Rattle.rd_state.specs.Objects.{objects_with_queue, objects_with_queue_set, queue_in}
+use Rattle.rd_state.specs.Objects.{queue_set_in}
 
 -- a task: the number of the instruction that comes next, its 8 registers, its data, what it does,
 -- its notification entries
@@ -52,8 +53,8 @@ task_at s task = slice_index_or s.tasks task no_task
 abbrev pub queue_at : Snapshot → ℕ → QueueSnapshot
 queue_at s queue = queue_in s.objects queue
 
-abbrev pub set_at : Snapshot → ℕ → SetSnapshot
-set_at s set = set_in s.objects set
+abbrev pub queue_set_at : Snapshot → ℕ → QueueSetSnapshot
+queue_set_at s queue_set = queue_set_in s.objects queue_set
 
 -- the items of a queue
 abbrev pub items_at : Snapshot → ℕ → List (List ℕ)
@@ -66,8 +67,9 @@ with_task s task now = record s { tasks = slice_set s.tasks task now }
 abbrev pub with_queue : Snapshot → ℕ → QueueSnapshot → Snapshot
 with_queue s queue now = record s { objects = objects_with_queue s.objects queue now }
 
-abbrev pub with_set : Snapshot → ℕ → SetSnapshot → Snapshot
-with_set s set now = record s { objects = objects_with_set s.objects set now }
+abbrev pub with_queue_set : Snapshot → ℕ → QueueSetSnapshot → Snapshot
+with_queue_set s queue_set now =
+    record s { objects = objects_with_queue_set s.objects queue_set now }
 
 -- the task on a core
 abbrev pub core_at : Snapshot → ℕ → Option ℕ

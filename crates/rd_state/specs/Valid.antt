@@ -8,8 +8,8 @@ use Rattle.rd_state.specs.declared.phase.Phase.{Phase}
 use Rattle.rd_state.specs.Phases.{can_run, kept_deadline, tries_again, waits_at}
 use Rattle.rd_app.specs.declared.instr.Instr.{Instr}
 use Rattle.rd_app.specs.declared.instr.Instr.TheVariants as instr
-use Rattle.rd_app.specs.declared.instr.SetCall.{SetCall}
-use Rattle.rd_app.specs.declared.instr.SetCall.TheVariants.{Select}
+use Rattle.rd_app.specs.declared.instr.QueueSetCall.{QueueSetCall}
+use Rattle.rd_app.specs.declared.instr.QueueSetCall.TheVariants.{Select}
 use Rattle.rd_state.specs.declared.phase.Place.{Place}
 use Rattle.rd_state.specs.declared.phase.Place.TheVariants as place
 use Rattle.rd_app.specs.Application.{Application, code_of, instr_at, list_of_call, priorities_of}
@@ -64,14 +64,14 @@ WaitsAtPlaces s =
     → times_in_list task (waiting_at s place) ≡ times_waiting_at place (task_at s task).phase
 
 -- the place where a task waits for a call of a set
-abbrev pub place_of_set_call : ℕ → SetCall → Option Place
-place_of_set_call set (Select wait) = Some (place.Set set)
+abbrev pub place_of_queue_set_call : ℕ → QueueSetCall → Option Place
+place_of_queue_set_call queue_set (Select wait) = Some (place.QueueSet queue_set)
 
 -- the place where a task waits for an instruction, if that is a call with a block time
 abbrev pub place_of_call : Instr → Option Place
 place_of_call (instr.Local instr) = None
 place_of_call (instr.Queue queue call) = option_map (place.Queue queue) (list_of_call call)
-place_of_call (instr.Set set call) = place_of_set_call set call
+place_of_call (instr.QueueSet queue_set call) = place_of_queue_set_call queue_set call
 
 -- A task that waits stands at the call of its place. One that tries again stands at a call with a
 -- block time.

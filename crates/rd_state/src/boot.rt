@@ -33,7 +33,7 @@ pub(crate) fn new_tasks(alloc: Global, count: usize, entries: usize) -> Result<V
 pub(crate) fn all_ready(alloc: Global, priorities: &[u8]) -> Result<PrioList, NoMemory>
     ensures { IfOk result (λ list. list ≡ record {
       tasks = all_joined priorities.now (length priorities.now);
-      room = length priorities.now;
+      capacity = length priorities.now;
     }) }
 {
     let mut ready = PrioList::new(alloc, priorities.len())?;

@@ -1,4 +1,4 @@
-//! A step in the middle: the state and the record of what was changed.
+//! A move in the middle: the state and the record of what was changed.
 
 ghost use Rattle.std.specs.Prelude.{◌≡◌, ◌<◌, ◌≤◌, length, insert, remove};
 ghost use Rattle.std.specs.Prelude.{OnOk, OnErr};
@@ -16,10 +16,10 @@ use crate::transfer::Transfer;
 use crate::undo::{Undo, act, act_transfer};
 use rd_bytes::no_memory::NoMemory;
 use rd_queue::change::QueueChange;
-use rd_queue::set_change::SetChange;
+use rd_queue::queue_set_change::QueueSetChange;
 use std::marker::Model;
 
-/// A step in the middle: the state, which it owns, and a record, to which it adds what it changes.
+/// A move in the middle: the state, which it owns, and a record, to which it adds what it changes.
 /// The rules of the kernel are written over it. It ends in `commit` or in `roll_back`.
 #[derive(Debug)]
 pub struct Editing {
@@ -44,7 +44,7 @@ impl Model for Editing {
 }
 
 impl Editing {
-    /// Begins at a state, with a record to which the step's changes will be added.
+    /// Begins at a state, with a record to which the move's changes will be added.
     pub fn begin(state: State, undo: Undo) -> Editing
         ensures { result ≡ record {
           now = state;
@@ -113,9 +113,9 @@ impl Editing {
                 let change = ObjectChange::Queue { queue, change };
                 self.change(Change::Object { change })
             }
-            Place::Set { set } => {
-                let change = SetChange::InsWait { index, task };
-                let change = ObjectChange::Set { set, change };
+            Place::QueueSet { queue_set } => {
+                let change = QueueSetChange::InsWait { index, task };
+                let change = ObjectChange::QueueSet { queue_set, change };
                 self.change(Change::Object { change })
             }
         }
@@ -136,15 +136,15 @@ impl Editing {
                 let change = ObjectChange::Queue { queue, change };
                 self.change(Change::Object { change })
             }
-            Place::Set { set } => {
-                let change = SetChange::DelWait { index };
-                let change = ObjectChange::Set { set, change };
+            Place::QueueSet { queue_set } => {
+                let change = QueueSetChange::DelWait { index };
+                let change = ObjectChange::QueueSet { queue_set, change };
                 self.change(Change::Object { change })
             }
         }
     }
 
-    /// Ends the step: the state goes back to its owner, and the record is handed out.
+    /// Ends the move: the state goes back to its owner, and the record is handed out.
     pub fn commit(self, state: &mut State) -> Undo
         ensures state { state.new ≡ self.now }
         ensures record { GoesOn self result }
@@ -158,7 +158,7 @@ impl Editing {
         undo
     }
 
-    /// Takes the step back: the state from before it goes back to its owner, and the record is
+    /// Takes the move back: the state from before it goes back to its owner, and the record is
     /// handed out as it was. It takes no memory.
     pub fn roll_back(self, state: &mut State) -> Undo
         ensures state { state.new ≡ self.base.state }

@@ -3,22 +3,24 @@
 ghost use Rattle.std.specs.Prelude.{◌≡◌, ◌↔◌, ◌+◌, ◌<◌, ◌≤◌, length, map, All, IfOk, IsOk, IsTrue};
 ghost use Rattle.rd_queue.specs.Changes.{put_at, queue_applied, QueueFits};
 ghost use Rattle.rd_queue.specs.Queues.{fitted};
-ghost use Rattle.rd_queue.specs.SetChanges.{set_applied, SetFits};
+ghost use Rattle.rd_queue.specs.QueueSetChanges.{queue_set_applied, QueueSetFits};
 ghost use Rattle.rd_queue.specs.declared.change.QueueChange.TheVariants.{SetItem};
-ghost use Rattle.rd_state.specs.Objects.{first_queues, new_objects, new_queue, new_set, no_objects};
+ghost use Rattle.rd_state.specs.Objects.{first_queues, new_objects, new_queue, new_queue_set};
+ghost use Rattle.rd_state.specs.Objects.{no_objects};
 ghost use Rattle.rd_state.specs.Objects.{object_applied, object_inverse_of, object_saved_bytes};
-ghost use Rattle.rd_state.specs.Objects.{objects_with_queue, objects_with_set, queue_in, set_in};
+ghost use Rattle.rd_state.specs.Objects.{objects_with_queue, objects_with_queue_set, queue_in};
+ghost use Rattle.rd_state.specs.Objects.{queue_set_in};
 ghost use Rattle.rd_state.specs.Objects.{HasRoomForHandles, ObjectFits};
 
 use crate::whole::{Whole, all_same, copy_all};
 use rd_app::app::App;
-use rd_app::objects::SetShape;
+use rd_app::objects::QueueSetShape;
 use rd_bytes::no_memory::NoMemory;
 use rd_queue::change::QueueChange;
 use rd_queue::end::End;
 use rd_queue::queue::Queue;
 use rd_queue::queue_set::QueueSet;
-use rd_queue::set_change::SetChange;
+use rd_queue::queue_set_change::QueueSetChange;
 use std::alloc::{AllocError, Global};
 use std::marker::Model;
 
@@ -26,9 +28,15 @@ use std::marker::Model;
 #[derive(Debug, Drop)]
 pub enum ObjectChange {
     /// The queue changes so.
-    Queue { queue: usize, change: QueueChange },
+    Queue {
+        queue: usize,
+        change: QueueChange,
+    },
     /// The queue set changes so.
-    Set { set: usize, change: SetChange },
+    QueueSet {
+        queue_set: usize,
+        change: QueueSetChange,
+    },
 }
 
 impl ObjectChange {
@@ -38,7 +46,7 @@ impl ObjectChange {
     {
         match self {
             ObjectChange::Queue { change, .. } => change.cost(),
-            ObjectChange::Set { .. } => 1,
+            ObjectChange::QueueSet { .. } => 1,
         }
     }
 }
@@ -47,7 +55,7 @@ impl ObjectChange {
 #[derive(Debug, Drop)]
 pub(crate) struct Objects {
     queues: Vec<Queue>,
-    sets: Vec<QueueSet>,
+    queue_sets: Vec<QueueSet>,
 }
 
 impl Model for Objects {
@@ -55,7 +63,7 @@ impl Model for Objects {
 
     ghost Value = { ObjectsSnapshot };
 
-    ghost view = { λ o. record { queues = o.queues.items; sets = o.sets.items } };
+    ghost view = { λ o. record { queues = o.queues.items; queue_sets = o.queue_sets.items } };
 }
 
 impl Whole for Queue {
@@ -85,11 +93,17 @@ fn new_queue(alloc: Global, app: &App, queue: usize) -> Result<Queue, NoMemory>
 {
     app.limits();
     let shape = &app.objects().queues()[queue];
-    let tasks = app.priorities().len();
-    let sets = app.objects().sets().len();
-    let mut made = Queue::new(alloc, shape.capacity, shape.item_size, tasks, sets)?;
-    if let Some(set) = app.objects().set_of(queue) {
-        made.join_set(set);
+    let task_count = app.priorities().len();
+    let queue_set_count = app.objects().queue_sets().len();
+    let mut made = Queue::new(
+        alloc,
+        shape.capacity,
+        shape.item_size,
+        task_count,
+        queue_set_count,
+    )?;
+    if let Some(queue_set) = app.objects().set_of(queue) {
+        made.join_set(queue_set);
     }
     Ok(made)
 }
@@ -107,21 +121,22 @@ fn new_queues(alloc: Global, app: &App) -> Result<Vec<Queue>, NoMemory>
 }
 
 // Sets of these shapes without handles, for so many queues and tasks.
-fn new_sets(
+fn new_queue_sets(
     alloc: Global,
-    shapes: &[SetShape],
-    queues: usize,
-    tasks: usize,
+    shapes: &[QueueSetShape],
+    queue_count: usize,
+    task_count: usize,
 ) -> Result<Vec<QueueSet>, NoMemory>
     requires { All HasRoomForHandles shapes.now }
-    ensures { IfOk result (λ sets. sets.items ≡ map (new_set tasks queues) shapes.now) }
+    ensures { IfOk result (λ queue_sets.
+        queue_sets.items ≡ map (new_queue_set task_count queue_count) shapes.now) }
 {
-    let mut sets = Vec::with_capacity(alloc, shapes.len())?;
+    let mut queue_sets = Vec::with_capacity(alloc, shapes.len())?;
     for shape in shapes {
-        let shape: &SetShape = shape;
-        sets.push(QueueSet::new(alloc, shape.capacity(), queues, tasks)?)?;
+        let shape: &QueueSetShape = shape;
+        queue_sets.push(QueueSet::new(alloc, shape.capacity(), queue_count, task_count)?)?;
     }
-    Ok(sets)
+    Ok(queue_sets)
 }
 
 impl Objects {
@@ -131,7 +146,7 @@ impl Objects {
     {
         Objects {
             queues: Vec::new(alloc),
-            sets: Vec::new(alloc),
+            queue_sets: Vec::new(alloc),
         }
     }
 
@@ -140,14 +155,14 @@ impl Objects {
         ensures { IfOk result (λ objects. objects ≡ new_objects app.now) }
     {
         app.limits();
-        let tasks = app.priorities().len();
+        let task_count = app.priorities().len();
         Ok(Objects {
             queues: new_queues(alloc, app)?,
-            sets: new_sets(
+            queue_sets: new_queue_sets(
                 alloc,
-                app.objects().sets(),
+                app.objects().queue_sets(),
                 app.objects().queues().len(),
-                tasks,
+                task_count,
             )?,
         })
     }
@@ -158,7 +173,7 @@ impl Objects {
     {
         Ok(Objects {
             queues: copy_all(alloc, self.queues.as_slice())?,
-            sets: copy_all(alloc, self.sets.as_slice())?,
+            queue_sets: copy_all(alloc, self.queue_sets.as_slice())?,
         })
     }
 
@@ -167,7 +182,7 @@ impl Objects {
         ensures { IsTrue result ↔ (self.now ≡ other.now) }
     {
         all_same(self.queues.as_slice(), other.queues.as_slice())
-            && all_same(self.sets.as_slice(), other.sets.as_slice())
+            && all_same(self.queue_sets.as_slice(), other.queue_sets.as_slice())
     }
 
     /// How many queues there are.
@@ -186,11 +201,11 @@ impl Objects {
     }
 
     /// A queue set.
-    pub(crate) fn set(&self, set: usize) -> &QueueSet
-        requires { set < length self.now.sets }
-        ensures { result.now ≡ set_in self.now set }
+    pub(crate) fn queue_set(&self, queue_set: usize) -> &QueueSet
+        requires { queue_set < length self.now.queue_sets }
+        ensures { result.now ≡ queue_set_in self.now queue_set }
     {
-        &self.sets[set]
+        &self.queue_sets[queue_set]
     }
 
     // Changes a queue.
@@ -205,13 +220,13 @@ impl Objects {
     }
 
     // Changes a queue set.
-    fn change_set(&mut self, set: usize, change: &SetChange)
-        requires there { set < length self.old.sets }
-        requires fits { SetFits (set_in self.old set) change.now }
-        ensures { self.new ≡ objects_with_set self.old set
-            (set_applied (set_in self.old set) change.now) }
+    fn change_queue_set(&mut self, queue_set: usize, change: &QueueSetChange)
+        requires there { queue_set < length self.old.queue_sets }
+        requires fits { QueueSetFits (queue_set_in self.old queue_set) change.now }
+        ensures { self.new ≡ objects_with_queue_set self.old queue_set
+            (queue_set_applied (queue_set_in self.old queue_set) change.now) }
     {
-        let target = &mut self.sets[set];
+        let target = &mut self.queue_sets[queue_set];
         target.apply(change);
     }
 
@@ -222,7 +237,9 @@ impl Objects {
     {
         match change {
             ObjectChange::Queue { queue, change } => self.change_queue(*queue, change),
-            ObjectChange::Set { set, change } => self.change_set(*set, change),
+            ObjectChange::QueueSet { queue_set, change } => {
+                self.change_queue_set(*queue_set, change);
+            }
         }
     }
 
@@ -244,9 +261,9 @@ impl Objects {
                 queue: *queue,
                 change: self.queue(*queue).inverse_of(alloc, change)?,
             }),
-            ObjectChange::Set { set, change } => Ok(ObjectChange::Set {
-                set: *set,
-                change: self.set(*set).inverse_of(change),
+            ObjectChange::QueueSet { queue_set, change } => Ok(ObjectChange::QueueSet {
+                queue_set: *queue_set,
+                change: self.queue_set(*queue_set).inverse_of(change),
             }),
         }
     }

@@ -66,5 +66,5 @@ pub enum Place {
     /// For an item of the queue, or for room in it.
     Queue { queue: usize, list: WaitingList },
     /// For a handle of the set.
-    Set { set: usize },
+    QueueSet { queue_set: usize },
 }

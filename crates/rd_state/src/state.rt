@@ -3,10 +3,11 @@
 ghost use Rattle.std.specs.Prelude.{◌≡◌, ◌<◌, ◌≤◌, ◌↔◌, length, All, IfOk, IsOk, IsTrue};
 ghost use Rattle.rd_state.specs.Boot.{before_scheduling};
 ghost use Rattle.rd_state.specs.Change.{applied, inverse_of, saved_bytes, Fits};
-ghost use Rattle.rd_state.specs.Objects.{IsQueueFor, IsSetFor};
+ghost use Rattle.rd_state.specs.Objects.{IsQueueFor, IsQueueSetFor};
 ghost use Rattle.rd_state.specs.Settled.{weakest_of, rank_of};
 ghost use Rattle.rd_state.specs.Sizes.{IsSized, IsSizedPhase, IsTaskOrIdle};
-ghost use Rattle.rd_state.specs.Snapshot.{hollow_state, numbers_of, task_at, queue_at, set_at};
+ghost use Rattle.rd_state.specs.Snapshot.{hollow_state, numbers_of, task_at, queue_at};
+ghost use Rattle.rd_state.specs.Snapshot.{queue_set_at};
 ghost use Rattle.rd_state.specs.Snapshot.{core_at};
 ghost use Rattle.rd_state.specs.Snapshot.{SameScheduling, SameObjects};
 ghost use Rattle.rd_state.specs.Transfers.{change_of, CanTransfer};
@@ -71,7 +72,7 @@ impl State {
             tick: 0,
             turn: 0,
             cores: Vec::new(alloc),
-            ready: PrioList::without_room(alloc),
+            ready: PrioList::without_capacity(alloc),
             tasks: Vec::new(alloc),
             objects: Objects::none(alloc),
         }
@@ -173,7 +174,7 @@ impl State {
     pub fn ready(&self) -> &PrioList
         ensures tasks { result.now.tasks ≡ self.now.ready }
         ensures members { All (λ task. task < length self.now.tasks) self.now.ready }
-        ensures room { result.now.room ≡ length self.now.tasks }
+        ensures room { result.now.capacity ≡ length self.now.tasks }
     {
         &self.ready
     }
@@ -214,18 +215,20 @@ impl State {
     pub fn queue(&self, queue: usize) -> &Queue
         requires { queue < length self.now.objects.queues }
         ensures queue { result.now ≡ queue_at self.now queue }
-        ensures sized { IsQueueFor (length self.now.tasks) (length self.now.objects.sets) result.now }
+        ensures sized { IsQueueFor (length self.now.tasks)
+            (length self.now.objects.queue_sets) result.now }
     {
         self.objects.queue(queue)
     }
 
     /// A queue set.
-    pub fn set(&self, set: usize) -> &QueueSet
-        requires { set < length self.now.objects.sets }
-        ensures set { result.now ≡ set_at self.now set }
-        ensures sized { IsSetFor (length self.now.tasks) (length self.now.objects.queues) result.now }
+    pub fn queue_set(&self, queue_set: usize) -> &QueueSet
+        requires { queue_set < length self.now.objects.queue_sets }
+        ensures queue_set { result.now ≡ queue_set_at self.now queue_set }
+        ensures sized { IsQueueSetFor (length self.now.tasks)
+            (length self.now.objects.queues) result.now }
     {
-        self.objects.set(set)
+        self.objects.queue_set(queue_set)
     }
 
     /// The tasks that wait at a place, the first to be served first.
@@ -233,11 +236,11 @@ impl State {
         requires { HasPlace self.now place }
         ensures tasks { result.now.tasks ≡ waiting_at self.now place }
         ensures members { All (λ task. task < length self.now.tasks) (waiting_at self.now place) }
-        ensures room { result.now.room ≡ length self.now.tasks }
+        ensures room { result.now.capacity ≡ length self.now.tasks }
     {
         match place {
             Place::Queue { queue, list } => self.queue(queue).waiting(list),
-            Place::Set { set } => self.set(set).waiting(),
+            Place::QueueSet { queue_set } => self.queue_set(queue_set).waiting(),
         }
     }
 

@@ -9,7 +9,7 @@ pub enum Kind {
     /// `queue`
     Queue,
     /// `set`: a queue set
-    Set,
+    QueueSet,
     /// `task`
     Task,
 }
@@ -21,7 +21,7 @@ impl Kind {
     {
         match word {
             b"queue" => Some(Kind::Queue),
-            b"set" => Some(Kind::Set),
+            b"set" => Some(Kind::QueueSet),
             b"task" => Some(Kind::Task),
             _ => None,
         }

@@ -13,7 +13,7 @@ use std::marker::Model;
 /// The names of all things of one kind. No two are equal, and a thing's number is its name's index.
 #[derive(Debug, Drop)]
 pub struct Names {
-    set: IndexSet<String>,
+    ordered: IndexSet<String>,
 }
 
 impl Model for Names {
@@ -21,7 +21,7 @@ impl Model for Names {
 
     ghost Value = { List (List ℕ) };
 
-    ghost view = { λ n. map string_bytes n.set.keys };
+    ghost view = { λ n. map string_bytes n.ordered.keys };
 }
 
 impl Names {
@@ -30,18 +30,18 @@ impl Names {
         requires { are_distinct (texts names.now) ≡ true }
         ensures { IfOk result (λ made. made ≡ texts names.now) }
     {
-        let mut set = IndexSet::new(alloc);
+        let mut ordered = IndexSet::new(alloc);
         for name in names {
-            set.insert(String::from_str(alloc, name)?)?;
+            ordered.insert(String::from_str(alloc, name)?)?;
         }
-        Ok(Names { set })
+        Ok(Names { ordered })
     }
 
     /// The number of the thing with that name, if there is one.
     pub fn find(&self, name: &str) -> Option<usize>
         ensures { result ≡ position (bytes_eq name.now) self.now }
     {
-        self.set.get_index_of(name)
+        self.ordered.get_index_of(name)
     }
 
     /// The name of the thing with that number.
@@ -49,7 +49,7 @@ impl Names {
         requires { number < length self.now }
         ensures { slice_get self.now number ≡ Some result.now }
     {
-        match self.set.get_index(number) {
+        match self.ordered.get_index(number) {
             Some(name) => name.as_str(),
             None => unreachable!(),
         }

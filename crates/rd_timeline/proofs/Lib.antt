@@ -6,4 +6,4 @@ pub mod HistoryLaws
 pub mod TimelineLaws
 pub mod Rows
 pub mod WaitingRows
-pub mod SetRows
+pub mod QueueSetRows

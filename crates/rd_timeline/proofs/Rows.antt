@@ -19,7 +19,7 @@ use Rattle.rd_calls.specs.declared.moves.Move.TheVariants.{Core}
 use Rattle.rd_timeline.specs.History.{state_after}
 
 abbrev queue_of : List (List ℕ) → QueueSnapshot
-queue_of items = record { items = items; capacity = 2; item_size = 1; receiving = []; sending = []; tasks = 1; set = None; sets = 0 }
+queue_of items = record { items = items; capacity = 2; item_size = 1; receiving = []; sending = []; task_count = 1; queue_set = None; queue_set_count = 0 }
 
 -- t0 at a place of its script, with r0 and its data
 abbrev task_of : ℕ → ℕ → List ℕ → TaskSnapshot

@@ -40,7 +40,7 @@ abbrev waits_for_item : Option ℕ → TaskSnapshot
 waits_for_item deadline = task_of 0 0 [] (Wait (Queue 0 Receiving) deadline)
 
 abbrev queue_of : List (List ℕ) → List ℕ → QueueSnapshot
-queue_of items receiving = record { items = items; capacity = 1; item_size = 1; receiving = receiving; sending = []; tasks = 3; set = None; sets = 0 }
+queue_of items receiving = record { items = items; capacity = 1; item_size = 1; receiving = receiving; sending = []; task_count = 3; queue_set = None; queue_set_count = 0 }
 
 -- ---- a woken receiver finds its item taken
 

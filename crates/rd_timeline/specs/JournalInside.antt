@@ -8,5 +8,5 @@ journal_of j = record {
   done = take j.done j.moves.items;
   records = j.log.records;
   undone = drop j.done j.moves.items;
-  room = min (vec_capacity j.moves) j.log.room;
+  capacity = min (vec_capacity j.moves) j.log.capacity;
 }

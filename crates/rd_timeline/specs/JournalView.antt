@@ -9,7 +9,7 @@ pub record JournalView : Type 0 where
   pub done : List Move
   pub records : List (List Change)
   pub undone : List Move
-  pub room : ℕ
+  pub capacity : ℕ
 
 -- The moves and their records are as they were.
 pub record IsAsBefore (old new : JournalView) : Type 0 where

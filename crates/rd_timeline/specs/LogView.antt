@@ -9,7 +9,7 @@ use Rattle.rd_calls.specs.Step.{IsPlayed}
 -- the records in order, and for how many there is room
 pub record LogView : Type 0 where
   pub records : List (List Change)
-  pub room : ℕ
+  pub capacity : ℕ
 
 -- the record of the last move
 abbrev pub last_record : List (List Change) → List Change

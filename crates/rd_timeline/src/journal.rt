@@ -73,9 +73,9 @@ impl Journal {
     /// after going back.
     pub fn reserve(&mut self) -> Result<(), NoMemory>
         ensures same { IsAsBefore self.old self.new }
-        ensures ok { OnOk result (length self.new.done < self.new.room) }
-        ensures enough { length self.old.done < self.old.room → IsOk result }
-        ensures room { self.old.room ≤ self.new.room }
+        ensures ok { OnOk result (length self.new.done < self.new.capacity) }
+        ensures enough { length self.old.done < self.old.capacity → IsOk result }
+        ensures room { self.old.capacity ≤ self.new.capacity }
     {
         let missing = (self.done + 1).saturating_sub(self.moves.len());
         self.moves.reserve(missing)?;
@@ -94,7 +94,7 @@ impl Journal {
     ) -> Result<(), Refusal>
         requires valid { IsValid app.now state.old }
         requires named { IsMoveOf app.now action }
-        requires room { length self.old.done < self.old.room }
+        requires room { length self.old.done < self.old.capacity }
         ensures lays { OnOk result
             (RecordsMove app.now state.old action state.new self.old.records self.new.records) }
         ensures done { OnOk result (self.new.done ≡ self.old.done ++ action ∷ []) }
@@ -107,7 +107,7 @@ impl Journal {
             (step app.now state.old action ≡ Err refusal) ⊎ (refusal ≡ Refusal.NoMemory)) }
         ensures err { OnErr result (IsAsBefore self.old self.new) }
         ensures err_state { OnErr result (state.new ≡ state.old) }
-        ensures kept_room { self.new.room ≡ self.old.room }
+        ensures kept_capacity { self.new.capacity ≡ self.old.capacity }
     {
         self.log.play(alloc, state, app, action.copy())?;
         self.moves.truncate(self.done);
@@ -125,7 +125,7 @@ impl Journal {
         ensures moves { TakesBack self.old self.new }
         ensures records { self.new.records
             ≡ take (length self.old.records - 1) self.old.records }
-        ensures room { self.new.room ≡ self.old.room }
+        ensures room { self.new.capacity ≡ self.old.capacity }
     {
         self.done -= 1;
         self.log.take_back(state);

@@ -35,7 +35,7 @@ impl Model for Log {
 
     ghost view = { λ l. record {
       records = cut l.counts.items l.undo;
-      room = vec_capacity l.counts;
+      capacity = vec_capacity l.counts;
     } };
 
     ghost invariant = { λ l. sum l.counts.items ≡ length l.undo };
@@ -63,9 +63,9 @@ impl Log {
     /// needs none while there are fewer records than there is room for.
     pub fn reserve(&mut self) -> Result<(), NoMemory>
         ensures records { self.new.records ≡ self.old.records }
-        ensures ok { OnOk result (length self.new.records < self.new.room) }
-        ensures enough { length self.old.records < self.old.room → IsOk result }
-        ensures room { self.old.room ≤ self.new.room }
+        ensures ok { OnOk result (length self.new.records < self.new.capacity) }
+        ensures enough { length self.old.records < self.old.capacity → IsOk result }
+        ensures room { self.old.capacity ≤ self.new.capacity }
     {
         self.counts.reserve(1)?;
         Ok(())
@@ -82,7 +82,7 @@ impl Log {
     ) -> Result<(), Refusal>
         requires valid { IsValid app.now state.old }
         requires named { IsMoveOf app.now action }
-        requires room { length self.old.records < self.old.room }
+        requires room { length self.old.records < self.old.capacity }
         ensures lays { OnOk result
             (RecordsMove app.now state.old action state.new self.old.records self.new.records) }
         ensures no_task { IsErrOf result Refusal.NoTask
@@ -93,7 +93,7 @@ impl Log {
             (step app.now state.old action ≡ Err refusal) ⊎ (refusal ≡ Refusal.NoMemory)) }
         ensures err { OnErr result (self.new.records ≡ self.old.records) }
         ensures err_state { OnErr result (state.new ≡ state.old) }
-        ensures kept_room { self.new.room ≡ self.old.room }
+        ensures kept_capacity { self.new.capacity ≡ self.old.capacity }
     {
         let before = self.undo.len();
         play_on(alloc, state, &mut self.undo, app, action)?;
@@ -108,7 +108,7 @@ impl Log {
         ensures state { state.new ≡ undone state.old (last_record self.old.records) }
         ensures records { self.new.records
             ≡ take (length self.old.records - 1) self.old.records }
-        ensures room { self.new.room ≡ self.old.room }
+        ensures room { self.new.capacity ≡ self.old.capacity }
     {
         let count = self.counts.pop().unwrap();
         let before = self.undo.len() - count;
@@ -121,7 +121,7 @@ impl Log {
         ensures ok { OnOk result (self.new.records ≡ self.old.records ++ undo ∷ []) }
         ensures back { IfErr result (λ back. back ≡ undo) }
         ensures err { OnErr result (self.new.records ≡ self.old.records) }
-        ensures room { self.old.room ≤ self.new.room }
+        ensures room { self.old.capacity ≤ self.new.capacity }
     {
         if self.counts.reserve(1).is_err() {
             return Err(undo);

@@ -4,4 +4,4 @@ use Rattle.std.specs.Prelude.{ℕ, List}
 -- the tasks by number, front first, and how many of them there is room for
 pub record TaskList : Type 0 where
   pub tasks : List ℕ
-  pub room : ℕ
+  pub capacity : ℕ

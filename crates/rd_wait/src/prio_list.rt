@@ -15,7 +15,7 @@ use std::marker::Model;
 #[derive(Debug, Drop)]
 pub struct PrioList {
     tasks: Vec<usize>,
-    room: usize,
+    capacity: usize,
 }
 
 impl Model for PrioList {
@@ -24,28 +24,27 @@ impl Model for PrioList {
 
     ghost Value = { TaskList };
 
-    ghost view = { λ l. record { tasks = l.tasks.items; room = l.room } };
+    ghost view = { λ l. record { tasks = l.tasks.items; capacity = l.capacity } };
 
-    ghost invariant = { λ l. (vec_len l.tasks ≤ l.room) × (l.room ≤ vec_capacity l.tasks) };
+    ghost invariant = { λ l. (vec_len l.tasks ≤ l.capacity) × (l.capacity ≤ vec_capacity l.tasks) };
 }
 
 impl PrioList {
-    /// An empty list with room for `tasks` tasks.
-    pub fn new(alloc: Global, tasks: usize) -> Result<PrioList, AllocError>
-        ensures { IfOk result (λ list. list ≡ record { tasks = []; room = tasks }) }
+    /// An empty list with room for `capacity` tasks.
+    pub fn new(alloc: Global, capacity: usize) -> Result<PrioList, AllocError>
+        ensures { IfOk result (λ list. list ≡ record { tasks = []; capacity = capacity }) }
     {
-        let room = tasks;
-        let tasks = Vec::with_capacity(alloc, room)?;
-        Ok(PrioList { tasks, room })
+        let tasks = Vec::with_capacity(alloc, capacity)?;
+        Ok(PrioList { tasks, capacity })
     }
 
     /// An empty list with room for no task. It takes no memory.
-    pub fn without_room(alloc: Global) -> PrioList
-        ensures { result ≡ record { tasks = []; room = 0 } }
+    pub fn without_capacity(alloc: Global) -> PrioList
+        ensures { result ≡ record { tasks = []; capacity = 0 } }
     {
         PrioList {
             tasks: Vec::new(alloc),
-            room: 0,
+            capacity: 0,
         }
     }
 
@@ -53,11 +52,11 @@ impl PrioList {
     pub fn copy(&self, alloc: Global) -> Result<PrioList, AllocError>
         ensures { IfOk result (λ list. list ≡ self.now) }
     {
-        let mut tasks = Vec::with_capacity(alloc, self.room)?;
+        let mut tasks = Vec::with_capacity(alloc, self.capacity)?;
         tasks.extend_from_slice(self.tasks.as_slice())?;
         Ok(PrioList {
             tasks,
-            room: self.room,
+            capacity: self.capacity,
         })
     }
 
@@ -65,13 +64,13 @@ impl PrioList {
     pub fn same(&self, other: &PrioList) -> bool
         ensures { IsTrue result ↔ (self.now ≡ other.now) }
     {
-        self.room == other.room && self.tasks.as_slice() == other.tasks.as_slice()
+        self.capacity == other.capacity && self.tasks.as_slice() == other.tasks.as_slice()
     }
 
     /// The tasks, from the first to be served to the last.
     pub fn as_slice(&self) -> &[usize]
         ensures tasks { result.now ≡ self.now.tasks }
-        ensures room { length self.now.tasks ≤ self.now.room }
+        ensures room { length self.now.tasks ≤ self.now.capacity }
     {
         self.tasks.as_slice()
     }
@@ -92,7 +91,7 @@ impl PrioList {
     /// Puts `task` in at `index`. Those from there on move back by one.
     pub fn insert_at(&mut self, index: usize, task: usize)
         requires within { index ≤ length self.old.tasks }
-        requires room { length self.old.tasks < self.old.room }
+        requires room { length self.old.tasks < self.old.capacity }
         ensures { self.new ≡ record self.old { tasks = insert self.old.tasks index task } }
     {
         self.tasks.insert(index, task).unwrap();

@@ -12,7 +12,7 @@ overflow_cast-result c =
     omega (
       arith,
       c.first_handle-queue.ensures.queue,
-      c.set-2.ensures.sized.2,
+      c.queue_set-2.ensures.sized.2,
       ap (λ (t : Snapshot). length t.objects.queues) c.state-2.ensures.state,
       ap length c.requires.caller.valid.in_limits.objects.queues,
       length-map s.objects.queues shape_of,
@@ -27,7 +27,7 @@ overflow_add-result c =
     omega (
       arith,
       c.first_handle-queue.ensures.queue,
-      c.set-2.ensures.sized.2,
+      c.queue_set-2.ensures.sized.2,
       ap (λ (t : Snapshot). length t.objects.queues) c.state-2.ensures.state,
       ap length c.requires.caller.valid.in_limits.objects.queues,
       length-map s.objects.queues shape_of,

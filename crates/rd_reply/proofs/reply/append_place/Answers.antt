@@ -8,5 +8,5 @@ returns-in-Queue c =
     let all = appends_then (appends_then c.append.ensures c.append-in-Queue.ensures) c.append_name.ensures in
     appends_as all (search rules)
 
-pub returns-in-Set : goal.returns-in-Set
-returns-in-Set c = appends_as (appends_then c.append-in-Set.ensures c.append_name-in-Set.ensures) (search rules)
+pub returns-in-QueueSet : goal.returns-in-QueueSet
+returns-in-QueueSet c = appends_as (appends_then c.append-in-QueueSet.ensures c.append_name-in-QueueSet.ensures) (search rules)

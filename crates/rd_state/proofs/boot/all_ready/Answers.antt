@@ -16,5 +16,5 @@ loop-task-preserved c =
       joined = grind (arith, common_steps);
       count = rw c.insert_at.ensures (omega (arith, count, before.count));
       tasks = rw c.insert_at.ensures (All-insert among tasks index c.loop-task.task before.tasks (omega arith));
-      room = rw c.insert_at.ensures before.room;
+      capacity = rw c.insert_at.ensures before.capacity;
     }

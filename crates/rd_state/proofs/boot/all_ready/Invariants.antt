@@ -9,5 +9,5 @@ invariant-loop-task l = record {
   joined : l.ready.tasks ≡ all_joined l.priorities l.task;
   count : length l.ready.tasks ≡ l.task;
   tasks : All (λ task. task < length l.priorities) l.ready.tasks;
-  room : l.ready.room ≡ length l.priorities;
+  capacity : l.ready.capacity ≡ length l.priorities;
 }

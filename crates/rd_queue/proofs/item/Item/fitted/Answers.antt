@@ -1,32 +1,31 @@
--- The goals of `Item::fitted` that a search finds late.
-use Rattle.std.proofs.Common.{◌≡◌, ◌∙◌, ℕ, zero, suc, ◌+◌, ◌<◌, List, [], ◌∷◌, ◌++◌, ap, arith, get_or, length, refl, replicate, sym, take}
-use Rattle.std.proofs.lemmas.Grind.{common_steps}
-use Rattle.std.proofs.lemmas.List.{length-append, length-replicate, take_more}
+-- The goals of `Item::fitted` that the check left open.
+use Rattle.std.proofs.Common.{◌≡◌, ◌∙◌, ℕ, ◌+◌, ◌-◌, ◌≤◌, inl, inr, List, ◌++◌, length, take, replicate, append-nil, ap, ap₂, sym, arith}
+use Rattle.std.specs.Prelude.{min}
+use Rattle.std.proofs.Math.Seq.{take-append-add}
+use Rattle.std.proofs.lemmas.Bool.{cases_lt}
+use Rattle.std.proofs.lemmas.List.{take_all, take-append-le, take-replicate}
+use Rattle.rd_queue.specs.Queues.{fitted}
 use Rattle.rd_queue.proofs.item.Item.fitted.Goals as goal
 
--- Behind the bytes stand zeros, which is what a missing byte counts as.
-filled_up : (bytes : List ℕ) (size i : ℕ) → get_or (bytes ++ replicate size 0) i 0 ≡ get_or bytes i 0
-filled_up [] zero i = refl
-filled_up [] (suc size) zero = refl
-filled_up [] (suc size) (suc i) = filled_up [] size i
-filled_up (byte ∷ bytes) size zero = refl
-filled_up (byte ∷ bytes) size (suc i) = filled_up bytes size i
+-- The bytes that fit, and then as many zeros as are left, of so many.
+fitted_in_parts : (bytes : List ℕ) (size count zeros : ℕ) → count ≡ min (length bytes) size → size ≤ zeros
+    → take count bytes ++ take (size - count) (replicate zeros 0) ≡ fitted size bytes
+fitted_in_parts bytes size count zeros is fits = elim (cases_lt (length bytes) size) [
+  | inl short ↦
+      let all : count ≡ length bytes = omega (arith, is, short) in
+      let more : size ≡ length bytes + (size - count) = omega (arith, all, short) in
+      ap₂ (λ (xs ys : List ℕ). xs ++ ys) (take_all count bytes (omega (arith, all)))
+      (take-replicate (size - count) zeros 0 (omega (arith, fits)) ∙ sym (take-replicate (size - count) size 0 (omega arith)))
+      ∙ sym (ap (λ (n : ℕ). take n (bytes ++ replicate size 0)) more ∙ take-append-add bytes (replicate size 0) (size - count))
+  | inr long ↦
+      let all : count ≡ size = omega (arith, is, long) in
+      let none : size - count ≡ 0 = omega (arith, all) in
+      ap₂ (λ (n m : ℕ). take n bytes ++ take m (replicate zeros 0)) all none ∙ append-nil (take size bytes)
+      ∙ sym (take-append-le size bytes (replicate size 0) long)
+]
 
-one_more : (bytes : List ℕ) (size i x : ℕ) → i < size → x ≡ get_or bytes i 0
-    → take i (bytes ++ replicate size 0) ++ x ∷ [] ≡ take (i + 1) (bytes ++ replicate size 0)
-one_more bytes size i x within is =
-    let all = bytes ++ replicate size 0 in
-    ap (λ y. take i all ++ y ∷ []) (is ∙ sym (filled_up bytes size i))
-    ∙ sym (take_more all i 0 (omega (arith, within, length-append bytes (replicate size 0), length-replicate {A = ℕ} size 0)))
-
-pub loop-index-preserved : goal.loop-index-preserved
-loop-index-preserved c =
-    let bytes = c.args.bytes.now in
-    let i = c.loop-index.index in
-    let is : c.unwrap_or.result ≡ get_or bytes i 0 = grind (arith, common_steps) in
-    record {
-      count = omega (arith, c.push.ensures.len, c.loop-index.invariant.count);
-      bytes =
-          c.push.ensures.items ∙ ap (λ (done : List ℕ). done ++ c.unwrap_or.result ∷ []) c.loop-index.invariant.bytes
-          ∙ one_more bytes c.args.size i c.unwrap_or.result c.loop-index-test.true is;
-    }
+pub returns : goal.returns
+returns c =
+    let written = rw c.unwrap.ensures at c.try_extend_from_slice.ensures.ok in
+    written ∙ ap (λ (front : List ℕ). front ++ take (c.args.size - c.min-count.result) (replicate 64 0)) (c.item.view_is ∙ c.new-item.ensures)
+    ∙ fitted_in_parts c.args.bytes.now c.args.size c.min-count.result 64 c.min-count.ensures c.requires

@@ -8,13 +8,13 @@ pub invariant_of-self : goal.invariant_of-self
 invariant_of-self c =
     let kept = c.self.invariant in
     let list = c.self.inside.receiving in
-    let below : c.args.task < list.room = omega (arith, c.requires.task, ap (λ (q : QueueSnapshot). q.tasks) c.self.view_is) in
-    rw c.insert_at.ensures (assumption (All-insert (λ task. task < list.room) list.tasks c.args.index c.args.task kept.8 below, kept))
+    let below : c.args.task < list.capacity = omega (arith, c.requires.task, ap (λ (q : QueueSnapshot). q.task_count) c.self.view_is) in
+    rw c.insert_at.ensures (assumption (All-insert (λ task. task < list.capacity) list.tasks c.args.index c.args.task kept.5 below, kept))
 
 pub invariant_of-self-in-Sending : goal.invariant_of-self-in-Sending
 invariant_of-self-in-Sending c =
     let kept = c.self.invariant in
     let list = c.self.inside.sending in
-    let room = c.self.inside.receiving.room in
-    let below : c.args.task < room = omega (arith, c.requires.task, ap (λ (q : QueueSnapshot). q.tasks) c.self.view_is) in
-    rw c.insert_at-in-Sending.ensures (assumption (All-insert (λ task. task < room) list.tasks c.args.index c.args.task kept.9 below, kept))
+    let room = c.self.inside.receiving.capacity in
+    let below : c.args.task < room = omega (arith, c.requires.task, ap (λ (q : QueueSnapshot). q.task_count) c.self.view_is) in
+    rw c.insert_at-in-Sending.ensures (assumption (All-insert (λ task. task < room) list.tasks c.args.index c.args.task kept.6 below, kept))

@@ -7,11 +7,11 @@ pub invariant_of-self : goal.invariant_of-self
 invariant_of-self c =
     let kept = c.self.invariant in
     let list = c.self.inside.receiving in
-    rw c.remove_at.ensures.rest (assumption (All-remove (λ task. task < list.room) list.tasks c.args.index kept.8, kept))
+    rw c.remove_at.ensures.rest (assumption (All-remove (λ task. task < list.capacity) list.tasks c.args.index kept.5, kept))
 
 pub invariant_of-self-in-Sending : goal.invariant_of-self-in-Sending
 invariant_of-self-in-Sending c =
     let kept = c.self.invariant in
     let list = c.self.inside.sending in
     rw c.remove_at-in-Sending.ensures.rest
-    (assumption (All-remove (λ task. task < c.self.inside.receiving.room) list.tasks c.args.index kept.9, kept))
+    (assumption (All-remove (λ task. task < c.self.inside.receiving.capacity) list.tasks c.args.index kept.6, kept))

@@ -10,4 +10,4 @@ invariant_of-self c =
     let handles = c.self.inside.handles.items in
     let fewer : length (drop 1 handles) ≤ c.self.inside.capacity = omega (arith, length-drop 1 handles, kept.0) in
     rw (c.pop_front.ensures.rest, c.pop_front.ensures.capacity)
-    (assumption (fewer, All-drop (λ queue. queue < c.self.inside.queues) 1 handles kept.1, kept))
+    (assumption (fewer, All-drop (λ queue. queue < c.self.inside.queue_count) 1 handles kept.1, kept))

@@ -7,4 +7,4 @@ use Rattle.rd_text.proofs.names.Names.find.Goals as goal
 pub returns : goal.returns
 returns c =
     let test = bytes_eq c.args.name.now in
-    c.get_index_of.ensures.index ∙ sym (position-map test string_bytes c.self.inside.set.keys) ∙ ap (position test) c.self.view_is
+    c.get_index_of.ensures.index ∙ sym (position-map test string_bytes c.self.inside.ordered.keys) ∙ ap (position test) c.self.view_is

@@ -5,4 +5,4 @@ use Rattle.rd_text.proofs.names.Names.new.Given as goal
 
 -- the names so far, and those that are left
 abbrev pub invariant-loop-name : goal.invariant-loop-name
-invariant-loop-name l = map string_bytes l.set.keys ++ texts (drop l.name-index l.names) ≡ texts l.names
+invariant-loop-name l = map string_bytes l.ordered.keys ++ texts (drop l.name-index l.names) ≡ texts l.names

@@ -12,7 +12,7 @@ push_reserved-requires c =
       c.requires.room,
       length-cut c.self.inside.counts.items c.self.inside.undo,
       ap (λ (v : LogView). length v.records) c.self.view_is,
-      ap (λ (v : LogView). v.room) c.self.view_is,
+      ap (λ (v : LogView). v.capacity) c.self.view_is,
     )
 
 pub invariant_of-self-2 : goal.invariant_of-self-2

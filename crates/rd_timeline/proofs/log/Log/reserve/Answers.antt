@@ -15,7 +15,7 @@ returns-in_err-reserve-clause-enough c more =
       more,
       length-cut c.self.inside.counts.items c.self.inside.undo,
       ap (λ (v : LogView). length v.records) c.self.view_is,
-      ap (λ (v : LogView). v.room) c.self.view_is,
+      ap (λ (v : LogView). v.capacity) c.self.view_is,
     ))))
 
 pub returns-clause-ok : goal.returns-clause-ok

@@ -1,0 +1,20 @@
+//! Tests of the parts that cross crates: rings, items of queues, states at their limits, moves,
+//! records and the way back, over applications that are read from files.
+#![tactic(auto)]
+
+#[cfg(test)]
+mod asserts;
+#[cfg(test)]
+mod files;
+#[cfg(test)]
+mod items;
+#[cfg(test)]
+mod limits;
+#[cfg(test)]
+mod parts;
+#[cfg(test)]
+mod records;
+#[cfg(test)]
+mod rings;
+#[cfg(test)]
+mod runs;

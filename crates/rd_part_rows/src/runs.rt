@@ -1,0 +1,76 @@
+//! Whole runs: lists of requests, what they leave of the moves, and what a run moves next.
+
+ghost use Rattle.std.specs.Prelude.{◌≡◌};
+
+use crate::asserts::assert_same;
+use crate::files::read;
+use rd_app::app::App;
+use rd_calls::moves::Move;
+use rd_calls::policy::policy;
+use rd_timeline::runs::Request;
+use rd_timeline::timeline::Timeline;
+use std::process::Abort;
+use std::test::Fail;
+
+fn go() -> Request
+    ensures { result ≡ Request.Go Move.Tick }
+{
+    Request::Go { action: Move::Tick }
+}
+
+// With ample memory all that is asked is done; a way back that is too long and a move beyond the
+// limit do nothing.
+fn does_what_is_asked(rt: &impl Abort, timeline: &mut Timeline) {
+    let forwards = [go(), go(), go(), go()];
+    assert!(rt; timeline.run(&forwards).is_ok());
+    assert_eq!(rt; timeline.at(), 3, "the limit");
+    let there_and_back = [Request::Back { count: 2 }, Request::Back { count: 2 }, go()];
+    assert!(rt; timeline.run(&there_and_back).is_ok());
+    assert_same(rt, timeline.at(), 2);
+    assert_same(rt, timeline.left(), 0);
+    assert_same(rt, timeline.target().tick(), 2);
+    assert!(rt; timeline.answer(&Request::Back { count: 1 }).is_ok());
+    assert_same(rt, timeline.at(), 1);
+    assert_same(rt, timeline.left(), 1);
+    assert_same(rt, timeline.target().tick(), 1);
+}
+
+#[test]
+fn whole_runs(rt: HostRuntime) -> Result<(), Fail> {
+    let alloc = rt.alloc();
+    let mut timeline = Timeline::new(alloc, App::builtin(alloc)?, 3)?;
+    does_what_is_asked(&rt, &mut timeline);
+    timeline.close();
+    Ok(())
+}
+
+const ROUND_ROBIN: &str = concat!(
+    r#"{"profile":1,"cores":1,"#,
+    r#""tasks":[{"name":"t0","priority":1,"code":["jump 0"]},"#,
+    r#"{"name":"t1","priority":1,"code":["jump 0"]}]}"#,
+);
+
+// The core, a tick since the turn is after the last core, and the core again.
+fn goes_by_policy(rt: &impl Abort, timeline: &mut Timeline) {
+    for at in 1..=3 {
+        assert!(rt; timeline.app().cores() == 1);
+        let action = policy(timeline.target());
+        let is_tick = matches!(action, Move::Tick);
+        assert_same(rt, is_tick, at == 2);
+        let done = if is_tick {
+            timeline.go(Move::Tick)
+        } else {
+            timeline.go(Move::Core { core: 0 })
+        };
+        assert_same(rt, done, Ok(at));
+    }
+}
+
+#[test]
+fn round_robin_by_policy(rt: HostRuntime) -> Result<(), Fail> {
+    let alloc = rt.alloc();
+    let mut timeline = Timeline::new(alloc, read(alloc, ROUND_ROBIN)?, 10)?;
+    goes_by_policy(&rt, &mut timeline);
+    timeline.close();
+    Ok(())
+}

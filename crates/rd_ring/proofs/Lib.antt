@@ -1,0 +1,6 @@
+-- The files of lemmas of rd_ring.
+pub mod PlaceLaws
+pub mod MemoryLaws
+pub mod RingLaws
+pub mod UndoLaws
+pub mod Offered

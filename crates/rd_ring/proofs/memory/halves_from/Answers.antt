@@ -1,0 +1,10 @@
+-- The goals of `halves_from` that the check left open.
+use Rattle.std.proofs.Common.{◌≡◌, ◌+◌, ◌-◌, arith}
+use Rattle.rd_ring.proofs.MemoryLaws.{take-seen_from}
+use Rattle.rd_ring.proofs.memory.halves_from.Goals as goal
+
+pub returns : goal.returns
+returns c =
+    let first = c.min-first.result in
+    let size : c.args.place + first - c.args.place ≡ first = omega arith in
+    rw size (take-seen_from c.args.memory.now c.args.place c.args.count first c.requires.place c.requires.count c.min-first.ensures)

@@ -1,0 +1,37 @@
+-- The goals of `ByteRing::piece` that the check left open.
+use Rattle.std.proofs.Common.{◌≡◌, ◌∙◌, ℕ, ◌+◌, ◌-◌, ◌≤◌, length, take, drop, ap, subst, sym, arith}
+use Rattle.rd_ring.specs.Memory.{place_after}
+use Rattle.rd_ring.specs.RingView.{RingView}
+use Rattle.rd_ring.specs.Rings.{HasWholePieces}
+use Rattle.rd_ring.proofs.RingLaws.{length-bytes, piece_at}
+use Rattle.rd_ring.proofs.ring.ByteRing.piece.Goals as goal
+
+pub slice_bounds-result-end : goal.slice_bounds-result-end
+slice_bounds-result-end c =
+    let ring = c.self.inside in
+    let memory = ring.memory.items in
+    let kept = c.self.invariant in
+    let there : c.args.at + c.args.size ≤ ring.len =
+    omega (arith, c.requires.there, ap (λ (v : RingView). length v.bytes) c.self.view_is, length-bytes memory ring.start ring.len kept.0) in
+    let capacity : c.len.result ≡ length memory = omega arith in
+    let place : c.place_after-place.result ≡ place_after (length memory) ring.start c.args.at =
+    c.place_after-place.ensures.after ∙ ap (λ (n : ℕ). place_after n ring.start c.args.at) capacity in
+    let whole = subst (λ (v : RingView). HasWholePieces v c.args.size) (sym c.self.view_is) c.requires.whole in
+    let fits = (piece_at memory ring.start c.args.at c.args.size ring.len kept.1 there kept.0 whole c.requires.begins).0 in
+    omega (arith, fits, place, capacity)
+
+pub returns : goal.returns
+returns c =
+    let ring = c.self.inside in
+    let memory = ring.memory.items in
+    let kept = c.self.invariant in
+    let there : c.args.at + c.args.size ≤ ring.len =
+    omega (arith, c.requires.there, ap (λ (v : RingView). length v.bytes) c.self.view_is, length-bytes memory ring.start ring.len kept.0) in
+    let capacity : c.len.result ≡ length memory = omega arith in
+    let place : c.place_after-place.result ≡ place_after (length memory) ring.start c.args.at =
+    c.place_after-place.ensures.after ∙ ap (λ (n : ℕ). place_after n ring.start c.args.at) capacity in
+    let whole = subst (λ (v : RingView). HasWholePieces v c.args.size) (sym c.self.view_is) c.requires.whole in
+    let size : c.place_after-place.result + c.args.size - c.place_after-place.result ≡ c.args.size = omega arith in
+    rw (size, place, c.deref.ensures.value)
+    (subst (λ (v : RingView). take c.args.size (drop (place_after (length memory) ring.start c.args.at) memory) ≡ take c.args.size (drop c.args.at v.bytes))
+    c.self.view_is (piece_at memory ring.start c.args.at c.args.size ring.len kept.1 there kept.0 whole c.requires.begins).1)

@@ -1,0 +1,5 @@
+//! A ring of bytes.
+#![tactic(auto)]
+
+mod memory;
+pub mod ring;

@@ -1,2 +1,0 @@
--- The files of lemmas of rd_rows.
-pub mod RecordLaws

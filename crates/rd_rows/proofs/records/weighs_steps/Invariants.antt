@@ -1,6 +1,0 @@
--- What holds in each turn of weighs_steps's loop.
-use Rattle.rd_state.specs.Valid.{IsValid}
-use Rattle.rd_rows.proofs.records.weighs_steps.Given as goal
-
-abbrev pub invariant-loop-want : goal.invariant-loop-want
-invariant-loop-want g l = IsValid l.app l.state
