@@ -140,6 +140,12 @@ is_final (Local instr) = is_local_final instr
 is_final (Queue queue call) = false
 is_final (QueueSet queue_set call) = false
 
+-- the queue and the call, where the instruction is a call of a queue
+abbrev pub queue_call_of : Instr → Option (ℕ × QueueCall)
+queue_call_of (Local instr) = None
+queue_call_of (Queue queue call) = Some (queue, call)
+queue_call_of (QueueSet queue_set call) = None
+
 pub record IsScript (app : Application) (script : TaskScript) : Type 0 where
   pub priority : script.priority ≤ MAX_PRIORITY
   pub some : 0 < length script.code

@@ -1,6 +1,7 @@
 //! The instructions of a task's script.
 
 ghost use Rattle.std.specs.Prelude.{◌≡◌};
+ghost use Rattle.rd_app.specs.Application.{is_final, is_local_final, queue_call_of};
 
 use rd_bytes::bytes::Bytes;
 use rd_queue::end::End;
@@ -96,6 +97,46 @@ pub enum Instr {
         queue_set: usize,
         call: QueueSetCall,
     },
+}
+
+impl LocalInstr {
+    // Does the script never go on at the next instruction?
+    fn is_final(&self) -> bool
+        ensures { result ≡ is_local_final self.now }
+    {
+        match self {
+            LocalInstr::Jump { .. } | LocalInstr::End => true,
+            LocalInstr::Set { .. }
+            | LocalInstr::Add { .. }
+            | LocalInstr::Move { .. }
+            | LocalInstr::Data { .. }
+            | LocalInstr::Pack { .. }
+            | LocalInstr::Unpack { .. }
+            | LocalInstr::JumpZero { .. } => false,
+        }
+    }
+}
+
+impl Instr {
+    /// Whether the script never goes on at the next instruction, so that it may be the last.
+    pub fn is_final(&self) -> bool
+        ensures { result ≡ is_final self.now }
+    {
+        match self {
+            Instr::Local { instr } => instr.is_final(),
+            Instr::Queue { .. } | Instr::QueueSet { .. } => false,
+        }
+    }
+
+    /// The queue and the call, where this is a call of a queue.
+    pub fn queue_call(&self) -> Option<(usize, QueueCall)>
+        ensures { result ≡ queue_call_of self.now }
+    {
+        match self {
+            Instr::Queue { queue, call } => Some((*queue, *call)),
+            Instr::Local { .. } | Instr::QueueSet { .. } => None,
+        }
+    }
 }
 
 /// How many registers a task has, as a number.

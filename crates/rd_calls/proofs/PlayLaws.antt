@@ -51,7 +51,7 @@ goes_on app s s' move target cost begun made before changes is leads sized comes
       settled = leads.settled s' there;
     }
 
--- the same, seen by what the step answers
+-- the same, seen by what the move returns
 pub IsPlayed-from : {T E : Type 0} (r : Result T E) (app : Application) (s s' : Snapshot) (move : Move) (target : Snapshot) (cost : ℕ) (begun made : Edit)
     (before changes : List Change) → begun ≡ begun_at s before → Leads app s move target cost → IsSized s'
     → OnOk r (Reaches begun made target cost) → OnOk r (s' ≡ made.now) → OnOk r (GoesOn made changes)

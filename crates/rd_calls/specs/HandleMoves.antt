@@ -1,21 +1,13 @@
 -- The handles of queue sets, from move to move.
 use Rattle.std.specs.Prelude.{ℕ, ◌≡◌, List, Option, None, Some, Ok}
-use Rattle.rd_app.specs.declared.instr.Instr.{Instr}
-use Rattle.rd_app.specs.declared.instr.Instr.TheVariants.{Local, Queue, QueueSet}
 use Rattle.rd_app.specs.Application.{Application}
 use Rattle.rd_state.specs.Snapshot.{Snapshot, core_at}
-use Rattle.rd_queue_calls.specs.QueueSetLaws.{handles_after, handles_in, handles_selected}
+use Rattle.rd_queue_calls.specs.QueueSetLaws.{handles_in}
 use Rattle.rd_calls.specs.declared.moves.Move.{Move}
 use Rattle.rd_calls.specs.declared.moves.Move.TheVariants.{Core, Tick}
-use Rattle.rd_calls.specs.Step.{next_instr, step}
+use Rattle.rd_calls.specs.Step.{handles_performed, next_instr, step}
 
--- the handles after an instruction: a call of a queue adds one at the most, one of a set takes one
--- at the most, and a local instruction changes none
-abbrev pub handles_performed : Snapshot → Instr → List (List ℕ)
-handles_performed s (Local instr) = handles_in s
-handles_performed s (Queue queue call) = handles_after s queue call
-handles_performed s (QueueSet queue_set call) = handles_selected s queue_set call
-
+-- the handles after the instruction of a core's task
 abbrev pub handles_run : Application → Snapshot → Option ℕ → List (List ℕ)
 handles_run app s None = handles_in s
 handles_run app s (Some task) = handles_performed s (next_instr app s task)

@@ -1,10 +1,11 @@
 -- A move: one instruction of the task on a core, or a tick, and then scheduling.
 use Rattle.std.specs.Prelude.{ℕ, ◌≡◌, ◌+◌, ◌*◌, ◌%◌, ◌<◌, ◌≤◌, List, length, drop, position, nat_lt}
 use Rattle.std.specs.Prelude.{if◌then◌else◌, Option, None, Some, is_some, Result, Ok, Err}
+use Rattle.std.specs.Option.{option_map_or}
 use Rattle.rd_app.specs.declared.instr.Instr.{Instr}
 use Rattle.rd_app.specs.declared.instr.Instr.TheVariants.{Local, Queue, QueueSet}
 use Rattle.rd_app.specs.Application.{Application, IsQueueCall, IsQueueSetCall, instr_at}
-use Rattle.rd_app.specs.Application.{priorities_of}
+use Rattle.rd_app.specs.Application.{priorities_of, queue_call_of}
 use Rattle.rd_text.specs.declared.refusal.Refusal.{Refusal}
 use Rattle.rd_text.specs.declared.refusal.Refusal.TheVariants.{NoTask, TickLimit}
 use Rattle.rd_state.specs.declared.change.Change.{Change}
@@ -20,6 +21,7 @@ use Rattle.rd_kernel.specs.Outcomes.{concluded}
 use Rattle.rd_kernel.specs.Waking.{timed_out}
 use Rattle.rd_queue_calls.specs.QueueCalls.{dropped_by, queue_call_cost, queue_outcome}
 use Rattle.rd_queue_calls.specs.QueueSetCalls.{queue_set_outcome}
+use Rattle.rd_queue_calls.specs.QueueSetLaws.{handles_after, handles_in, handles_selected}
 use Rattle.rd_calls.specs.declared.moves.Move.{Move}
 use Rattle.rd_calls.specs.declared.moves.Move.TheVariants.{Core, Tick}
 
@@ -30,6 +32,13 @@ performed priorities s core task (Queue queue call) =
     concluded (queue_outcome priorities s task queue call) core task
 performed priorities s core task (QueueSet queue_set call) =
     concluded (queue_set_outcome priorities s task queue_set call) core task
+
+-- the handles of queue sets after an instruction: a call of a queue adds one at the most, one of a
+-- set takes one at the most, and any other changes none
+abbrev pub handles_performed : Snapshot → Instr → List (List ℕ)
+handles_performed s (Local instr) = handles_in s
+handles_performed s (Queue queue call) = handles_after s queue call
+handles_performed s (QueueSet queue_set call) = handles_selected s queue_set call
 
 -- the instruction that a task stands at
 abbrev pub next_instr : Application → Snapshot → ℕ → Instr
@@ -84,11 +93,10 @@ move_from turn (Some ahead) = Core (turn + ahead)
 abbrev pub policy_of : Snapshot → Move
 policy_of s = move_from s.turn (position is_some (drop s.turn s.cores))
 
--- the bytes of the items that an instruction drops, and those that a move does
+-- the bytes of the items that an instruction drops, which only a call of a queue does, and those
+-- that a move drops
 abbrev pub dropped_by_instr : Snapshot → Instr → ℕ
-dropped_by_instr s (Local instr) = 0
-dropped_by_instr s (Queue queue call) = dropped_by s queue call
-dropped_by_instr s (QueueSet queue_set call) = 0
+dropped_by_instr s instr = option_map_or (λ of. dropped_by s of.0 of.1) (queue_call_of instr) 0
 
 abbrev pub dropped_by_task : Application → Snapshot → Option ℕ → ℕ
 dropped_by_task app s None = 0

@@ -1,5 +1,6 @@
 //! The instructions that touch nothing but their own task.
-ghost use Rattle.std.specs.Prelude.{◌≡◌, ◌+◌, ◌<◌, ◌≤◌, length, slice_index, OnOk, OnErr};
+ghost use Rattle.std.specs.Prelude.{◌≡◌, ◌+◌, ◌%◌, ◌^◌, ◌<◌, ◌≤◌, if◌then◌else◌, length, nat_eq};
+ghost use Rattle.std.specs.Prelude.{slice_index, OnOk, OnErr};
 ghost use Rattle.std.specs.Int.{w32, from_le_bytes};
 ghost use Rattle.rd_bytes.specs.declared.bytes.TheConstants.{MAX_BYTES};
 ghost use Rattle.rd_app.specs.declared.app.TheConstants.{MAX_CODE};
@@ -8,12 +9,12 @@ ghost use Rattle.rd_state.specs.Edit.{Reaches, KeepsBase};
 ghost use Rattle.rd_state.specs.Snapshot.{task_at};
 ghost use Rattle.rd_kernel.specs.Costs.{data_cost};
 ghost use Rattle.rd_kernel.specs.Tasks.{register_at, with_register, with_bytes, advanced};
-ghost use Rattle.rd_kernel.specs.Tasks.{with_idle_core, with_phase};
+ghost use Rattle.rd_kernel.specs.Tasks.{with_idle_core, with_pc, with_phase};
 ghost use Rattle.rd_calls.specs.Local.{local_cost, local_step, NamesRegisters};
 
 use rd_app::instr::LocalInstr;
 use rd_bytes::no_memory::NoMemory;
-use rd_kernel::steps::{advance, set_bytes, set_pc, set_phase, set_register};
+use rd_kernel::changes::{advance, set_bytes, set_pc, set_phase, set_register};
 use rd_state::change::Change;
 use rd_state::editing::Editing;
 use rd_state::phase::Phase;
@@ -51,6 +52,46 @@ fn assign_register(
 {
     set_register(editing, task, register, value)?;
     advance(editing, task)
+}
+
+// A register grows by a value, modulo 2^32, and the script goes on.
+fn add_to_register(
+    editing: &mut Editing,
+    task: usize,
+    register: usize,
+    value: u32,
+) -> Result<(), NoMemory>
+    requires task { task < length editing.old.now.tasks }
+    requires register { register < REGISTERS }
+    requires pc { (task_at editing.old.now task).pc < MAX_CODE }
+    ensures ok { OnOk result (Reaches editing.old editing.new
+        (advanced (with_register editing.old.now task register
+        ((register_at editing.old.now task register + value) % 2 ^ 32)) task) 2) }
+    ensures err { OnErr result (KeepsBase editing.old editing.new) }
+{
+    let sum = register_at(editing, task, register).wrapping_add(value);
+    assign_register(editing, task, register, sum)
+}
+
+// The script goes on at the target if the register is 0, and else at the next instruction.
+fn jump_if_zero(
+    editing: &mut Editing,
+    task: usize,
+    register: usize,
+    target: usize,
+) -> Result<(), NoMemory>
+    requires task { task < length editing.old.now.tasks }
+    requires register { register < REGISTERS }
+    requires pc { (task_at editing.old.now task).pc < MAX_CODE }
+    ensures ok { OnOk result (Reaches editing.old editing.new
+        (with_pc editing.old.now task
+        (if nat_eq (register_at editing.old.now task register) 0 then target
+        else (task_at editing.old.now task).pc + 1)) 1) }
+    ensures err { OnErr result (KeepsBase editing.old editing.new) }
+{
+    let next = editing.state().task(task).pc() + 1;
+    let is_zero = register_at(editing, task, register) == 0;
+    set_pc(editing, task, if is_zero { target } else { next })
 }
 
 // The data becomes these bytes, and the script goes on.
@@ -102,10 +143,7 @@ pub fn do_local(
 {
     match instr {
         LocalInstr::Set { register, value } => assign_register(editing, task, *register, *value),
-        LocalInstr::Add { register, value } => {
-            let sum = register_at(editing, task, *register).wrapping_add(*value);
-            assign_register(editing, task, *register, sum)
-        }
+        LocalInstr::Add { register, value } => add_to_register(editing, task, *register, *value),
         LocalInstr::Move { into, from } => {
             let value = register_at(editing, task, *from);
             assign_register(editing, task, *into, value)
@@ -121,9 +159,7 @@ pub fn do_local(
         }
         LocalInstr::Jump { target } => set_pc(editing, task, *target),
         LocalInstr::JumpZero { register, target } => {
-            let next = editing.state().task(task).pc() + 1;
-            let is_zero = register_at(editing, task, *register) == 0;
-            set_pc(editing, task, if is_zero { *target } else { next })
+            jump_if_zero(editing, task, *register, *target)
         }
         LocalInstr::End => end_task(editing, core, task),
     }

@@ -128,7 +128,7 @@ pub fn play_on(
     }
 }
 
-/// Makes a move and answers its record, which undoes it exactly. A refusal leaves the state as it
+/// Makes a move and returns its record, which undoes it exactly. A refusal leaves the state as it
 /// was: `NoTask` where the core is idle, `TickLimit` where the tick is 4,294,967,295, `NoMemory`
 /// where a growth was refused. There is no other.
 pub fn play(alloc: Global, state: &mut State, app: &App, action: Move) -> Result<Undo, Refusal>

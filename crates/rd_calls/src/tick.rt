@@ -7,7 +7,7 @@ ghost use Rattle.rd_calls.specs.Step.{ticked, tick_step, last_tick};
 
 use rd_app::app::App;
 use rd_bytes::no_memory::NoMemory;
-use rd_kernel::steps::set_turn;
+use rd_kernel::changes::set_turn;
 use rd_kernel::waking::wake_if_due;
 use rd_state::change::Change;
 use rd_state::editing::Editing;

@@ -51,7 +51,7 @@ is_task_on_core app s core task valid there e =
 pub runs_on_core : (app : Application) (s : Snapshot) (core task : ℕ) → IsValid app s → core < length s.cores → core_at s core ≡ Some task
     → 1 ≤ seats_to_run (task_at s task).phase
 runs_on_core app s core task valid there e =
-    omega (arith, valid.placed_once task (is_task_on_core app s core task valid there e), times_on_cores-some s core task there e)
+    omega (arith, valid.seated_once task (is_task_on_core app s core task valid there e), times_on_cores-some s core task there e)
 
 -- at an instruction that is no call with a block time a task doesn't try again
 pub runs_outside_calls : (phase : Phase) (instr : Instr) → 1 ≤ seats_to_run phase → place_of_call instr ≡ None → PhaseFitsCall phase instr → phase ≡ Run
@@ -167,9 +167,9 @@ IsConsistent-stopped app D s core task phase there runs has_core e idle nowhere 
           task_or_other s p task now (IsConsistentTask app D) there refl
           (record { pc = was.pc; entry_count = was.entry_count; call = call; deadline = asked; entries = was.entries }) (λ t differs h. at.each t h);
       shapes = at.shapes;
-      placed_once = task_or_other s p task now (λ t x. times_in_list t s.ready + times_on_cores t (set s.cores core None) ≡ seats_to_run x.phase) there refl
-          (omega (arith, times_off_core task, same_one task, at.placed_once task there, one, idle))
-          (λ t differs h. omega (arith, times_off_core t, other_none t task differs, at.placed_once t h));
+      seated_once = task_or_other s p task now (λ t x. times_in_list t s.ready + times_on_cores t (set s.cores core None) ≡ seats_to_run x.phase) there refl
+          (omega (arith, times_off_core task, same_one task, at.seated_once task there, one, idle))
+          (λ t differs h. omega (arith, times_off_core t, other_none t task differs, at.seated_once t h));
       waiting_lists = record {
         ready = at.waiting_lists.ready;
         waiting =
@@ -199,7 +199,7 @@ IsConsistent-waiting app D s core task place deadline there runs has_core e has_
       there = there;
       consistent = record { pc = was.pc; entry_count = was.entry_count; call = call; deadline = asked; entries = was.entries };
       same_cores = length-set s.cores core None;
-      seats = omega (arith, times_off_core task, same_one task, at.placed_once task there, one);
+      seats = omega (arith, times_off_core task, same_one task, at.seated_once task there, one);
       others_seats = λ t differs. omega (arith, times_off_core t, other_none t task differs);
       ready_order = at.waiting_lists.ready;
       has_place = has_place;
@@ -279,7 +279,7 @@ IsConsistent-done app s p core task waiting done =
     IsConsistent-passed app s.tick p (woken_first (priorities_of app) p waiting) task 1 done.there done.runs done.within done.consistent.tasks
     (AfterWaking-woken_first app (all_have_time_left s.tick) p waiting task done.waiters (λ t deadline. tt) done.runs done.consistent)
 
--- A call that changes nothing but its caller's answer.
+-- A call that changes nothing but what its caller is given.
 pub IsConsistent-returned_alone : (app : Application) (s : Snapshot) (core task value : ℕ) (instr : Instr) → RunsInstr app s core task instr
     → IsConsistent app (all_have_time_left s.tick) (concluded (call_returns s value) core task)
 IsConsistent-returned_alone app s core task value instr calls =
@@ -337,8 +337,8 @@ seats_to_run-at_most_one phase = elim (can_run phase) as (λ b. cond b 1 0 ≤ 1
 pub room_in_ready : (app : Application) (D : ℕ → Phase → Type 0) (s : Snapshot) (task : ℕ) → IsConsistent app D s → IsSized s → task < length s.tasks
     → seats_to_run (task_at s task).phase ≡ 0 → length s.ready < length s.tasks
 room_in_ready app D s task at sized there idle =
-    room_for s.ready (length s.tasks) task sized.scheduling.ready (λ t h. omega (arith, at.placed_once t h, seats_to_run-at_most_one (task_at s t).phase)) there
-    (omega (arith, at.placed_once task there, idle))
+    room_for s.ready (length s.tasks) task sized.scheduling.ready (λ t h. omega (arith, at.seated_once t h, seats_to_run-at_most_one (task_at s t).phase)) there
+    (omega (arith, at.seated_once task there, idle))
 
 -- Who waits somewhere can't run, and so who is due.
 pub waits_idle : (place : Place) (phase : Phase) → 1 ≤ times_waiting_at place phase → seats_to_run phase ≡ 0

@@ -11,17 +11,18 @@ use Rattle.rd_queue.specs.declared.waiting_list.WaitingList.TheVariants.{Receivi
 use Rattle.rd_queue.specs.QueueSnapshot.{QueueSnapshot}
 use Rattle.rd_queue.specs.QueueSetSnapshot.{QueueSetSnapshot}
 use Rattle.rd_queue.specs.QueueSets.{with_waiting_tasks}
-use Rattle.rd_queue.specs.Queues.{tasks_in_list, with_items, with_waiting}
+use Rattle.rd_queue.specs.Queues.{tasks_in_list, with_waiting}
 use Rattle.rd_state.specs.declared.phase.Phase.{Phase}
 use Rattle.rd_state.specs.declared.phase.Place.{Place}
 use Rattle.rd_state.specs.declared.phase.Place.TheVariants.{Queue, QueueSet}
 use Rattle.rd_app.specs.Application.{Application, code_of, instr_at, priorities_of}
+use Rattle.rd_app.specs.declared.objects.QueueShape.{QueueShape}
 use Rattle.rd_wait.specs.Joined.{IsInOrder}
 use Rattle.rd_state.specs.Settled.{seating_of}
 use Rattle.rd_state.specs.Sizes.{IsSized}
-use Rattle.rd_state.specs.Snapshot.{Snapshot, TaskSnapshot, no_task, task_at, queue_at, queue_set_at, with_task, with_queue, with_queue_set}
-use Rattle.rd_state.specs.Objects.{ObjectsSnapshot, no_queue, no_queue_set, numbers_in, AreShaped, capacity_of, shape_of}
-use Rattle.rd_state.specs.Valid.{IsNotWaiting, IsValid, ListsInOrder, PlacedOnce, PhaseFitsCall, HasTimeLeft, WaitsAtPlaces}
+use Rattle.rd_state.specs.Snapshot.{Snapshot, TaskSnapshot, no_task, task_at, with_objects, with_task}
+use Rattle.rd_state.specs.Objects.{ObjectsSnapshot, no_queue, no_queue_set, numbers_in, AreShaped, capacity_of, shape_of, shapes_in}
+use Rattle.rd_state.specs.Valid.{IsNotWaiting, IsValid, ListsInOrder, SeatedOnce, PhaseFitsCall, HasTimeLeft, WaitsAtPlaces}
 use Rattle.rd_state.specs.Valid.{seats_to_run, times_in_list, times_on_cores, times_waiting_at}
 use Rattle.rd_state.specs.Waiting.{HasPlace, IsPlace, list_number, objects_then, place_kind, place_list, place_number, same_place, waiting_at}
 use Rattle.rd_state.specs.Waiting.{waiting_in}
@@ -41,7 +42,7 @@ pub record IsConsistent (app : Application) (D : ℕ → Phase → Type 0) (s : 
   pub tasks : length s.tasks ≡ length app.tasks.things
   pub each : (task : ℕ) → task < length s.tasks → IsConsistentTask app D task (task_at s task)
   pub shapes : AreShaped app s.objects
-  pub placed_once : PlacedOnce s
+  pub seated_once : SeatedOnce s
   pub waiting_lists : ListsInOrder (priorities_of app) s
   pub places : WaitsAtPlaces s
 
@@ -61,7 +62,7 @@ IsConsistent-valid app s valid = record {
     entries = All-get_or (λ (t : TaskSnapshot). All IsNotWaiting t.entries) s.tasks task no_task h valid.entries;
   };
   shapes = valid.in_limits.objects;
-  placed_once = valid.placed_once;
+  seated_once = valid.seated_once;
   waiting_lists = valid.waiting_lists;
   places = valid.places;
 }
@@ -76,7 +77,7 @@ IsValid-consistent app s at sized = record {
     entries = All-from_get_or (λ (t : TaskSnapshot). length t.entries ≡ app.entries) s.tasks no_task (λ task h. (at.each task h).entry_count);
     objects = at.shapes;
   };
-  placed_once = at.placed_once;
+  seated_once = at.seated_once;
   waiting_lists = at.waiting_lists;
   places = at.places;
   calls = λ task h. (at.each task h).call;
@@ -95,7 +96,7 @@ IsConsistent-deadlines app D E s gives at = record {
       λ task h. let was = at.each task h in
       record { pc = was.pc; entry_count = was.entry_count; call = was.call; deadline = gives task h was.deadline; entries = was.entries };
   shapes = at.shapes;
-  placed_once = at.placed_once;
+  seated_once = at.seated_once;
   waiting_lists = at.waiting_lists;
   places = at.places;
 }
@@ -114,7 +115,7 @@ read_changed f xs number other now d there = elim (cases_eq other number) [
 ]
 
 -- of what the change left as it was
-read_kept : {A X : Type 0} (f : X → A) (xs : List X) (number other : ℕ) (now d : X) → number < length xs → f now ≡ f (get_or xs number d)
+pub read_kept : {A X : Type 0} (f : X → A) (xs : List X) (number other : ℕ) (now d : X) → number < length xs → f now ≡ f (get_or xs number d)
     → f (get_or (set xs number now) other d) ≡ f (get_or xs other d)
 read_kept f xs number other now d there kept = elim (cases_eq other number) [
   | inl e ↦
@@ -123,7 +124,7 @@ read_kept f xs number other now d there kept = elim (cases_eq other number) [
 ]
 
 -- of all members
-map_kept : {A X : Type 0} (f : X → A) (xs : List X) (number : ℕ) (now d : X) → f now ≡ f (get_or xs number d) → map f (set xs number now) ≡ map f xs
+pub map_kept : {A X : Type 0} (f : X → A) (xs : List X) (number : ℕ) (now d : X) → f now ≡ f (get_or xs number d) → map f (set xs number now) ≡ map f xs
 map_kept f [] number now d kept = refl
 map_kept f (x ∷ xs) zero now d kept = ap (λ y. y ∷ map f xs) kept
 map_kept f (x ∷ xs) (suc number) now d kept = ap (λ rest. f x ∷ rest) (map_kept f xs number now d kept)
@@ -163,50 +164,15 @@ waiting_then o place other tasks there = refl
 -- Objects that have changed in something else than their shapes and who waits where.
 pub record ContentsChange (o n : ObjectsSnapshot) : Type 0 where
   pub waiting : (place : Place) → waiting_in n place ≡ waiting_in o place
-  pub shapes : (app : Application) → AreShaped app o → AreShaped app n
-
--- A queue that has changed in something else has the same tasks in its lists.
-pub record IsSameWaiting (now was : QueueSnapshot) : Type 0 where
-  pub receiving : now.receiving ≡ was.receiving
-  pub sending : now.sending ≡ was.sending
-
-pub waiting_at-with_queue : (s : Snapshot) (queue : ℕ) (now : QueueSnapshot) (place : Place) → queue < length s.objects.queues
-    → IsSameWaiting now (queue_at s queue) → waiting_at (with_queue s queue now) place ≡ waiting_at s place
-waiting_at-with_queue s queue now (Queue other Receiving) there kept =
-    read_kept (λ (q : QueueSnapshot). q.receiving) s.objects.queues queue other now no_queue there kept.receiving
-waiting_at-with_queue s queue now (Queue other Sending) there kept =
-    read_kept (λ (q : QueueSnapshot). q.sending) s.objects.queues queue other now no_queue there kept.sending
-waiting_at-with_queue s queue now place there kept = refl
-
-pub ContentsChange-queue : (s : Snapshot) (queue : ℕ) (now : QueueSnapshot) → queue < length s.objects.queues
-    → shape_of now ≡ shape_of (queue_at s queue) → IsSameWaiting now (queue_at s queue) → ContentsChange s.objects (with_queue s queue now).objects
-ContentsChange-queue s queue now there shape kept = record {
-  waiting = λ place. waiting_at-with_queue s queue now place there kept;
-  shapes = λ app was. record { queues = map_kept shape_of s.objects.queues queue now no_queue shape ∙ was.queues; queue_sets = was.queue_sets };
-}
-
-pub waiting_at-with_queue_set : (s : Snapshot) (queue_set : ℕ) (now : QueueSetSnapshot) (place : Place) → queue_set < length s.objects.queue_sets
-    → now.waiting ≡ (queue_set_at s queue_set).waiting → waiting_at (with_queue_set s queue_set now) place ≡ waiting_at s place
-waiting_at-with_queue_set s queue_set now (QueueSet other) there kept = read_kept (λ (q : QueueSetSnapshot). q.waiting) s.objects.queue_sets queue_set other now no_queue_set there kept
-waiting_at-with_queue_set s queue_set now place there kept = refl
-
-pub ContentsChange-queue_set : (s : Snapshot) (queue_set : ℕ) (now : QueueSetSnapshot) → queue_set < length s.objects.queue_sets
-    → capacity_of now ≡ capacity_of (queue_set_at s queue_set) → now.waiting ≡ (queue_set_at s queue_set).waiting → ContentsChange s.objects (with_queue_set s queue_set now).objects
-ContentsChange-queue_set s queue_set now there room kept = record {
-  waiting = λ place. waiting_at-with_queue_set s queue_set now place there kept;
-  shapes = λ app was. record { queues = was.queues; queue_sets = map_kept capacity_of s.objects.queue_sets queue_set now no_queue_set room ∙ was.queue_sets };
-}
+  pub shapes : shapes_in n ≡ shapes_in o
 
 -- Who waits where is none of an object's shape.
-shapes_then : (app : Application) (o : ObjectsSnapshot) (place : Place) (tasks : List ℕ) → AreShaped app o → AreShaped app (objects_then o place tasks)
-shapes_then app o (Queue queue list) tasks was = record {
-  queues = map_kept shape_of o.queues queue (with_waiting list tasks (get_or o.queues queue no_queue)) no_queue refl ∙ was.queues;
-  queue_sets = was.queue_sets;
-}
-shapes_then app o (QueueSet queue_set) tasks was = record {
-  queues = was.queues;
-  queue_sets = map_kept capacity_of o.queue_sets queue_set (with_waiting_tasks (get_or o.queue_sets queue_set no_queue_set) tasks) no_queue_set refl ∙ was.queue_sets;
-}
+shapes_then : (o : ObjectsSnapshot) (place : Place) (tasks : List ℕ) → shapes_in (objects_then o place tasks) ≡ shapes_in o
+shapes_then o (Queue queue list) tasks =
+    ap (λ (qs : List QueueShape). record (shapes_in o) { queues = qs }) (map_kept shape_of o.queues queue (with_waiting list tasks (get_or o.queues queue no_queue)) no_queue refl)
+shapes_then o (QueueSet queue_set) tasks =
+    ap (λ (rooms : List ℕ). record (shapes_in o) { queue_sets = rooms })
+    (map_kept capacity_of o.queue_sets queue_set (with_waiting_tasks (get_or o.queue_sets queue_set no_queue_set) tasks) no_queue_set refl)
 
 -- A place where somebody waits is there.
 pub place_there : (s : Snapshot) (place : Place) (task : ℕ) → 1 ≤ times_in_list task (waiting_at s place) → HasPlace s place
@@ -292,9 +258,9 @@ IsConsistent-task_replaced app D s task x there consistent runs waits at =
       tasks = length-set s.tasks task x ∙ at.tasks;
       each = task_or_other s p task x (IsConsistentTask app D) there refl consistent (λ t differs h. at.each t h);
       shapes = at.shapes;
-      placed_once =
+      seated_once =
           task_or_other s p task x (λ t y. times_in_list t s.ready + times_on_cores t s.cores ≡ seats_to_run y.phase) there refl
-          (at.placed_once task there ∙ sym runs) (λ t differs h. at.placed_once t h);
+          (at.seated_once task there ∙ sym runs) (λ t differs h. at.seated_once t h);
       waiting_lists = record { ready = at.waiting_lists.ready; waiting = at.waiting_lists.waiting };
       places = λ place. task_or_other s p task x (λ t y. times_in_list t (waiting_at s place) ≡ times_waiting_at place y.phase) there refl
           (at.places place task there ∙ sym (waits place)) (λ t differs h. at.places place t h);
@@ -302,37 +268,19 @@ IsConsistent-task_replaced app D s task x there consistent runs waits at =
 
 -- Objects change in something else than their shapes and who waits where.
 pub IsConsistent-contents : (app : Application) (D : ℕ → Phase → Type 0) (s : Snapshot) (n : ObjectsSnapshot) → ContentsChange s.objects n
-    → IsConsistent app D s → IsConsistent app D (record s { objects = n })
+    → IsConsistent app D s → IsConsistent app D (with_objects s n)
 IsConsistent-contents app D s n change at = record {
   cores = at.cores;
   tasks = at.tasks;
   each = at.each;
-  shapes = change.shapes app at.shapes;
-  placed_once = at.placed_once;
+  shapes = change.shapes ∙ at.shapes;
+  seated_once = at.seated_once;
   waiting_lists = record {
     ready = at.waiting_lists.ready;
     waiting = λ place. subst (IsInOrder (priorities_of app)) (sym (change.waiting place)) (at.waiting_lists.waiting place);
   };
   places = λ place t h. ap (times_in_list t) (change.waiting place) ∙ at.places place t h;
 }
-
--- A queue, a set.
-pub IsConsistent-queue_replaced : (app : Application) (D : ℕ → Phase → Type 0) (s : Snapshot) (queue : ℕ) (now : QueueSnapshot)
-    → queue < length s.objects.queues → shape_of now ≡ shape_of (queue_at s queue) → IsSameWaiting now (queue_at s queue)
-    → IsConsistent app D s → IsConsistent app D (with_queue s queue now)
-IsConsistent-queue_replaced app D s queue now there shape kept =
-    IsConsistent-contents app D s (with_queue s queue now).objects (ContentsChange-queue s queue now there shape kept)
-
-pub IsConsistent-items : (app : Application) (D : ℕ → Phase → Type 0) (s : Snapshot) (queue : ℕ) (items : List (List ℕ)) → queue < length s.objects.queues
-    → IsConsistent app D s → IsConsistent app D (with_queue s queue (with_items (queue_at s queue) items))
-IsConsistent-items app D s queue items there =
-    IsConsistent-queue_replaced app D s queue (with_items (queue_at s queue) items) there refl (record { receiving = refl; sending = refl })
-
-pub IsConsistent-queue_set_replaced : (app : Application) (D : ℕ → Phase → Type 0) (s : Snapshot) (queue_set : ℕ) (now : QueueSetSnapshot) → queue_set < length s.objects.queue_sets
-    → capacity_of now ≡ capacity_of (queue_set_at s queue_set) → now.waiting ≡ (queue_set_at s queue_set).waiting
-    → IsConsistent app D s → IsConsistent app D (with_queue_set s queue_set now)
-IsConsistent-queue_set_replaced app D s queue_set now there room kept =
-    IsConsistent-contents app D s (with_queue_set s queue_set now).objects (ContentsChange-queue_set s queue_set now there room kept)
 
 -- Who is seated changes as scheduling changes it.
 pub IsConsistent-seats : (app : Application) (D : ℕ → Phase → Type 0) (s z : Snapshot) → SeatsKept (priorities_of app) (seating_of s) (seating_of z)
@@ -345,7 +293,7 @@ IsConsistent-seats app D s z kept tasks objects at =
       tasks = ap length tasks ∙ at.tasks;
       each = λ t h. subst (IsConsistentTask app D t) (sym (is t)) (at.each t (in_s t h));
       shapes = subst (AreShaped app) (sym objects) at.shapes;
-      placed_once = λ t h. kept.seats t ∙ at.placed_once t (in_s t h) ∙ ap (λ (x : TaskSnapshot). seats_to_run x.phase) (sym (is t));
+      seated_once = λ t h. kept.seats t ∙ at.seated_once t (in_s t h) ∙ ap (λ (x : TaskSnapshot). seats_to_run x.phase) (sym (is t));
       waiting_lists = record {
         ready = kept.order at.waiting_lists.ready;
         waiting = λ place. subst (λ o. IsInOrder (priorities_of app) (waiting_in o place)) (sym objects) (at.waiting_lists.waiting place);
@@ -399,9 +347,9 @@ IsConsistent-moved app D s task x place cores ready waiting goes at =
       cores = goes.same_cores ∙ at.cores;
       tasks = length-set s.tasks task x ∙ at.tasks;
       each = task_or_other s p task x (IsConsistentTask app D) goes.there refl goes.consistent (λ t differs h. at.each t h);
-      shapes = shapes_then app s.objects place waiting at.shapes;
-      placed_once = task_or_other s p task x (λ t y. times_in_list t ready + times_on_cores t cores ≡ seats_to_run y.phase) goes.there refl goes.seats
-          (λ t differs h. goes.others_seats t differs ∙ at.placed_once t h);
+      shapes = shapes_then s.objects place waiting ∙ at.shapes;
+      seated_once = task_or_other s p task x (λ t y. times_in_list t ready + times_on_cores t cores ≡ seats_to_run y.phase) goes.there refl goes.seats
+          (λ t differs h. goes.others_seats t differs ∙ at.seated_once t h);
       waiting_lists = record {
         ready = goes.ready_order;
         waiting = λ other. subst (IsInOrder (priorities_of app)) (sym (is_list other))

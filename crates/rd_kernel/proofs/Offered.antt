@@ -1,7 +1,6 @@
 -- The laws of rd_kernel that crates above stand on. No other of its proofs is used there.
-pub use Rattle.rd_kernel.proofs.ConsistentLaws.{IsConsistent, IsConsistent-deadlines, IsConsistent-items, IsConsistent-queue_replaced}
-pub use Rattle.rd_kernel.proofs.ConsistentLaws.{IsConsistent-seats, IsConsistent-queue_set_replaced, IsConsistent-valid, IsSameWaiting, IsValid-consistent}
-pub use Rattle.rd_kernel.proofs.ConsistentLaws.{all_have_time_left, place_there, task_now, waiting_at-with_queue, waiting_at-with_queue_set}
+pub use Rattle.rd_kernel.proofs.ConsistentLaws.{ContentsChange, IsConsistent, IsConsistent-contents, IsConsistent-deadlines, IsConsistent-seats}
+pub use Rattle.rd_kernel.proofs.ConsistentLaws.{IsConsistent-valid, IsValid-consistent, all_have_time_left, map_kept, place_there, read_kept, task_now}
 pub use Rattle.rd_kernel.proofs.WakingLaws.{TimedOut, TimedOut-so_far, first_tries_wait, have_time_left_below}
 pub use Rattle.rd_kernel.proofs.CallLaws.{IsConsistent-advanced, IsConsistent-returned_alone, IsConsistent-done, IsConsistent-failed}
 pub use Rattle.rd_kernel.proofs.CallLaws.{IsConsistent-or_blocked, IsConsistent-returned, IsConsistent-stopped, IsConsistent-with_pc}

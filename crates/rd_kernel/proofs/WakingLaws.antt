@@ -166,7 +166,7 @@ TaskMoves-again app D s task place deadline f there waits some asked at =
     let other : (t : ℕ) → t ≢ task → one_if (nat_eq t task) ≡ 0 =
     λ t differs. let e : nat_eq t task ≡ false = grind (arith, nat_tests, differs) in ap one_if e in
     let once : times_in_list task list ≤ 1 = omega (arith, at.places place task there, times_waiting_at-at_most_one place (task_at s task).phase) in
-    let idle : times_in_list task s.ready + times_on_cores task s.cores ≡ 0 = at.placed_once task there ∙ waiter_is_idle (task_at s task).phase place waits in
+    let idle : times_in_list task s.ready + times_on_cores task s.cores ≡ 0 = at.seated_once task there ∙ waiter_is_idle (task_at s task).phase place waits in
     let call : place_of_call instr ≡ Some place = subst (λ o. FitsCall instr o (tries_again (task_at s task).phase)) waits was.call in
     record {
       there = there;

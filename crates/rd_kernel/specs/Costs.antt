@@ -1,4 +1,4 @@
--- What steps take in a record at the most: changes, and the bytes that they carry.
+-- What moves take in a record at the most: changes, and the bytes that they carry.
 use Rattle.std.specs.Prelude.{ℕ, ◌+◌}
 use Rattle.rd_bytes.specs.declared.bytes.TheConstants.{MAX_BYTES}
 use Rattle.rd_queue.specs.declared.item.TheConstants.{MAX_ITEM_SIZE}
@@ -15,6 +15,6 @@ item_cost = 1 + MAX_ITEM_SIZE
 abbrev pub waking_cost : ℕ
 waking_cost = 3
 
--- what becomes of a caller: its answer, its phase and its next instruction
+-- what becomes of a caller: its value, its phase and its next instruction
 abbrev pub ending_cost : ℕ
 ending_cost = 3

@@ -58,7 +58,7 @@ blocked priorities s task place wait =
 abbrev pub passed : List ℕ → Snapshot → Place → Called
 passed priorities s place = call_passes (woken_first priorities s place)
 
--- the caller after its call: the answer stands in r0 and the script goes on
+-- the caller after its call: the value stands in r0 and the script goes on
 abbrev pub returned : Snapshot → ℕ → ℕ → Snapshot
 returned s task value =
     with_pc (with_phase (with_register s task 0 value) task Run) task ((task_at s task).pc + 1)

@@ -8,8 +8,8 @@ ghost use Rattle.rd_state.specs.Snapshot.{numbers_of, task_at};
 ghost use Rattle.rd_kernel.specs.Costs.{ending_cost};
 ghost use Rattle.rd_kernel.specs.Outcomes.{IsSizedOutcome, concluded, stopped};
 
+use crate::changes::{return_from, set_phase};
 use crate::outcome::Outcome;
-use crate::steps::{return_from, set_phase};
 use rd_bytes::no_memory::NoMemory;
 use rd_state::change::Change;
 use rd_state::editing::Editing;

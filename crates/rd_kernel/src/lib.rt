@@ -2,7 +2,7 @@
 #![tactic(auto)]
 
 pub mod calling;
+pub mod changes;
 pub mod conclude;
 pub mod outcome;
-pub mod steps;
 pub mod waking;

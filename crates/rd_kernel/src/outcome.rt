@@ -5,7 +5,7 @@ use rd_state::phase::{Cause, Place};
 /// What becomes of a task that calls the kernel.
 #[derive(Clone, Copy, Debug, PartialEq, Eq)]
 pub enum Outcome {
-    /// The call returns this answer.
+    /// The call returns this value.
     Returns(u32),
     /// The task waits at a place while the deadline, a tick, is
     /// ahead; without end where there is none.

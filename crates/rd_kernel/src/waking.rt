@@ -13,8 +13,8 @@ ghost use Rattle.rd_kernel.specs.Waking.{value_of, deadline_after, deadline_of};
 ghost use Rattle.rd_kernel.specs.Waking.{may_wait, without_waiter, is_due};
 ghost use Rattle.rd_kernel.specs.Waking.{ReadyHasRoom, woken, woken_first, woken_if_due};
 
+use crate::changes::set_phase;
 use crate::outcome::Outcome;
-use crate::steps::set_phase;
 use rd_app::app::App;
 use rd_app::instr::{MAX_DELAY, Operand};
 use rd_bytes::no_memory::NoMemory;

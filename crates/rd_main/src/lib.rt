@@ -3,7 +3,7 @@
 
 ghost use Rattle.std.specs.Prelude.{◌≡◌, ◌≢◌, ◌≤◌, length, IfErr};
 ghost use Rattle.std.specs.IoError.{error_kind};
-ghost use Rattle.rd_start.specs.declared.fault.Fault.TheVariants.{BadLine};
+ghost use Rattle.rd_start.specs.declared.fault.Fault.TheVariants.{BadCommandLine};
 
 pub mod answer;
 pub mod session;
@@ -47,7 +47,7 @@ pub fn refuse_words<E: Write>(errors: &mut E, error: &io::Error) -> u8
     ensures others { error_kind error.now ≢ ErrorKind.InvalidData → result ≡ 1 }
 {
     if error.kind() == ErrorKind::InvalidData {
-        report(errors, &Fault::BadLine)
+        report(errors, &Fault::BadCommandLine)
     } else {
         report(errors, &Fault::NoMemory)
     }
@@ -56,8 +56,8 @@ pub fn refuse_words<E: Write>(errors: &mut E, error: &io::Error) -> u8
 // Says what is wrong, and answers the exit status. There is nobody left to be told that the saying
 // failed.
 fn report<E: Write>(errors: &mut E, fault: &Fault) -> u8
-    ensures bad_line { fault.now ≡ BadLine → result ≡ 2 }
-    ensures others { fault.now ≢ BadLine → result ≡ 1 }
+    ensures bad_command_line { fault.now ≡ BadCommandLine → result ≡ 2 }
+    ensures others { fault.now ≢ BadCommandLine → result ≡ 1 }
 {
     let _ = writeln!(errors, "rdbg: {fault}");
     fault.status()
@@ -70,7 +70,7 @@ fn run<H: Files + AllocGlobal, R: Read, W: Write>(
     reader: &mut R,
     writer: &mut W,
 ) -> Result<(), Fault>
-    ensures { length words.now ≡ 0 → IfErr result (λ fault. fault ≢ BadLine) }
+    ensures { length words.now ≡ 0 → IfErr result (λ fault. fault ≢ BadCommandLine) }
 {
     match options(handle.alloc(), words)? {
         Request::Run { settings } => debug(handle, settings, reader, writer),
@@ -88,10 +88,10 @@ fn debug<H: Files + AllocGlobal, R: Read, W: Write>(
     reader: &mut R,
     writer: &mut W,
 ) -> Result<(), Fault>
-    ensures { IfErr result (λ fault. fault ≢ BadLine) }
+    ensures { IfErr result (λ fault. fault ≢ BadCommandLine) }
 {
-    let app = load(handle, settings.app)?;
     let mut session = Session::new(handle.alloc())?;
+    let app = load(handle, settings.app)?;
     let mut timeline = Timeline::new(handle.alloc(), app, settings.moves)?;
     session.serve(&mut timeline, reader, writer);
     timeline.close();

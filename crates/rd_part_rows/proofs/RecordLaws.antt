@@ -3,12 +3,12 @@ use Rattle.std.proofs.Common.{◌≡◌, ℕ, zero, suc, ◌*◌, ◌≤◌, Lis
 use Rattle.std.proofs.lemmas.List.{length-append}
 use Rattle.std.proofs.lemmas.List.Elements.{All-head, All-tail}
 use Rattle.std.specs.List.{concat}
+use Rattle.std.specs.Option.{option_map_or}
 use Rattle.std.specs.Prelude.{All}
 use Rattle.rd_app.specs.declared.instr.Instr.{Instr}
-use Rattle.rd_app.specs.declared.instr.Instr.TheVariants.{Local, Queue, QueueSet}
 use Rattle.rd_app.specs.declared.instr.QueueCall.{QueueCall}
 use Rattle.rd_app.specs.declared.instr.QueueCall.TheVariants.{Send, Receive, Peek, Overwrite, Reset, Count, Spaces, AddToSet, RemoveFromSet}
-use Rattle.rd_app.specs.Application.{Application}
+use Rattle.rd_app.specs.Application.{Application, queue_call_of}
 use Rattle.rd_queue.specs.QueueSnapshot.{QueueSnapshot}
 use Rattle.rd_queue.specs.Sizes.{IsSizedQueue}
 use Rattle.rd_queue_calls.specs.QueueCalls.{dropped_by}
@@ -47,9 +47,11 @@ by_call s queue (AddToSet queue_set) sized = omega arith
 by_call s queue (RemoveFromSet queue_set) sized = omega arith
 
 by_instr : (s : Snapshot) (instr : Instr) → IsSized s → dropped_by_instr s instr ≤ 4096
-by_instr s (Local instr) sized = omega arith
-by_instr s (Queue queue call) sized = by_call s queue call sized
-by_instr s (QueueSet queue_set call) sized = omega arith
+by_instr s instr sized = by_cases (queue_call_of instr)
+  where
+    by_cases : (o : Option (ℕ × QueueCall)) → option_map_or (λ of. dropped_by s of.0 of.1) o 0 ≤ 4096
+    by_cases None = omega arith
+    by_cases (Some of) = by_call s of.0 of.1 sized
 
 by_task : (app : Application) (s : Snapshot) (running : Option ℕ) → IsSized s → dropped_by_task app s running ≤ 4096
 by_task app s None sized = omega arith

@@ -53,7 +53,7 @@ fn weighs(
 // those that were there before: the data that is replaced, the item that is taken, and the items
 // that a reset takes out. At most a record weighs 4 * tasks + 6 * cores + 528, here 538, and the
 // bytes of items that a reset takes out.
-const STEPS: [(usize, usize); 7] = [
+const WEIGHTS: [(usize, usize); 7] = [
     // data: the data of no bytes, the instruction, the turn
     (3, 3),
     // send: the item, r0, the instruction
@@ -69,12 +69,12 @@ const STEPS: [(usize, usize); 7] = [
     (2, 2),
 ];
 
-fn weighs_steps(rt: &impl Abort, alloc: Global, app: &App, state: &mut State)
+fn weighs_instrs(rt: &impl Abort, alloc: Global, app: &App, state: &mut State)
     requires valid { IsValid app.now state.old }
     requires core { app.now.cores ≡ 1 }
     ensures { IsValid app.now state.new }
 {
-    for want in STEPS {
+    for want in WEIGHTS {
         weighs(rt, alloc, app, state, Move::Core { core: 0 }, want);
     }
 }
@@ -85,7 +85,7 @@ fn weighs_moves(rt: &impl Abort, alloc: Global, timeline: &Timeline) -> Result<(
     let app = timeline.app();
     assert!(rt; app.cores() == 1);
     let mut state = timeline.target().copy(alloc)?;
-    weighs_steps(rt, alloc, app, &mut state);
+    weighs_instrs(rt, alloc, app, &mut state);
     // the tick, the turn
     weighs(rt, alloc, app, &mut state, Move::Tick, (2, 2));
     Ok(())

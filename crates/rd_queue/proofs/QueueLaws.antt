@@ -49,7 +49,7 @@ parts_sized : (queue : QueueSnapshot) (items : List (List ℕ)) (receiving sendi
 parts_sized queue items receiving sending queue_set sized few all receivers senders there = record {
   room = few;
   items = all;
-  some_room = sized.some_room;
+  some_capacity = sized.some_capacity;
   few = sized.few;
   some_bytes = sized.some_bytes;
   small = sized.small;

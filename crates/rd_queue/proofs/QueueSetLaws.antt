@@ -28,12 +28,12 @@ undoes queue_set (UntakeHandle queue) fits = refl
 -- the set with other waiting tasks, and with other handles
 waiting_sized : (queue_set : QueueSetSnapshot) (waiting : List ℕ) → IsSizedQueueSet queue_set → IsSizedList queue_set.task_count waiting → IsSizedQueueSet (with_waiting_tasks queue_set waiting)
 waiting_sized queue_set waiting sized few =
-    record { room = sized.room; handles = sized.handles; some_room = sized.some_room; few = sized.few; waiting = few }
+    record { room = sized.room; handles = sized.handles; some_capacity = sized.some_capacity; few = sized.few; waiting = few }
 
 handles_sized : (queue_set : QueueSetSnapshot) (handles : List ℕ) → IsSizedQueueSet queue_set → length handles ≤ queue_set.capacity → All (λ queue. queue < queue_set.queue_count) handles
     → IsSizedQueueSet (with_handles queue_set handles)
 handles_sized queue_set handles sized few all =
-    record { room = few; handles = all; some_room = sized.some_room; few = sized.few; waiting = sized.waiting }
+    record { room = few; handles = all; some_capacity = sized.some_capacity; few = sized.few; waiting = sized.waiting }
 
 sized_then : (queue_set : QueueSetSnapshot) (change : QueueSetChange) → IsSizedQueueSet queue_set → QueueSetFits queue_set change → IsSizedQueueSet (queue_set_applied queue_set change)
 sized_then queue_set (InsWait index task) sized fits =

@@ -14,7 +14,7 @@ IsSizedList task_count waiting =
 pub record IsSizedQueue (queue : QueueSnapshot) : Type 0 where
   pub room : length queue.items ≤ queue.capacity
   pub items : All (λ item. length item ≡ queue.item_size) queue.items
-  pub some_room : 0 < queue.capacity
+  pub some_capacity : 0 < queue.capacity
   pub few : queue.capacity ≤ MAX_ITEMS
   pub some_bytes : 0 < queue.item_size
   pub small : queue.item_size ≤ MAX_ITEM_SIZE
@@ -25,6 +25,6 @@ pub record IsSizedQueue (queue : QueueSnapshot) : Type 0 where
 pub record IsSizedQueueSet (queue_set : QueueSetSnapshot) : Type 0 where
   pub room : length queue_set.handles ≤ queue_set.capacity
   pub handles : All (λ queue. queue < queue_set.queue_count) queue_set.handles
-  pub some_room : 0 < queue_set.capacity
+  pub some_capacity : 0 < queue_set.capacity
   pub few : queue_set.capacity ≤ MAX_HANDLES
   pub waiting : IsSizedList queue_set.task_count queue_set.waiting

@@ -87,7 +87,7 @@ impl Queue {
         task_count: usize,
         queue_set_count: usize,
     ) -> Result<Queue, AllocError>
-        requires some_room { 0 < capacity }
+        requires some_capacity { 0 < capacity }
         requires few { capacity ≤ MAX_ITEMS }
         requires some_bytes { 0 < item_size }
         requires small { item_size ≤ MAX_ITEM_SIZE }

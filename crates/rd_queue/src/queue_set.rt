@@ -57,7 +57,7 @@ impl QueueSet {
         queue_count: usize,
         task_count: usize,
     ) -> Result<QueueSet, AllocError>
-        requires some_room { 0 < capacity }
+        requires some_capacity { 0 < capacity }
         requires few { capacity ≤ MAX_HANDLES }
         ensures { IfOk result (λ queue_set.
             queue_set ≡ empty_queue_set capacity queue_count task_count) }

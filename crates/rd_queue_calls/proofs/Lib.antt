@@ -1,4 +1,5 @@
 -- The files of lemmas of rd_queue_calls.
+pub mod ContentsLaws
 pub mod QueueCallLaws
 pub mod HandleLaws
 pub mod Offered

@@ -30,10 +30,11 @@ use Rattle.rd_state.specs.Waiting.{HasPlace, waiting_at, waiting_in}
 use Rattle.rd_state.proofs.Offered.{queue_sized}
 use Rattle.rd_kernel.specs.Outcomes.{call_returns, call_fails, call_passes, concluded}
 use Rattle.rd_kernel.specs.Waking.{ReadyHasRoom}
-use Rattle.rd_kernel.proofs.Offered.{IsConsistent, IsConsistent-items, IsConsistent-queue_replaced, IsConsistent-queue_set_replaced, IsConsistent-valid}
-use Rattle.rd_kernel.proofs.Offered.{IsSameWaiting, all_have_time_left, place_there, task_now, waiting_at-with_queue, waiting_at-with_queue_set, IsDone}
+use Rattle.rd_kernel.proofs.Offered.{IsConsistent, IsConsistent-valid, IsDone, all_have_time_left, place_there, task_now}
 use Rattle.rd_kernel.proofs.Offered.{RunsInstr, IsConsistent-returned_alone, IsConsistent-done, IsConsistent-failed, IsConsistent-or_blocked}
 use Rattle.rd_kernel.proofs.Offered.{IsConsistent-returned, IsConsistent-with_values, first_waits, or_blocked-tick, waits_is_task, woken_first-tick}
+use Rattle.rd_queue_calls.proofs.ContentsLaws.{IsConsistent-items, IsConsistent-queue_replaced, IsConsistent-queue_set_replaced, IsSameWaiting}
+use Rattle.rd_queue_calls.proofs.ContentsLaws.{waiting_at-with_queue, waiting_at-with_queue_set}
 use Rattle.rd_queue_calls.specs.Posts.{HasRoomToWake, call_breaks, is_in_full_queue_set, is_in_no_queue_set, is_in_queue_set, posted, replaced, membership_of}
 use Rattle.rd_queue_calls.specs.Posts.{with_handle, with_member}
 use Rattle.rd_queue_calls.specs.QueueCalls.{is_empty, is_full, queue_outcome, sent_item, outcome_with_room, with_item_over, with_item_peeked}

@@ -21,8 +21,8 @@ with_handle_taken s queue_set =
     with_queue_set s queue_set
     (with_handles (queue_set_at s queue_set) (drop 1 (queue_set_at s queue_set).handles))
 
--- xQueueSelectFromSet: where there is a handle, the oldest leaves, and the answer is the number of
--- its queue and 1, since 0 says that there is none
+-- xQueueSelectFromSet: where there is a handle, the oldest leaves, and what is returned is the
+-- number of its queue and 1, since 0 says that there is none
 abbrev pub select_outcome : List ℕ → Snapshot → ℕ → ℕ → Operand → Called
 select_outcome priorities s task queue_set wait =
     if has_no_handle (queue_set_at s queue_set) then blocked priorities s task

@@ -4,7 +4,7 @@ ghost use Rattle.rd_queue_calls.specs.QueueSetLaws.{FailedSendsLeaveAll, Handles
 ghost use Rattle.rd_queue_calls.specs.QueueSetLaws.{OverwritesPostOnce};
 
 /// A send into a member with room adds just one handle, its number at the back of its set's; a
-/// select that answers a number takes just the one at the front; no other call changes handles.
+/// select that returns a number takes just the one at the front; no other call changes handles.
 pub fn handles_go_by_calls()
     ensures { HandlesGoByCalls }
 {}

@@ -1,5 +1,5 @@
 -- The files of lemmas of rd_ring.
-pub mod PlaceLaws
+pub mod OffsetLaws
 pub mod MemoryLaws
 pub mod RingLaws
 pub mod UndoLaws

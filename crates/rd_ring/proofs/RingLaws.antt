@@ -3,11 +3,11 @@ use Rattle.std.proofs.Common.{◌≡◌, ◌∙◌, ℕ, suc, ◌+◌, ◌-◌, 
 use Rattle.std.proofs.Math.Seq.{take-append-add}
 use Rattle.std.proofs.lemmas.List.{length-append, length-drop, length-set, length-take-le, take-append-le, drop-append-le}
 use Rattle.std.proofs.lemmas.List.{take_at, drop_at, take-take, drop-drop, drop-take, get_or-take, set_split}
-use Rattle.rd_ring.specs.Memory.{IsPlace, seen_from, place_after, place_before}
+use Rattle.rd_ring.specs.Memory.{IsOffset, seen_from, offset_after, offset_before}
 use Rattle.rd_ring.specs.RingView.{RingView}
 use Rattle.rd_ring.specs.Rings.{with_bytes, with_front, without_front, replaced, HasWholePieces}
-use Rattle.rd_ring.proofs.PlaceLaws.{IsPlace-place_after, whole_piece_fits, whole-place_after}
-use Rattle.rd_ring.proofs.MemoryLaws.{length-seen_from, seen_from-rest, seen_from-place_after, first-seen_from, seen_from-set}
+use Rattle.rd_ring.proofs.OffsetLaws.{IsOffset-offset_after, whole_piece_fits, whole-offset_after}
+use Rattle.rd_ring.proofs.MemoryLaws.{length-seen_from, seen_from-rest, seen_from-offset_after, first-seen_from, seen_from-set}
 
 -- ---- bytes put in; `old` and `new` are the memory as it is seen from the front, before and after
 
@@ -97,25 +97,25 @@ pub length-bytes : (memory : List ℕ) (start len : ℕ) → len ≤ length memo
 length-bytes memory start len fits = length-take-le len (seen_from start memory) (omega (arith, length-seen_from start memory))
 
 -- the same bytes at the same place, by other names
-pub written_there : (memory lent after bytes : List ℕ) (place there : ℕ) → place ≡ there → lent ≡ memory
-    → seen_from place after ≡ bytes ++ drop (length bytes) (seen_from place lent)
+pub written_there : (memory lent after bytes : List ℕ) (offset there : ℕ) → offset ≡ there → lent ≡ memory
+    → seen_from offset after ≡ bytes ++ drop (length bytes) (seen_from offset lent)
     → seen_from there after ≡ bytes ++ drop (length bytes) (seen_from there memory)
-written_there memory lent after bytes place there is_place is_memory written = rw (← is_place, ← is_memory) written
+written_there memory lent after bytes offset there is_offset is_memory written = rw (← is_offset, ← is_memory) written
 
--- bytes that are put in at a place stand there, seen from the front
-written_at : (memory after bytes : List ℕ) (start at : ℕ) → IsPlace (length memory) start → at ≤ length memory → length after ≡ length memory
-    → seen_from (place_after (length memory) start at) after
-    ≡ bytes ++ drop (length bytes) (seen_from (place_after (length memory) start at) memory)
+-- bytes that are put in at an offset stand there, seen from the front
+written_at : (memory after bytes : List ℕ) (start at : ℕ) → IsOffset (length memory) start → at ≤ length memory → length after ≡ length memory
+    → seen_from (offset_after (length memory) start at) after
+    ≡ bytes ++ drop (length bytes) (seen_from (offset_after (length memory) start at) memory)
     → seen_from at (seen_from start after) ≡ bytes ++ drop (length bytes) (seen_from at (seen_from start memory))
 written_at memory after bytes start at is within same_length written =
-    seen_from-place_after after start at (omega arith) (omega arith)
-    ∙ ap (λ (n : ℕ). seen_from (place_after n start at) after) same_length ∙ written
-    ∙ ap (λ (x : List ℕ). bytes ++ drop (length bytes) x) (sym (seen_from-place_after memory start at is within))
+    seen_from-offset_after after start at (omega arith) (omega arith)
+    ∙ ap (λ (n : ℕ). seen_from (offset_after n start at) after) same_length ∙ written
+    ∙ ap (λ (x : List ℕ). bytes ++ drop (length bytes) x) (sym (seen_from-offset_after memory start at is within))
 
-pub ring_pushed_back : (memory after bytes : List ℕ) (start len : ℕ) → IsPlace (length memory) start
+pub ring_pushed_back : (memory after bytes : List ℕ) (start len : ℕ) → IsOffset (length memory) start
     → len + length bytes ≤ length memory → length after ≡ length memory
-    → seen_from (place_after (length memory) start len) after
-    ≡ bytes ++ drop (length bytes) (seen_from (place_after (length memory) start len) memory)
+    → seen_from (offset_after (length memory) start len) after
+    ≡ bytes ++ drop (length bytes) (seen_from (offset_after (length memory) start len) memory)
     → ring_in after start (len + length bytes) ≡ with_bytes (ring_in memory start len) (take len (seen_from start memory) ++ bytes)
 ring_pushed_back memory after bytes start len is fits same_length written =
     let old = seen_from start memory in
@@ -127,37 +127,37 @@ ring_pushed_back memory after bytes start len is fits same_length written =
     (written_at memory after bytes start len is (omega arith) same_length written))
     same_length
 
-pub ring_pushed_front : (memory after bytes : List ℕ) (start len : ℕ) → IsPlace (length memory) start
+pub ring_pushed_front : (memory after bytes : List ℕ) (start len : ℕ) → IsOffset (length memory) start
     → len + length bytes ≤ length memory → length after ≡ length memory
-    → seen_from (place_before (length memory) start (length bytes)) after
-    ≡ bytes ++ drop (length bytes) (seen_from (place_before (length memory) start (length bytes)) memory)
-    → ring_in after (place_before (length memory) start (length bytes)) (len + length bytes) ≡ with_front (ring_in memory start len) bytes
+    → seen_from (offset_before (length memory) start (length bytes)) after
+    ≡ bytes ++ drop (length bytes) (seen_from (offset_before (length memory) start (length bytes)) memory)
+    → ring_in after (offset_before (length memory) start (length bytes)) (len + length bytes) ≡ with_front (ring_in memory start len) bytes
 ring_pushed_front memory after bytes start len is fits same_length written =
     let n = length bytes in
-    let front = place_before (length memory) start n in
+    let front = offset_before (length memory) start n in
     let old = seen_from start memory in
     let length_old = length-seen_from start memory in
     same_ring (take (len + n) (seen_from front after)) (bytes ++ take len old) (length after) (length memory) front
     (pushed_front old (seen_from front memory) (seen_from front after) bytes len (omega (arith, length_old))
-    (sym (seen_from-place_after memory start (length memory - n) is (omega arith))
+    (sym (seen_from-offset_after memory start (length memory - n) is (omega arith))
     ∙ ap (λ (m : ℕ). seen_from (m - n) old) (sym length_old))
     written)
     same_length
 
-pub ring_dropped_front : (memory : List ℕ) (start len count : ℕ) → IsPlace (length memory) start → len ≤ length memory → count ≤ len
-    → ring_in memory (place_after (length memory) start count) (len - count) ≡ without_front (ring_in memory start len) count
+pub ring_dropped_front : (memory : List ℕ) (start len count : ℕ) → IsOffset (length memory) start → len ≤ length memory → count ≤ len
+    → ring_in memory (offset_after (length memory) start count) (len - count) ≡ without_front (ring_in memory start len) count
 ring_dropped_front memory start len count is fits some =
     let old = seen_from start memory in
-    let front = place_after (length memory) start count in
+    let front = offset_after (length memory) start count in
     same_ring (take (len - count) (seen_from front memory)) (drop count (take len old)) (length memory) (length memory) front
-    (ap (λ (x : List ℕ). take (len - count) x) (sym (seen_from-place_after memory start count is (omega arith)))
+    (ap (λ (x : List ℕ). take (len - count) x) (sym (seen_from-offset_after memory start count is (omega arith)))
     ∙ dropped_front old count len some (omega (arith, length-seen_from start memory)))
     refl
 
-pub ring_with_piece : (memory after piece : List ℕ) (start len at : ℕ) → IsPlace (length memory) start → len ≤ length memory
+pub ring_with_piece : (memory after piece : List ℕ) (start len at : ℕ) → IsOffset (length memory) start → len ≤ length memory
     → at + length piece ≤ len → length after ≡ length memory
-    → seen_from (place_after (length memory) start at) after
-    ≡ piece ++ drop (length piece) (seen_from (place_after (length memory) start at) memory)
+    → seen_from (offset_after (length memory) start at) after
+    ≡ piece ++ drop (length piece) (seen_from (offset_after (length memory) start at) memory)
     → ring_in after start len ≡ with_bytes (ring_in memory start len) (replaced (take len (seen_from start memory)) at piece)
 ring_with_piece memory after piece start len at is fits within same_length written =
     let old = seen_from start memory in
@@ -169,49 +169,49 @@ ring_with_piece memory after piece start len at is fits within same_length writt
     (written_at memory after piece start at is (omega arith) same_length written))
     same_length
 
-pub ring_with_byte : (memory : List ℕ) (start len at value : ℕ) → IsPlace (length memory) start → len ≤ length memory → at < len
-    → ring_in (set memory (place_after (length memory) start at) value) start len
+pub ring_with_byte : (memory : List ℕ) (start len at value : ℕ) → IsOffset (length memory) start → len ≤ length memory → at < len
+    → ring_in (set memory (offset_after (length memory) start at) value) start len
     ≡ with_bytes (ring_in memory start len) (set (take len (seen_from start memory)) at value)
 ring_with_byte memory start len at value is fits there =
-    let place = place_after (length memory) start at in
-    let is_place = IsPlace-place_after (length memory) start at is (omega arith) in
+    let offset = offset_after (length memory) start at in
+    let is_offset = IsOffset-offset_after (length memory) start at is (omega arith) in
     let bytes = take len (seen_from start memory) in
     let next : at + 1 ≡ suc at = omega arith in
-    ring_with_piece memory (set memory place value) (value ∷ []) start len at is fits (omega arith) (length-set memory place value)
-    (seen_from-set memory place value (omega (arith, is_place)))
+    ring_with_piece memory (set memory offset value) (value ∷ []) start len at is fits (omega arith) (length-set memory offset value)
+    (seen_from-set memory offset value (omega (arith, is_offset)))
     ∙ ap (λ (x : List ℕ). with_bytes (ring_in memory start len) x)
     (ap (λ (n : ℕ). take at bytes ++ (value ∷ drop n bytes)) next
     ∙ sym (set_split bytes at value (omega (arith, length-bytes memory start len fits))))
 
 -- ---- bytes read
 
-pub byte_at : (memory : List ℕ) (start at len d : ℕ) → IsPlace (length memory) start → at < len → len ≤ length memory
-    → get_or memory (place_after (length memory) start at) d ≡ get_or (take len (seen_from start memory)) at d
+pub byte_at : (memory : List ℕ) (start at len d : ℕ) → IsOffset (length memory) start → at < len → len ≤ length memory
+    → get_or memory (offset_after (length memory) start at) d ≡ get_or (take len (seen_from start memory)) at d
 byte_at memory start at len d is there fits =
-    let place = place_after (length memory) start at in
+    let offset = offset_after (length memory) start at in
     let seen = seen_from start memory in
-    let is_place = IsPlace-place_after (length memory) start at is (omega arith) in
-    let in_memory : place < length memory = omega (arith, is_place) in
-    sym (first-seen_from place memory d in_memory)
-    ∙ ap (λ (x : List ℕ). get_or x 0 d) (sym (seen_from-place_after memory start at is (omega arith)))
+    let is_offset = IsOffset-offset_after (length memory) start at is (omega arith) in
+    let in_memory : offset < length memory = omega (arith, is_offset) in
+    sym (first-seen_from offset memory d in_memory)
+    ∙ ap (λ (x : List ℕ). get_or x 0 d) (sym (seen_from-offset_after memory start at is (omega arith)))
     ∙ first-seen_from at seen d (omega (arith, length-seen_from start memory)) ∙ sym (get_or-take len seen at d there)
 
-pub piece_at : (memory : List ℕ) (start at size len : ℕ) → IsPlace (length memory) start → at + size ≤ len → len ≤ length memory
+pub piece_at : (memory : List ℕ) (start at size len : ℕ) → IsOffset (length memory) start → at + size ≤ len → len ≤ length memory
     → HasWholePieces (ring_in memory start len) size → at % size ≡ 0
-    → (place_after (length memory) start at + size ≤ length memory)
-    × (take size (drop (place_after (length memory) start at) memory) ≡ take size (drop at (take len (seen_from start memory))))
+    → (offset_after (length memory) start at + size ≤ length memory)
+    × (take size (drop (offset_after (length memory) start at) memory) ≡ take size (drop at (take len (seen_from start memory))))
 piece_at memory start at size len is there fits whole begins =
-    let is_place = IsPlace-place_after (length memory) start at is (omega arith) in
+    let is_offset = IsOffset-offset_after (length memory) start at is (omega arith) in
     let some : 0 < size = whole.some_bytes in
-    let in_memory : place_after (length memory) start at + size ≤ length memory =
-    whole_piece_fits (length memory) (place_after (length memory) start at) size whole.capacity
-    (whole-place_after (length memory) start at size whole.capacity whole.start begins) (omega (arith, is_place, some)) in
-    let place = place_after (length memory) start at in
+    let in_memory : offset_after (length memory) start at + size ≤ length memory =
+    whole_piece_fits (length memory) (offset_after (length memory) start at) size whole.capacity
+    (whole-offset_after (length memory) start at size whole.capacity whole.start begins) (omega (arith, is_offset, some)) in
+    let offset = offset_after (length memory) start at in
     let seen = seen_from start memory in
     let len_is : at + (len - at) ≡ len = omega arith in (
       in_memory,
-      sym (take-append-le size (drop place memory) (take place memory) (omega (arith, length-drop place memory, in_memory)))
-          ∙ ap (λ (x : List ℕ). take size x) (sym (seen_from-place_after memory start at is (omega arith)))
+      sym (take-append-le size (drop offset memory) (take offset memory) (omega (arith, length-drop offset memory, in_memory)))
+          ∙ ap (λ (x : List ℕ). take size x) (sym (seen_from-offset_after memory start at is (omega arith)))
           ∙ take-append-le size (drop at seen) (take at seen) (omega (arith, length-drop at seen, length-seen_from start memory))
           ∙ sym (take-take size (len - at) (drop at seen) (omega arith))
           ∙ ap (λ (x : List ℕ). take size x) (sym (drop-take at (len - at) seen) ∙ ap (λ (n : ℕ). drop at (take n seen)) len_is),

@@ -2,19 +2,19 @@
 use Rattle.std.proofs.Common.{◌≡◌, ◌∙◌, ℕ, zero, suc, ◌+◌, ◌-◌, ◌%◌, ◌≤◌, List, ◌++◌, length, take, drop, refl, ap, ap₂, sym, arith, append_assoc, mod-eq_of_lt}
 use Rattle.std.proofs.Math.Nat.{mod-zero, mod-add-mod, add-mod_right}
 use Rattle.std.proofs.lemmas.List.{length-append, length-drop, length-take-le, take_at, drop_at, drop-drop, take-append-drop}
-use Rattle.rd_ring.specs.Memory.{IsPlace, place_after, place_before}
+use Rattle.rd_ring.specs.Memory.{IsOffset, offset_after, offset_before}
 use Rattle.rd_ring.specs.Rings.{with_bytes, replaced, EachRingChangeIsUndone}
 use Rattle.rd_ring.proofs.RingLaws.{moved_ring}
 
-stays : (capacity place : ℕ) → IsPlace capacity place → place % capacity ≡ place
-stays zero place is = mod-zero place
-stays (suc c) place is = mod-eq_of_lt (omega arith)
+stays : (capacity offset : ℕ) → IsOffset capacity offset → offset % capacity ≡ offset
+stays zero offset is = mod-zero offset
+stays (suc c) offset is = mod-eq_of_lt (omega arith)
 
 -- once around the memory, in two steps
-around : (capacity place n m : ℕ) → IsPlace capacity place → n + m ≡ capacity → place_after capacity (place_after capacity place n) m ≡ place
-around capacity place n m is all =
-    let same : place + n + m ≡ place + capacity = omega arith in
-    mod-add-mod (place + n) capacity m ∙ ap (λ (k : ℕ). k % capacity) same ∙ add-mod_right place capacity ∙ stays capacity place is
+around : (capacity offset n m : ℕ) → IsOffset capacity offset → n + m ≡ capacity → offset_after capacity (offset_after capacity offset n) m ≡ offset
+around capacity offset n m is all =
+    let same : offset + n + m ≡ offset + capacity = omega arith in
+    mod-add-mod (offset + n) capacity m ∙ ap (λ (k : ℕ). k % capacity) same ∙ add-mod_right offset capacity ∙ stays capacity offset is
 
 -- a piece that is replaced, and then what was there put back
 replaced_back : (bytes piece : List ℕ) (at : ℕ) → at + length piece ≤ length bytes
@@ -40,7 +40,7 @@ ring_change_is_undone ring sized = record {
   taken_back = (λ count. ap (λ (x : List ℕ). with_bytes ring x) (take-append-drop (length ring.bytes - count) ring.bytes));
   put_front =
       (λ bytes fits. moved_ring (drop (length bytes) (bytes ++ ring.bytes)) ring.bytes ring.capacity
-      (place_after ring.capacity (place_before ring.capacity ring.start (length bytes)) (length bytes)) ring.start
+      (offset_after ring.capacity (offset_before ring.capacity ring.start (length bytes)) (length bytes)) ring.start
       (drop_at bytes ring.bytes (length bytes) refl)
       (around ring.capacity ring.start (ring.capacity - length bytes) (length bytes) sized.start (omega arith)));
   taken_front =
@@ -49,9 +49,9 @@ ring_change_is_undone ring sized = record {
       let first = take count ring.bytes in
       let is_count : length first ≡ count = length-take-le count ring.bytes some in
       moved_ring (first ++ drop count ring.bytes) ring.bytes ring.capacity
-      (place_before ring.capacity (place_after ring.capacity ring.start count) (length first)) ring.start
+      (offset_before ring.capacity (offset_after ring.capacity ring.start count) (length first)) ring.start
       (take-append-drop count ring.bytes)
-      (ap (λ (n : ℕ). place_before ring.capacity (place_after ring.capacity ring.start count) n) is_count
+      (ap (λ (n : ℕ). offset_before ring.capacity (offset_after ring.capacity ring.start count) n) is_count
       ∙ around ring.capacity ring.start count (ring.capacity - count) sized.start (omega arith)));
   cleared = refl;
   restored = (λ at piece there. replaced_back ring.bytes piece at there);

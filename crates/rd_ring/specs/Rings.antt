@@ -1,6 +1,6 @@
 -- Rings as lists of bytes, and whole pieces in them.
 use Rattle.std.specs.Prelude.{ℕ, ◌≡◌, ◌+◌, ◌-◌, ◌%◌, ◌<◌, ◌≤◌, List, [], ◌++◌, length, take, drop}
-use Rattle.rd_ring.specs.Memory.{IsPlace, place_after, place_before}
+use Rattle.rd_ring.specs.Memory.{IsOffset, offset_after, offset_before}
 use Rattle.rd_ring.specs.RingView.{RingView}
 
 -- a new ring with room for so many bytes
@@ -23,14 +23,14 @@ abbrev pub with_front : RingView → List ℕ → RingView
 with_front ring bytes = record {
   bytes = bytes ++ ring.bytes;
   capacity = ring.capacity;
-  start = place_before ring.capacity ring.start (length bytes);
+  start = offset_before ring.capacity ring.start (length bytes);
 }
 
 abbrev pub without_front : RingView → ℕ → RingView
 without_front ring count = record {
   bytes = drop count ring.bytes;
   capacity = ring.capacity;
-  start = place_after ring.capacity ring.start count;
+  start = offset_after ring.capacity ring.start count;
 }
 
 -- the bytes with a piece in place of as many, from `at` on
@@ -62,7 +62,7 @@ WholePiecesStayWhole = (size : ℕ) → PiecesStayWhole size
 -- What holds of every ring: its bytes fit, and its front lies in its memory.
 pub record IsSizedRing (ring : RingView) : Type 0 where
   pub room : length ring.bytes ≤ ring.capacity
-  pub start : IsPlace ring.capacity ring.start
+  pub start : IsOffset ring.capacity ring.start
 
 -- The ring is what it was, with its bytes where they lay, once what was put in at an end is taken out
 -- there, and once what was taken out, cleared or replaced is put in again.

@@ -1,69 +1,69 @@
 //! A memory that is read and written around its end.
 
 ghost use Rattle.std.specs.Prelude.{◌≡◌, ◌↔◌, ◌+◌, ◌-◌, ◌≤◌, ◌++◌, IsTrue, length, take, drop};
-ghost use Rattle.rd_ring.specs.Memory.{IsPlace, seen_from, place_after, place_before};
+ghost use Rattle.rd_ring.specs.Memory.{IsOffset, seen_from, offset_after, offset_before};
 
-/// The place `count` places after `place` in a memory of `capacity` bytes.
-pub fn place_after(capacity: usize, place: usize, count: usize) -> usize
-    requires place { IsPlace capacity place }
+/// The offset `count` bytes after `offset`, around the end of a memory of `capacity` bytes.
+pub fn offset_after(capacity: usize, offset: usize, count: usize) -> usize
+    requires offset { IsOffset capacity offset }
     requires count { count ≤ capacity }
-    ensures after { result ≡ place_after capacity place count }
-    ensures place { IsPlace capacity result }
+    ensures after { result ≡ offset_after capacity offset count }
+    ensures offset { IsOffset capacity result }
 {
-    let up_to_end = capacity - place;
+    let up_to_end = capacity - offset;
     if count < up_to_end {
-        place + count
+        offset + count
     } else {
         count - up_to_end
     }
 }
 
-/// The place `count` places before `place` in a memory of `capacity` bytes.
-pub fn place_before(capacity: usize, place: usize, count: usize) -> usize
-    requires place { IsPlace capacity place }
+/// The offset `count` bytes before `offset`, around the end of a memory of `capacity` bytes.
+pub fn offset_before(capacity: usize, offset: usize, count: usize) -> usize
+    requires offset { IsOffset capacity offset }
     requires count { count ≤ capacity }
-    ensures before { result ≡ place_before capacity place count }
-    ensures place { IsPlace capacity result }
+    ensures before { result ≡ offset_before capacity offset count }
+    ensures offset { IsOffset capacity result }
 {
-    if count <= place {
-        place - count
+    if count <= offset {
+        offset - count
     } else {
-        capacity - (count - place)
+        capacity - (count - offset)
     }
 }
 
-/// The `count` bytes from `place` on, in two pieces, since they may go around the end.
-pub fn halves_from(memory: &[u8], place: usize, count: usize) -> (&[u8], &[u8])
-    requires place { place ≤ length memory.now }
+/// The `count` bytes from `offset` on, in two pieces, since they may go around the end.
+pub fn halves_from(memory: &[u8], offset: usize, count: usize) -> (&[u8], &[u8])
+    requires offset { offset ≤ length memory.now }
     requires count { count ≤ length memory.now }
-    ensures { result.0.now ++ result.1.now ≡ take count (seen_from place memory.now) }
+    ensures { result.0.now ++ result.1.now ≡ take count (seen_from offset memory.now) }
 {
-    let first = count.min(memory.len() - place);
-    (&memory[place..place + first], &memory[..count - first])
+    let first = count.min(memory.len() - offset);
+    (&memory[offset..offset + first], &memory[..count - first])
 }
 
-/// Copies the bytes from `place` on, as many as `into` has.
-pub fn read_from(memory: &[u8], place: usize, into: &mut [u8])
-    requires place { place ≤ length memory.now }
+/// Copies the bytes from `offset` on, as many as `into` has.
+pub fn read_from(memory: &[u8], offset: usize, into: &mut [u8])
+    requires offset { offset ≤ length memory.now }
     requires count { length into.old ≤ length memory.now }
-    ensures { into.new ≡ take (length into.old) (seen_from place memory.now) }
+    ensures { into.new ≡ take (length into.old) (seen_from offset memory.now) }
 {
-    let (first, second) = halves_from(memory, place, into.len());
+    let (first, second) = halves_from(memory, offset, into.len());
     let (into_first, into_second) = into.split_at_mut(first.len());
     into_first.copy_from_slice(first);
     into_second.copy_from_slice(second);
 }
 
-/// Puts `bytes` in the place of as many, from `place` on.
-pub fn write_from(memory: &mut [u8], place: usize, bytes: &[u8])
-    requires place { place ≤ length memory.old }
+/// Puts `bytes` in the place of as many, from `offset` on.
+pub fn write_from(memory: &mut [u8], offset: usize, bytes: &[u8])
+    requires offset { offset ≤ length memory.old }
     requires count { length bytes.now ≤ length memory.old }
     ensures length { length memory.new ≡ length memory.old }
-    ensures written { seen_from place memory.new
-        ≡ bytes.now ++ drop (length bytes.now) (seen_from place memory.old) }
+    ensures written { seen_from offset memory.new
+        ≡ bytes.now ++ drop (length bytes.now) (seen_from offset memory.old) }
 {
-    let first = bytes.len().min(memory.len() - place);
-    memory[place..place + first].copy_from_slice(&bytes[..first]);
+    let first = bytes.len().min(memory.len() - offset);
+    memory[offset..offset + first].copy_from_slice(&bytes[..first]);
     memory[..bytes.len() - first].copy_from_slice(&bytes[first..]);
 }
 

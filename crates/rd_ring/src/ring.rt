@@ -13,7 +13,7 @@ use std::marker::Model;
 
 /// A list of bytes, with room for a fixed number of them, that is filled and emptied at both ends.
 ///
-/// The bytes lie in a memory of that size, from some place on: after the last place of the memory
+/// The bytes lie in a memory of that size, from some offset on: after the last offset of the memory
 /// comes its first. All of it is taken by `new` and `copy`.
 #[derive(Debug, Drop)]
 pub struct ByteRing {
@@ -24,7 +24,7 @@ pub struct ByteRing {
 
 impl Model for ByteRing {
     ghost use Rattle.std.specs.Prelude.{◌≤◌, length, take};
-    ghost use Rattle.rd_ring.specs.Memory.{IsPlace, seen_from};
+    ghost use Rattle.rd_ring.specs.Memory.{IsOffset, seen_from};
     ghost use Rattle.rd_ring.specs.RingView.{RingView};
 
     ghost Value = { RingView };
@@ -37,7 +37,7 @@ impl Model for ByteRing {
 
     // The bytes fit in the memory, and the front lies in it.
     ghost invariant = { λ r. (r.len ≤ length r.memory.items)
-        × IsPlace (length r.memory.items) r.start };
+        × IsOffset (length r.memory.items) r.start };
 }
 
 impl ByteRing {
@@ -117,8 +117,8 @@ impl ByteRing {
         requires { length self.old.bytes + length bytes.now ≤ self.old.capacity }
         ensures { self.new ≡ with_back self.old bytes.now }
     {
-        let place = memory::place_after(self.memory.len(), self.start, self.len);
-        memory::write_from(self.memory.as_mut_slice(), place, bytes);
+        let offset = memory::offset_after(self.memory.len(), self.start, self.len);
+        memory::write_from(self.memory.as_mut_slice(), offset, bytes);
         self.len += bytes.len();
     }
 
@@ -127,7 +127,7 @@ impl ByteRing {
         requires { length self.old.bytes + length bytes.now ≤ self.old.capacity }
         ensures { self.new ≡ with_front self.old bytes.now }
     {
-        let start = memory::place_before(self.memory.len(), self.start, bytes.len());
+        let start = memory::offset_before(self.memory.len(), self.start, bytes.len());
         memory::write_from(self.memory.as_mut_slice(), start, bytes);
         self.start = start;
         self.len += bytes.len();
@@ -148,7 +148,7 @@ impl ByteRing {
         requires { count ≤ length self.old.bytes }
         ensures { self.new ≡ without_front self.old count }
     {
-        self.start = memory::place_after(self.memory.len(), self.start, count);
+        self.start = memory::offset_after(self.memory.len(), self.start, count);
         self.len -= count;
     }
 
@@ -172,8 +172,8 @@ impl ByteRing {
         requires { at < length self.now.bytes }
         ensures { result ≡ slice_index self.now.bytes at }
     {
-        let place = memory::place_after(self.memory.len(), self.start, at);
-        self.memory[place]
+        let offset = memory::offset_after(self.memory.len(), self.start, at);
+        self.memory[offset]
     }
 
     /// Puts a byte in the place of the one at `at`, 0 the front.
@@ -181,8 +181,8 @@ impl ByteRing {
         requires { at < length self.old.bytes }
         ensures { self.new ≡ with_bytes self.old (slice_set self.old.bytes at value) }
     {
-        let place = memory::place_after(self.memory.len(), self.start, at);
-        self.memory[place] = value;
+        let offset = memory::offset_after(self.memory.len(), self.start, at);
+        self.memory[offset] = value;
     }
 
     /// The piece of `size` bytes that begins at `at`, 0 the front, where all pieces of that size lie
@@ -193,8 +193,8 @@ impl ByteRing {
         requires begins { at % size ≡ 0 }
         ensures { result.now ≡ take size (drop at self.now.bytes) }
     {
-        let place = memory::place_after(self.memory.len(), self.start, at);
-        &self.memory[place..place + size]
+        let offset = memory::offset_after(self.memory.len(), self.start, at);
+        &self.memory[offset..offset + size]
     }
 
     /// Puts bytes in the place of as many, from `at` on, 0 the front. It takes no memory.
@@ -202,8 +202,8 @@ impl ByteRing {
         requires { at + length bytes.now ≤ length self.old.bytes }
         ensures { self.new ≡ with_bytes self.old (replaced self.old.bytes at bytes.now) }
     {
-        let place = memory::place_after(self.memory.len(), self.start, at);
-        memory::write_from(self.memory.as_mut_slice(), place, bytes);
+        let offset = memory::offset_after(self.memory.len(), self.start, at);
+        memory::write_from(self.memory.as_mut_slice(), offset, bytes);
     }
 
     /// All bytes, in two pieces that follow one another.

@@ -1,11 +1,15 @@
--- The keyword of a word is written so, and each keyword is found by how it is written.
+-- The keyword of a word is written so, each keyword is found by how it is written, and what it makes is within its
+-- application.
 use denote.Ref.{Bor}
-use Rattle.std.proofs.Common.{◌≡◌, ◌∙◌, ℕ, true, false, cond, List, [], ◌∷◌, Option, Some, None, option_map, refl, sym, ap, subst}
+use Rattle.std.proofs.Common.{◌≡◌, ◌∙◌, ℕ, ◌<◌, ◌≤◌, true, false, cond, List, [], ◌∷◌, length, Option, Some, None, option_map, refl, sym, ap, subst}
 use Rattle.std.specs.Prelude.{IfSome}
 use Rattle.std.specs.List.{find}
 use Rattle.std.specs.Str.{bytes_eq}
 use Rattle.std.proofs.lemmas.Slice.Eq.{bytes_eq-Decides}
+use Rattle.rd_app.specs.Application.{Application, IsOperand, IsWithin}
+use Rattle.rd_app.specs.Objects.{AreObjects, names_in}
 use Rattle.rd_script.specs.declared.keyword.Parameter.{Parameter}
+use Rattle.rd_script.specs.declared.keyword.Parameter.TheVariants.{Register, Number, Target, Data, Time, Name}
 use Rattle.rd_script.specs.declared.keyword.Keyword.{Keyword}
 use Rattle.rd_script.specs.declared.keyword.Keyword.TheVariants as keyword
 use Rattle.rd_script.specs.declared.keyword.LocalKeyword.{LocalKeyword}
@@ -14,7 +18,8 @@ use Rattle.rd_script.specs.declared.keyword.QueueKeyword.{QueueKeyword}
 use Rattle.rd_script.specs.declared.keyword.QueueKeyword.TheVariants.{Send, Front, Receive, Peek, Overwrite, Reset, Count, Spaces, AddToSet, RemoveFromSet}
 use Rattle.rd_script.specs.declared.keyword.QueueSetKeyword.{QueueSetKeyword}
 use Rattle.rd_script.specs.declared.keyword.QueueSetKeyword.TheVariants.{Select}
-use Rattle.rd_script.specs.Keywords.{first_written, keyword_of, local_row, operands_of, queue_row, row_of, queue_set_row, text_of, texts_of}
+use Rattle.rd_script.specs.Keywords.{Makes, Row, Value, Written, first_written, keyword_of, local_row, operands_of, queue_row, row_of, queue_set_row, text_of, texts_of}
+use Rattle.rd_script.specs.Spelling.{IsForQueue}
 
 same_bytes : (xs ys : List ℕ) → bytes_eq xs ys ≡ true → xs ≡ ys
 same_bytes xs ys e = (bytes_eq-Decides xs ys).0 e
@@ -92,3 +97,51 @@ pub keyword_again : (k : Keyword) → keyword_of (text_of (row_of k)) ≡ Some k
 keyword_again (keyword.Local k) = local_again k
 keyword_again (keyword.Queue k) = queue_again k
 keyword_again (keyword.QueueSet k) = queue_set_again k
+
+-- what an operand of that kind may stand for
+abbrev pub IsValue : Application → ℕ → (parameter : Parameter) → Value parameter → Type 0
+IsValue app len Register register = register < 8
+IsValue app len Number value = Unit {0}
+IsValue app len Target target = target < len
+IsValue app len Data bytes = length bytes ≤ 256
+IsValue app len Time wait = IsOperand wait
+IsValue app len (Name kind) number = number < length (names_in app.objects [] kind)
+
+-- Whatever its operands stand for, what a keyword makes is within the application.
+abbrev pub MakesWithin : Application → ℕ → (parameters : List Parameter) → Makes parameters → Type 0
+MakesWithin app len [] made = IsForQueue app.objects made → IsWithin app len made
+MakesWithin app len (parameter ∷ others) make = (value : Value parameter) → IsValue app len parameter value → MakesWithin app len others (make value)
+
+abbrev pub RowWithin : Application → ℕ → Row → Type 0
+RowWithin app len (Written text operands make) = MakesWithin app len operands make
+
+local_within : (app : Application) (len : ℕ) (k : LocalKeyword) → RowWithin app len (local_row k)
+local_within app len of.Set = λ register there value _ fits. there
+local_within app len of.Add = λ register there value _ fits. there
+local_within app len of.Move = λ into there from also_there fits. (there, also_there)
+local_within app len of.Data = λ bytes few fits. few
+local_within app len of.Pack = λ register there fits. there
+local_within app len of.Unpack = λ register there fits. there
+local_within app len of.Jump = λ target there fits. there
+local_within app len of.JumpZero = λ register there target also_there fits. (there, also_there)
+local_within app len of.End = λ fits. tt
+
+queue_within : (app : Application) (len : ℕ) → AreObjects app.objects → (k : QueueKeyword) → RowWithin app len (queue_row k)
+queue_within app len sizes Send = λ queue named wait there fits. (rw (← sizes.named_queues.paired) named, there, fits)
+queue_within app len sizes Front = λ queue named wait there fits. (rw (← sizes.named_queues.paired) named, there, fits)
+queue_within app len sizes Receive = λ queue named wait there fits. (rw (← sizes.named_queues.paired) named, there, fits)
+queue_within app len sizes Peek = λ queue named wait there fits. (rw (← sizes.named_queues.paired) named, there, fits)
+queue_within app len sizes Overwrite = λ queue named fits. (rw (← sizes.named_queues.paired) named, tt, fits)
+queue_within app len sizes Reset = λ queue named fits. (rw (← sizes.named_queues.paired) named, tt, fits)
+queue_within app len sizes Count = λ queue named fits. (rw (← sizes.named_queues.paired) named, tt, fits)
+queue_within app len sizes Spaces = λ queue named fits. (rw (← sizes.named_queues.paired) named, tt, fits)
+queue_within app len sizes AddToSet = λ queue named queue_set also_named fits. (rw (← sizes.named_queues.paired) named, rw (← sizes.named_queue_sets.paired) also_named, fits)
+queue_within app len sizes RemoveFromSet = λ queue named queue_set also_named fits. (rw (← sizes.named_queues.paired) named, rw (← sizes.named_queue_sets.paired) also_named, fits)
+
+queue_set_within : (app : Application) (len : ℕ) → AreObjects app.objects → (k : QueueSetKeyword) → RowWithin app len (queue_set_row k)
+queue_set_within app len sizes Select = λ queue_set named wait there fits. (rw (← sizes.named_queue_sets.paired) named, there)
+
+pub row_within : (app : Application) (len : ℕ) → AreObjects app.objects → (k : Keyword) → RowWithin app len (row_of k)
+row_within app len sizes (keyword.Local k) = local_within app len k
+row_within app len sizes (keyword.Queue k) = queue_within app len sizes k
+row_within app len sizes (keyword.QueueSet k) = queue_set_within app len sizes k

@@ -287,12 +287,12 @@ taken_is queue_sets members queue =
     list_any-append (nat_eq queue) (members_of queue_sets) members ∙ ap (λ b. b || list_any (nat_eq queue) members) (sym (is_member_of queue_sets queue))
 
 -- distinct numbers of so many queues
-pub record ArePlaced (queues : ℕ) (members : List ℕ) : Type 0 where
+pub record AreDistinctQueues (queues : ℕ) (members : List ℕ) : Type 0 where
   pub there : AllByRecursion (λ queue. queue < queues) members
   pub once : IsDistinct nat_eq members
 
-pub none_placed : (queues : ℕ) → ArePlaced queues []
-none_placed queues = record { there = tt; once = no_members }
+pub none_yet : (queues : ℕ) → AreDistinctQueues queues []
+none_yet queues = record { there = tt; once = no_members }
 
 is_below : (members : List ℕ) (queues queue : ℕ) → AllByRecursion (λ queue. queue < queues) members → list_any (nat_eq queue) members ≡ true → queue < queues
 is_below [] queues queue all has = absurd cc
@@ -307,9 +307,9 @@ neither true b e = absurd cc
 neither false b e = (refl, e)
 
 -- one more member is another of the queues, so that there is room for it
-pub placed_push : (queues : List (List ℕ)) (others members : List ℕ) (d : Data) (queue : ℕ) → member_of queues (others ++ members) d ≡ Ok queue
-    → ArePlaced (length queues) members → ArePlaced (length queues) (members ++ queue ∷ []) × (length members < length queues)
-placed_push queues others members d queue e placed =
+pub once_push : (queues : List (List ℕ)) (others members : List ℕ) (d : Data) (queue : ℕ) → member_of queues (others ++ members) d ≡ Ok queue
+    → AreDistinctQueues (length queues) members → AreDistinctQueues (length queues) (members ++ queue ∷ []) × (length members < length queues)
+once_push queues others members d queue e placed =
     let taken = member_takes queues (others ++ members) d queue e in
     let there = index_there queues taken.0.0 queue taken.0.2 in
     let all = AllByRecursion-push (λ queue. queue < length queues) members queue placed.there there in

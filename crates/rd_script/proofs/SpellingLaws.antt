@@ -1,8 +1,8 @@
 -- An instruction that is read is spelled by its words, what spells an instruction is read, and what is spelled is within its application.
 use Rattle.std.proofs.Common.{◌≡◌, ◌∙◌, ℕ, zero, suc, drop, ◌-◌, ◌<◌, ◌≤◌, ◌&&◌, ◌==◌, Bool, true, false, cond, codes, List, [], ◌∷◌, length, slice_index}
 use Rattle.std.proofs.Common.{Option, Some, None, Result, Ok, Err, ok_or, nat_le, nat_lt, option_map, option_and_then, position, refl, sym, ap, subst, arith}
-use Rattle.std.specs.Prelude.{is_some}
-use Rattle.std.specs.Option.{option_or}
+use Rattle.std.specs.Prelude.{is_some, IfSome}
+use Rattle.std.specs.Option.{option_map_or, option_or}
 use Rattle.std.specs.Result.{result_ok}
 use Rattle.std.specs.Str.{bytes_eq}
 use Rattle.std.proofs.lemmas.Bool.Decides.{nat_tests}
@@ -11,30 +11,22 @@ use Rattle.hex.specs.Hex.{decode_of}
 use Rattle.hex.proofs.HexLemmas.{decode_of-ok}
 use Rattle.rd_app.specs.declared.objects.QueueShape.{QueueShape}
 use Rattle.rd_app.specs.declared.instr.Instr.{Instr}
-use Rattle.rd_app.specs.declared.instr.Instr.TheVariants as instruction
 use Rattle.rd_app.specs.declared.instr.QueueCall.{QueueCall}
 use Rattle.rd_app.specs.declared.instr.QueueCall.TheVariants as call
 use Rattle.rd_app.specs.declared.instr.Operand.{Operand}
 use Rattle.rd_app.specs.declared.instr.Operand.TheVariants as operand
-use Rattle.rd_app.specs.Application.{Application, IsOperand, IsCallFor, IsWithin, max_delay}
+use Rattle.rd_app.specs.Application.{Application, IsOperand, IsCallFor, IsWithin, max_delay, queue_call_of}
 use Rattle.rd_app.specs.Objects.{AreObjects, NamedObjects, names_in, shape_at}
 use Rattle.rd_script.specs.declared.error.AppError.TheVariants as fault
 use Rattle.rd_script.specs.declared.keyword.Parameter.{Parameter}
 use Rattle.rd_script.specs.declared.keyword.Parameter.TheVariants.{Register, Number, Target, Data, Time, Name}
 use Rattle.rd_script.specs.declared.keyword.Keyword.{Keyword}
-use Rattle.rd_script.specs.declared.keyword.Keyword.TheVariants as keyword
-use Rattle.rd_script.specs.declared.keyword.LocalKeyword.{LocalKeyword}
-use Rattle.rd_script.specs.declared.keyword.LocalKeyword.TheVariants as of
-use Rattle.rd_script.specs.declared.keyword.QueueKeyword.{QueueKeyword}
-use Rattle.rd_script.specs.declared.keyword.QueueKeyword.TheVariants.{Send, Front, Receive, Peek, Overwrite, Reset, Count, Spaces, AddToSet, RemoveFromSet}
-use Rattle.rd_script.specs.declared.keyword.QueueSetKeyword.{QueueSetKeyword}
-use Rattle.rd_script.specs.declared.keyword.QueueSetKeyword.TheVariants.{Select}
-use Rattle.rd_script.specs.Keywords.{Makes, Row, Value, keywords, keyword_of, local_row, operands_of, queue_row, row_of, queue_set_row, text_of, Written}
+use Rattle.rd_script.specs.Keywords.{Makes, Row, Value, keywords, keyword_of, operands_of, row_of, text_of, Written}
 use Rattle.rd_script.specs.Spelling.{register_of, target_of, operand_of, time_of, index_named, index_of, value_of, is_formed, are_formed}
 use Rattle.rd_script.specs.Spelling.{made_of, instr_made, is_call_for, is_for_queue, instr_named, instr_of, next_value, Reading, AreOperands, IsForQueue, Spells, SpellsRow}
 use Rattle.rd_text.specs.Words.{bytes_of, is_name, is_some_word, name_of, number_of}
 use Rattle.rd_text.proofs.Offered.{and_right}
-use Rattle.rd_script.proofs.KeywordLaws.{keyword_again, text_found}
+use Rattle.rd_script.proofs.KeywordLaws.{IsValue, MakesWithin, RowWithin, keyword_again, row_within, text_found}
 use Rattle.rd_script.proofs.Steps.{bind_ok, chosen, guard_ok, ok_or_ok, then_is}
 
 -- ---- what is read is spelled
@@ -63,9 +55,12 @@ named_ok names word name number is found =
     ∙ ok_or_ok (position (bytes_eq name) names) number fault.Name found
 
 for_queue_takes : (objects : NamedObjects) (i : Instr) → is_for_queue objects i ≡ true → IsForQueue objects i
-for_queue_takes objects (instruction.Local instr) e = tt
-for_queue_takes objects (instruction.Queue queue made) e = call_takes (shape_at objects queue) made e
-for_queue_takes objects (instruction.QueueSet queue_set made) e = tt
+for_queue_takes objects i = by_call (queue_call_of i)
+  where
+    by_call : (o : Option (ℕ × QueueCall)) → option_map_or (λ of. is_call_for (shape_at objects of.0) of.1) o true ≡ true
+        → IfSome o (λ of. IsCallFor (shape_at objects of.0) of.1)
+    by_call None e = tt
+    by_call (Some of) e = call_takes (shape_at objects of.0) of.1 e
 
 -- where no word is left, none is in the form of an operand that is
 pub no_words : (len : ℕ) (parameters : List Parameter) (index : ℕ) → index < length parameters → are_formed len (drop index parameters) [] ≡ false
@@ -133,9 +128,12 @@ pub index_again : (names : List (List ℕ)) (name : List ℕ) (number : ℕ) →
 index_again names name number is = ap (λ o. ok_or o fault.Name) is
 
 for_queue_again : (objects : NamedObjects) (i : Instr) → IsForQueue objects i → is_for_queue objects i ≡ true
-for_queue_again objects (instruction.Local instr) h = refl
-for_queue_again objects (instruction.Queue queue made) h = call_again (shape_at objects queue) made h
-for_queue_again objects (instruction.QueueSet queue_set made) h = refl
+for_queue_again objects i = by_call (queue_call_of i)
+  where
+    by_call : (o : Option (ℕ × QueueCall)) → IfSome o (λ of. IsCallFor (shape_at objects of.0) of.1)
+        → option_map_or (λ of. is_call_for (shape_at objects of.0) of.1) o true ≡ true
+    by_call None h = refl
+    by_call (Some of) h = call_again (shape_at objects of.0) of.1 h
 
 -- what names a thing is a name
 name_formed : (names : List (List ℕ)) (word : List ℕ) (number : ℕ) → index_named names word ≡ Some number → is_name word ≡ true
@@ -269,15 +267,6 @@ time_there word wait =
       | false ↦ either_there (register_of word) (number_of word) wait (register_small word)
     ]
 
--- what an operand of that kind may stand for
-abbrev IsValue : Application → ℕ → (parameter : Parameter) → Value parameter → Type 0
-IsValue app len Register register = register < 8
-IsValue app len Number value = Unit {0}
-IsValue app len Target target = target < len
-IsValue app len Data bytes = length bytes ≤ 256
-IsValue app len Time wait = IsOperand wait
-IsValue app len (Name kind) number = number < length (names_in app.objects [] kind)
-
 value_there : (app : Application) (len : ℕ) (parameter : Parameter) (word : List ℕ) (value : Value parameter)
     → value_of app.objects len parameter word ≡ Some value → IsValue app len parameter value
 value_there app len Register word value e = register_small word value e
@@ -286,45 +275,6 @@ value_there app len Target word value e = target_small len word value e
 value_there app len Data word value e = bytes_few word value e
 value_there app len Time word value e = time_there word value e
 value_there app len (Name kind) word value e = index_there (names_in app.objects [] kind) word value e
-
--- Whatever its operands stand for, what a keyword makes is within the application.
-abbrev MakesWithin : Application → ℕ → (parameters : List Parameter) → Makes parameters → Type 0
-MakesWithin app len [] made = IsForQueue app.objects made → IsWithin app len made
-MakesWithin app len (parameter ∷ others) make = (value : Value parameter) → IsValue app len parameter value → MakesWithin app len others (make value)
-
-abbrev RowWithin : Application → ℕ → Row → Type 0
-RowWithin app len (Written text operands make) = MakesWithin app len operands make
-
-local_within : (app : Application) (len : ℕ) (k : LocalKeyword) → RowWithin app len (local_row k)
-local_within app len of.Set = λ register there value _ fits. there
-local_within app len of.Add = λ register there value _ fits. there
-local_within app len of.Move = λ into there from also_there fits. (there, also_there)
-local_within app len of.Data = λ bytes few fits. few
-local_within app len of.Pack = λ register there fits. there
-local_within app len of.Unpack = λ register there fits. there
-local_within app len of.Jump = λ target there fits. there
-local_within app len of.JumpZero = λ register there target also_there fits. (there, also_there)
-local_within app len of.End = λ fits. tt
-
-queue_within : (app : Application) (len : ℕ) → AreObjects app.objects → (k : QueueKeyword) → RowWithin app len (queue_row k)
-queue_within app len sizes Send = λ queue named wait there fits. (rw (← sizes.named_queues.paired) named, there, fits)
-queue_within app len sizes Front = λ queue named wait there fits. (rw (← sizes.named_queues.paired) named, there, fits)
-queue_within app len sizes Receive = λ queue named wait there fits. (rw (← sizes.named_queues.paired) named, there, fits)
-queue_within app len sizes Peek = λ queue named wait there fits. (rw (← sizes.named_queues.paired) named, there, fits)
-queue_within app len sizes Overwrite = λ queue named fits. (rw (← sizes.named_queues.paired) named, tt, fits)
-queue_within app len sizes Reset = λ queue named fits. (rw (← sizes.named_queues.paired) named, tt, fits)
-queue_within app len sizes Count = λ queue named fits. (rw (← sizes.named_queues.paired) named, tt, fits)
-queue_within app len sizes Spaces = λ queue named fits. (rw (← sizes.named_queues.paired) named, tt, fits)
-queue_within app len sizes AddToSet = λ queue named queue_set also_named fits. (rw (← sizes.named_queues.paired) named, rw (← sizes.named_queue_sets.paired) also_named, fits)
-queue_within app len sizes RemoveFromSet = λ queue named queue_set also_named fits. (rw (← sizes.named_queues.paired) named, rw (← sizes.named_queue_sets.paired) also_named, fits)
-
-queue_set_within : (app : Application) (len : ℕ) → AreObjects app.objects → (k : QueueSetKeyword) → RowWithin app len (queue_set_row k)
-queue_set_within app len sizes Select = λ queue_set named wait there fits. (rw (← sizes.named_queue_sets.paired) named, there)
-
-row_within : (app : Application) (len : ℕ) → AreObjects app.objects → (k : Keyword) → RowWithin app len (row_of k)
-row_within app len sizes (keyword.Local k) = local_within app len k
-row_within app len sizes (keyword.Queue k) = queue_within app len sizes k
-row_within app len sizes (keyword.QueueSet k) = queue_set_within app len sizes k
 
 operands_within : (app : Application) (len : ℕ) (parameters : List Parameter) (make : Makes parameters) (words : List (List ℕ)) (i : Instr)
     → MakesWithin app len parameters make → AreOperands app.objects len parameters make words i → IsForQueue app.objects i → IsWithin app len i

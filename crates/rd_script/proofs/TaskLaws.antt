@@ -9,24 +9,24 @@ use Rattle.rd_app.specs.Application.{Application, IsScript}
 use Rattle.rd_app.specs.Objects.{AreObjects, NamedObjects}
 use Rattle.rd_script.specs.Values.{SayEach, is_object_with, object_with, field, number_in, array_in, new_name}
 use Rattle.rd_script.specs.File.{are_texts, TaskDraft, task_keys, task_of}
-use Rattle.rd_script.specs.Says.{AreTasks, AreLines}
+use Rattle.rd_script.specs.Says.{AreTasks, AreInstrs}
 use Rattle.rd_app.specs.TaskScript.{TaskScript}
 use Rattle.rd_script.proofs.Steps.{bind_ok, guard_ok, then_is}
 use Rattle.rd_script.proofs.ValueLaws.{object_again, field_again, name_again, array_again, limits_again, object_ok, field_ok, number_ok, array_ok, name_ok}
 use Rattle.rd_text.proofs.Offered.{IsNewName}
-use Rattle.rd_script.proofs.ScriptLaws.{AreScripts, is_script, length_lines}
+use Rattle.rd_script.proofs.ScriptLaws.{AreScripts, is_script, length_values}
 
 -- what a value says of a task
 pub record IsDraft (d : Data) (name : List ℕ) (draft : TaskDraft) : Type 0 where
   pub keys : is_object_with task_keys d ≡ true
   pub name_at : get (codes "name") d ≡ Some (string name)
   pub priority_at : get (codes "priority") d ≡ Some (number (unsigned draft.priority))
-  pub code_at : get (codes "code") d ≡ Some (array draft.lines)
+  pub code_at : get (codes "code") d ≡ Some (array draft.code)
 
 pub record IsDraftInLimits (draft : TaskDraft) : Type 0 where
   pub priority : draft.priority ≤ 31
-  pub some : 1 ≤ items_len draft.lines
-  pub few : items_len draft.lines ≤ 256
+  pub some : 1 ≤ items_len draft.code
+  pub few : items_len draft.code ≤ 256
 
 pub task_takes : (names : List (List ℕ)) (d : Data) (t : List ℕ × TaskDraft) → task_of names d ≡ Ok t
     → IsDraft d t.0 t.1 × IsNewName names t.0 × IsDraftInLimits t.1
@@ -38,12 +38,12 @@ task_takes names d t e =
     let code = bind_ok (field (codes "code") d) _ t priority.2 in
     let text = bind_ok (new_name names name.0) _ t code.2 in
     let level = bind_ok (number_in 0 31 priority.0) _ t text.2 in
-    let lines = bind_ok (array_in 1 256 code.0) _ t level.2 in
-    let made : List ℕ × TaskDraft = (text.0, record { priority = level.0; lines = lines.0 }) in
-    let is = (guard_ok (are_texts lines.0) made t _ lines.2).1 in
+    let values = bind_ok (array_in 1 256 code.0) _ t level.2 in
+    let made : List ℕ × TaskDraft = (text.0, record { priority = level.0; code = values.0 }) in
+    let is = (guard_ok (are_texts values.0) made t _ values.2).1 in
     let named = name_ok names name.0 text.0 text.1 in
     let first = number_ok 0 31 priority.0 level.0 level.1 in
-    let second = array_ok 1 256 code.0 lines.0 lines.1 in
+    let second = array_ok 1 256 code.0 values.0 values.1 in
     subst (λ (t : List ℕ × TaskDraft). IsDraft d t.0 t.1 × IsNewName names t.0 × IsDraftInLimits t.1) is (
       record {
         keys = object_ok task_keys d keys.0 keys.1;
@@ -74,7 +74,7 @@ tasks_said objects (item d ds) (n ∷ names) (draft ∷ drafts) (s ∷ scripts) 
     let rest = tasks_said objects ds names drafts scripts a.1 b.2 in (
       (
         (
-          draft.lines,
+          draft.code,
           record {
             keys = a.0.keys;
             name_at = a.0.name_at;
@@ -94,7 +94,7 @@ scripts_in_limits app [] [] sizes a b = tt
 scripts_in_limits app [] (s ∷ scripts) sizes a b = absurd b
 scripts_in_limits app (draft ∷ drafts) [] sizes a b = absurd b
 scripts_in_limits app (draft ∷ drafts) (s ∷ scripts) sizes a b = (
-  is_script app draft.lines s sizes
+  is_script app draft.code s sizes
       (omega (arith, b.0, a.0.priority)) a.0.some a.0.few b.1,
   scripts_in_limits app drafts scripts sizes a.1 b.2,
 )
@@ -102,28 +102,28 @@ scripts_in_limits app (draft ∷ drafts) (s ∷ scripts) sizes a b = (
 -- ---- what spells a task is read
 
 pub task_again : (names : List (List ℕ)) (d : Data) (name : List ℕ) (draft : TaskDraft) → IsDraft d name draft → IsNewName names name → IsDraftInLimits draft
-    → are_texts draft.lines ≡ true → task_of names d ≡ Ok (name, draft)
+    → are_texts draft.code ≡ true → task_of names d ≡ Ok (name, draft)
 unfolding task_of
 task_again names d name draft h new limits texts =
     then_is (object_with task_keys d) _ tt _ (object_again task_keys d h.keys)
     (then_is (field (codes "name") d) _ (string name) _ (field_again (codes "name") d _ h.name_at)
     (then_is (field (codes "priority") d) _ (number (unsigned draft.priority)) _ (field_again (codes "priority") d _ h.priority_at)
-    (then_is (field (codes "code") d) _ (array draft.lines) _ (field_again (codes "code") d _ h.code_at)
+    (then_is (field (codes "code") d) _ (array draft.code) _ (field_again (codes "code") d _ h.code_at)
     (then_is (new_name names (string name)) _ name _ (name_again names (string name) name refl new.named new.fresh)
     (then_is (number_in 0 31 (number (unsigned draft.priority))) _ draft.priority _ (limits_again 0 31 draft.priority (omega arith) limits.priority)
-    (then_is (array_in 1 256 (array draft.lines)) _ draft.lines _ (array_again 1 256 (array draft.lines) draft.lines refl limits.some limits.few)
+    (then_is (array_in 1 256 (array draft.code)) _ draft.code _ (array_again 1 256 (array draft.code) draft.code refl limits.some limits.few)
     (rw texts refl)))))))
 
 -- drafts that can be read
 pub record IsReadable (draft : TaskDraft) : Type 0 where
   pub in_limits : IsDraftInLimits draft
-  pub texts : are_texts draft.lines ≡ true
+  pub texts : are_texts draft.code ≡ true
 
 pub draft_again : (names : List (List ℕ)) (d : Data) (name : List ℕ) (draft : TaskDraft) → IsDraft d name draft → IsNewName names name → IsReadable draft
     → task_of names d ≡ Ok (name, draft)
 draft_again names d name draft h new ok = task_again names d name draft h new ok.in_limits ok.texts
 
-texts_said : (objects : NamedObjects) (len : ℕ) (lines : Items) (code : List Instr) → AreLines objects len lines code → are_texts lines ≡ true
+texts_said : (objects : NamedObjects) (len : ℕ) (values : Items) (code : List Instr) → AreInstrs objects len values code → are_texts values ≡ true
 texts_said objects len no_items [] h = refl
 texts_said objects len no_items (i ∷ code) h = absurd h
 texts_said objects len (item d ds) [] h = absurd h
@@ -139,17 +139,17 @@ tasks_split app objects no_items (n ∷ names) scripts h limits = absurd h
 tasks_split app objects (item d ds) [] scripts h limits = absurd h
 tasks_split app objects (item d ds) (n ∷ names) [] h limits = absurd h
 tasks_split app objects (item d ds) (n ∷ names) (s ∷ scripts) h limits =
-    let lines = h.0.0 in
+    let values = h.0.0 in
     let said = h.0.1 in
     let rest = tasks_split app objects ds names scripts h.1 limits.1 in
-    let len = length_lines objects (items_len lines) lines s.code said.code.0 in
-    let draft : TaskDraft = record { priority = s.priority; lines = lines } in (
+    let len = length_values objects (items_len values) values s.code said.code.0 in
+    let draft : TaskDraft = record { priority = s.priority; code = values } in (
       draft ∷ rest.0,
       (record { keys = said.keys; name_at = said.name_at; priority_at = said.priority_at; code_at = said.code_at }, rest.1),
       (
         record {
           in_limits = record { priority = limits.0.priority; some = omega (arith, limits.0.some); few = omega (arith, limits.0.few) };
-          texts = texts_said objects (items_len lines) lines s.code said.code.0;
+          texts = texts_said objects (items_len values) values s.code said.code.0;
         },
         rest.2,
       ),

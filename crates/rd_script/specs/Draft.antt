@@ -10,7 +10,7 @@ use Rattle.rd_script.specs.Objects.{drafts_view}
 use Rattle.rd_text.specs.Words.{texts}
 
 abbrev pub task_draft_view : TaskDraft → file.TaskDraft
-task_draft_view draft = record { priority = draft.priority; lines = items_view draft.lines.now }
+task_draft_view draft = record { priority = draft.priority; code = items_view draft.code.now }
 
 abbrev pub task_drafts_view : {N : ℕ} → NamedArray TaskDraft N → Named file.TaskDraft
 task_drafts_view array = record {

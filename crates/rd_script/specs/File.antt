@@ -28,7 +28,7 @@ use Rattle.rd_text.specs.Words.{words_of}
 -- a task's priority and the texts of its instructions
 pub record TaskDraft : Type 0 where
   pub priority : ℕ
-  pub lines : Items
+  pub code : Items
 
 abbrev pub task_keys : List (List ℕ)
 task_keys = codes "name" ∷ codes "priority" ∷ codes "code" ∷ []
@@ -46,9 +46,9 @@ task_of names d = do
   code ← field (codes "code") d
   name ← new_name names name
   priority ← number_in 0 MAX_PRIORITY priority
-  lines ← array_in 1 MAX_CODE code
-  if are_texts lines
-      then Ok (name, record { priority = priority; lines = lines })
+  code ← array_in 1 MAX_CODE code
+  if are_texts code
+      then Ok (name, record { priority = priority; code = code })
       else Err fault.Shape
 
 abbrev pub tasks_after : Named TaskDraft → Items → Result (Named TaskDraft) AppError
@@ -57,23 +57,23 @@ tasks_after before ds = named_after (λ before. task_of before.names) before ds
 -- ---- scripts
 
 -- the instruction of a value, in a script of that length
-abbrev pub instr_of_line : NamedObjects → ℕ → Data → Result Instr AppError
-instr_of_line objects len d = do
+abbrev pub instr_of_value : NamedObjects → ℕ → Data → Result Instr AppError
+instr_of_value objects len d = do
   text ← ok_or (as_str d) fault.Shape
   instr_of objects len (words_of text)
 
 -- does the script never go on after the instruction of a value?
-abbrev pub line_ends : NamedObjects → ℕ → Data → Result Bool AppError
-line_ends objects len d = do
-  instr ← instr_of_line objects len d
+abbrev pub ends_script : NamedObjects → ℕ → Data → Result Bool AppError
+ends_script objects len d = do
+  instr ← instr_of_value objects len d
   Ok (is_final instr)
 
 -- the instructions before, and those of the values
-abbrev pub lines_after : NamedObjects → ℕ → List Instr → Items → Result (List Instr) AppError
-lines_after objects len before no_items = Ok before
-lines_after objects len before (item d ds) = do
-  instr ← instr_of_line objects len d
-  lines_after objects len (before ++ instr ∷ []) ds
+abbrev pub instrs_after : NamedObjects → ℕ → List Instr → Items → Result (List Instr) AppError
+instrs_after objects len before no_items = Ok before
+instrs_after objects len before (item d ds) = do
+  instr ← instr_of_value objects len d
+  instrs_after objects len (before ++ instr ∷ []) ds
 
 -- does the last instruction never go on at the next?
 abbrev pub ends : List Instr → Bool
@@ -81,8 +81,8 @@ ends code = unwrap_or (option_map is_final (slice_get code (length code - 1))) f
 
 -- the instructions of a task, the last of which never goes on at the next
 unfoldable pub instrs_of : NamedObjects → Items → Result (List Instr) AppError
-instrs_of objects lines = do
-  code ← lines_after objects (items_len lines) [] lines
+instrs_of objects values = do
+  code ← instrs_after objects (items_len values) [] values
   if ends code then Ok code else Err fault.Instr
 
 -- the scripts before, and those of the drafts
@@ -90,7 +90,7 @@ abbrev pub scripts_after : NamedObjects → List TaskScript → List TaskDraft
     → Result (List TaskScript) AppError
 scripts_after objects scripts [] = Ok scripts
 scripts_after objects scripts (draft ∷ drafts) = do
-  code ← instrs_of objects draft.lines
+  code ← instrs_of objects draft.code
   scripts_after objects (scripts ++ record { priority = draft.priority; code = code } ∷ []) drafts
 
 -- ---- the file

@@ -16,36 +16,36 @@ use Rattle.rd_script.specs.Values.{IsNumberOr, SayNamed, is_object_with}
 use Rattle.rd_text.specs.Words.{words_of}
 
 -- a text whose words spell the instruction
-abbrev pub IsLine : NamedObjects → ℕ → Data → Instr → Type 0
-IsLine objects len d instr =
+abbrev pub IsInstr : NamedObjects → ℕ → Data → Instr → Type 0
+IsInstr objects len d instr =
     (text : List ℕ) × (d ≡ string text) × Spells objects len (words_of text) instr
 
-abbrev pub AreLines : NamedObjects → ℕ → Items → List Instr → Type 0
-AreLines objects len no_items [] = Unit {0}
-AreLines objects len (item d ds) (instr ∷ code) =
-    IsLine objects len d instr × AreLines objects len ds code
-AreLines objects len _ _ = ⊥
+abbrev pub AreInstrs : NamedObjects → ℕ → Items → List Instr → Type 0
+AreInstrs objects len no_items [] = Unit {0}
+AreInstrs objects len (item d ds) (instr ∷ code) =
+    IsInstr objects len d instr × AreInstrs objects len ds code
+AreInstrs objects len _ _ = ⊥
 
 -- the texts spell the script, which never goes on after its last instruction
 abbrev pub IsCode : NamedObjects → Items → List Instr → Type 0
-IsCode objects lines code = AreLines objects (items_len lines) lines code × (ends code ≡ true)
+IsCode objects values code = AreInstrs objects (items_len values) values code × (ends code ≡ true)
 
 pub record IsTask
     (objects : NamedObjects)
     (d : Data)
     (name : List ℕ)
     (script : TaskScript)
-    (lines : Items)
+    (values : Items)
     : Type 0 where
   pub keys : is_object_with task_keys d ≡ true
   pub name_at : get (codes "name") d ≡ Some (string name)
   pub priority_at : get (codes "priority") d ≡ Some (number (unsigned script.priority))
-  pub code_at : get (codes "code") d ≡ Some (array lines)
-  pub code : IsCode objects lines script.code
+  pub code_at : get (codes "code") d ≡ Some (array values)
+  pub code : IsCode objects values script.code
 
 abbrev pub AreTasks : NamedObjects → Items → Named TaskScript → Type 0
 AreTasks objects ds tasks =
-    SayNamed (λ d name task. (lines : Items) × IsTask objects d name task lines) ds tasks
+    SayNamed (λ d name task. (values : Items) × IsTask objects d name task values) ds tasks
 
 pub record Says (d : Data) (app : Application) (task_items : Items) : Type 0 where
   pub keys : is_object_with file_keys d ≡ true

@@ -2,19 +2,18 @@
 use Rattle.std.specs.Prelude.{ℕ, ◌≡◌, ◌-◌, ◌&&◌, ◌==◌, Bool, true, false, nat_lt, nat_le}
 use Rattle.std.specs.Prelude.{if◌then◌else◌, codes}
 use Rattle.std.specs.Prelude.{List, [], ◌∷◌, drop, length, slice_get, slice_index}
-use Rattle.std.specs.Prelude.{Option, Some, None, is_some, option_map, option_and_then, position}
+use Rattle.std.specs.Prelude.{Option, Some, None, IfSome, is_some, option_map, option_and_then, position}
 use Rattle.std.specs.Prelude.{Result, Ok, Err, ok_or}
-use Rattle.std.specs.Option.{option_or}
+use Rattle.std.specs.Option.{option_map_or, option_or}
 use Rattle.std.specs.Str.{bytes_eq}
 use Rattle.rd_text.specs.Words.{number_of, bytes_of, is_name, name_of}
 use Rattle.rd_app.specs.declared.objects.QueueShape.{QueueShape}
 use Rattle.rd_app.specs.declared.instr.Operand.{Operand}
 use Rattle.rd_app.specs.declared.instr.Operand.TheVariants as operand
 use Rattle.rd_app.specs.declared.instr.Instr.{Instr}
-use Rattle.rd_app.specs.declared.instr.Instr.TheVariants.{Local, Queue, QueueSet}
 use Rattle.rd_app.specs.declared.instr.QueueCall.{QueueCall}
 use Rattle.rd_app.specs.declared.instr.QueueCall.TheVariants as call
-use Rattle.rd_app.specs.Application.{max_delay, IsCallFor}
+use Rattle.rd_app.specs.Application.{max_delay, queue_call_of, IsCallFor}
 use Rattle.rd_app.specs.Objects.{NamedObjects, names_in, shape_at}
 use Rattle.rd_script.specs.declared.error.AppError.{AppError}
 use Rattle.rd_script.specs.declared.error.AppError.TheVariants as fault
@@ -138,11 +137,10 @@ is_call_for shape call.Spaces = true
 is_call_for shape (call.AddToSet queue_set) = true
 is_call_for shape (call.RemoveFromSet queue_set) = true
 
--- the same of an instruction, over these objects
+-- the same of an instruction, over these objects: any but a call of a queue is
 abbrev pub is_for_queue : NamedObjects → Instr → Bool
-is_for_queue objects (Local instr) = true
-is_for_queue objects (Queue queue call) = is_call_for (shape_at objects queue) call
-is_for_queue objects (QueueSet queue_set call) = true
+is_for_queue objects instr =
+    option_map_or (λ of. is_call_for (shape_at objects of.0) of.1) (queue_call_of instr) true
 
 -- the instruction that the words make, and else the fault of words that have the forms asked for
 abbrev pub instr_named : Row → Reading → Result Instr AppError
@@ -183,9 +181,8 @@ SpellsRow objects len (Written text operands make) words instr =
 
 -- A call of a queue is one for that queue: only a queue with room for one item is overwritten.
 abbrev pub IsForQueue : NamedObjects → Instr → Type 0
-IsForQueue objects (Local instr) = Unit {0}
-IsForQueue objects (Queue queue call) = IsCallFor (shape_at objects queue) call
-IsForQueue objects (QueueSet queue_set call) = Unit {0}
+IsForQueue objects instr =
+    IfSome (queue_call_of instr) (λ of. IsCallFor (shape_at objects of.0) of.1)
 
 -- The words are a keyword and its operands: over these objects, in a script of that length.
 abbrev pub Spells : NamedObjects → ℕ → List (List ℕ) → Instr → Type 0

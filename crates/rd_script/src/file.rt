@@ -4,11 +4,11 @@
 ghost use Rattle.std.specs.Prelude.{◌≡◌, ◌≤◌, ◌<◌, [], length, map};
 ghost use Rattle.std.specs.Prelude.{Ok, IfOk, IsOk, IsOkAnd, IsUtf8};
 ghost use Rattle.serde_json.specs.View.{view, items_view};
-ghost use Rattle.rd_app.specs.Application.{Application, IsApplication, is_final, is_local_final};
+ghost use Rattle.rd_app.specs.Application.{Application, IsApplication};
 ghost use Rattle.rd_script.specs.Draft.{app_draft_view, task_draft_view, task_drafts_view};
 ghost use Rattle.rd_script.specs.File.{GivesFaultFirst, GivesOrNoMemory, checked};
 ghost use Rattle.rd_script.specs.File.{are_texts, task_of, tasks_after};
-ghost use Rattle.rd_script.specs.File.{line_ends, instr_of_line, instrs_of, scripts_after};
+ghost use Rattle.rd_script.specs.File.{ends_script, instr_of_value, instrs_of, scripts_after};
 ghost use Rattle.rd_script.specs.File.{draft_of, with_scripts, app_of, app_of_text, app_of_bytes};
 ghost use Rattle.rd_script.specs.Objects.{drafts_view};
 ghost use Rattle.rd_script.specs.Says.{FileSays};
@@ -21,7 +21,7 @@ use crate::spelling::read_instr;
 use crate::values::{array, field, new_name, number, number_or, object_with};
 use arrayvec::ArrayVec;
 use rd_app::app::{App, MAX_CODE, MAX_CORES, MAX_PRIORITY, MAX_TASKS, Parts, Script};
-use rd_app::instr::{Instr, LocalInstr};
+use rd_app::instr::Instr;
 use rd_app::objects::Named;
 use rd_notify::entries::MAX_ENTRIES;
 use rd_text::names::Names;
@@ -32,7 +32,7 @@ use std::alloc::{AllocError, Global};
 #[derive(Clone, Copy, Debug, Default)]
 struct TaskDraft<'a> {
     priority: u8,
-    lines: &'a [Value],
+    code: &'a [Value],
 }
 
 fn are_texts(values: &[Value]) -> bool
@@ -57,11 +57,11 @@ fn read_task<'a>(value: &'a Value, names: &[&str]) -> Result<(&'a str, TaskDraft
     let code = field(value, "code")?;
     let name = new_name(name, names)?;
     let priority = number(priority, 0, u64::from(MAX_PRIORITY))? as u8;
-    let lines = array(code, 1, MAX_CODE)?;
-    if !are_texts(lines) {
+    let code = array(code, 1, MAX_CODE)?;
+    if !are_texts(code) {
         return Err(AppError::Shape);
     }
-    Ok((name, TaskDraft { priority, lines }))
+    Ok((name, TaskDraft { priority, code }))
 }
 
 fn read_tasks(values: &[Value]) -> Result<NamedArray<'_, TaskDraft<'_>, MAX_TASKS>, AppError>
@@ -112,54 +112,29 @@ fn read_draft(file: &Value) -> Result<AppDraft<'_>, AppError>
     })
 }
 
-fn is_local_final(instr: &LocalInstr) -> bool
-    ensures { result ≡ is_local_final instr.now }
-{
-    match instr {
-        LocalInstr::Jump { .. } | LocalInstr::End => true,
-        LocalInstr::Set { .. }
-        | LocalInstr::Add { .. }
-        | LocalInstr::Move { .. }
-        | LocalInstr::Data { .. }
-        | LocalInstr::Pack { .. }
-        | LocalInstr::Unpack { .. }
-        | LocalInstr::JumpZero { .. } => false,
-    }
-}
-
-// Does the script never go on at the next instruction?
-fn is_final(instr: &Instr) -> bool
-    ensures { result ≡ is_final instr.now }
-{
-    match instr {
-        Instr::Local { instr } => is_local_final(instr),
-        Instr::Queue { .. } | Instr::QueueSet { .. } => false,
-    }
-}
-
 // The instruction of a value, in a script of that length.
-fn read_line(line: &Value, objects: &ObjectDrafts<'_>, len: usize) -> Result<Instr, AppError>
-    ensures { result ≡ instr_of_line (drafts_view objects.now) len (view line.now) }
+fn read_value(value: &Value, objects: &ObjectDrafts<'_>, len: usize) -> Result<Instr, AppError>
+    ensures { result ≡ instr_of_value (drafts_view objects.now) len (view value.now) }
 {
-    let text = line.as_str().ok_or(AppError::Shape)?;
+    let text = value.as_str().ok_or(AppError::Shape)?;
     read_instr(text.as_bytes(), objects, len)
 }
 
 // Whether the instruction of a value is one after which the script never goes on.
-fn line_ends(line: &Value, objects: &ObjectDrafts<'_>, len: usize) -> Result<bool, AppError>
-    ensures { result ≡ line_ends (drafts_view objects.now) len (view line.now) }
+fn ends_script(value: &Value, objects: &ObjectDrafts<'_>, len: usize) -> Result<bool, AppError>
+    ensures { result ≡ ends_script (drafts_view objects.now) len (view value.now) }
 {
-    let instr = read_line(line, objects, len)?;
-    Ok(is_final(&instr))
+    let instr = read_value(value, objects, len)?;
+    Ok(instr.is_final())
 }
 
 // Finds the first fault of a script, and keeps nothing of it.
-fn check_code(lines: &[Value], objects: &ObjectDrafts<'_>) -> Result<(), AppError>
-    ensures { result ≡ checked (instrs_of (drafts_view objects.now) (items_view lines.now)) }
+fn check_code(values: &[Value], objects: &ObjectDrafts<'_>) -> Result<(), AppError>
+    ensures { result ≡ checked (instrs_of (drafts_view objects.now) (items_view values.now)) }
 {
     let mut ended = false;
-    for line in lines {
-        ended = line_ends(line, objects, lines.len())?;
+    for value in values {
+        ended = ends_script(value, objects, values.len())?;
     }
     if ended { Ok(()) } else { Err(AppError::Instr) }
 }
@@ -170,7 +145,7 @@ fn check_scripts(drafts: &[TaskDraft<'_>], objects: &ObjectDrafts<'_>) -> Result
         ≡ checked (scripts_after (drafts_view objects.now) [] (map task_draft_view drafts.now)) }
 {
     for draft in drafts {
-        check_code(draft.lines, objects)?;
+        check_code(draft.code, objects)?;
     }
     Ok(())
 }
@@ -178,16 +153,16 @@ fn check_scripts(drafts: &[TaskDraft<'_>], objects: &ObjectDrafts<'_>) -> Result
 // The instructions of a script without a fault.
 fn keep_code(
     alloc: Global,
-    lines: &[Value],
+    values: &[Value],
     objects: &ObjectDrafts<'_>,
 ) -> Result<Vec<Instr>, AllocError>
-    requires { IsOk (instrs_of (drafts_view objects.now) (items_view lines.now)) }
+    requires { IsOk (instrs_of (drafts_view objects.now) (items_view values.now)) }
     ensures { IfOk result
-        (λ code. instrs_of (drafts_view objects.now) (items_view lines.now) ≡ Ok code.items) }
+        (λ code. instrs_of (drafts_view objects.now) (items_view values.now) ≡ Ok code.items) }
 {
     let mut code = Vec::new(alloc);
-    for line in lines {
-        code.push(read_line(line, objects, lines.len()).unwrap())?;
+    for value in values {
+        code.push(read_value(value, objects, values.len()).unwrap())?;
     }
     Ok(code)
 }
@@ -205,7 +180,7 @@ fn keep_scripts(
 {
     let mut scripts = Vec::new(alloc);
     for draft in drafts {
-        let code = keep_code(alloc, draft.lines, objects)?;
+        let code = keep_code(alloc, draft.code, objects)?;
         scripts.push(Script::new(draft.priority, code))?;
     }
     Ok(scripts)

@@ -129,17 +129,15 @@ fn is_call_for(shape: &QueueShape, call: &QueueCall) -> bool
     }
 }
 
-// The same of an instruction, over these objects.
+// The same of an instruction, over these objects: any but a call of a queue is.
 fn is_for_queue(instr: &Instr, objects: &ObjectDrafts<'_>) -> bool
     ensures { result ≡ is_for_queue (drafts_view objects.now) instr.now }
 {
-    match instr {
-        Instr::Queue { queue, call } => {
-            let shape = objects.queues.things.get(*queue).copied();
-            is_call_for(&shape.unwrap_or_default(), call)
-        }
-        Instr::Local { .. } | Instr::QueueSet { .. } => true,
-    }
+    let Some((queue, call)) = instr.queue_call() else {
+        return true;
+    };
+    let shape = objects.queues.things.get(queue).copied();
+    is_call_for(&shape.unwrap_or_default(), &call)
 }
 
 /// The instruction of a text, in a script of that length over those objects. A fault in the form of

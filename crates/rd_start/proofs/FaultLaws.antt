@@ -11,13 +11,13 @@ use Rattle.std.specs.declared.io.Take.{Take}
 use Rattle.rd_app.specs.Application.{Application, IsApplication}
 use Rattle.rd_script.specs.Says.{FileSays}
 use Rattle.rd_start.specs.declared.fault.Fault.{Fault}
-use Rattle.rd_start.specs.declared.fault.Fault.TheVariants.{BadLine, CannotRead, App, NoMemory}
+use Rattle.rd_start.specs.declared.fault.Fault.TheVariants.{BadCommandLine, CannotRead, App, NoMemory}
 use Rattle.rd_start.specs.Requests.{AreAllOf, IsFaultOf, IsFaultOfKind, IsFile, IsOfAFile, IsOfARefusedFile, IsRefusalOf, IsSaidBy}
 
 -- A file that can't be opened or read says nothing, whatever its bytes are.
 pub unread_is_fault : (known : Option (List ℕ)) (kind : ErrorKind) (fault : Fault) → IsFaultOfKind kind fault → IsFaultOf known fault
-unread_is_fault known kind BadLine h =
-    let unread : BadLine ≡ CannotRead = h.unread (λ e. let none = h.no_memory e in cc) in
+unread_is_fault known kind BadCommandLine h =
+    let unread : BadCommandLine ≡ CannotRead = h.unread (λ e. let none = h.no_memory e in cc) in
     absurd cc
 unread_is_fault known kind CannotRead h = tt
 unread_is_fault known kind (App error) h =
@@ -27,7 +27,7 @@ unread_is_fault known kind NoMemory h = tt
 
 refusal_is_fault : (known : Option (List ℕ)) (bytes : List ℕ) (fault : Fault) → AreAllOf known bytes → IsFile bytes
     → IsRefusalOf bytes fault → IsFaultOf known fault
-refusal_is_fault known bytes BadLine all few h = h
+refusal_is_fault known bytes BadCommandLine all few h = h
 refusal_is_fault known bytes CannotRead all few h = tt
 refusal_is_fault known bytes (App error) all few h = (bytes, all, few, h)
 refusal_is_fault known bytes NoMemory all few h = tt
@@ -99,25 +99,25 @@ not_opened : {R : Type 0} (remaining : R → Option (List ℕ)) (opened : Result
 not_opened remaining (Ok reader) fault failed h = (remaining reader, h)
 not_opened remaining (Err e) fault failed h = (None, unread_is_fault None (error_kind e) fault failed)
 
-not_bad_line : (known : Option (List ℕ)) (fault : Fault) → IsFaultOf known fault → fault ≢ BadLine
-not_bad_line known BadLine h = absurd h
-not_bad_line known CannotRead h = λ e. cc
-not_bad_line known (App error) h = λ e. cc
-not_bad_line known NoMemory h = λ e. cc
+not_bad_command_line : (known : Option (List ℕ)) (fault : Fault) → IsFaultOf known fault → fault ≢ BadCommandLine
+not_bad_command_line known BadCommandLine h = absurd h
+not_bad_command_line known CannotRead h = λ e. cc
+not_bad_command_line known (App error) h = λ e. cc
+not_bad_command_line known NoMemory h = λ e. cc
 
 of_a_refused_file : (known : Option (List ℕ)) (fault : Fault) → IsFaultOf known fault → IsOfARefusedFile fault
-of_a_refused_file known BadLine h = tt
+of_a_refused_file known BadCommandLine h = tt
 of_a_refused_file known CannotRead h = tt
 of_a_refused_file known (App error) h = (h.0, h.2, h.3)
 of_a_refused_file known NoMemory h = tt
 
 pub opened_fault : {R : Type 0} (remaining : R → Option (List ℕ)) (opened : Result R Error) (result : Result Application Fault)
     → IfErr opened (λ error. IsErrAnd result (IsFaultOfKind (error_kind error)))
-    → IfOk opened (λ reader. IfErr result (IsFaultOf (remaining reader))) → IfErr result (λ fault. fault ≢ BadLine)
+    → IfOk opened (λ reader. IfErr result (IsFaultOf (remaining reader))) → IfErr result (λ fault. fault ≢ BadCommandLine)
 opened_fault remaining opened (Ok app) failed h = tt
 opened_fault remaining opened (Err fault) failed h =
     let why = not_opened remaining opened fault failed h in
-    not_bad_line why.0 fault why.1
+    not_bad_command_line why.0 fault why.1
 
 pub opened_refused : {R : Type 0} (remaining : R → Option (List ℕ)) (opened : Result R Error) (result : Result Application Fault)
     → IfErr opened (λ error. IsErrAnd result (IsFaultOfKind (error_kind error)))

@@ -13,7 +13,7 @@ use Rattle.clap.proofs.WalkLemmas.{first_value-rows, one_text-rows}
 use Rattle.rd_start.specs.Requests.{AreSettingsIn, HasMoves, IsAskedBy, IsFaultOfError, IsFaultOfWords, IsHelp, command_line}
 use Rattle.rd_start.specs.Requests.{faults_of, count_of, options_in, options_of, words_read}
 use Rattle.rd_start.specs.declared.fault.Fault.{Fault}
-use Rattle.rd_start.specs.declared.fault.Fault.TheVariants.{BadLine, CannotRead, App, NoMemory}
+use Rattle.rd_start.specs.declared.fault.Fault.TheVariants.{BadCommandLine, CannotRead, App, NoMemory}
 use Rattle.rd_start.specs.declared.options.Settings.{Settings}
 use Rattle.rd_start.specs.declared.options.Request.{Request}
 use Rattle.rd_start.specs.declared.options.Request.TheVariants.{Run, Help}
@@ -112,8 +112,8 @@ asked_for_help words error (Ok (Help text)) (inr among) asked help =
 pub fault_of_words : (words : List Text) (error : Refusal) (result : Result Request Fault)
     → (error ≡ kind.OutOfMemory) ⊎ IsAmong error (faults_of words) → IfErr result (IsFaultOfError error) → IfErr result (IsFaultOfWords words)
 fault_of_words words error (Ok request) h fault = tt
-fault_of_words words error (Err BadLine) (inl memory) fault = absurd (fault.0 memory)
-fault_of_words words error (Err BadLine) (inr among) fault = (error, among, fault.1)
+fault_of_words words error (Err BadCommandLine) (inl memory) fault = absurd (fault.0 memory)
+fault_of_words words error (Err BadCommandLine) (inr among) fault = (error, among, fault.1)
 fault_of_words words error (Err CannotRead) h fault = fault
 fault_of_words words error (Err (App of_file)) h fault = fault
 fault_of_words words error (Err NoMemory) h fault = tt

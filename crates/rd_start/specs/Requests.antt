@@ -16,7 +16,7 @@ use Rattle.rd_app.specs.Application.{Application, IsApplication}
 use Rattle.rd_script.specs.File.{app_of_bytes}
 use Rattle.rd_script.specs.Says.{FileSays}
 use Rattle.rd_start.specs.declared.fault.Fault.{Fault}
-use Rattle.rd_start.specs.declared.fault.Fault.TheVariants.{BadLine, CannotRead, App, NoMemory}
+use Rattle.rd_start.specs.declared.fault.Fault.TheVariants.{BadCommandLine, CannotRead, App, NoMemory}
 use Rattle.rd_start.specs.declared.options.Settings.{Settings}
 use Rattle.rd_start.specs.declared.options.Request.{Request}
 use Rattle.rd_start.specs.declared.options.Request.TheVariants.{Run, Help}
@@ -112,14 +112,14 @@ AreRefused words =
 
 -- Words are a bad line where they are refused, and else there is no memory.
 abbrev pub IsFaultOfWords : List Text → Fault → Type 0
-IsFaultOfWords words BadLine = AreRefused words
+IsFaultOfWords words BadCommandLine = AreRefused words
 IsFaultOfWords words CannotRead = ⊥
 IsFaultOfWords words (App error) = ⊥
 IsFaultOfWords words NoMemory = ⊤
 
 -- What an error of a parse comes to, where it doesn't come to help.
 abbrev pub IsFaultOfError : Refusal → Fault → Type 0
-IsFaultOfError error BadLine = (error ≢ kind.OutOfMemory) × (error ≢ kind.DisplayHelp)
+IsFaultOfError error BadCommandLine = (error ≢ kind.OutOfMemory) × (error ≢ kind.DisplayHelp)
 IsFaultOfError error CannotRead = ⊥
 IsFaultOfError error (App of_file) = ⊥
 IsFaultOfError error NoMemory = (error ≡ kind.OutOfMemory) ⊎ (error ≡ kind.DisplayHelp)
@@ -150,21 +150,21 @@ pub record IsFaultOfKind (kind : ErrorKind) (fault : Fault) : Type 0 where
 
 -- A file's application is refused with its first fault, but for want of memory.
 abbrev pub IsRefusalOf : List ℕ → Fault → Type 0
-IsRefusalOf bytes BadLine = ⊥
+IsRefusalOf bytes BadCommandLine = ⊥
 IsRefusalOf bytes CannotRead = ⊥
 IsRefusalOf bytes (App error) = error ≢ fault.Memory → app_of_bytes bytes ≡ Err error
 IsRefusalOf bytes NoMemory = ⊥
 
 -- Where a fault is a refusal, it is that of bytes that a file may have.
 abbrev pub IsOfARefusedFile : Fault → Type 0
-IsOfARefusedFile BadLine = ⊤
+IsOfARefusedFile BadCommandLine = ⊤
 IsOfARefusedFile CannotRead = ⊤
 IsOfARefusedFile (App error) = (bytes : List ℕ) × IsFile bytes × IsRefusalOf bytes (App error)
 IsOfARefusedFile NoMemory = ⊤
 
 -- Why a reader's bytes give no application: they can't be read, or they are refused.
 abbrev pub IsFaultOf : Option (List ℕ) → Fault → Type 0
-IsFaultOf known BadLine = ⊥
+IsFaultOf known BadCommandLine = ⊥
 IsFaultOf known CannotRead = ⊤
 IsFaultOf known (App error) =
     (bytes : List ℕ) × AreAllOf known bytes × IsFile bytes × IsRefusalOf bytes (App error)

@@ -3,7 +3,7 @@
 ghost use Rattle.std.specs.Prelude.{◌≡◌, ◌≢◌};
 ghost use Rattle.std.specs.IoError.{error_kind};
 ghost use Rattle.rd_start.specs.Requests.{IsFaultOfKind};
-ghost use Rattle.rd_start.specs.declared.fault.Fault.TheVariants.{BadLine, NoMemory};
+ghost use Rattle.rd_start.specs.declared.fault.Fault.TheVariants.{BadCommandLine, NoMemory};
 
 use rd_bytes::no_memory;
 use rd_script::error::AppError;
@@ -17,7 +17,7 @@ use thiserror::Error;
 pub enum Fault {
     /// The words are no command line.
     #[error("bad command line")]
-    BadLine,
+    BadCommandLine,
     /// The application file can't be read, or has more than 1,048,576 bytes.
     #[error("cannot read the file")]
     CannotRead,
@@ -61,11 +61,11 @@ impl From<io::Error> for Fault {
 impl Fault {
     /// The exit status: 2 for a bad command line, 1 for all else.
     pub fn status(&self) -> u8
-        ensures bad_line { self.now ≡ BadLine → result ≡ 2 }
-        ensures others { self.now ≢ BadLine → result ≡ 1 }
+        ensures bad_command_line { self.now ≡ BadCommandLine → result ≡ 2 }
+        ensures others { self.now ≢ BadCommandLine → result ≡ 1 }
     {
         match self {
-            Fault::BadLine => 2,
+            Fault::BadCommandLine => 2,
             Fault::CannotRead | Fault::App { .. } | Fault::NoMemory => 1,
         }
     }

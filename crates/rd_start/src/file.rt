@@ -8,7 +8,7 @@ ghost use Rattle.rd_app.specs.Application.{IsApplication};
 ghost use Rattle.rd_script.specs.Says.{FileSays};
 ghost use Rattle.rd_start.specs.Requests.{IsFile, IsOfAFile, IsFaultOf, IsFaultOfKind};
 ghost use Rattle.rd_start.specs.Requests.{IsOfARefusedFile, IsRefusalOf, IsSaidBy};
-ghost use Rattle.rd_start.specs.declared.fault.Fault.TheVariants.{BadLine, CannotRead, NoMemory};
+ghost use Rattle.rd_start.specs.declared.fault.Fault.TheVariants.{BadCommandLine, CannotRead, NoMemory};
 
 use crate::fault::Fault;
 use rd_app::app::App;
@@ -88,7 +88,7 @@ pub fn load<H: Files + AllocGlobal>(handle: &H, path: Option<&str>) -> Result<Ap
     // With a path, what a file says, or why it is refused.
     ensures app { IsSome path.entry → IfOk result IsOfAFile }
     ensures refused { IfErr result IsOfARefusedFile }
-    ensures fault { IfErr result (λ fault. fault ≢ BadLine) }
+    ensures fault { IfErr result (λ fault. fault ≢ BadCommandLine) }
 {
     let Some(path) = path else {
         return Ok(App::builtin(handle.alloc())?);

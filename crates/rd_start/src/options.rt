@@ -9,7 +9,7 @@ ghost use Rattle.rd_start.specs.Requests.{IsFaultOfError, IsFaultOfWords, IsHelp
 ghost use Rattle.rd_start.specs.Requests.{IsRequestWithinLimits, IsWithinLimits, app_option};
 ghost use Rattle.rd_start.specs.Requests.{command_line, moves_option, options_of, run_line};
 ghost use Rattle.rd_start.specs.Requests.{words_read};
-ghost use Rattle.rd_start.specs.declared.fault.Fault.TheVariants.{BadLine, NoMemory};
+ghost use Rattle.rd_start.specs.declared.fault.Fault.TheVariants.{BadCommandLine, NoMemory};
 ghost use Rattle.rd_start.specs.declared.options.Request.TheVariants.{Run};
 
 use crate::fault::Fault;
@@ -115,8 +115,8 @@ fn without_settings<'a>(alloc: Global, error: &clap::Error) -> Result<Request<'a
     ensures untold { kind_of error.now ≡ ErrorKind.DisplayHelp
         → IfErr result (λ fault. fault ≡ NoMemory) }
     ensures no_memory { kind_of error.now ≡ ErrorKind.OutOfMemory → result ≡ Err NoMemory }
-    ensures bad_line { kind_of error.now ≢ ErrorKind.DisplayHelp
-        → kind_of error.now ≢ ErrorKind.OutOfMemory → result ≡ Err BadLine }
+    ensures bad_command_line { kind_of error.now ≢ ErrorKind.DisplayHelp
+        → kind_of error.now ≢ ErrorKind.OutOfMemory → result ≡ Err BadCommandLine }
     ensures asked { IfOk result (λ _. kind_of error.now ≡ ErrorKind.DisplayHelp) }
     ensures fault { IfErr result (IsFaultOfError (kind_of error.now)) }
     ensures limits { IfOk result IsRequestWithinLimits }
@@ -126,13 +126,13 @@ fn without_settings<'a>(alloc: Global, error: &clap::Error) -> Result<Request<'a
             text: format!(in alloc; "{error}")?,
         }),
         ErrorKind::OutOfMemory => Err(Fault::NoMemory),
-        _ => Err(Fault::BadLine),
+        _ => Err(Fault::BadCommandLine),
     }
 }
 
 /// What the words of the command line ask for, without the program's own name: a session, by
 /// `run [--app FILE] [--moves COUNT]` or no words at all, with 1 to 1,000,000 moves, or help.
-/// `BadLine` where the words are no such line, `NoMemory` where there is no memory to read them or
+/// `BadCommandLine` where the words are no such line, `NoMemory` where there is no memory to read them or
 /// for the text of help.
 pub fn options<'a>(alloc: Global, words: &'a [String]) -> Result<Request<'a>, Fault>
     ensures limits { IfOk result IsRequestWithinLimits }
@@ -154,7 +154,7 @@ pub fn options<'a>(alloc: Global, words: &'a [String]) -> Result<Request<'a>, Fa
     }
     match command(alloc)?.try_get_matches_from(words) {
         Ok(matches) => {
-            let settings = settings_of(&matches).ok_or(Fault::BadLine)?;
+            let settings = settings_of(&matches).ok_or(Fault::BadCommandLine)?;
             Ok(Request::Run { settings })
         }
         Err(error) => without_settings(alloc, &error),

@@ -63,7 +63,7 @@ IsValid-boot app s limits sized e =
         entries = All-replicate (λ (task : TaskSnapshot). length task.entries ≡ app.entries) n (fresh_task app.entries) (length-replicate app.entries idle_entry);
         objects = AreShaped-new app;
       };
-      placed_once = λ task h.
+      seated_once = λ task h.
           omega (
             arith,
             kept.seats task,

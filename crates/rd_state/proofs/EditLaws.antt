@@ -62,7 +62,7 @@ CanUndo-act s s' changes changes' start change sized fits within e f can =
       subst (CanUndo (applied s change)) (sym more) pushed,
     )
 
--- the same, seen by what `act` answers
+-- the same, seen by what `act` returns
 pub Reaches-from_act : {T E : Type 0} (r : Result T E) (old : Edit) (s s' : Snapshot) (changes changes' : List Change) (start : ℕ) (change : Change)
     → edit_of s changes start ≡ old → IsSized s → Fits old.now change → start ≤ length changes
     → OnOk r (s' ≡ applied s change) → OnOk r (changes' ≡ changes ++ inverse_of s change ∷ [])

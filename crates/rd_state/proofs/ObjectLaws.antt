@@ -13,13 +13,14 @@ use Rattle.rd_queue.specs.QueueSetChanges.{queue_set_applied, queue_set_inverse_
 use Rattle.rd_queue.specs.QueueSetSnapshot.{QueueSetSnapshot}
 use Rattle.rd_queue.proofs.Offered.{queue_change_is_undone, queue_set_change_is_undone}
 use Rattle.rd_app.specs.QueueSetShapeView.{QueueSetShapeView}
+use Rattle.rd_app.specs.declared.objects.QueueShape.{QueueShape}
 use Rattle.rd_app.specs.Application.{Application, IsApplication}
 use Rattle.rd_app.specs.Objects.{IsQueueShape, IsQueueSetShape, queue_set_at_boot, shape_at}
 use Rattle.rd_wait.proofs.Offered.{replaced_back}
 use Rattle.rd_state.specs.declared.objects.ObjectChange.{ObjectChange}
 use Rattle.rd_state.specs.declared.objects.ObjectChange.TheVariants.{Queue, QueueSet}
 use Rattle.rd_state.specs.Objects.{ObjectsSnapshot, no_queue, no_queue_set, numbers_in, queue_in, queue_set_in}
-use Rattle.rd_state.specs.Objects.{AreShaped, AreSizedObjects, IsQueueFor, IsQueueSetFor, first_queues, new_objects, new_queue, new_queue_set, capacity_of, shape_of}
+use Rattle.rd_state.specs.Objects.{AreShaped, AreSizedObjects, Shapes, shapes_in, shapes_named, IsQueueFor, IsQueueSetFor, first_queues, new_objects, new_queue, new_queue_set, capacity_of, shape_of}
 use Rattle.rd_state.specs.Objects.{object_applied, object_inverse_of, ObjectFits}
 
 -- Each object has its sizes.
@@ -106,7 +107,7 @@ IsQueueFor-new_queue app queue task_count queue_set_count limits there same_task
       record {
         room = omega arith;
         items = All-nil (λ (item : List ℕ). length item ≡ (shape_at app.objects queue).item_size);
-        some_room = shape.0;
+        some_capacity = shape.0;
         few = shape.1;
         some_bytes = shape.2;
         small = shape.3;
@@ -137,7 +138,7 @@ IsQueueSetFor-new_queue_set app n queue_count task_count shape same limits = (
   record {
     room = omega arith;
     handles = All-nil (λ queue. queue < queue_count);
-    some_room = limits.some;
+    some_capacity = limits.some;
     few = limits.few;
     waiting = (All-nil (λ task. task < n), omega arith);
   },
@@ -175,9 +176,21 @@ capacity_of-new_queue_sets : (task_count queue_count : ℕ) (shapes : List Queue
 capacity_of-new_queue_sets task_count queue_count [] = refl
 capacity_of-new_queue_sets task_count queue_count (shape ∷ shapes) = ap (λ rest. shape.capacity ∷ rest) (capacity_of-new_queue_sets task_count queue_count shapes)
 
+-- There are as many as the application names.
+pub queue_count_shaped : (app : Application) (o : ObjectsSnapshot) → AreShaped app o → length o.queues ≡ length app.objects.queues.things
+queue_count_shaped app o shaped = sym (length-map o.queues shape_of) ∙ ap (λ (shapes : Shapes). length shapes.queues) shaped
+
+pub queue_set_count_shaped : (app : Application) (o : ObjectsSnapshot) → AreShaped app o → length o.queue_sets ≡ length app.objects.queue_sets.things
+queue_set_count_shaped app o shaped =
+    sym (length-map o.queue_sets capacity_of) ∙ ap (λ (shapes : Shapes). length shapes.queue_sets) shaped
+    ∙ length-map app.objects.queue_sets.things (λ (queue_set : QueueSetShapeView). queue_set.capacity)
+
 -- The objects of boot have the sizes that the application gives them.
 pub AreShaped-new : (app : Application) → AreShaped app (new_objects app)
-AreShaped-new app = record {
-  queues = shape_of-first_queues app (length app.objects.queues.things) (omega arith) ∙ take_all (length app.objects.queues.things) app.objects.queues.things (omega arith);
-  queue_sets = capacity_of-new_queue_sets (length app.tasks.things) (length app.objects.queues.things) app.objects.queue_sets.things;
-}
+AreShaped-new app =
+    let made = shapes_in (new_objects app) in
+    let asked = shapes_named app.objects in
+    let queues = shape_of-first_queues app (length asked.queues) (omega arith) ∙ take_all (length asked.queues) asked.queues (omega arith) in
+    let queue_sets = capacity_of-new_queue_sets (length app.tasks.things) (length asked.queues) app.objects.queue_sets.things in
+    ap (λ (qs : List QueueShape). record made { queues = qs }) queues
+    ∙ ap (λ (rooms : List ℕ). record { queues = asked.queues; queue_sets = rooms }) queue_sets

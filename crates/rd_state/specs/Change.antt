@@ -10,7 +10,7 @@ use Rattle.rd_state.specs.declared.task_change.TaskChange.TheVariants.{SetData}
 use Rattle.rd_state.specs.Objects.{Numbers, object_applied, object_inverse_of}
 use Rattle.rd_state.specs.Objects.{object_saved_bytes, ObjectFits}
 use Rattle.rd_state.specs.Sizes.{IsSizedPhase}
-use Rattle.rd_state.specs.Snapshot.{Snapshot, core_at, numbers_of, task_at, with_task}
+use Rattle.rd_state.specs.Snapshot.{Snapshot, core_at, numbers_of, task_at, with_objects, with_task}
 use Rattle.rd_state.specs.TaskChanges.{task_applied, task_inverse_of, task_saved_bytes, TaskFits}
 
 -- the state after a change
@@ -21,7 +21,7 @@ applied s (SetCore core task) = record s { cores = slice_set s.cores core task }
 applied s (InsReady index task) = record s { ready = insert s.ready index task }
 applied s (DelReady index) = record s { ready = remove s.ready index }
 applied s (Task task change) = with_task s task (task_applied (task_at s task) change)
-applied s (Object change) = record s { objects = object_applied s.objects change }
+applied s (Object change) = with_objects s (object_applied s.objects change)
 
 -- the change that undoes a change made at this state
 abbrev pub inverse_of : Snapshot → Change → Change

@@ -93,11 +93,25 @@ shape_of queue = record { capacity = queue.capacity; item_size = queue.item_size
 abbrev pub capacity_of : QueueSetSnapshot → ℕ
 capacity_of queue_set = queue_set.capacity
 
+-- the sizes that an object keeps for good
+pub record Shapes : Type 0 where
+  pub queues : List QueueShape
+  pub queue_sets : List ℕ
+
+abbrev pub shapes_in : ObjectsSnapshot → Shapes
+shapes_in o =
+    record { queues = map shape_of o.queues; queue_sets = map capacity_of o.queue_sets }
+
+-- those that an application asks for
+abbrev pub shapes_named : NamedObjects → Shapes
+shapes_named o = record {
+  queues = o.queues.things;
+  queue_sets = map (λ queue_set. queue_set.capacity) o.queue_sets.things;
+}
+
 -- The objects have the sizes that the application gives them.
-pub record AreShaped (app : Application) (o : ObjectsSnapshot) : Type 0 where
-  pub queues : map shape_of o.queues ≡ app.objects.queues.things
-  pub queue_sets : map capacity_of o.queue_sets
-      ≡ map (λ queue_set. queue_set.capacity) app.objects.queue_sets.things
+abbrev pub AreShaped : Application → ObjectsSnapshot → Type 0
+AreShaped app o = shapes_in o ≡ shapes_named app.objects
 
 -- a queue with nothing in it, at which every task can wait, in the set that has it as a member
 abbrev pub new_queue : Application → ℕ → QueueSnapshot

@@ -60,16 +60,19 @@ queue_set_at s queue_set = queue_set_in s.objects queue_set
 abbrev pub items_at : Snapshot → ℕ → List (List ℕ)
 items_at s queue = (queue_at s queue).items
 
--- the state with another task, another queue and another set of that number
+-- the state with other objects, and with another task, another queue and another set of that number
+abbrev pub with_objects : Snapshot → ObjectsSnapshot → Snapshot
+with_objects s now = record s { objects = now }
+
 abbrev pub with_task : Snapshot → ℕ → TaskSnapshot → Snapshot
 with_task s task now = record s { tasks = slice_set s.tasks task now }
 
 abbrev pub with_queue : Snapshot → ℕ → QueueSnapshot → Snapshot
-with_queue s queue now = record s { objects = objects_with_queue s.objects queue now }
+with_queue s queue now = with_objects s (objects_with_queue s.objects queue now)
 
 abbrev pub with_queue_set : Snapshot → ℕ → QueueSetSnapshot → Snapshot
 with_queue_set s queue_set now =
-    record s { objects = objects_with_queue_set s.objects queue_set now }
+    with_objects s (objects_with_queue_set s.objects queue_set now)
 
 -- the task on a core
 abbrev pub core_at : Snapshot → ℕ → Option ℕ

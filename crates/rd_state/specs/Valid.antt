@@ -44,8 +44,8 @@ abbrev pub seats_to_run : Phase → ℕ
 seats_to_run phase = if can_run phase then 1 else 0
 
 -- A task that can run is on one core or once in the ready list, not both; any other is in neither.
-abbrev pub PlacedOnce : Snapshot → Type 0
-PlacedOnce s =
+abbrev pub SeatedOnce : Snapshot → Type 0
+SeatedOnce s =
     (task : ℕ) → task < length s.tasks
     → times_in_list task s.ready + times_on_cores task s.cores ≡ seats_to_run (task_at s task).phase
 
@@ -113,7 +113,7 @@ IsNotWaiting entry = entry.state ≢ Waiting
 
 pub record IsValid (app : Application) (s : Snapshot) : Type 0 where
   pub in_limits : InLimits app s
-  pub placed_once : PlacedOnce s
+  pub seated_once : SeatedOnce s
   pub waiting_lists : ListsInOrder (priorities_of app) s
   pub places : WaitsAtPlaces s
   pub calls : PhasesFitScripts app s

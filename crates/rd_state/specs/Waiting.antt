@@ -8,7 +8,7 @@ use Rattle.rd_state.specs.declared.phase.Place.{Place}
 use Rattle.rd_state.specs.declared.phase.Place.TheVariants.{Queue, QueueSet}
 use Rattle.rd_state.specs.Objects.{Numbers, ObjectsSnapshot, objects_with_queue}
 use Rattle.rd_state.specs.Objects.{objects_with_queue_set, queue_in, queue_set_in}
-use Rattle.rd_state.specs.Snapshot.{Snapshot, numbers_of}
+use Rattle.rd_state.specs.Snapshot.{Snapshot, numbers_of, with_objects}
 
 -- The place is there, where there are so many objects.
 abbrev pub IsPlace : Numbers → Place → Type 0
@@ -59,4 +59,4 @@ objects_then o (QueueSet queue_set) tasks =
 
 -- the state with these tasks at a place, and none of those that waited there
 abbrev pub with_waiting_at : Snapshot → Place → List ℕ → Snapshot
-with_waiting_at s place tasks = record s { objects = objects_then s.objects place tasks }
+with_waiting_at s place tasks = with_objects s (objects_then s.objects place tasks)

@@ -53,7 +53,7 @@ impl ObjectChange {
 
 /// The objects of the target, each kind by number.
 #[derive(Debug, Drop)]
-pub(crate) struct Objects {
+pub struct Objects {
     queues: Vec<Queue>,
     queue_sets: Vec<QueueSet>,
 }
@@ -186,14 +186,14 @@ impl Objects {
     }
 
     /// How many queues there are.
-    pub(crate) fn queue_count(&self) -> usize
+    pub fn queue_count(&self) -> usize
         ensures { result ≡ length self.now.queues }
     {
         self.queues.len()
     }
 
     /// A queue.
-    pub(crate) fn queue(&self, queue: usize) -> &Queue
+    pub fn queue(&self, queue: usize) -> &Queue
         requires { queue < length self.now.queues }
         ensures { result.now ≡ queue_in self.now queue }
     {
@@ -201,7 +201,7 @@ impl Objects {
     }
 
     /// A queue set.
-    pub(crate) fn queue_set(&self, queue_set: usize) -> &QueueSet
+    pub fn queue_set(&self, queue_set: usize) -> &QueueSet
         requires { queue_set < length self.now.queue_sets }
         ensures { result.now ≡ queue_set_in self.now queue_set }
     {

@@ -17,11 +17,11 @@ pub enum Phase {
     Wait { place: Place, deadline: Option<u64> },
     /// It has done `end`.
     Ended,
-    /// Its call failed in a way that no answer tells: it stays at the call, and never runs again.
+    /// Its call failed in a way that no value tells: it stays at the call, and never runs again.
     Failed { cause: Cause },
 }
 
-/// Why a call failed in a way that no answer tells.
+/// Why a call failed in a way that no value tells.
 #[derive(Clone, Copy, Debug, PartialEq, Eq)]
 pub enum Cause {
     /// An item was to be put into a member of a set that has no room for its handle.

@@ -3,7 +3,7 @@
 ghost use Rattle.std.specs.Prelude.{◌≡◌, ◌<◌, ◌≤◌, ◌↔◌, length, All, IfOk, IsOk, IsTrue};
 ghost use Rattle.rd_state.specs.Boot.{before_scheduling};
 ghost use Rattle.rd_state.specs.Change.{applied, inverse_of, saved_bytes, Fits};
-ghost use Rattle.rd_state.specs.Objects.{IsQueueFor, IsQueueSetFor};
+ghost use Rattle.rd_state.specs.Objects.{AreSizedObjects, IsQueueFor, IsQueueSetFor};
 ghost use Rattle.rd_state.specs.Settled.{weakest_of, rank_of};
 ghost use Rattle.rd_state.specs.Sizes.{IsSized, IsSizedPhase, IsTaskOrIdle};
 ghost use Rattle.rd_state.specs.Snapshot.{hollow_state, numbers_of, task_at, queue_at};
@@ -202,6 +202,15 @@ impl State {
     {
         self.sizes();
         self.task(task).phase()
+    }
+
+    /// The objects, each kind by number.
+    pub fn objects(&self) -> &Objects
+        ensures objects { result.now ≡ self.now.objects }
+        ensures sized { AreSizedObjects (length self.now.tasks) result.now }
+    {
+        self.sizes();
+        &self.objects
     }
 
     /// How many queues there are.

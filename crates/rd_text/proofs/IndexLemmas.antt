@@ -26,11 +26,11 @@ texts_from : (names : List (Bor (List ℕ))) (i : ℕ) (d : Bor (List ℕ)) → 
     → texts (drop i names) ≡ (get_or names i d).now ∷ texts (drop (i + 1) names)
 texts_from names i d lt = rw (drop-cons names i d, add-one i) refl
 
-pub insert_step : (keys : List (String Global)) (names : List (Bor (List ℕ))) (i : ℕ) (d : Bor (List ℕ)) (s : String Global)
+pub insert_next : (keys : List (String Global)) (names : List (Bor (List ℕ))) (i : ℕ) (d : Bor (List ℕ)) (s : String Global)
     → are_distinct (texts names) ≡ true → map string_bytes keys ++ texts (drop i names) ≡ texts names → i < length names
     → string_bytes s ≡ (get_or names i d).now
     → map string_bytes (insert_key string_eq keys s) ++ texts (drop (i + 1) names) ≡ texts names
-insert_step keys names i d s distinct so_far lt is =
+insert_next keys names i d s distinct so_far lt is =
     let name = (get_or names i d).now in
     let rest = texts (drop (i + 1) names) in
     let here : map string_bytes keys ++ name ∷ rest ≡ texts names =

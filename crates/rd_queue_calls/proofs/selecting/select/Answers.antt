@@ -1,8 +1,7 @@
 -- The goals of `select` that the check left open.
 use Rattle.std.proofs.Common.{◌<◌, length, ap, arith}
-use Rattle.std.proofs.lemmas.List.{length-map}
 use Rattle.rd_state.specs.Snapshot.{Snapshot}
-use Rattle.rd_state.specs.Objects.{shape_of}
+use Rattle.rd_state.proofs.Offered.{queue_count_shaped}
 use Rattle.rd_queue_calls.proofs.selecting.select.Goals as goal
 
 pub overflow_cast-result : goal.overflow_cast-result
@@ -14,8 +13,7 @@ overflow_cast-result c =
       c.first_handle-queue.ensures.queue,
       c.queue_set-2.ensures.sized.2,
       ap (λ (t : Snapshot). length t.objects.queues) c.state-2.ensures.state,
-      ap length c.requires.caller.valid.in_limits.objects.queues,
-      length-map s.objects.queues shape_of,
+      queue_count_shaped c.args.app.now s.objects c.requires.caller.valid.in_limits.objects,
       c.limits.ensures.objects.few_queues,
     ) in
     omega (arith, few)
@@ -29,8 +27,7 @@ overflow_add-result c =
       c.first_handle-queue.ensures.queue,
       c.queue_set-2.ensures.sized.2,
       ap (λ (t : Snapshot). length t.objects.queues) c.state-2.ensures.state,
-      ap length c.requires.caller.valid.in_limits.objects.queues,
-      length-map s.objects.queues shape_of,
+      queue_count_shaped c.args.app.now s.objects c.requires.caller.valid.in_limits.objects,
       c.limits.ensures.objects.few_queues,
     ) in
     omega (arith, few)

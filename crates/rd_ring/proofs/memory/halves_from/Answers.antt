@@ -6,5 +6,5 @@ use Rattle.rd_ring.proofs.memory.halves_from.Goals as goal
 pub returns : goal.returns
 returns c =
     let first = c.min-first.result in
-    let size : c.args.place + first - c.args.place ≡ first = omega arith in
-    rw size (take-seen_from c.args.memory.now c.args.place c.args.count first c.requires.place c.requires.count c.min-first.ensures)
+    let size : c.args.offset + first - c.args.offset ≡ first = omega arith in
+    rw size (take-seen_from c.args.memory.now c.args.offset c.args.count first c.requires.offset c.requires.count c.min-first.ensures)

@@ -8,7 +8,7 @@ pub returns-clause-written : goal.returns-clause-written
 returns-clause-written c =
     let bytes = c.args.bytes.now in
     let first = c.min-first.result in
-    let size : c.args.place + first - c.args.place ≡ first = omega arith in
+    let size : c.args.offset + first - c.args.offset ≡ first = omega arith in
     let one : c.copy_from_slice.new.self ≡ take first bytes = c.copy_from_slice.ensures.after in
     let two : c.copy_from_slice-2.new.self ≡ drop first bytes = c.copy_from_slice-2.ensures.after ∙ take_rest bytes first in
-    rw (size, one, two) (written_in_pieces c.args.memory.now bytes c.args.place first c.requires.place c.requires.count c.min-first.ensures)
+    rw (size, one, two) (written_in_pieces c.args.memory.now bytes c.args.offset first c.requires.offset c.requires.count c.min-first.ensures)

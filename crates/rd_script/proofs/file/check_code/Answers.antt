@@ -5,6 +5,6 @@ use Rattle.rd_script.proofs.FileLemmas.{items_count}
 use Rattle.rd_script.proofs.CheckLaws.{check_is}
 use Rattle.rd_script.proofs.file.check_code.Goals as goal
 
-pub loop-line-init : goal.loop-line-init
-loop-line-init c =
-    rw (← items_count c.args.lines.now) (check_is (drafts_view c.args.objects.now) (items_view c.args.lines.now))
+pub loop-value-init : goal.loop-value-init
+loop-value-init c =
+    rw (← items_count c.args.values.now) (check_is (drafts_view c.args.objects.now) (items_view c.args.values.now))

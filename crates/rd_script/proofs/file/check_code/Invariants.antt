@@ -3,11 +3,11 @@ use Rattle.std.proofs.Common.{◌≡◌, drop, length}
 use Rattle.serde_json.specs.View.{items_view}
 use Rattle.rd_script.specs.Objects.{drafts_view}
 use Rattle.rd_script.specs.File.{checked, instrs_of}
-use Rattle.rd_script.proofs.CheckLaws.{check_lines}
+use Rattle.rd_script.proofs.CheckLaws.{check_values}
 use Rattle.rd_script.proofs.file.check_code.Given as goal
 
 -- the values that are left decide
-abbrev pub invariant-loop-line : goal.invariant-loop-line
-invariant-loop-line l =
-    check_lines (drafts_view l.objects) (length l.lines) l.ended (items_view (drop l.line-index l.lines))
-    ≡ checked (instrs_of (drafts_view l.objects) (items_view l.lines))
+abbrev pub invariant-loop-value : goal.invariant-loop-value
+invariant-loop-value l =
+    check_values (drafts_view l.objects) (length l.values) l.ended (items_view (drop l.value-index l.values))
+    ≡ checked (instrs_of (drafts_view l.objects) (items_view l.values))

@@ -2,12 +2,12 @@
 use Rattle.std.proofs.Common.{◌≡◌, [], drop, length}
 use Rattle.serde_json.specs.View.{items_view}
 use Rattle.rd_script.specs.Objects.{drafts_view}
-use Rattle.rd_script.specs.File.{lines_after}
+use Rattle.rd_script.specs.File.{instrs_after}
 use Rattle.rd_script.proofs.file.keep_code.Given as goal
 
 -- the instructions so far, and those of the values that are left
-abbrev pub invariant-loop-line : goal.invariant-loop-line
-invariant-loop-line l =
+abbrev pub invariant-loop-value : goal.invariant-loop-value
+invariant-loop-value l =
     let objects = drafts_view l.objects in
-    lines_after objects (length l.lines) l.code.items (items_view (drop l.line-index l.lines))
-    ≡ lines_after objects (length l.lines) [] (items_view l.lines)
+    instrs_after objects (length l.values) l.code.items (items_view (drop l.value-index l.values))
+    ≡ instrs_after objects (length l.values) [] (items_view l.values)

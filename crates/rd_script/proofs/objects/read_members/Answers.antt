@@ -7,12 +7,12 @@ use Rattle.rd_app.specs.Objects.{members_of}
 use Rattle.rd_script.specs.Objects.{member_of, members_after}
 use Rattle.rd_text.specs.Words.{texts}
 use Rattle.rd_script.proofs.FileLemmas.{items_from}
-use Rattle.rd_script.proofs.QueueSetLaws.{none_placed, placed_push}
+use Rattle.rd_script.proofs.QueueSetLaws.{none_yet, once_push}
 use Rattle.rd_script.proofs.Steps.{then_is}
 use Rattle.rd_script.proofs.objects.read_members.Goals as goal
 
 pub loop-value-init : goal.loop-value-init
-loop-value-init c = rw (c.new-members.ensures) (record { so_far = search rules; placed = none_placed (length (texts c.args.queues.now)) })
+loop-value-init c = rw (c.new-members.ensures) (record { so_far = search rules; placed = none_yet (length (texts c.args.queues.now)) })
 
 pub push-requires : goal.push-requires
 push-requires c =
@@ -22,7 +22,7 @@ push-requires c =
     let queue = c.in_ok-read_member.field-0 in
     let value = view c.value-item.result in
     let read : member_of queues (queue_sets ++ members) value ≡ Ok queue = rw (← c.as_slice.ensures.value) (sym c.read_member.ensures ∙ c.in_ok-read_member.was) in
-    let room = (placed_push queues queue_sets members value queue read c.loop-value.invariant.placed).1 in
+    let room = (once_push queues queue_sets members value queue read c.loop-value.invariant.placed).1 in
     (omega arith, omega (arith, room, c.requires, length-map c.args.queues.now (λ name. name.now)))
 
 pub loop-value-preserved : goal.loop-value-preserved
@@ -33,7 +33,7 @@ loop-value-preserved c =
     let queue = c.in_ok-read_member.field-0 in
     let value = view c.value-item.result in
     let read : member_of queues (queue_sets ++ members) value ≡ Ok queue = rw (← c.as_slice.ensures.value) (sym c.read_member.ensures ∙ c.in_ok-read_member.was) in
-    let placed = (placed_push queues queue_sets members value queue read c.loop-value.invariant.placed).0 in
+    let placed = (once_push queues queue_sets members value queue read c.loop-value.invariant.placed).0 in
     let index = c.loop-value.value-index in
     let left = items_from c.args.values.now index c.value-item.result c.loop-value-test.true c.value-item.is in
     let rest = items_view (drop (index + 1) c.args.values.now) in

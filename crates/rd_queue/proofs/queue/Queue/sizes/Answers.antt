@@ -14,7 +14,7 @@ returns c =
     subst (λ (q : QueueSnapshot). IsSizedQueue q) c.self.view_is (record {
       room = omega (arith, length-items_in queue.item_size bytes, kept.0.room);
       items = All-first_items queue.item_size (count_in queue.item_size bytes) bytes kept.0.whole;
-      some_room = kept.1;
+      some_capacity = kept.1;
       few = kept.2;
       some_bytes = kept.0.pieces.some_bytes;
       small = kept.3;

@@ -1,6 +1,6 @@
 -- The goals of `ByteRing::drop_front` that the check left open.
 use Rattle.std.proofs.Common.{◌≡◌, ◌∙◌, ℕ, ◌-◌, ◌≤◌, length, ap, subst, arith}
-use Rattle.rd_ring.specs.Memory.{place_after}
+use Rattle.rd_ring.specs.Memory.{offset_after}
 use Rattle.rd_ring.specs.RingView.{RingView}
 use Rattle.rd_ring.specs.Rings.{without_front}
 use Rattle.rd_ring.proofs.RingLaws.{ring_in, length-bytes, ring_dropped_front}
@@ -14,7 +14,7 @@ returns c =
     let some : c.args.count ≤ ring.len =
     omega (arith, c.requires, ap (λ (v : RingView). length v.bytes) c.self.view_is, length-bytes memory ring.start ring.len kept.0) in
     let capacity : c.len.result ≡ length memory = omega arith in
-    let moved : c.place_after-self-inside.result ≡ place_after (length memory) ring.start c.args.count =
-    c.place_after-self-inside.ensures.after ∙ ap (λ (n : ℕ). place_after n ring.start c.args.count) capacity in
-    rw moved (subst (λ (v : RingView). ring_in memory (place_after (length memory) ring.start c.args.count) (ring.len - c.args.count) ≡ without_front v c.args.count)
+    let moved : c.offset_after-self-inside.result ≡ offset_after (length memory) ring.start c.args.count =
+    c.offset_after-self-inside.ensures.after ∙ ap (λ (n : ℕ). offset_after n ring.start c.args.count) capacity in
+    rw moved (subst (λ (v : RingView). ring_in memory (offset_after (length memory) ring.start c.args.count) (ring.len - c.args.count) ≡ without_front v c.args.count)
     c.self.view_is (ring_dropped_front memory ring.start ring.len c.args.count kept.1 kept.0 some))

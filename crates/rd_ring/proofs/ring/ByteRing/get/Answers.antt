@@ -1,6 +1,6 @@
 -- The goals of `ByteRing::get` that the check left open.
 use Rattle.std.proofs.Common.{◌≡◌, ◌∙◌, ℕ, ◌<◌, length, ap, arith}
-use Rattle.rd_ring.specs.Memory.{place_after}
+use Rattle.rd_ring.specs.Memory.{offset_after}
 use Rattle.rd_ring.specs.RingView.{RingView}
 use Rattle.std.proofs.lemmas.List.{get_or_default}
 use Rattle.std.proofs.Common.{get_or}
@@ -14,10 +14,10 @@ returns c =
     let kept = c.self.invariant in
     let length_old = length-bytes memory ring.start ring.len kept.0 in
     let capacity : c.len.result ≡ length memory = omega arith in
-    let place : c.place_after-place.result ≡ place_after (length memory) ring.start c.args.at =
-    c.place_after-place.ensures.after ∙ ap (λ (n : ℕ). place_after n ring.start c.args.at) capacity in
+    let offset : c.offset_after-offset.result ≡ offset_after (length memory) ring.start c.args.at =
+    c.offset_after-offset.ensures.after ∙ ap (λ (n : ℕ). offset_after n ring.start c.args.at) capacity in
     let there : c.args.at < ring.len = omega (arith, c.requires, ap (λ (v : RingView). length v.bytes) c.self.view_is, length_old) in
-    let in_memory : c.place_after-place.result < length memory = omega (arith, c.place_after-place.ensures.place, capacity) in
-    c.index.ensures ∙ get_or_default memory c.place_after-place.result c.index.result.now 0 in_memory
-    ∙ ap (λ (p : ℕ). get_or memory p 0) place ∙ byte_at memory ring.start c.args.at ring.len 0 kept.1 there kept.0
+    let in_memory : c.offset_after-offset.result < length memory = omega (arith, c.offset_after-offset.ensures.offset, capacity) in
+    c.index.ensures ∙ get_or_default memory c.offset_after-offset.result c.index.result.now 0 in_memory
+    ∙ ap (λ (p : ℕ). get_or memory p 0) offset ∙ byte_at memory ring.start c.args.at ring.len 0 kept.1 there kept.0
     ∙ ap (λ (v : RingView). get_or v.bytes c.args.at 0) c.self.view_is

@@ -1,6 +1,6 @@
 -- The goals of `ByteRing::push_front` that the check left open.
 use Rattle.std.proofs.Common.{◌≡◌, ◌∙◌, ℕ, ◌+◌, ◌≤◌, length, ap, subst, sym, arith}
-use Rattle.rd_ring.specs.Memory.{place_before}
+use Rattle.rd_ring.specs.Memory.{offset_before}
 use Rattle.rd_ring.specs.RingView.{RingView}
 use Rattle.std.proofs.lemmas.List.{with_items_is}
 use Rattle.rd_ring.specs.Rings.{with_front}
@@ -18,10 +18,10 @@ returns c =
     let after = c.write_from.new.memory in
     let same_length : length after ≡ length memory = c.write_from.ensures.length ∙ ap length c.as_mut_slice.ensures.value in
     let items = with_items_is ring.memory after (omega (arith, same_length, capacity, c.len.ensures)) in
-    let front : c.place_before-start.result ≡ place_before (length memory) ring.start (length bytes) =
-    c.place_before-start.ensures.before ∙ ap (λ (n : ℕ). place_before n ring.start (length bytes)) capacity in
+    let front : c.offset_before-start.result ≡ offset_before (length memory) ring.start (length bytes) =
+    c.offset_before-start.ensures.before ∙ ap (λ (n : ℕ). offset_before n ring.start (length bytes)) capacity in
     let room = subst (λ (v : RingView). length v.bytes + length bytes ≤ v.capacity) (sym c.self.view_is) c.requires in
     let fits : ring.len + length bytes ≤ length memory = omega (arith, room, length_old) in
-    let written = written_there memory c.as_mut_slice.result.now after bytes c.place_before-start.result _ front c.as_mut_slice.ensures.value c.write_from.ensures.written in
-    rw (items, front) (subst (λ (v : RingView). ring_in after (place_before (length memory) ring.start (length bytes)) (ring.len + length bytes) ≡ with_front v bytes)
+    let written = written_there memory c.as_mut_slice.result.now after bytes c.offset_before-start.result _ front c.as_mut_slice.ensures.value c.write_from.ensures.written in
+    rw (items, front) (subst (λ (v : RingView). ring_in after (offset_before (length memory) ring.start (length bytes)) (ring.len + length bytes) ≡ with_front v bytes)
     c.self.view_is (ring_pushed_front memory after bytes ring.start ring.len kept.1 fits same_length written))

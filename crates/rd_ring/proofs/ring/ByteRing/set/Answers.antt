@@ -1,6 +1,6 @@
 -- The goals of `ByteRing::set` that the check left open.
 use Rattle.std.proofs.Common.{◌≡◌, ◌∙◌, ℕ, ◌<◌, length, ap, subst, arith}
-use Rattle.rd_ring.specs.Memory.{place_after}
+use Rattle.rd_ring.specs.Memory.{offset_after}
 use Rattle.rd_ring.specs.RingView.{RingView}
 use Rattle.std.proofs.Common.{set}
 use Rattle.rd_ring.specs.Rings.{with_bytes}
@@ -14,9 +14,9 @@ returns c =
     let kept = c.self.invariant in
     let length_old = length-bytes memory ring.start ring.len kept.0 in
     let capacity : c.len.result ≡ length memory = omega arith in
-    let place : c.place_after-place.result ≡ place_after (length memory) ring.start c.args.at =
-    c.place_after-place.ensures.after ∙ ap (λ (n : ℕ). place_after n ring.start c.args.at) capacity in
+    let offset : c.offset_after-offset.result ≡ offset_after (length memory) ring.start c.args.at =
+    c.offset_after-offset.ensures.after ∙ ap (λ (n : ℕ). offset_after n ring.start c.args.at) capacity in
     let there : c.args.at < ring.len = omega (arith, c.requires, ap (λ (v : RingView). length v.bytes) c.self.view_is, length_old) in
-    rw place (subst (λ (v : RingView). ring_in (set memory (place_after (length memory) ring.start c.args.at) c.args.value) ring.start ring.len
+    rw offset (subst (λ (v : RingView). ring_in (set memory (offset_after (length memory) ring.start c.args.at) c.args.value) ring.start ring.len
     ≡ with_bytes v (set v.bytes c.args.at c.args.value))
     c.self.view_is (ring_with_byte memory ring.start ring.len c.args.at c.args.value kept.1 kept.0 there))

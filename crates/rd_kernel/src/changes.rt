@@ -98,7 +98,7 @@ pub fn set_phase(editing: &mut Editing, task: usize, phase: Phase) -> Result<(),
     editing.change(Change::Task { task, change })
 }
 
-/// Ends a task's call: its answer stands in r0, and its script goes on.
+/// Ends a task's call: the value that it returns stands in r0, and its script goes on.
 pub fn return_from(editing: &mut Editing, task: usize, value: u32) -> Result<(), NoMemory>
     requires task { task < length editing.old.now.tasks }
     requires pc { (task_at editing.old.now task).pc < MAX_CODE }
