@@ -5,7 +5,7 @@ use Rattle.std.proofs.lemmas.Bool.{lt-ltb}
 use Rattle.rd_app.specs.Application.{Application, IsApplication, priorities_of}
 use Rattle.rd_state.specs.declared.change.Change.{Change}
 use Rattle.rd_state.specs.Change.{weight_of}
-use Rattle.rd_state.specs.Edit.{Base, Edit, GoesOn, Reaches, added}
+use Rattle.rd_state.specs.Edit.{Base, Edit, GoesOn, Reaches, added, begun_at}
 use Rattle.rd_state.specs.Settled.{IsSettled}
 use Rattle.rd_state.specs.Sizes.{IsSized}
 use Rattle.rd_state.specs.Snapshot.{Snapshot, core_at}
@@ -20,9 +20,6 @@ use Rattle.rd_calls.proofs.StepLaws.{IsSettled-step, IsSettled-tick, IsValid-ste
 -- the most that the record of a move takes
 abbrev pub most_of : Application → Snapshot → Move → ℕ
 most_of app s move = 4 * length s.tasks + 6 * length s.cores + 16 + 512 + dropped_by_move app s move
-
-abbrev pub begun_at : Snapshot → List Change → Edit
-begun_at s before = record { now = s; base = record { state = s; recorded = before }; weight = 0 }
 
 -- where a move leads, and at what cost
 pub record Leads (app : Application) (s : Snapshot) (move : Move) (target : Snapshot) (cost : ℕ) : Type 0 where

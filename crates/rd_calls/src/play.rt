@@ -1,7 +1,7 @@
 //! Moves, made whole or not at all.
 
 ghost use Rattle.std.specs.Prelude.{◌≡◌, ◌↔◌, ◌<◌, ◌⊎◌, length, take, Ok, Err};
-ghost use Rattle.std.specs.Prelude.{Some, IfErr, IfOk, OnOk, OnErr, IsErrOf};
+ghost use Rattle.std.specs.Prelude.{None, Some, IfErr, IfOk, IfSome, OnOk, OnErr, IsErrOf, IsOk};
 ghost use Rattle.rd_app.specs.Application.{priorities_of};
 ghost use Rattle.rd_state.specs.Edit.{added, GoesOn};
 ghost use Rattle.rd_state.specs.Settled.{IsSettled};
@@ -27,68 +27,108 @@ use std::alloc::Global;
 use std::mem;
 
 // Ends a move. Where memory ran out half-way, what was done of it is undone.
-fn finish(
-    editing: Editing,
-    made: Result<(), NoMemory>,
-    state: &mut State,
-    undo: &mut Undo,
-) -> Result<(), NoMemory>
+fn finish(editing: &mut Editing, made: Result<(), NoMemory>) -> Result<(), NoMemory>
     ensures made { result ≡ made }
-    ensures state { OnOk made (state.new ≡ editing.now) }
-    ensures record { OnOk made (GoesOn editing undo.new) }
-    ensures err { OnErr made (state.new ≡ editing.base.state) }
-    ensures err_record { OnErr made (undo.new ≡ editing.base.recorded) }
-    ensures sized { IsSized state.new }
+    ensures state { OnOk made (editing.new.now ≡ editing.old.now) }
+    ensures record { OnOk made (GoesOn editing.old editing.new.changes) }
+    ensures err { OnErr made (editing.new.now ≡ editing.old.base.state) }
+    ensures err_record { OnErr made (editing.new.changes ≡ editing.old.base.recorded) }
+    ensures sized { IsSized editing.new.now }
 {
-    let ended = match made {
-        Ok(()) => editing.commit(state),
-        Err(NoMemory) => editing.roll_back(state),
-    };
-    mem::replace(undo, ended).retire();
-    state.sizes();
+    if made.is_err() {
+        editing.roll_back();
+    }
+    editing.goes_on();
+    editing.state().sizes();
     made
 }
 
 // The move of a core whose task is known.
 fn play_core(
     alloc: Global,
-    state: &mut State,
-    undo: &mut Undo,
+    editing: &mut Editing,
     app: &App,
     core: usize,
     task: usize,
 ) -> Result<(), NoMemory>
-    requires caller { IsCalling app.now state.old task }
-    requires core { core < length state.old.cores }
-    requires task { core_at state.old core ≡ Some task }
-    ensures before { OnOk result (take (length undo.old) undo.new ≡ undo.old) }
-    ensures played { OnOk result
-        (IsPlayed app.now state.old (Move.Core core) state.new (added undo.old undo.new)) }
-    ensures err { OnErr result (state.new ≡ state.old) }
-    ensures err_record { OnErr result (undo.new ≡ undo.old) }
+    requires caller { IsCalling app.now editing.old.now task }
+    requires core { core < length editing.old.now.cores }
+    requires task { core_at editing.old.now core ≡ Some task }
+    ensures before { OnOk result
+        (take (length editing.old.changes) editing.new.changes ≡ editing.old.changes) }
+    ensures played { OnOk result (IsPlayed app.now editing.old.now (Move.Core core) editing.new.now
+        (added editing.old.changes editing.new.changes)) }
+    ensures err { OnErr result (editing.new.now ≡ editing.old.now) }
+    ensures err_record { OnErr result (editing.new.changes ≡ editing.old.changes) }
 {
     app.limits();
-    let before = mem::replace(undo, Undo::new(alloc));
-    let mut editing = Editing::begin(mem::replace(state, State::hollow(alloc)), before);
-    let made = move_core(alloc, app, &mut editing, core, task);
-    finish(editing, made, state, undo)
+    editing.begin();
+    let made = move_core(alloc, app, editing, core, task);
+    finish(editing, made)
 }
 
 // A tick that isn't the last one.
-fn play_tick(alloc: Global, state: &mut State, undo: &mut Undo, app: &App) -> Result<(), NoMemory>
-    requires valid { IsValid app.now state.old }
-    requires later { state.old.tick < last_tick }
-    ensures before { OnOk result (take (length undo.old) undo.new ≡ undo.old) }
-    ensures played { OnOk result
-        (IsPlayed app.now state.old Move.Tick state.new (added undo.old undo.new)) }
-    ensures err { OnErr result (state.new ≡ state.old) }
-    ensures err_record { OnErr result (undo.new ≡ undo.old) }
+fn play_tick(editing: &mut Editing, app: &App) -> Result<(), NoMemory>
+    requires valid { IsValid app.now editing.old.now }
+    requires later { editing.old.now.tick < last_tick }
+    ensures before { OnOk result
+        (take (length editing.old.changes) editing.new.changes ≡ editing.old.changes) }
+    ensures played { OnOk result (IsPlayed app.now editing.old.now Move.Tick editing.new.now
+        (added editing.old.changes editing.new.changes)) }
+    ensures err { OnErr result (editing.new.now ≡ editing.old.now) }
+    ensures err_record { OnErr result (editing.new.changes ≡ editing.old.changes) }
 {
     app.limits();
-    let before = mem::replace(undo, Undo::new(alloc));
-    let mut editing = Editing::begin(mem::replace(state, State::hollow(alloc)), before);
-    let made = move_tick(app, &mut editing);
-    finish(editing, made, state, undo)
+    editing.begin();
+    let made = move_tick(app, editing);
+    finish(editing, made)
+}
+
+/// Why the kernel's rules refuse a move, if they do: `NoTask` where the core is idle, `TickLimit`
+/// where the tick is 4,294,967,295.
+pub fn why_not(app: &App, state: &State, action: &Move) -> Option<Refusal>
+    requires valid { IsValid app.now state.now }
+    requires named { IsMoveOf app.now action.now }
+    ensures refused { IfSome result (λ refusal. step app.now state.now action.now ≡ Err refusal) }
+    ensures made { result ≡ None → IsOk (step app.now state.now action.now) }
+{
+    let _ = app;
+    match action {
+        Move::Core { core } if state.core(*core).is_none() => Some(Refusal::NoTask),
+        Move::Tick if state.tick() == u32::MAX => Some(Refusal::TickLimit),
+        Move::Core { .. } | Move::Tick => None,
+    }
+}
+
+/// Makes a move where the state and the record are, and adds what undoes it to the record. A refusal
+/// leaves the state and the record as they were: `NoTask` where the core is idle, `TickLimit` where
+/// the tick is 4,294,967,295, `NoMemory` where a growth was refused. There is no other.
+pub fn move_on(alloc: Global, editing: &mut Editing, app: &App, action: Move) -> Result<(), Refusal>
+    requires valid { IsValid app.now editing.old.now }
+    requires named { IsMoveOf app.now action }
+    ensures before { OnOk result
+        (take (length editing.old.changes) editing.new.changes ≡ editing.old.changes) }
+    ensures played { OnOk result (IsPlayed app.now editing.old.now action editing.new.now
+        (added editing.old.changes editing.new.changes)) }
+    ensures no_task { IsErrOf result Refusal.NoTask
+        ↔ (step app.now editing.old.now action ≡ Err Refusal.NoTask) }
+    ensures tick_limit { IsErrOf result Refusal.TickLimit
+        ↔ (step app.now editing.old.now action ≡ Err Refusal.TickLimit) }
+    ensures refusals { IfErr result (λ refusal.
+        (step app.now editing.old.now action ≡ Err refusal) ⊎ (refusal ≡ Refusal.NoMemory)) }
+    ensures err { OnErr result (editing.new.now ≡ editing.old.now) }
+    ensures err_record { OnErr result (editing.new.changes ≡ editing.old.changes) }
+{
+    match action {
+        Move::Core { core } => {
+            let Some(task) = caller_on(app, editing.state(), core) else {
+                return Err(Refusal::NoTask);
+            };
+            play_core(alloc, editing, app, core, task).map_err(Refusal::from)
+        }
+        Move::Tick if editing.state().tick() == u32::MAX => Err(Refusal::TickLimit),
+        Move::Tick => play_tick(editing, app).map_err(Refusal::from),
+    }
 }
 
 /// Makes a move and adds its record, which undoes it exactly, to those of the moves before. A
@@ -116,16 +156,11 @@ pub fn play_on(
     ensures err { OnErr result (state.new ≡ state.old) }
     ensures err_record { OnErr result (undo.new ≡ undo.old) }
 {
-    match action {
-        Move::Core { core } => {
-            let Some(task) = caller_on(app, state, core) else {
-                return Err(Refusal::NoTask);
-            };
-            play_core(alloc, state, undo, app, core, task).map_err(Refusal::from)
-        }
-        Move::Tick if state.tick() == u32::MAX => Err(Refusal::TickLimit),
-        Move::Tick => play_tick(alloc, state, undo, app).map_err(Refusal::from),
-    }
+    let before = mem::replace(undo, Undo::new(alloc));
+    let mut editing = Editing::new(mem::replace(state, State::hollow(alloc)), before);
+    let made = move_on(alloc, &mut editing, app, action);
+    mem::replace(undo, editing.end(state)).retire();
+    made
 }
 
 /// Makes a move and returns its record, which undoes it exactly. A refusal leaves the state as it

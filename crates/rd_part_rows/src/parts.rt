@@ -160,11 +160,12 @@ fn puts_to_wait(rt: &impl Abort, editing: &mut Editing) -> Result<(), Fail> {
 
 // The way back leaves the state from before.
 fn undoes_waiting(rt: &impl Abort, alloc: Global, boot: &State) -> Result<(), Fail> {
-    let mut editing = Editing::begin(boot.copy(alloc)?, Undo::new(alloc));
+    let mut editing = Editing::new(boot.copy(alloc)?, Undo::new(alloc));
     let result = puts_to_wait(rt, &mut editing);
     let differs = !editing.state().same(boot);
     let mut state = State::hollow(alloc);
-    editing.roll_back(&mut state).retire();
+    editing.roll_back();
+    editing.end(&mut state).retire();
     result?;
     assert!(rt; differs);
     assert!(rt; state.same(boot));

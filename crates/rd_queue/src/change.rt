@@ -85,13 +85,9 @@ impl Queue {
                 self.remove(*list, *index);
             }
             QueueChange::PutBack { item } => self.put_back(item.as_slice()).unwrap(),
-            QueueChange::TakeBack => {
-                self.unput();
-            }
+            QueueChange::TakeBack => self.drop_last(),
             QueueChange::PutFront { item } => self.untake(item.as_slice()),
-            QueueChange::TakeFront => {
-                self.take().unwrap();
-            }
+            QueueChange::TakeFront => self.drop_first(),
             QueueChange::SetItem { index, item } => self.set_item(*index, item.as_slice()),
             QueueChange::Clear => self.clear(),
             QueueChange::Fill { items } => self.fill(items.as_slice()),

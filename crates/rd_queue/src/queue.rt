@@ -331,8 +331,16 @@ impl Queue {
             return Err(Empty);
         }
         let item = Item::new(self.first());
-        self.ring.drop_front(self.item_size);
+        self.drop_first();
         Ok(item)
+    }
+
+    // Takes the item at the front away.
+    pub(crate) fn drop_first(&mut self)
+        requires { 0 < length self.old.items }
+        ensures { self.new ≡ with_items self.old (drop 1 self.old.items) }
+    {
+        self.ring.drop_front(self.item_size);
     }
 
     /// Puts an item back at the front: what undoes `take`.
@@ -352,8 +360,17 @@ impl Queue {
             ≡ with_items self.old (take (length self.old.items - 1) self.old.items) }
     {
         let item = Item::new(self.last());
-        self.ring.pop_back(self.item_size);
+        self.drop_last();
         item
+    }
+
+    // Takes the item at the back away.
+    pub(crate) fn drop_last(&mut self)
+        requires { 0 < length self.old.items }
+        ensures { self.new
+            ≡ with_items self.old (take (length self.old.items - 1) self.old.items) }
+    {
+        self.ring.pop_back(self.item_size);
     }
 
     /// Puts an item in the place of the one at `index`. It takes no memory.

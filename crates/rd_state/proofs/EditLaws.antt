@@ -8,7 +8,7 @@ use Rattle.rd_state.specs.declared.change.Change.{Change}
 use Rattle.rd_state.specs.declared.change.Change.TheVariants.{SetTick, SetTurn, SetCore, InsReady, DelReady, Task, Object}
 use Rattle.rd_state.specs.Snapshot.{Snapshot}
 use Rattle.rd_state.specs.Change.{applied, inverse_of, cost_of, weight_of, Fits}
-use Rattle.rd_state.specs.Edit.{Base, Edit, GoesOn, SameShape, Reaches, edit_of}
+use Rattle.rd_state.specs.Edit.{Base, Edit, GoesOn, SameShape, Reaches, begun_at, edit_of}
 use Rattle.rd_state.specs.Sizes.{IsSized}
 use Rattle.rd_state.specs.Undoing.{undone, CanUndo}
 use Rattle.rd_state.proofs.ObjectLaws.{object_numbers}
@@ -87,17 +87,16 @@ CanUndo-from_act r old s s' changes changes' start change e sized fits can =
     → (start ≤ length changes') × CanUndo s' (drop start changes'))
     [ Ok x ↦ λ f g h k. CanUndo-act s s' changes changes' start change sized fits_here can.0 f g can.1 | Err y ↦ λ f g h k. rw (h, k) can ]
 
--- A step begins where it is, with nothing recorded.
-pub edit_of-begin : (s : Snapshot) (changes : List Change) (start : ℕ) → start ≡ length changes
-    → edit_of s changes start ≡ record { now = s; base = record { state = s; recorded = changes }; weight = 0 }
+-- A move begins where it is, with nothing recorded.
+pub edit_of-begin : (s : Snapshot) (changes : List Change) (start : ℕ) → start ≡ length changes → edit_of s changes start ≡ begun_at s changes
 edit_of-begin s changes start e = rw (e, drop-length changes, take-length changes) refl
 
 -- What a step recorded goes on from what was there before.
 pub GoesOn-edit_of : (edit : Edit) (s : Snapshot) (changes : List Change) (start : ℕ) → edit_of s changes start ≡ edit
-    → start ≤ length changes → CanUndo s (drop start changes) → GoesOn edit changes
+    → start ≤ length changes → CanUndo s (drop start changes) → GoesOn edit edit.changes
 GoesOn-edit_of edit s changes start e within can =
     let count : length (take start changes) ≡ start = length-take-le start changes within in
-    subst (λ (f : Edit). GoesOn f changes) e (record {
+    subst (λ (f : Edit). GoesOn f f.changes) e (record {
       before = ap (λ n. take n changes) count;
       leads_back = ap (λ n. undone s (drop n changes)) count;
       can_undo = subst (λ n. CanUndo s (drop n changes)) (sym count) can;

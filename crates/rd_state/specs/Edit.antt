@@ -1,11 +1,12 @@
--- A step in the middle: the state now, where the step began, and the weight of what it recorded.
+-- A move in the middle: the state now, where the move began, the weight of what it recorded since,
+-- and all that the record has.
 use Rattle.std.specs.Prelude.{ℕ, ◌≡◌, ◌+◌, ◌≤◌, List, length, drop, take}
 use Rattle.rd_state.specs.declared.change.Change.{Change}
 use Rattle.rd_state.specs.Change.{weight_of}
 use Rattle.rd_state.specs.Snapshot.{Snapshot, numbers_of}
 use Rattle.rd_state.specs.Undoing.{undone, CanUndo}
 
--- where a step began: the state, and what its record had before
+-- where a move began: the state, and what its record had before
 pub record Base : Type 0 where
   pub state : Snapshot
   pub recorded : List Change
@@ -14,27 +15,38 @@ pub record Edit : Type 0 where
   pub now : Snapshot
   pub base : Base
   pub weight : ℕ
+  pub changes : List Change
 
--- a step whose record had so many changes before
+-- a move whose record had so many changes before
 abbrev pub edit_of : Snapshot → List Change → ℕ → Edit
 edit_of s changes start = record {
   now = s;
   base = record { state = undone s (drop start changes); recorded = take start changes };
   weight = weight_of (drop start changes);
+  changes = changes;
+}
+
+-- a move that begins here
+abbrev pub begun_at : Snapshot → List Change → Edit
+begun_at s changes = record {
+  now = s;
+  base = record { state = s; recorded = changes };
+  weight = 0;
+  changes = changes;
 }
 
 -- what a record has got since
 abbrev pub added : List Change → List Change → List Change
 added before changes = drop (length before) changes
 
--- The record has what it had before, and what it got leads back to where the step began.
+-- The record has what it had before, and what it got leads back to where the move began.
 pub record GoesOn (edit : Edit) (changes : List Change) : Type 0 where
   pub before : take (length edit.base.recorded) changes ≡ edit.base.recorded
   pub leads_back : undone edit.now (added edit.base.recorded changes) ≡ edit.base.state
   pub can_undo : CanUndo edit.now (added edit.base.recorded changes)
   pub weight : weight_of (added edit.base.recorded changes) ≡ edit.weight
 
--- The step still began where it did, and its record leads back there.
+-- The move still began where it did, and its record leads back there.
 abbrev pub KeepsBase : Edit → Edit → Type 0
 KeepsBase old new = new.base ≡ old.base
 

@@ -54,10 +54,10 @@ impl State {
     {
         let before = State::before_scheduling(alloc, app)?;
         app.limits();
-        let mut editing = Editing::begin(before, Undo::new(alloc));
+        let mut editing = Editing::new(before, Undo::new(alloc));
         let settled = editing.settle(app.priorities());
         let mut state = State::hollow(alloc);
-        editing.commit(&mut state).retire();
+        editing.end(&mut state).retire();
         settled?;
         state.sizes();
         Ok(state)

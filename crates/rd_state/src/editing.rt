@@ -1,11 +1,12 @@
 //! A move in the middle: the state and the record of what was changed.
 
-ghost use Rattle.std.specs.Prelude.{◌≡◌, ◌<◌, ◌≤◌, length, insert, remove};
+ghost use Rattle.std.specs.Prelude.{◌≡◌, ◌<◌, ◌≤◌, length, drop, insert, remove, take};
 ghost use Rattle.std.specs.Prelude.{OnOk, OnErr};
 ghost use Rattle.rd_state.specs.Change.{applied, inverse_of, cost_of, Fits};
-ghost use Rattle.rd_state.specs.Edit.{GoesOn, Reaches};
+ghost use Rattle.rd_state.specs.Edit.{begun_at, GoesOn, Reaches};
 ghost use Rattle.rd_state.specs.Sizes.{IsSized};
 ghost use Rattle.rd_state.specs.Transfers.{change_of, CanTransfer};
+ghost use Rattle.rd_state.specs.Undoing.{undone, CanUndo};
 ghost use Rattle.rd_state.specs.Waiting.{HasPlace, waiting_at, with_waiting_at};
 
 use crate::change::Change;
@@ -19,13 +20,14 @@ use rd_queue::change::QueueChange;
 use rd_queue::queue_set_change::QueueSetChange;
 use std::marker::Model;
 
-/// A move in the middle: the state, which it owns, and a record, to which it adds what it changes.
-/// The rules of the kernel are written over it. It ends in `commit` or in `roll_back`.
+/// A state that is changed move by move, with a record, to which each change adds what undoes it. It
+/// owns both. The rules of the kernel are written over it. It can't be dropped: it ends in `end` or in
+/// `retire`.
 #[derive(Debug)]
 pub struct Editing {
     state: State,
     undo: Undo,
-    // So many changes the record had before.
+    // So many changes the record had when the move began.
     start: usize,
 }
 
@@ -44,16 +46,34 @@ impl Model for Editing {
 }
 
 impl Editing {
-    /// Begins at a state, with a record to which the move's changes will be added.
-    pub fn begin(state: State, undo: Undo) -> Editing
-        ensures { result ≡ record {
-          now = state;
-          base = record { state = state; recorded = undo };
-          weight = 0;
-        } }
+    /// A state, with a record to which the changes of moves will be added. The first move begins
+    /// here.
+    pub fn new(state: State, undo: Undo) -> Editing
+        ensures { result ≡ begun_at state undo }
     {
         let start = undo.len();
         Editing { state, undo, start }
+    }
+
+    /// A move begins here.
+    pub fn begin(&mut self)
+        ensures { self.new ≡ begun_at self.old.now self.old.changes }
+    {
+        self.start = self.undo.len();
+    }
+
+    /// How many changes the record has.
+    pub fn len(&self) -> usize
+        ensures { result ≡ length self.now.changes }
+    {
+        self.undo.len()
+    }
+
+    /// What the record got since the move began leads back to where it did.
+    pub fn goes_on(&self)
+        ensures { GoesOn self.now self.now.changes }
+    {
+        let _ = &self.start;
     }
 
     /// The state as it is now.
@@ -144,10 +164,30 @@ impl Editing {
         }
     }
 
-    /// Ends the move: the state goes back to its owner, and the record is handed out.
-    pub fn commit(self, state: &mut State) -> Undo
+    /// Takes the move back, to where it began. It takes no memory.
+    pub fn roll_back(&mut self)
+        ensures { self.new ≡ begun_at self.old.base.state self.old.base.recorded }
+    {
+        self.state.back_to(&mut self.undo, self.start);
+    }
+
+    /// Goes back by the changes that the record has after its first `len`, the last one first; they
+    /// leave the record. It takes no memory.
+    pub fn back_to(&mut self, len: usize)
+        requires within { len ≤ length self.old.changes }
+        requires fits { CanUndo self.old.now (drop len self.old.changes) }
+        ensures state { self.new.now ≡ undone self.old.now (drop len self.old.changes) }
+        ensures record { self.new.changes ≡ take len self.old.changes }
+        ensures begun { self.new ≡ begun_at self.new.now self.new.changes }
+    {
+        self.start = len;
+        self.state.back_to(&mut self.undo, len);
+    }
+
+    /// Hands out the state and the record.
+    pub fn end(self, state: &mut State) -> Undo
         ensures state { state.new ≡ self.now }
-        ensures record { GoesOn self result }
+        ensures record { result ≡ self.changes }
     {
         let Editing {
             state: now,
@@ -158,19 +198,13 @@ impl Editing {
         undo
     }
 
-    /// Takes the move back: the state from before it goes back to its owner, and the record is
-    /// handed out as it was. It takes no memory.
-    pub fn roll_back(self, state: &mut State) -> Undo
-        ensures state { state.new ≡ self.base.state }
-        ensures record { result ≡ self.base.recorded }
-    {
+    /// Ends it: nobody needs the state, nor will go back by the record.
+    pub fn retire(self) {
         let Editing {
-            state: mut now,
-            mut undo,
-            start,
+            state: _,
+            undo,
+            start: _,
         } = self;
-        now.back_to(&mut undo, start);
-        *state = now;
-        undo
+        undo.retire();
     }
 }

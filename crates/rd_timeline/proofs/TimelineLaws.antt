@@ -20,11 +20,11 @@ use Rattle.rd_timeline.specs.LogView.{last_record}
 use Rattle.rd_timeline.proofs.HistoryLaws.{CanRewind-push, CanRewind-pop, Retraces-boot, Retraces-now, Retraces-push, Retraces-pop}
 
 -- a course over the moves and records of a journal
-abbrev over : Course → Snapshot → JournalView → Course
-over c s journal = record {
+abbrev over : Course → JournalView → Course
+over c journal = record {
   app = c.app;
   limit = c.limit;
-  target = s;
+  target = journal.target;
   done = journal.done;
   log = journal.records;
   undone = journal.undone;
@@ -32,26 +32,27 @@ over c s journal = record {
 
 -- Whether a course is kept doesn't hang on the moves undone.
 kept_over : (c : Course) (s : Snapshot) (journal : JournalView) (moves : List Move) (records : List (List Change)) (left : List Move)
-    → journal.done ≡ moves → journal.records ≡ records
+    → journal.target ≡ s → journal.done ≡ moves → journal.records ≡ records
     → IsKept (record { app = c.app; limit = c.limit; target = s; done = moves; log = records; undone = left })
-    → IsKept (over c s journal)
-kept_over c s journal moves records left done log kept =
-    let P : List Move → List (List Change) → Type 0 =
-    λ ms rs. IsKept (record { app = c.app; limit = c.limit; target = s; done = ms; log = rs; undone = journal.undone }) in
-    let here : P moves records = record {
+    → IsKept (over c journal)
+kept_over c s journal moves records left target done log kept =
+    let P : Snapshot → List Move → List (List Change) → Type 0 =
+    λ t ms rs. IsKept (record { app = c.app; limit = c.limit; target = t; done = ms; log = rs; undone = journal.undone }) in
+    let here : P s moves records = record {
       records = kept.records;
       retraces = kept.retraces;
       rewinds = kept.rewinds;
       within = kept.within;
     } in
-    subst (λ (ms : List Move). P ms journal.records) (sym done) (subst (λ (rs : List (List Change)). P moves rs) (sym log) here)
+    subst (λ (t : Snapshot). P t journal.done journal.records) (sym target)
+    (subst (λ (ms : List Move). P s ms journal.records) (sym done) (subst (λ (rs : List (List Change)). P s moves rs) (sym log) here))
 
-pub IsWhole-new : (t : Inside) → IsApplication t.app → t.target ≡ boot_of t.app → IsValid t.app t.target
-    → IsSettled (priorities_of t.app) t.target → t.journal.done ≡ [] → t.journal.records ≡ [] → IsWhole t
-IsWhole-new t limits boot valid settled done log =
-    let at_boot : IsKept (record { app = t.app; limit = t.limit; target = t.target; done = []; log = []; undone = [] }) =
-    record { records = refl; retraces = Retraces-boot t.app t.target boot valid settled; rewinds = tt; within = omega arith } in
-    record { kept = kept_over (course_of t) t.target t.journal [] [] [] done log at_boot; limits = limits }
+pub IsWhole-new : (t : Inside) (s : Snapshot) → IsApplication t.app → s ≡ boot_of t.app → IsValid t.app s → IsSettled (priorities_of t.app) s
+    → t.journal.target ≡ s → t.journal.done ≡ [] → t.journal.records ≡ [] → IsWhole t
+IsWhole-new t s limits boot valid settled target done log =
+    let at_boot : IsKept (record { app = t.app; limit = t.limit; target = s; done = []; log = []; undone = [] }) =
+    record { records = refl; retraces = Retraces-boot t.app s boot valid settled; rewinds = tt; within = omega arith } in
+    record { kept = kept_over (course_of t) s t.journal [] [] [] target done log at_boot; limits = limits }
 
 -- one move and its record more
 pub IsKept-push : (c : Course) (move : Move) (last : List Change) (s : Snapshot) → IsKept c → length c.done ≢ c.limit
@@ -91,29 +92,29 @@ up_to_last records some =
     let last = length records - 1 in
     sym (take_all (last + 1) records (omega (arith, some))) ∙ take_more records last [] (omega (arith, some))
 
-pub can_undo_last : (t : Inside) → IsWhole t → 0 < length t.journal.done → CanUndo t.target (last_record t.journal.records)
+pub can_undo_last : (t : Inside) → IsWhole t → 0 < length t.journal.done → CanUndo t.journal.target (last_record t.journal.records)
 can_undo_last t whole some =
     let there = up_to_last t.journal.records (omega (arith, some, whole.kept.records)) in
-    (CanRewind-pop t.target _ _ (subst (CanRewind t.target) there whole.kept.rewinds)).0
+    (CanRewind-pop t.journal.target _ _ (subst (CanRewind t.journal.target) there whole.kept.rewinds)).0
 
 -- the state now is that after the moves done
-pub state_now : (t : Inside) → IsWhole t → IsStateAfter t.app t.journal.done t.target
-state_now t whole = Retraces-now t.app t.journal.done t.journal.records t.target whole.kept.records whole.kept.retraces
+pub state_now : (t : Inside) → IsWhole t → IsStateAfter t.app t.journal.done t.journal.target
+state_now t whole = Retraces-now t.app t.journal.done t.journal.records t.journal.target whole.kept.records whole.kept.retraces
 
 -- the fields after one move more
-pub IsWhole-push : (t : Inside) (s : Snapshot) (journal : JournalView) (move : Move) (last : List Change) → IsWhole t
-    → length t.journal.done ≢ t.limit → step t.app t.target move ≡ Ok s → undone s last ≡ t.target → CanUndo s last
-    → IsValid t.app s → IsSettled (priorities_of t.app) s → journal.done ≡ t.journal.done ++ move ∷ []
-    → journal.records ≡ t.journal.records ++ last ∷ [] → IsWhole (record t { target = s; journal = journal })
-IsWhole-push t s journal move last whole more steps back can valid settled done log =
-    let pushed = IsKept-push (course_of t) move last s whole.kept more steps back can valid settled in
-    record { kept = kept_over (course_of t) s journal _ _ [] done log pushed; limits = whole.limits }
+pub IsWhole-push : (t : Inside) (journal : JournalView) (move : Move) (last : List Change) → IsWhole t
+    → length t.journal.done ≢ t.limit → step t.app t.journal.target move ≡ Ok journal.target → undone journal.target last ≡ t.journal.target
+    → CanUndo journal.target last
+    → IsValid t.app journal.target → IsSettled (priorities_of t.app) journal.target → journal.done ≡ t.journal.done ++ move ∷ []
+    → journal.records ≡ t.journal.records ++ last ∷ [] → IsWhole (record t { journal = journal })
+IsWhole-push t journal move last whole more steps back can valid settled done log =
+    let pushed = IsKept-push (course_of t) move last journal.target whole.kept more steps back can valid settled in
+    record { kept = kept_over (course_of t) journal.target journal _ _ [] refl done log pushed; limits = whole.limits }
 
 -- the fields after one move less
-pub IsWhole-pop : (t : Inside) (s : Snapshot) (journal : JournalView) (last : List Change) → IsWhole t → TakesBack t.journal journal
-    → t.journal.records ≡ journal.records ++ last ∷ [] → s ≡ undone t.target last
-    → IsWhole (record t { target = s; journal = journal })
-IsWhole-pop t s journal last whole taken log target =
+pub IsWhole-pop : (t : Inside) (journal : JournalView) (last : List Change) → IsWhole t → TakesBack t.journal journal
+    → t.journal.records ≡ journal.records ++ last ∷ [] → journal.target ≡ undone t.journal.target last
+    → IsWhole (record t { journal = journal })
+IsWhole-pop t journal last whole taken log target =
     let popped = IsKept-pop (course_of t) journal.done journal.undone journal.records taken.0 last whole.kept taken.1 log in
-    let P : Snapshot → Type 0 = λ (s' : Snapshot). IsKept (over (course_of t) s' journal) in
-    record { kept = subst P (sym target) popped.0; limits = whole.limits }
+    record { kept = kept_over (course_of t) _ journal _ _ journal.undone target refl refl popped.0; limits = whole.limits }

@@ -7,7 +7,7 @@ abbrev pub course_of : Inside → Course
 course_of t = record {
   app = t.app;
   limit = t.limit;
-  target = t.target;
+  target = t.journal.target;
   done = t.journal.done;
   log = t.journal.records;
   undone = t.journal.undone;

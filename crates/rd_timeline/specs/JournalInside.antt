@@ -5,8 +5,9 @@ use Rattle.rd_timeline.specs.JournalView.{JournalView}
 
 abbrev pub journal_of : Inside → JournalView
 journal_of j = record {
+  target = j.trail.target;
   done = take j.done j.moves.items;
-  records = j.log.records;
+  records = j.trail.records;
   undone = drop j.done j.moves.items;
-  capacity = min (vec_capacity j.moves) j.log.capacity;
+  capacity = min (vec_capacity j.moves) j.trail.capacity;
 }

@@ -1,18 +1,21 @@
 -- What a contract sees of a journal.
 use Rattle.std.specs.Prelude.{ℕ, ◌≡◌, ◌∷◌, ◌++◌, [], List}
 use Rattle.rd_state.specs.declared.change.Change.{Change}
+use Rattle.rd_state.specs.Snapshot.{Snapshot}
 use Rattle.rd_calls.specs.declared.moves.Move.{Move}
 
--- The moves done in order, with the record of each, and the moves undone, the one to be redone next
--- first. There is room for so many moves done with their records.
+-- The target, the moves done in order, with the record of each, and the moves undone, the one to be
+-- redone next first. There is room for so many moves done with their records.
 pub record JournalView : Type 0 where
+  pub target : Snapshot
   pub done : List Move
   pub records : List (List Change)
   pub undone : List Move
   pub capacity : ℕ
 
--- The moves and their records are as they were.
+-- The target, the moves and their records are as they were.
 pub record IsAsBefore (old new : JournalView) : Type 0 where
+  pub target : new.target ≡ old.target
   pub done : new.done ≡ old.done
   pub records : new.records ≡ old.records
   pub undone : new.undone ≡ old.undone

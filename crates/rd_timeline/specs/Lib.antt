@@ -1,6 +1,7 @@
 -- What the contracts of the timeline cite.
 pub mod Cut
 pub mod LogView
+pub mod TrailView
 pub mod JournalView
 pub mod JournalInside
 pub mod History

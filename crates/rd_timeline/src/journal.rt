@@ -1,4 +1,4 @@
-//! The moves done and undone, and the records that lead back through those done.
+//! The moves done and undone, with the target, and the records that lead back through those done.
 
 ghost use Rattle.std.specs.Prelude.{◌≡◌, ◌↔◌, ◌-◌, ◌∷◌, ◌++◌, ◌<◌, ◌≤◌, ◌⊎◌, [], length, take};
 ghost use Rattle.std.specs.Prelude.{Err, IfErr, IsErrOf, IsOk, OnErr, OnOk};
@@ -8,7 +8,7 @@ ghost use Rattle.rd_state.specs.Valid.{IsValid};
 ghost use Rattle.rd_timeline.specs.JournalView.{IsAsBefore, TakesBack};
 ghost use Rattle.rd_timeline.specs.LogView.{last_record, RecordsMove};
 
-use crate::log::Log;
+use crate::trail::Trail;
 use rd_app::app::App;
 use rd_bytes::no_memory::NoMemory;
 use rd_calls::moves::Move;
@@ -17,14 +17,14 @@ use rd_text::refusal::Refusal;
 use std::alloc::Global;
 use std::marker::Model;
 
-/// The moves done and the moves undone, in one list, and the record of each move done. It can't be
-/// dropped: it ends in `retire`.
+/// The moves done and the moves undone, in one list, and the target with the record of each move
+/// done. It can't be dropped: it ends in `retire`.
 #[derive(Debug)]
 pub struct Journal {
     moves: Vec<Move>,
     // So many of them are done; the others are undone, the one to be redone next first.
     done: usize,
-    log: Log,
+    trail: Trail,
 }
 
 impl Model for Journal {
@@ -37,12 +37,13 @@ impl Model for Journal {
 
     ghost view = { journal_of };
 
-    ghost invariant = { λ j. (j.done ≤ length j.moves.items) × (length j.log.records ≡ j.done) };
+    ghost invariant = { λ j. (j.done ≤ length j.moves.items) × (length j.trail.records ≡ j.done) };
 }
 
 impl Journal {
-    /// No moves.
-    pub fn new(alloc: Global) -> Journal
+    /// No moves yet, from this target on.
+    pub fn new(alloc: Global, target: State) -> Journal
+        ensures target { result.target ≡ target }
         ensures done { result.done ≡ [] }
         ensures records { result.records ≡ [] }
         ensures undone { result.undone ≡ [] }
@@ -50,8 +51,15 @@ impl Journal {
         Journal {
             moves: Vec::new(alloc),
             done: 0,
-            log: Log::new(alloc),
+            trail: Trail::new(alloc, target),
         }
+    }
+
+    /// The target as it is now.
+    pub fn target(&self) -> &State
+        ensures { result.now ≡ self.now.target }
+    {
+        self.trail.target()
     }
 
     /// How many moves are done.
@@ -79,56 +87,50 @@ impl Journal {
     {
         let missing = (self.done + 1).saturating_sub(self.moves.len());
         self.moves.reserve(missing)?;
-        self.log.reserve()
+        self.trail.reserve()
     }
 
     /// Makes a move: it is laid on the moves done, with its record, and the moves undone are
-    /// forgotten. A refusal is one of `play_on`, and leaves the state, the moves and their records
+    /// forgotten. A refusal is one of `move_on`, and leaves the target, the moves and their records
     /// as they were.
-    pub fn play(
-        &mut self,
-        alloc: Global,
-        state: &mut State,
-        app: &App,
-        action: Move,
-    ) -> Result<(), Refusal>
-        requires valid { IsValid app.now state.old }
+    pub fn play(&mut self, alloc: Global, app: &App, action: Move) -> Result<(), Refusal>
+        requires valid { IsValid app.now self.old.target }
         requires named { IsMoveOf app.now action }
         requires room { length self.old.done < self.old.capacity }
         ensures lays { OnOk result
-            (RecordsMove app.now state.old action state.new self.old.records self.new.records) }
+            (RecordsMove app.now self.old.target action self.new.target
+            self.old.records self.new.records) }
         ensures done { OnOk result (self.new.done ≡ self.old.done ++ action ∷ []) }
         ensures undone { OnOk result (self.new.undone ≡ []) }
         ensures no_task { IsErrOf result Refusal.NoTask
-            ↔ (step app.now state.old action ≡ Err Refusal.NoTask) }
+            ↔ (step app.now self.old.target action ≡ Err Refusal.NoTask) }
         ensures tick_limit { IsErrOf result Refusal.TickLimit
-            ↔ (step app.now state.old action ≡ Err Refusal.TickLimit) }
+            ↔ (step app.now self.old.target action ≡ Err Refusal.TickLimit) }
         ensures refusals { IfErr result (λ refusal.
-            (step app.now state.old action ≡ Err refusal) ⊎ (refusal ≡ Refusal.NoMemory)) }
+            (step app.now self.old.target action ≡ Err refusal) ⊎ (refusal ≡ Refusal.NoMemory)) }
         ensures err { OnErr result (IsAsBefore self.old self.new) }
-        ensures err_state { OnErr result (state.new ≡ state.old) }
         ensures kept_capacity { self.new.capacity ≡ self.old.capacity }
     {
-        self.log.play(alloc, state, app, action.copy())?;
+        self.trail.play(alloc, app, action.copy())?;
         self.moves.truncate(self.done);
         self.moves.push_reserved(action);
         self.done += 1;
         Ok(())
     }
 
-    /// Takes the last move done back: the state goes back by its record, and it becomes the first
+    /// Takes the last move done back: the target goes back by its record, and it becomes the first
     /// of the moves undone. It takes no memory, and the room stays.
-    pub fn take_back(&mut self, state: &mut State)
+    pub fn take_back(&mut self)
         requires some { 0 < length self.old.done }
-        requires can_undo { CanUndo state.old (last_record self.old.records) }
-        ensures state { state.new ≡ undone state.old (last_record self.old.records) }
+        requires can_undo { CanUndo self.old.target (last_record self.old.records) }
+        ensures target { self.new.target ≡ undone self.old.target (last_record self.old.records) }
         ensures moves { TakesBack self.old self.new }
         ensures records { self.new.records
             ≡ take (length self.old.records - 1) self.old.records }
         ensures room { self.new.capacity ≡ self.old.capacity }
     {
         self.done -= 1;
-        self.log.take_back(state);
+        self.trail.take_back();
     }
 
     /// Ends the journal: nobody will go back any more.
@@ -136,8 +138,8 @@ impl Journal {
         let Journal {
             moves: _,
             done: _,
-            log,
+            trail,
         } = self;
-        log.retire();
+        trail.retire();
     }
 }

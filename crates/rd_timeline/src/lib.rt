@@ -5,3 +5,4 @@ pub mod journal;
 pub mod log;
 pub mod runs;
 pub mod timeline;
+pub mod trail;

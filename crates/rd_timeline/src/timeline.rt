@@ -16,7 +16,7 @@ use crate::log::Log;
 use rd_app::app::App;
 use rd_bytes::no_memory::NoMemory;
 use rd_calls::moves::Move;
-use rd_calls::play::play;
+use rd_calls::play::why_not;
 use rd_state::state::State;
 use rd_state::undo::Undo;
 use rd_text::refusal::Refusal;
@@ -29,7 +29,6 @@ pub struct Timeline {
     alloc: Global,
     app: App,
     limit: usize,
-    target: State,
     journal: Journal,
 }
 
@@ -63,8 +62,7 @@ impl Timeline {
             alloc,
             app,
             limit,
-            target,
-            journal: Journal::new(alloc),
+            journal: Journal::new(alloc, target),
         })
     }
 
@@ -90,7 +88,7 @@ impl Timeline {
     pub fn target(&self) -> &State
         ensures { result.now ≡ self.now.target }
     {
-        &self.target
+        self.journal.target()
     }
 
     /// How many moves are done.
@@ -137,12 +135,10 @@ impl Timeline {
         }
         if self.journal.reserve().is_err() {
             // What is wrong with the move itself is the cause, if something is.
-            let undo = play(self.alloc, &mut self.target, &self.app, action)?;
-            self.target.back(undo);
-            return Err(Refusal::NoMemory);
+            let cause = why_not(&self.app, self.journal.target(), &action);
+            return Err(cause.unwrap_or(Refusal::NoMemory));
         }
-        self.journal
-            .play(self.alloc, &mut self.target, &self.app, action)?;
+        self.journal.play(self.alloc, &self.app, action)?;
         Ok(self.at())
     }
 
@@ -155,7 +151,7 @@ impl Timeline {
         ensures app { self.new.app ≡ self.old.app }
         ensures limit { self.new.limit ≡ self.old.limit }
     {
-        self.journal.take_back(&mut self.target);
+        self.journal.take_back();
     }
 
     /// Goes back by `n` moves, which can be redone, the last one undone first. Answers how many
@@ -201,7 +197,6 @@ impl Timeline {
             alloc: _,
             app: _,
             limit: _,
-            target: _,
             journal,
         } = self;
         journal.retire();

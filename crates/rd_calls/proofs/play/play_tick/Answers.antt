@@ -6,6 +6,6 @@ use Rattle.rd_calls.proofs.play.play_tick.Goals as goal
 pub returns-clause-played : goal.returns-clause-played
 returns-clause-played c =
     rw c.finish.ensures.made
-    (IsPlayed-from c.move_tick-made.result c.args.app.now c.args.state.now c.finish.new.state _ _ _ c.begin-editing.result _ c.args.undo.now
-    c.finish.new.undo (search rules) (Leads-tick c.args.app.now c.args.state.now c.limits.ensures c.requires.valid c.requires.later)
+    (IsPlayed-from c.move_tick-made.result c.args.app.now c.args.editing.now.now c.finish.new.editing.now _ _ _ c.begin.new.self _ c.args.editing.now.changes
+    c.finish.new.editing.changes (search rules) (Leads-tick c.args.app.now c.args.editing.now.now c.limits.ensures c.requires.valid c.requires.later)
     c.finish.ensures.sized (search rules) c.finish.ensures.state c.finish.ensures.record)

@@ -1,23 +1,7 @@
 -- The goals of `Queue::unput` that the check left open.
-use Rattle.std.proofs.Common.{◌-◌, ◌<◌, [], length, subst, sym, arith}
+use Rattle.std.proofs.Common.{◌-◌, [], length, arith}
 use Rattle.std.proofs.lemmas.Option.{slice_get-get_or}
-use Rattle.rd_queue.specs.QueueSnapshot.{QueueSnapshot}
-use Rattle.rd_queue.proofs.ItemRingLaws.{held_without_back, items_without_back}
 use Rattle.rd_queue.proofs.queue.Queue.unput.Goals as goal
-
-pub invariant_of-self : goal.invariant_of-self
-invariant_of-self c =
-    let kept = c.self.invariant in
-    let queue = c.self.inside in
-    let some = subst (λ (q : QueueSnapshot). 0 < length q.items) (sym c.self.view_is) c.requires in
-    let held = (held_without_back queue.ring queue.capacity queue.item_size kept.0 some).1 in
-    rw c.pop_back.ensures (assumption (held, kept))
 
 pub returns-clause-item : goal.returns-clause-item
 returns-clause-item c = rw (c.new-item.ensures, c.last.ensures.item) (slice_get-get_or c.args.self.now.items (length c.args.self.now.items - 1) [] (omega (arith, c.requires)))
-
-pub returns-clause-rest : goal.returns-clause-rest
-returns-clause-rest c =
-    let queue = c.self.inside in
-    let some = subst (λ (q : QueueSnapshot). 0 < length q.items) (sym c.self.view_is) c.requires in
-    rw (c.pop_back.ensures, ← c.self.view_is, items_without_back queue.ring queue.capacity queue.item_size c.self.invariant.0 some)

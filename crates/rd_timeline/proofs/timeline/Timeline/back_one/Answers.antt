@@ -16,6 +16,6 @@ invariant_of-self c =
     let taken = c.take_back.ensures in
     let some : 0 < length t.journal.records =
     omega (arith, c.requires, ap (λ (course : Course). length course.done) c.self.view_is, c.self.invariant.kept.records) in
-    IsWhole-pop t _ _ (last_record t.journal.records) c.self.invariant taken.moves
+    IsWhole-pop t _ (last_record t.journal.records) c.self.invariant taken.moves
     (up_to_last t.journal.records some ∙ ap (λ (records : List (List Change)). records ++ last_record t.journal.records ∷ []) (sym taken.records))
-    taken.state
+    taken.target

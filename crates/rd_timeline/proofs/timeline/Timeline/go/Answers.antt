@@ -1,17 +1,25 @@
 -- The goals of `go` that the check left open.
-use Rattle.std.proofs.Common.{◌∙◌, ◌++◌, ◌∷◌, [], List, ap, rules}
+use Rattle.std.proofs.Common.{◌≡◌, ◌∙◌, ◌++◌, ◌∷◌, [], List, ap, rules, subst, sym}
+use Rattle.std.specs.Prelude.{Ok}
 use Rattle.rd_calls.specs.declared.moves.Move.{Move}
 use Rattle.rd_state.specs.declared.change.Change.{Change}
+use Rattle.rd_state.specs.Snapshot.{Snapshot}
+use Rattle.rd_state.specs.Valid.{IsValid}
+use Rattle.rd_calls.specs.Step.{step}
 use Rattle.rd_timeline.specs.History.{state_after}
 use Rattle.rd_timeline.proofs.HistoryLaws.{state_after-push}
 use Rattle.rd_timeline.proofs.TimelineLaws.{IsWhole-push, state_now}
 use Rattle.rd_timeline.proofs.timeline.Timeline.go.Goals as goal
 
-pub play-requires-clause-valid : goal.play-requires-clause-valid
-play-requires-clause-valid c = (state_now c.self.inside c.self.invariant).valid
+-- the target is valid, and so it is once there is room for a move more
+pub why_not-cause-requires-clause-valid : goal.why_not-cause-requires-clause-valid
+why_not-cause-requires-clause-valid c =
+    subst (λ (s : Snapshot). IsValid c.self.inside.app s) (sym (c.target.ensures ∙ c.reserve.ensures.same.target))
+    (state_now c.self.inside c.self.invariant).valid
 
-pub play-requires-2-clause-valid : goal.play-requires-2-clause-valid
-play-requires-2-clause-valid c = (state_now c.self.inside c.self.invariant).valid
+pub play-requires-clause-valid : goal.play-requires-clause-valid
+play-requires-clause-valid c =
+    subst (λ (s : Snapshot). IsValid c.self.inside.app s) (sym c.reserve.ensures.same.target) (state_now c.self.inside c.self.invariant).valid
 
 pub invariant_of-self-2 : goal.invariant_of-self-2
 invariant_of-self-2 c =
@@ -19,8 +27,10 @@ invariant_of-self-2 c =
     let same = c.reserve.ensures.same in
     let made = c.in_ok-play.ensures in
     let played = made.lays.played in
-    IsWhole-push t _ _ c.args.action made.lays.undo c.self.invariant (search rules) played.step played.leads_back played.can_undo played.valid
-    played.settled (made.done ∙ ap (λ (moves : List Move). moves ++ c.args.action ∷ []) same.done)
+    let from_target : step t.app t.journal.target c.args.action ≡ Ok c.play.new.self.target =
+    ap (λ (s : Snapshot). step t.app s c.args.action) (sym same.target) ∙ played.step in
+    IsWhole-push t _ c.args.action made.lays.undo c.self.invariant (search rules) from_target (played.leads_back ∙ same.target) played.can_undo
+    played.valid played.settled (made.done ∙ ap (λ (moves : List Move). moves ++ c.args.action ∷ []) same.done)
     (made.lays.records ∙ ap (λ (records : List (List Change)). records ++ made.lays.undo ∷ []) same.records)
 
 pub returns-clause-leads : goal.returns-clause-leads
@@ -29,6 +39,6 @@ returns-clause-leads c =
     let made = c.in_ok-play.ensures in
     ap (λ (moves : List Move). state_after t.app moves)
     (made.done ∙ ap (λ (moves : List Move). moves ++ c.args.action ∷ []) c.reserve.ensures.same.done)
-    ∙ state_after-push t.app t.journal.done c.args.action t.target
+    ∙ state_after-push t.app t.journal.done c.args.action t.journal.target
     (state_now t c.self.invariant).state
-    ∙ made.lays.played.step
+    ∙ ap (λ (s : Snapshot). step t.app s c.args.action) (sym c.reserve.ensures.same.target) ∙ made.lays.played.step

@@ -1,23 +1,19 @@
--- The goals of `Queue::take` that the check left open.
+-- The goals of `Queue::drop_first` that the check left open.
 use Rattle.std.proofs.Common.{◌<◌, length, subst, sym}
-use Rattle.std.proofs.lemmas.Grind.{common_steps}
-use Rattle.std.proofs.Common.{arith}
 use Rattle.rd_queue.specs.QueueSnapshot.{QueueSnapshot}
 use Rattle.rd_queue.proofs.ItemRingLaws.{held_without_front, items_without_front}
-use Rattle.rd_queue.proofs.queue.Queue.take.Goals as goal
+use Rattle.rd_queue.proofs.queue.Queue.drop_first.Goals as goal
 
 pub invariant_of-self : goal.invariant_of-self
 invariant_of-self c =
     let kept = c.self.invariant in
     let queue = c.self.inside in
-    let there : 0 < length c.args.self.now.items = grind (arith, common_steps) in
-    let some = subst (λ (q : QueueSnapshot). 0 < length q.items) (sym c.self.view_is) there in
+    let some = subst (λ (q : QueueSnapshot). 0 < length q.items) (sym c.self.view_is) c.requires in
     let held = (held_without_front queue.ring queue.capacity queue.item_size kept.0 some).1 in
     rw c.drop_front.ensures (assumption (held, kept))
 
-pub returns-clause-ok : goal.returns-clause-ok
-returns-clause-ok c =
+pub returns : goal.returns
+returns c =
     let queue = c.self.inside in
-    let there : 0 < length c.args.self.now.items = grind (arith, common_steps) in
-    let some = subst (λ (q : QueueSnapshot). 0 < length q.items) (sym c.self.view_is) there in
+    let some = subst (λ (q : QueueSnapshot). 0 < length q.items) (sym c.self.view_is) c.requires in
     rw (c.drop_front.ensures, ← c.self.view_is, items_without_front queue.ring queue.capacity queue.item_size c.self.invariant.0 some)

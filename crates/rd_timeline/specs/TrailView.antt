@@ -1,0 +1,10 @@
+-- What a contract sees of a trail.
+use Rattle.std.specs.Prelude.{ℕ, List}
+use Rattle.rd_state.specs.declared.change.Change.{Change}
+use Rattle.rd_state.specs.Snapshot.{Snapshot}
+
+-- the target, the records that lead back from it, and for how many there is room
+pub record TrailView : Type 0 where
+  pub target : Snapshot
+  pub records : List (List Change)
+  pub capacity : ℕ
