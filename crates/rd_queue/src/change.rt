@@ -75,6 +75,7 @@ impl QueueChange {
 
 impl Queue {
     /// Makes a change. It takes no memory.
+    #[inline(always)]
     pub fn apply(&mut self, change: &QueueChange)
         requires { QueueFits self.old change.now }
         ensures { self.new ≡ queue_applied self.old change.now }
@@ -100,6 +101,7 @@ impl Queue {
 
     /// The change that undoes `change`, made at this queue. It needs memory only where more than 16
     /// bytes are saved.
+    #[inline(always)]
     pub fn inverse_of(&self, alloc: Global, change: &QueueChange) -> Result<QueueChange, NoMemory>
         requires { QueueFits self.now change.now }
         ensures inverse { IfOk result

@@ -25,6 +25,7 @@ pub enum QueueSetChange {
 
 impl QueueSet {
     /// Makes a change. It takes no memory.
+    #[inline(always)]
     pub fn apply(&mut self, change: &QueueSetChange)
         requires { QueueSetFits self.old change.now }
         ensures { self.new ≡ queue_set_applied self.old change.now }
@@ -46,6 +47,7 @@ impl QueueSet {
     }
 
     /// The change that undoes `change`, made at this set. It takes no memory.
+    #[inline(always)]
     pub fn inverse_of(&self, change: &QueueSetChange) -> QueueSetChange
         requires { QueueSetFits self.now change.now }
         ensures { result ≡ queue_set_inverse_of self.now change.now }

@@ -56,6 +56,7 @@ impl Editing {
     }
 
     /// A move begins here.
+    #[inline(always)]
     pub fn begin(&mut self)
         ensures { self.new ≡ begun_at self.old.now self.old.changes }
     {
@@ -63,6 +64,7 @@ impl Editing {
     }
 
     /// How many changes the record has.
+    #[inline(always)]
     pub fn len(&self) -> usize
         ensures { result ≡ length self.now.changes }
     {
@@ -77,6 +79,7 @@ impl Editing {
     }
 
     /// The state as it is now.
+    #[inline(always)]
     pub fn state(&self) -> &State
         ensures state { result.now ≡ self.now.now }
         ensures sized { IsSized self.now.now }
@@ -87,6 +90,7 @@ impl Editing {
 
     /// Makes a change and records what undoes it. Where there is no
     /// memory for that, nothing has changed.
+    #[inline(always)]
     pub fn change(&mut self, change: Change) -> Result<(), NoMemory>
         requires { Fits self.old.now change }
         ensures ok { OnOk result (Reaches self.old self.new (applied self.old.now change)
@@ -99,6 +103,7 @@ impl Editing {
 
     /// Makes a transfer and records what undoes it. Where there is no memory for that, nothing has
     /// changed.
+    #[inline(always)]
     pub fn transfer(&mut self, transfer: Transfer) -> Result<(), NoMemory>
         requires { CanTransfer self.old.now transfer }
         ensures ok { OnOk result (Reaches self.old self.new
@@ -111,6 +116,7 @@ impl Editing {
     }
 
     /// Puts a task into the list of a place, at the index.
+    #[inline(always)]
     pub fn insert_waiting(
         &mut self,
         place: Place,
@@ -142,6 +148,7 @@ impl Editing {
     }
 
     /// Takes the task at the index out of the list of a place.
+    #[inline(always)]
     pub fn delete_waiting(&mut self, place: Place, index: usize) -> Result<(), NoMemory>
         requires place { HasPlace self.old.now place }
         requires within { index < length (waiting_at self.old.now place) }
@@ -165,6 +172,7 @@ impl Editing {
     }
 
     /// Takes the move back, to where it began. It takes no memory.
+    #[inline(always)]
     pub fn roll_back(&mut self)
         ensures { self.new ≡ begun_at self.old.base.state self.old.base.recorded }
     {

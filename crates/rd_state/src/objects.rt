@@ -209,6 +209,7 @@ impl Objects {
     }
 
     // Changes a queue.
+    #[inline(always)]
     fn change_queue(&mut self, queue: usize, change: &QueueChange)
         requires there { queue < length self.old.queues }
         requires fits { QueueFits (queue_in self.old queue) change.now }
@@ -220,6 +221,7 @@ impl Objects {
     }
 
     // Changes a queue set.
+    #[inline(always)]
     fn change_queue_set(&mut self, queue_set: usize, change: &QueueSetChange)
         requires there { queue_set < length self.old.queue_sets }
         requires fits { QueueSetFits (queue_set_in self.old queue_set) change.now }
@@ -231,6 +233,7 @@ impl Objects {
     }
 
     /// Makes a change of an object. It takes no memory.
+    #[inline(always)]
     pub(crate) fn apply(&mut self, change: &ObjectChange)
         requires { ObjectFits self.old change.now }
         ensures { self.new ≡ object_applied self.old change.now }
@@ -245,6 +248,7 @@ impl Objects {
 
     /// The change that undoes `change`, made at these objects. It needs memory only where more than
     /// 16 bytes are saved.
+    #[inline(always)]
     pub(crate) fn inverse_of(
         &self,
         alloc: Global,
@@ -269,6 +273,7 @@ impl Objects {
     }
 
     /// Puts the item that these bytes make at an end of a queue that has room.
+    #[inline(always)]
     pub(crate) fn put_fitted(&mut self, queue: usize, end: End, bytes: &[u8])
         requires there { queue < length self.old.queues }
         requires room { length (queue_in self.old queue).items
@@ -282,6 +287,7 @@ impl Objects {
     }
 
     /// Puts the item that these bytes make in the place of a queue's first.
+    #[inline(always)]
     pub(crate) fn set_first_fitted(&mut self, queue: usize, bytes: &[u8])
         requires there { queue < length self.old.queues }
         requires some { 0 < length (queue_in self.old queue).items }

@@ -253,6 +253,7 @@ impl State {
         }
     }
 
+    #[inline(always)]
     fn set_tick(&mut self, tick: u32)
         requires { Fits self.old (Change.SetTick tick) }
         ensures { self.new ≡ applied self.old (Change.SetTick tick) }
@@ -260,6 +261,7 @@ impl State {
         self.tick = tick;
     }
 
+    #[inline(always)]
     fn set_turn(&mut self, turn: usize)
         requires { Fits self.old (Change.SetTurn turn) }
         ensures { self.new ≡ applied self.old (Change.SetTurn turn) }
@@ -267,6 +269,7 @@ impl State {
         self.turn = turn;
     }
 
+    #[inline(always)]
     fn set_core(&mut self, core: usize, task: Option<usize>)
         requires { Fits self.old (Change.SetCore core task) }
         ensures { self.new ≡ applied self.old (Change.SetCore core task) }
@@ -274,6 +277,7 @@ impl State {
         self.cores[core] = task;
     }
 
+    #[inline(always)]
     fn insert_ready(&mut self, index: usize, task: usize)
         requires { Fits self.old (Change.InsReady index task) }
         ensures { self.new ≡ applied self.old (Change.InsReady index task) }
@@ -281,6 +285,7 @@ impl State {
         self.ready.insert_at(index, task);
     }
 
+    #[inline(always)]
     fn delete_ready(&mut self, index: usize)
         requires { Fits self.old (Change.DelReady index) }
         ensures { self.new ≡ applied self.old (Change.DelReady index) }
@@ -288,6 +293,7 @@ impl State {
         self.ready.remove_at(index);
     }
 
+    #[inline(always)]
     fn change_task(&mut self, task: usize, change: &TaskChange)
         requires { Fits self.old (Change.Task task change.now) }
         ensures { self.new ≡ applied self.old (Change.Task task change.now) }
@@ -296,6 +302,7 @@ impl State {
         target.apply(change);
     }
 
+    #[inline(always)]
     fn change_object(&mut self, change: &ObjectChange)
         requires { Fits self.old (Change.Object change.now) }
         ensures { self.new ≡ applied self.old (Change.Object change.now) }
@@ -304,6 +311,7 @@ impl State {
     }
 
     /// Makes a change. It takes no memory.
+    #[inline(always)]
     pub fn apply(&mut self, change: &Change)
         requires { Fits self.old change.now }
         ensures { self.new ≡ applied self.old change.now }
@@ -319,6 +327,7 @@ impl State {
         }
     }
 
+    #[inline(always)]
     fn put_data(&mut self, task: usize, queue: usize, end: End)
         requires { CanTransfer self.old (Transfer.DataToQueue task queue end) }
         ensures { self.new
@@ -328,6 +337,7 @@ impl State {
         self.objects.put_fitted(queue, end, bytes);
     }
 
+    #[inline(always)]
     fn put_over(&mut self, task: usize, queue: usize)
         requires { CanTransfer self.old (Transfer.DataOverFront task queue) }
         ensures { self.new
@@ -337,6 +347,7 @@ impl State {
         self.objects.set_first_fitted(queue, bytes);
     }
 
+    #[inline(always)]
     fn take_data(&mut self, queue: usize, task: usize)
         requires { CanTransfer self.old (Transfer.FrontToData queue task) }
         ensures { self.new
@@ -349,6 +360,7 @@ impl State {
 
     /// Makes the change that a transfer stands for, with no copy of the bytes but the one that
     /// stays. It takes no memory.
+    #[inline(always)]
     pub fn transfer(&mut self, transfer: Transfer)
         requires { CanTransfer self.old transfer }
         ensures { self.new ≡ applied self.old (change_of self.old transfer) }
@@ -362,6 +374,7 @@ impl State {
 
     /// The change that undoes a transfer, made at this state. It needs memory only where more than
     /// 16 bytes are saved.
+    #[inline(always)]
     pub fn inverse_of_transfer(&self, alloc: Global, transfer: Transfer) -> Result<Change, NoMemory>
         requires { CanTransfer self.now transfer }
         ensures inverse { IfOk result
@@ -397,6 +410,7 @@ impl State {
 
     /// The change that undoes `change`, made at this state. It needs memory only where
     /// more than 16 bytes are saved.
+    #[inline(always)]
     pub fn inverse_of(&self, alloc: Global, change: &Change) -> Result<Change, NoMemory>
         requires { Fits self.now change.now }
         ensures inverse { IfOk result (λ inverse. inverse ≡ inverse_of self.now change.now) }

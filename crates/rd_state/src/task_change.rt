@@ -38,6 +38,7 @@ impl TaskChange {
 
 impl Task {
     /// Makes a change. It takes no memory.
+    #[inline(always)]
     pub fn apply(&mut self, change: &TaskChange)
         requires { TaskFits change.now }
         ensures { self.new ≡ task_applied self.old change.now }
@@ -52,6 +53,7 @@ impl Task {
 
     /// The change that undoes `change`, made at this task. It needs memory only where more than 16
     /// bytes are saved.
+    #[inline(always)]
     pub fn inverse_of(&self, alloc: Global, change: &TaskChange) -> Result<TaskChange, NoMemory>
         requires { TaskFits change.now }
         ensures inverse { IfOk result (λ inverse. inverse ≡ task_inverse_of self.now change.now) }

@@ -63,6 +63,7 @@ impl Undo {
         weight
     }
 
+    #[inline(always)]
     fn push(&mut self, change: Change) -> Result<(), NoMemory>
         ensures ok { OnOk result (self.new ≡ self.old ++ change ∷ []) }
         ensures err { OnErr result (self.new ≡ self.old) }
@@ -88,6 +89,7 @@ impl Undo {
 
 /// Makes a change, and adds the change that undoes it to the record. Where there is no memory for
 /// that, nothing has changed.
+#[inline(always)]
 pub fn act(state: &mut State, undo: &mut Undo, change: Change) -> Result<(), NoMemory>
     requires { Fits state.old change }
     ensures state { OnOk result (state.new ≡ applied state.old change) }
@@ -104,6 +106,7 @@ pub fn act(state: &mut State, undo: &mut Undo, change: Change) -> Result<(), NoM
 
 /// Makes a transfer, and adds the change that undoes it to the record. Where there is no memory for
 /// that, nothing has changed.
+#[inline(always)]
 pub fn act_transfer(state: &mut State, undo: &mut Undo, transfer: Transfer) -> Result<(), NoMemory>
     requires { CanTransfer state.old transfer }
     ensures state { OnOk result
@@ -123,6 +126,7 @@ pub fn act_transfer(state: &mut State, undo: &mut Undo, transfer: Transfer) -> R
 impl State {
     /// Goes back by the changes that a record has after its first `len`, the last one first; they
     /// leave the record. It takes no memory.
+    #[inline(always)]
     pub fn back_to(&mut self, undo: &mut Undo, len: usize)
         requires within { len ≤ length undo.old }
         requires fits { CanUndo self.old (drop len undo.old) }
