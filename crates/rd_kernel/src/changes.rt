@@ -21,6 +21,7 @@ use rd_state::task_change::TaskChange;
 use std::alloc::Global;
 
 /// Sets a register of a task. If it has the value already, nothing changes, and no memory is taken.
+#[inline(always)]
 pub fn set_register(
     editing: &mut Editing,
     task: usize,
@@ -42,6 +43,7 @@ pub fn set_register(
 }
 
 /// Makes these bytes a task's data.
+#[inline(always)]
 pub fn set_bytes(
     alloc: Global,
     editing: &mut Editing,
@@ -61,6 +63,7 @@ pub fn set_bytes(
 }
 
 /// Moves a task to another instruction of its script.
+#[inline(always)]
 pub fn set_pc(editing: &mut Editing, task: usize, pc: usize) -> Result<(), NoMemory>
     requires { task < length editing.old.now.tasks }
     ensures ok { OnOk result (Reaches editing.old editing.new (with_pc editing.old.now task pc) 1) }
@@ -71,6 +74,7 @@ pub fn set_pc(editing: &mut Editing, task: usize, pc: usize) -> Result<(), NoMem
 }
 
 /// Moves a task to its next instruction.
+#[inline(always)]
 pub fn advance(editing: &mut Editing, task: usize) -> Result<(), NoMemory>
     requires task { task < length editing.old.now.tasks }
     requires pc { (task_at editing.old.now task).pc < MAX_CODE }
@@ -83,6 +87,7 @@ pub fn advance(editing: &mut Editing, task: usize) -> Result<(), NoMemory>
 
 /// Puts a task into another phase. If it is in that phase already, nothing changes, and no memory
 /// is taken.
+#[inline(always)]
 pub fn set_phase(editing: &mut Editing, task: usize, phase: Phase) -> Result<(), NoMemory>
     requires task { task < length editing.old.now.tasks }
     requires sized { IsSizedPhase (numbers_of editing.old.now) phase }
@@ -99,6 +104,7 @@ pub fn set_phase(editing: &mut Editing, task: usize, phase: Phase) -> Result<(),
 }
 
 /// Ends a task's call: the value that it returns stands in r0, and its script goes on.
+#[inline(always)]
 pub fn return_from(editing: &mut Editing, task: usize, value: u32) -> Result<(), NoMemory>
     requires task { task < length editing.old.now.tasks }
     requires pc { (task_at editing.old.now task).pc < MAX_CODE }
@@ -114,6 +120,7 @@ pub fn return_from(editing: &mut Editing, task: usize, value: u32) -> Result<(),
 
 /// Gives the turn to this core. If it has the turn already,
 /// nothing changes, and no memory is taken.
+#[inline(always)]
 pub fn set_turn(editing: &mut Editing, turn: usize) -> Result<(), NoMemory>
     requires { turn ≤ length editing.old.now.cores }
     ensures ok { OnOk result

@@ -16,6 +16,7 @@ use rd_state::editing::Editing;
 use rd_state::phase::Phase;
 
 // Takes a task off its core, into a phase in which it can't run.
+#[inline(always)]
 fn stop(editing: &mut Editing, core: usize, task: usize, phase: Phase) -> Result<(), NoMemory>
     requires task { task < length editing.old.now.tasks }
     requires core { core < length editing.old.now.cores }
@@ -29,6 +30,7 @@ fn stop(editing: &mut Editing, core: usize, task: usize, phase: Phase) -> Result
 }
 
 /// What becomes of a caller: its call returns, or it waits, or has failed, and leaves its core.
+#[inline(always)]
 pub fn conclude(
     editing: &mut Editing,
     core: usize,

@@ -4,6 +4,7 @@ ghost use Rattle.std.specs.Prelude.{◌≡◌, ◌↔◌, ◌+◌, ◌-◌, ◌�
 ghost use Rattle.rd_ring.specs.Memory.{IsOffset, seen_from, offset_after, offset_before};
 
 /// The offset `count` bytes after `offset`, around the end of a memory of `capacity` bytes.
+#[inline(always)]
 pub fn offset_after(capacity: usize, offset: usize, count: usize) -> usize
     requires offset { IsOffset capacity offset }
     requires count { count ≤ capacity }
@@ -19,6 +20,7 @@ pub fn offset_after(capacity: usize, offset: usize, count: usize) -> usize
 }
 
 /// The offset `count` bytes before `offset`, around the end of a memory of `capacity` bytes.
+#[inline(always)]
 pub fn offset_before(capacity: usize, offset: usize, count: usize) -> usize
     requires offset { IsOffset capacity offset }
     requires count { count ≤ capacity }
@@ -33,6 +35,7 @@ pub fn offset_before(capacity: usize, offset: usize, count: usize) -> usize
 }
 
 /// The `count` bytes from `offset` on, in two pieces, since they may go around the end.
+#[inline(always)]
 pub fn halves_from(memory: &[u8], offset: usize, count: usize) -> (&[u8], &[u8])
     requires offset { offset ≤ length memory.now }
     requires count { count ≤ length memory.now }
@@ -43,6 +46,7 @@ pub fn halves_from(memory: &[u8], offset: usize, count: usize) -> (&[u8], &[u8])
 }
 
 /// Copies the bytes from `offset` on, as many as `into` has.
+#[inline(always)]
 pub fn read_from(memory: &[u8], offset: usize, into: &mut [u8])
     requires offset { offset ≤ length memory.now }
     requires count { length into.old ≤ length memory.now }
@@ -55,6 +59,7 @@ pub fn read_from(memory: &[u8], offset: usize, into: &mut [u8])
 }
 
 /// Puts `bytes` in the place of as many, from `offset` on.
+#[inline(always)]
 pub fn write_from(memory: &mut [u8], offset: usize, bytes: &[u8])
     requires offset { offset ≤ length memory.old }
     requires count { length bytes.now ≤ length memory.old }
@@ -68,6 +73,7 @@ pub fn write_from(memory: &mut [u8], offset: usize, bytes: &[u8])
 }
 
 // Whether `whole` is `front` and then `back`.
+#[inline(always)]
 fn is_joined(whole: &[u8], front: &[u8], back: &[u8]) -> bool
     ensures { IsTrue result ↔ (whole.now ≡ front.now ++ back.now) }
 {
@@ -80,6 +86,7 @@ fn is_joined(whole: &[u8], front: &[u8], back: &[u8]) -> bool
 
 /// Whether two lists, each in two pieces, are equal. The first piece of the first list is no longer
 /// than that of the second.
+#[inline(always)]
 pub fn same_in_pieces(front: &[u8], back: &[u8], other_front: &[u8], other_back: &[u8]) -> bool
     requires { length front.now ≤ length other_front.now }
     ensures { IsTrue result ↔ (front.now ++ back.now ≡ other_front.now ++ other_back.now) }
