@@ -1,5 +1,5 @@
 -- What each instruction leaves as it is.
-use Rattle.std.proofs.Common.{◌≡◌, ◌∙◌, ℕ, ◌+◌, ◌-◌, ◌%◌, ◌<◌, ◌≤◌, true, false, cond, List, length}
+use Rattle.std.proofs.Common.{◌≡◌, ◌∙◌, ℕ, ◌+◌, ◌%◌, ◌<◌, ◌≤◌, true, false, cond, List, length}
 use Rattle.std.proofs.Common.{set, Some, None, refl, subst, arith}
 use Rattle.std.specs.Prelude.{◌^◌, nat_eq}
 use Rattle.std.specs.Int.{w32, to_le_bytes}

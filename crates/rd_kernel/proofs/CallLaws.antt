@@ -14,7 +14,7 @@ use Rattle.rd_state.specs.declared.phase.Phase.{Phase}
 use Rattle.rd_state.specs.declared.phase.Phase.TheVariants.{Run, Again, Wait, Failed, Ended}
 use Rattle.rd_state.specs.declared.phase.Place.{Place}
 use Rattle.rd_app.specs.Application.{Application, code_of, instr_at, priorities_of}
-use Rattle.rd_wait.specs.Joined.{joined, IsInOrder}
+use Rattle.rd_wait.specs.Joined.{joined}
 use Rattle.rd_wait.proofs.Offered.{IsInOrder-joined}
 use Rattle.rd_state.specs.Sizes.{IsSized, IsTaskOrIdle}
 use Rattle.rd_state.specs.Phases.{can_run, kept_deadline, waits_at}

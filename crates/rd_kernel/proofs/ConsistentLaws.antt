@@ -1,7 +1,7 @@
 -- What makes a state valid, but for its sizes, and what keeps it.
 use Rattle.std.proofs.Common.{◌≡◌, ◌∙◌, ◌≢◌, ℕ, zero, suc, ◌+◌, ◌<◌, ◌≤◌, Bool, true, false, cond, List, [], ◌∷◌}
 use Rattle.std.proofs.Common.{length, get_or, set, map, Option, refl, ap, subst, sym, arith, inl, inr}
-use Rattle.std.specs.Prelude.{◌&&◌, All, nat_eq, slice_set}
+use Rattle.std.specs.Prelude.{◌&&◌, All, nat_eq}
 use Rattle.std.proofs.lemmas.Bool.{cases_eq, cases_lt, false≢true}
 use Rattle.std.proofs.lemmas.Bool.Decides.{nat_tests}
 use Rattle.std.proofs.lemmas.List.{length-set, get_or-set_same, get_or-set_other, get_or_past}

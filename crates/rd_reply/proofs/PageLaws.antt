@@ -1,5 +1,5 @@
 -- What becomes of a page through several texts that are appended to it.
-use Rattle.std.proofs.Common.{◌≡◌, ◌∙◌, refl, sym, subst, Bool, false, true, true≢false, ℕ, ◌+◌, List, ◌++◌, length, ap, arith, append_assoc, length-append}
+use Rattle.std.proofs.Common.{◌≡◌, ◌∙◌, refl, sym, subst, Bool, false, true, true≢false, ℕ, List, ◌++◌, length, ap, arith, append_assoc, length-append}
 use Rattle.std.specs.Global.{Vec}
 use Rattle.rd_reply.specs.declared.page.Page.{Page}
 use Rattle.rd_reply.specs.Pages.{Appends, LacksRoom, KeepsFront}

@@ -14,7 +14,7 @@ use Rattle.serde_json.specs.Data.{Data, null, boolean, number, unsigned, string,
 use Rattle.serde_json.specs.Find.{get, as_array, as_str}
 use Rattle.rd_app.specs.Objects.{IsQueueSetShape, NamedObjects, members_of}
 use Rattle.rd_script.specs.Values.{is_object_with, object_with, field, number_in, new_name}
-use Rattle.rd_script.specs.Objects.{IsMember, AreMembers, IsQueueSet, SaysQueueSet, queue_set_keys, member_of, members_after, queue_set_of}
+use Rattle.rd_script.specs.Objects.{IsMember, AreMembers, SaysQueueSet, queue_set_keys, member_of, members_after, queue_set_of}
 use Rattle.rd_app.specs.Named.{Named}
 use Rattle.rd_app.specs.QueueSetShapeView.{QueueSetShapeView}
 use Rattle.rd_script.specs.declared.error.AppError.TheVariants as fault

@@ -20,7 +20,6 @@ use Rattle.rd_app.specs.Objects.{AreObjects, NamedObjects, names_in, shape_at}
 use Rattle.rd_script.specs.declared.error.AppError.TheVariants as fault
 use Rattle.rd_script.specs.declared.keyword.Parameter.{Parameter}
 use Rattle.rd_script.specs.declared.keyword.Parameter.TheVariants.{Register, Number, Target, Data, Time, Name}
-use Rattle.rd_script.specs.declared.keyword.Keyword.{Keyword}
 use Rattle.rd_script.specs.Keywords.{Makes, Row, Value, keywords, keyword_of, operands_of, row_of, text_of, Written}
 use Rattle.rd_script.specs.Spelling.{register_of, target_of, operand_of, time_of, index_named, index_of, value_of, is_formed, are_formed}
 use Rattle.rd_script.specs.Spelling.{made_of, instr_made, is_call_for, is_for_queue, instr_named, instr_of, next_value, Reading, AreOperands, IsForQueue, Spells, SpellsRow}

@@ -17,7 +17,7 @@ use Rattle.rd_script.specs.declared.error.AppError.TheVariants as fault
 use Rattle.rd_script.specs.declared.objects.NamedArray.{NamedArray}
 use Rattle.rd_script.specs.declared.objects.ObjectDrafts.{ObjectDrafts}
 use Rattle.rd_script.specs.Spelling.{◌>>=◌, index_named, index_of}
-use Rattle.rd_script.specs.Values.{SayNamed, SaysNamed, array_or_empty, field, is_object_with}
+use Rattle.rd_script.specs.Values.{SaysNamed, field, is_object_with}
 use Rattle.rd_script.specs.Values.{named_after, named_at, new_name, number_in, object_with}
 use Rattle.rd_text.specs.Words.{name_of, texts}
 

@@ -1,5 +1,5 @@
 -- The goals of run_command: what each step adds.
-use Rattle.std.proofs.Common.{◌∙◌, ◌||◌, Bool, ap, ap₂, codes}
+use Rattle.std.proofs.Common.{◌∙◌, ◌||◌, Bool, ap, ap₂}
 use Rattle.std.proofs.lemmas.Result.{IfOk-weaker}
 use Rattle.clap.specs.Words.{with_rule}
 use Rattle.clap.specs.Simple.{app_of_fields}
