@@ -7,7 +7,7 @@ use Rattle.rd_app.specs.declared.instr.LocalInstr.TheVariants.{Data, End}
 use Rattle.rd_app.specs.declared.instr.QueueCall.TheVariants.{Send}
 use Rattle.rd_queue.specs.declared.end.End.TheVariants.{Back}
 use Rattle.rd_app.specs.Application.{Application}
-use Rattle.rd_app.specs.Objects.{no_objects}
+use Rattle.rd_app.specs.Objects.{no_named_objects}
 
 -- the instructions of its task
 abbrev pub builtin_code : List Instr
@@ -24,7 +24,7 @@ builtin = record {
   cores = 1;
   entries = 1;
   tick = 0;
-  objects = record no_objects {
+  objects = record no_named_objects {
     queues = record {
       names = codes "q0" ∷ [];
       things = record { capacity = 2; item_size = 1 } ∷ [];

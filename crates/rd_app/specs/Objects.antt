@@ -17,8 +17,8 @@ pub record NamedObjects : Type 0 where
   pub queues : Named QueueShape
   pub queue_sets : Named QueueSetShapeView
 
-abbrev pub no_objects : NamedObjects
-no_objects = record {
+abbrev pub no_named_objects : NamedObjects
+no_named_objects = record {
   queues = record { names = []; things = [] };
   queue_sets = record { names = []; things = [] };
 }

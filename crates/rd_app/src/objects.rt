@@ -3,7 +3,7 @@
 
 ghost use Rattle.std.specs.Prelude.{◌≡◌, ◌<◌, length, IfOk, IfSome};
 ghost use Rattle.rd_app.specs.Named.{named_view};
-ghost use Rattle.rd_app.specs.Objects.{names_in, no_objects, objects_view, queue_set_at_boot};
+ghost use Rattle.rd_app.specs.Objects.{names_in, no_named_objects, objects_view, queue_set_at_boot};
 
 use rd_text::kind::Kind;
 use rd_text::names::Names;
@@ -83,7 +83,7 @@ pub struct NamedObjects {
 impl NamedObjects {
     /// No objects of any kind.
     pub fn none(alloc: Global) -> Result<NamedObjects, AllocError>
-        ensures { IfOk result (λ objects. objects_view objects ≡ no_objects) }
+        ensures { IfOk result (λ objects. objects_view objects ≡ no_named_objects) }
     {
         Ok(NamedObjects {
             queues: Named {
@@ -100,7 +100,7 @@ impl NamedObjects {
     /// These queues, and no objects of any other kind.
     pub fn of_queues(alloc: Global, queues: Named<QueueShape>) -> Result<NamedObjects, AllocError>
         ensures { IfOk result
-            (λ objects. objects_view objects ≡ record no_objects { queues = named_view queues }) }
+            (λ objects. objects_view objects ≡ record no_named_objects { queues = named_view queues }) }
     {
         let none = NamedObjects::none(alloc)?;
         Ok(NamedObjects { queues, ..none })

@@ -38,8 +38,8 @@ numbered_command verb number =
     else None
 
 -- `show KIND NAME`
-abbrev pub named_view : List ℕ → List ℕ → Option Asked
-named_view kind name =
+abbrev pub view_of_named : List ℕ → List ℕ → Option Asked
+view_of_named kind name =
     option_and_then (λ kind. option_map (Show kind) (name_of name)) (kind_of_word kind)
 
 -- `show cores`
@@ -60,5 +60,5 @@ abbrev pub command_of : List (List ℕ) → Option Asked
 command_of (verb ∷ []) = single_word_command verb
 command_of (verb ∷ word ∷ []) = two_word_command verb word
 command_of (verb ∷ kind ∷ name ∷ []) =
-    if bytes_eq verb (codes "show") then named_view kind name else None
+    if bytes_eq verb (codes "show") then view_of_named kind name else None
 command_of _ = None

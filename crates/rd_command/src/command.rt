@@ -6,7 +6,7 @@ ghost use Rattle.rd_text.specs.Words.{words_of};
 ghost use Rattle.rd_command.specs.Commands.{asked, command_of, count_of};
 ghost use Rattle.rd_command.specs.Commands.{single_word_command, two_word_command};
 ghost use Rattle.rd_command.specs.Commands.{numbered_command};
-ghost use Rattle.rd_command.specs.Commands.{view_without_name, named_view};
+ghost use Rattle.rd_command.specs.Commands.{view_without_name, view_of_named};
 
 use rd_text::kind::Kind;
 use rd_text::words::{Words, name, number};
@@ -41,7 +41,7 @@ pub fn parse_line(line: &[u8]) -> Result<Command<'_>, Syntax>
     let command = match (words.next(), words.next(), words.next(), words.next()) {
         (Some(verb), None, _, _) => single_word_command(verb),
         (Some(verb), Some(word), None, _) => two_word_command(verb, word),
-        (Some(b"show"), Some(kind), Some(name), None) => named_view(kind, name),
+        (Some(b"show"), Some(kind), Some(name), None) => view_of_named(kind, name),
         _ => None,
     };
     command.ok_or(Syntax)
@@ -100,8 +100,8 @@ fn numbered_command<'a>(verb: &[u8], word: &'a [u8]) -> Option<Command<'a>>
 }
 
 // `show KIND NAME`.
-fn named_view<'a>(kind: &[u8], word: &'a [u8]) -> Option<Command<'a>>
-    ensures { option_map asked result ≡ named_view kind.now word.now }
+fn view_of_named<'a>(kind: &[u8], word: &'a [u8]) -> Option<Command<'a>>
+    ensures { option_map asked result ≡ view_of_named kind.now word.now }
 {
     let kind = Kind::of_word(kind)?;
     let name = name(word)?;

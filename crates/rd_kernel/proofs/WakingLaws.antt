@@ -21,7 +21,7 @@ use Rattle.rd_state.specs.Valid.{FitsCall, HasTimeLeft, is_ahead, is_at_place, p
 use Rattle.rd_state.specs.Waiting.{waiting_at}
 use Rattle.rd_state.proofs.Offered.{one_if, times_in_list-cons, times_in_list-joined}
 use Rattle.rd_app.specs.Application.{max_delay}
-use Rattle.rd_kernel.specs.Waking.{FirstTriesWait, deadline_after, value_of, is_due}
+use Rattle.rd_kernel.specs.Waking.{FirstTriesWait, deadline_after, operand_value, is_due}
 use Rattle.rd_kernel.specs.Waking.{objects_without, timed_out, woken, woken_at, woken_from, woken_first, woken_one}
 use Rattle.rd_kernel.proofs.ConsistentLaws.{TaskMoves, IsConsistent, IsConsistent-deadlines, IsConsistent-moved, place_there, same_place-self}
 
@@ -333,7 +333,7 @@ TimedOut-so_far app (suc n) s few at =
 
 pub first_tries_wait : FirstTriesWait
 first_tries_wait s task wait first =
-    let time = value_of s task wait in
+    let time = operand_value s task wait in
     let phase = (task_at s task).phase in
     let new : is_ahead s.tick (cond (is_first phase) (deadline_after s.tick time) (kept_deadline phase)) ≡ is_ahead s.tick (deadline_after s.tick time) =
     ap (λ b. is_ahead s.tick (cond b (deadline_after s.tick time) (kept_deadline phase))) first in

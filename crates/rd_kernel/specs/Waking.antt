@@ -17,9 +17,9 @@ use Rattle.rd_state.specs.Waiting.{objects_then, waiting_at, waiting_in, with_wa
 use Rattle.rd_kernel.specs.Tasks.{register_at, with_phase}
 
 -- the number that an operand stands for
-abbrev pub value_of : Snapshot → ℕ → Operand → ℕ
-value_of s task (Number value) = value
-value_of s task (Register register) = register_at s task register
+abbrev pub operand_value : Snapshot → ℕ → Operand → ℕ
+operand_value s task (Number value) = value
+operand_value s task (Register register) = register_at s task register
 
 -- the deadline of a block time that begins at a tick
 abbrev pub deadline_after : ℕ → ℕ → Option ℕ
@@ -29,7 +29,7 @@ deadline_after tick time = if nat_eq time max_delay then None else Some (tick + 
 abbrev pub deadline_of : Snapshot → ℕ → Operand → Option ℕ
 deadline_of s task wait =
     if is_first (task_at s task).phase
-    then deadline_after s.tick (value_of s task wait)
+    then deadline_after s.tick (operand_value s task wait)
     else kept_deadline (task_at s task).phase
 
 -- A call may wait as long as its deadline is ahead. The deadline of the block time 0 never is.
@@ -40,7 +40,7 @@ may_wait s task wait = is_ahead s.tick (deadline_of s task wait)
 abbrev pub FirstTriesWait : Type 0
 FirstTriesWait =
     (s : Snapshot) (task : ℕ) (wait : Operand) → is_first (task_at s task).phase ≡ true
-    → may_wait s task wait ≡ nat_lt 0 (value_of s task wait)
+    → may_wait s task wait ≡ nat_lt 0 (operand_value s task wait)
 
 -- the state with the task in the list of a place, after those of at least its priority
 abbrev pub with_waiter : List ℕ → Snapshot → Place → ℕ → Snapshot

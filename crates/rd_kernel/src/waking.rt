@@ -9,7 +9,7 @@ ghost use Rattle.rd_state.specs.Valid.{is_ahead, seats_to_run};
 ghost use Rattle.rd_state.specs.Waiting.{HasPlace, waiting_at};
 ghost use Rattle.rd_kernel.specs.Costs.{waking_cost};
 ghost use Rattle.rd_kernel.specs.Outcomes.{DoesCall, IsCalling, blocked, passed};
-ghost use Rattle.rd_kernel.specs.Waking.{value_of, deadline_after, deadline_of};
+ghost use Rattle.rd_kernel.specs.Waking.{operand_value, deadline_after, deadline_of};
 ghost use Rattle.rd_kernel.specs.Waking.{may_wait, without_waiter, is_due};
 ghost use Rattle.rd_kernel.specs.Waking.{ReadyHasRoom, woken, woken_first, woken_if_due};
 
@@ -22,10 +22,10 @@ use rd_state::editing::Editing;
 use rd_state::phase::{Phase, Place};
 
 // The number that an operand stands for.
-fn value_of(editing: &Editing, task: usize, operand: Operand) -> u32
+fn operand_value(editing: &Editing, task: usize, operand: Operand) -> u32
     requires task { task < length editing.now.now.tasks }
     requires register { IsOperand operand }
-    ensures { result ≡ value_of editing.now.now task operand }
+    ensures { result ≡ operand_value editing.now.now task operand }
 {
     match operand {
         Operand::Number { value } => value,
@@ -54,7 +54,7 @@ fn deadline_of(editing: &Editing, task: usize, wait: Operand) -> Option<u64>
 {
     let phase = editing.state().phase(task);
     if phase.is_first() {
-        deadline_after(editing.state().tick(), value_of(editing, task, wait))
+        deadline_after(editing.state().tick(), operand_value(editing, task, wait))
     } else {
         phase.kept_deadline()
     }

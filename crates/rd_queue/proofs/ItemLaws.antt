@@ -5,7 +5,7 @@ use Rattle.std.proofs.lemmas.List.{length-append, length-take-le, length-drop, t
 use Rattle.std.proofs.lemmas.List.Elements.{All-nil, All-cons, All-head, All-tail}
 use Rattle.std.specs.List.{concat}
 use Rattle.std.specs.Prelude.{All}
-use Rattle.rd_ring.specs.Rings.{replaced}
+use Rattle.rd_ring.specs.Rings.{with_piece}
 use Rattle.rd_queue.specs.Queues.{count_in, first_items, items_in}
 
 -- ---- so many items, read from their bytes
@@ -167,9 +167,9 @@ item_at size at count more bytes some is whole =
     (length-items_before size at count more bytes some is whole))
 
 -- an item in the place of the one at an index
-pub items_in-replaced : (size at count more : ℕ) (bytes item : List ℕ) → 0 < size → at ≡ count * size → length bytes ≡ (count + suc more) * size
-    → length item ≡ size → items_in size (replaced bytes at item) ≡ set (items_in size bytes) count item
-items_in-replaced size at count more bytes item some is whole fits =
+pub items_in-with_piece : (size at count more : ℕ) (bytes item : List ℕ) → 0 < size → at ≡ count * size → length bytes ≡ (count + suc more) * size
+    → length item ≡ size → items_in size (with_piece bytes at item) ≡ set (items_in size bytes) count item
+items_in-with_piece size at count more bytes item some is whole fits =
     let parts = parts_at size at count more bytes is whole in
     let front = items_in size (take at bytes) in
     let back = items_in size (drop (at + size) bytes) in

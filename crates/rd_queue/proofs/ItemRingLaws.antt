@@ -5,10 +5,10 @@ use Rattle.std.proofs.lemmas.List.{length-append, length-take-le, length-drop}
 use Rattle.std.specs.List.{concat}
 use Rattle.rd_ring.proofs.Offered.{whole_pieces_stay_whole}
 use Rattle.rd_ring.specs.RingView.{RingView}
-use Rattle.rd_ring.specs.Rings.{HasWholePieces, with_bytes, with_back, without_back, with_front, without_front, replaced}
+use Rattle.rd_ring.specs.Rings.{HasWholePieces, with_contents, with_back, without_back, with_front, without_front, with_piece}
 use Rattle.rd_queue.specs.ItemRings.{HoldsItems}
 use Rattle.rd_queue.specs.Queues.{count_in, items_in}
-use Rattle.rd_queue.proofs.ItemLaws.{count_in_whole, length-items_in, concat-items_in, same_items, whole-append, items_in-push_back, items_in-push_front, item_at, items_in-replaced, items_before, items_behind}
+use Rattle.rd_queue.proofs.ItemLaws.{count_in_whole, length-items_in, concat-items_in, same_items, whole-append, items_in-push_back, items_in-push_front, item_at, items_in-with_piece, items_before, items_behind}
 
 -- A ring of so many whole items.
 held : (ring : RingView) (capacity size count : ℕ) → HasWholePieces ring size → ring.capacity ≡ capacity * size → length ring.bytes ≡ count * size
@@ -86,13 +86,13 @@ held_without_back ring capacity size holds some =
 -- an item in the place of another, which lies within the bytes
 pub held_replaced : (ring : RingView) (capacity size index : ℕ) (item : List ℕ) → HoldsItems ring capacity size → index < length (items_in size ring.bytes)
     → length item ≡ size
-    → (index * size + length item ≤ length ring.bytes) × HoldsItems (with_bytes ring (replaced ring.bytes (index * size) item)) capacity size
+    → (index * size + length item ≤ length ring.bytes) × HoldsItems (with_contents ring (with_piece ring.bytes (index * size) item)) capacity size
 held_replaced ring capacity size index item holds there is =
     let it = is_item ring capacity size index holds there in
     let at = index * size in
-    let new = replaced ring.bytes at item in (
+    let new = with_piece ring.bytes at item in (
       omega (arith, it.whole, is),
-      held (with_bytes ring new) capacity size (count_in size ring.bytes) ((whole_pieces_stay_whole size).changed ring new holds.pieces) holds.reserved
+      held (with_contents ring new) capacity size (count_in size ring.bytes) ((whole_pieces_stay_whole size).changed ring new holds.pieces) holds.reserved
           (omega (
             arith,
             length-append (take at ring.bytes) (item ++ drop (at + length item) ring.bytes),
@@ -128,10 +128,10 @@ items_without_back ring capacity size holds some =
     items_before size (length ring.bytes - size) (length (items_in size ring.bytes) - 1) 0 ring.bytes holds.pieces.some_bytes (omega (arith, whole)) whole
 
 pub replaced_items : (ring : RingView) (capacity size index : ℕ) (item : List ℕ) → HoldsItems ring capacity size → index < length (items_in size ring.bytes)
-    → length item ≡ size → items_in size (replaced ring.bytes (index * size) item) ≡ set (items_in size ring.bytes) index item
+    → length item ≡ size → items_in size (with_piece ring.bytes (index * size) item) ≡ set (items_in size ring.bytes) index item
 replaced_items ring capacity size index item holds there is =
     let it = is_item ring capacity size index holds there in
-    items_in-replaced size (index * size) index it.more ring.bytes item holds.pieces.some_bytes refl it.whole is
+    items_in-with_piece size (index * size) index it.more ring.bytes item holds.pieces.some_bytes refl it.whole is
 
 -- the item at an index, and where it lies
 pub item_of : (ring : RingView) (capacity size index : ℕ) → HoldsItems ring capacity size → index < length (items_in size ring.bytes)

@@ -5,16 +5,16 @@ use Rattle.std.proofs.lemmas.List.{length-append, length-drop, length-set, lengt
 use Rattle.std.proofs.lemmas.List.{take_at, drop_at, take-take, drop-drop, drop-take, get_or-take, set_split}
 use Rattle.rd_ring.specs.Memory.{IsOffset, seen_from, offset_after, offset_before}
 use Rattle.rd_ring.specs.RingView.{RingView}
-use Rattle.rd_ring.specs.Rings.{with_bytes, with_front, without_front, replaced, HasWholePieces}
+use Rattle.rd_ring.specs.Rings.{with_contents, with_front, without_front, with_piece, HasWholePieces}
 use Rattle.rd_ring.proofs.OffsetLaws.{IsOffset-offset_after, whole_piece_fits, whole-offset_after}
 use Rattle.rd_ring.proofs.MemoryLaws.{length-seen_from, seen_from-rest, seen_from-offset_after, first-seen_from, seen_from-set}
 
 -- ---- bytes put in; `old` and `new` are the memory as it is seen from the front, before and after
 
 -- seen from where the piece begins, it stands first: so it stands there
-replaced-seen_from : (old new piece : List ℕ) (at : ℕ) → at + length piece ≤ length old → length new ≡ length old
-    → seen_from at new ≡ piece ++ drop (length piece) (seen_from at old) → new ≡ replaced old at piece
-replaced-seen_from old new piece at fits same_length written =
+with_piece-seen_from : (old new piece : List ℕ) (at : ℕ) → at + length piece ≤ length old → length new ≡ length old
+    → seen_from at new ≡ piece ++ drop (length piece) (seen_from at old) → new ≡ with_piece old at piece
+with_piece-seen_from old new piece at fits same_length written =
     let n = length piece in
     let rest = drop (at + n) old in
     sym (seen_from-rest at new) ∙ ap (λ (x : List ℕ). seen_from (length new - at) x) written
@@ -31,12 +31,12 @@ pushed_back old new bytes len fits same_length written =
     let n = length bytes in
     let front = take len old in
     let length_front : length front ≡ len = length-take-le len old (omega arith) in
-    ap (λ (x : List ℕ). take (len + n) x) (replaced-seen_from old new bytes len fits same_length written)
+    ap (λ (x : List ℕ). take (len + n) x) (with_piece-seen_from old new bytes len fits same_length written)
     ∙ ap (λ (x : List ℕ). take (len + n) x) (sym (append_assoc front bytes (drop (len + n) old)))
     ∙ take_at (front ++ bytes) (drop (len + n) old) (len + n) (omega (arith, length-append front bytes, length_front))
 
 piece_replaced : (old new piece : List ℕ) (at len : ℕ) → at + length piece ≤ len → len ≤ length old → length new ≡ length old
-    → seen_from at new ≡ piece ++ drop (length piece) (seen_from at old) → take len new ≡ replaced (take len old) at piece
+    → seen_from at new ≡ piece ++ drop (length piece) (seen_from at old) → take len new ≡ with_piece (take len old) at piece
 piece_replaced old new piece at len within fits same_length written =
     let end = at + length piece in
     let front = take at old in
@@ -45,7 +45,7 @@ piece_replaced old new piece at len within fits same_length written =
     let is_end : length (front ++ piece) ≡ end = omega (arith, length-append front piece, length-take-le at old (omega arith)) in
     let more : len ≡ length (front ++ piece) + k = omega (arith, is_end) in
     let len_is : end + k ≡ len = omega arith in
-    ap (λ (x : List ℕ). take len x) (replaced-seen_from old new piece at (omega arith) same_length written ∙ sym (append_assoc front piece rest))
+    ap (λ (x : List ℕ). take len x) (with_piece-seen_from old new piece at (omega arith) same_length written ∙ sym (append_assoc front piece rest))
     ∙ ap (λ (n : ℕ). take n ((front ++ piece) ++ rest)) more ∙ take-append-add (front ++ piece) rest k
     ∙ append_assoc front piece (take k rest)
     ∙ ap₂ (λ (x y : List ℕ). x ++ (piece ++ y)) (sym (take-take at len old (omega arith)))
@@ -116,7 +116,7 @@ pub ring_pushed_back : (memory after bytes : List ℕ) (start len : ℕ) → IsO
     → len + length bytes ≤ length memory → length after ≡ length memory
     → seen_from (offset_after (length memory) start len) after
     ≡ bytes ++ drop (length bytes) (seen_from (offset_after (length memory) start len) memory)
-    → ring_in after start (len + length bytes) ≡ with_bytes (ring_in memory start len) (take len (seen_from start memory) ++ bytes)
+    → ring_in after start (len + length bytes) ≡ with_contents (ring_in memory start len) (take len (seen_from start memory) ++ bytes)
 ring_pushed_back memory after bytes start len is fits same_length written =
     let old = seen_from start memory in
     let new = seen_from start after in
@@ -158,20 +158,20 @@ pub ring_with_piece : (memory after piece : List ℕ) (start len at : ℕ) → I
     → at + length piece ≤ len → length after ≡ length memory
     → seen_from (offset_after (length memory) start at) after
     ≡ piece ++ drop (length piece) (seen_from (offset_after (length memory) start at) memory)
-    → ring_in after start len ≡ with_bytes (ring_in memory start len) (replaced (take len (seen_from start memory)) at piece)
+    → ring_in after start len ≡ with_contents (ring_in memory start len) (with_piece (take len (seen_from start memory)) at piece)
 ring_with_piece memory after piece start len at is fits within same_length written =
     let old = seen_from start memory in
     let new = seen_from start after in
     let length_old = length-seen_from start memory in
     let length_new = length-seen_from start after in
-    same_ring (take len new) (replaced (take len old) at piece) (length after) (length memory) start
+    same_ring (take len new) (with_piece (take len old) at piece) (length after) (length memory) start
     (piece_replaced old new piece at len within (omega (arith, length_old)) (length_new ∙ same_length ∙ sym length_old)
     (written_at memory after piece start at is (omega arith) same_length written))
     same_length
 
 pub ring_with_byte : (memory : List ℕ) (start len at value : ℕ) → IsOffset (length memory) start → len ≤ length memory → at < len
     → ring_in (set memory (offset_after (length memory) start at) value) start len
-    ≡ with_bytes (ring_in memory start len) (set (take len (seen_from start memory)) at value)
+    ≡ with_contents (ring_in memory start len) (set (take len (seen_from start memory)) at value)
 ring_with_byte memory start len at value is fits there =
     let offset = offset_after (length memory) start at in
     let is_offset = IsOffset-offset_after (length memory) start at is (omega arith) in
@@ -179,7 +179,7 @@ ring_with_byte memory start len at value is fits there =
     let next : at + 1 ≡ suc at = omega arith in
     ring_with_piece memory (set memory offset value) (value ∷ []) start len at is fits (omega arith) (length-set memory offset value)
     (seen_from-set memory offset value (omega (arith, is_offset)))
-    ∙ ap (λ (x : List ℕ). with_bytes (ring_in memory start len) x)
+    ∙ ap (λ (x : List ℕ). with_contents (ring_in memory start len) x)
     (ap (λ (n : ℕ). take at bytes ++ (value ∷ drop n bytes)) next
     ∙ sym (set_split bytes at value (omega (arith, length-bytes memory start len fits))))
 

@@ -3,7 +3,7 @@ use Rattle.std.proofs.Common.{◌≡◌, ◌∙◌, ℕ, zero, suc, ◌+◌, ◌
 use Rattle.std.proofs.Math.Nat.{mod-zero, mod-add-mod, add-mod_right}
 use Rattle.std.proofs.lemmas.List.{length-append, length-drop, length-take-le, take_at, drop_at, drop-drop, take-append-drop}
 use Rattle.rd_ring.specs.Memory.{IsOffset, offset_after, offset_before}
-use Rattle.rd_ring.specs.Rings.{with_bytes, replaced, EachRingChangeIsUndone}
+use Rattle.rd_ring.specs.Rings.{with_contents, with_piece, EachRingChangeIsUndone}
 use Rattle.rd_ring.proofs.RingLaws.{moved_ring}
 
 stays : (capacity offset : ℕ) → IsOffset capacity offset → offset % capacity ≡ offset
@@ -18,7 +18,7 @@ around capacity offset n m is all =
 
 -- a piece that is replaced, and then what was there put back
 replaced_back : (bytes piece : List ℕ) (at : ℕ) → at + length piece ≤ length bytes
-    → replaced (replaced bytes at piece) at (take (length piece) (drop at bytes)) ≡ bytes
+    → with_piece (with_piece bytes at piece) at (take (length piece) (drop at bytes)) ≡ bytes
 replaced_back bytes piece at there =
     let n = length piece in
     let before = take at bytes in
@@ -35,9 +35,9 @@ replaced_back bytes piece at there =
 pub ring_change_is_undone : EachRingChangeIsUndone
 ring_change_is_undone ring sized = record {
   put_back =
-      (λ bytes. ap (λ (x : List ℕ). with_bytes ring x)
+      (λ bytes. ap (λ (x : List ℕ). with_contents ring x)
       (take_at ring.bytes bytes (length (ring.bytes ++ bytes) - length bytes) (omega (arith, length-append ring.bytes bytes))));
-  taken_back = (λ count. ap (λ (x : List ℕ). with_bytes ring x) (take-append-drop (length ring.bytes - count) ring.bytes));
+  taken_back = (λ count. ap (λ (x : List ℕ). with_contents ring x) (take-append-drop (length ring.bytes - count) ring.bytes));
   put_front =
       (λ bytes fits. moved_ring (drop (length bytes) (bytes ++ ring.bytes)) ring.bytes ring.capacity
       (offset_after ring.capacity (offset_before ring.capacity ring.start (length bytes)) (length bytes)) ring.start

@@ -8,15 +8,15 @@ abbrev pub empty_ring : ℕ → RingView
 empty_ring capacity = record { bytes = []; capacity = capacity; start = 0 }
 
 -- the ring with these bytes in place of its own, and the front where it was
-abbrev pub with_bytes : RingView → List ℕ → RingView
-with_bytes ring bytes = record ring { bytes = bytes }
+abbrev pub with_contents : RingView → List ℕ → RingView
+with_contents ring bytes = record ring { bytes = bytes }
 
 -- the ring with these bytes behind its own, and without so many of its last bytes
 abbrev pub with_back : RingView → List ℕ → RingView
-with_back ring bytes = with_bytes ring (ring.bytes ++ bytes)
+with_back ring bytes = with_contents ring (ring.bytes ++ bytes)
 
 abbrev pub without_back : RingView → ℕ → RingView
-without_back ring count = with_bytes ring (take (length ring.bytes - count) ring.bytes)
+without_back ring count = with_contents ring (take (length ring.bytes - count) ring.bytes)
 
 -- the ring with these bytes before its own, and without so many of its first bytes
 abbrev pub with_front : RingView → List ℕ → RingView
@@ -34,8 +34,8 @@ without_front ring count = record {
 }
 
 -- the bytes with a piece in place of as many, from `at` on
-abbrev pub replaced : List ℕ → ℕ → List ℕ → List ℕ
-replaced bytes at piece = take at bytes ++ (piece ++ drop (at + length piece) bytes)
+abbrev pub with_piece : List ℕ → ℕ → List ℕ → List ℕ
+with_piece bytes at piece = take at bytes ++ (piece ++ drop (at + length piece) bytes)
 
 -- The memory is a number of pieces of that size, and the front lies where one of them begins.
 pub record HasWholePieces (ring : RingView) (size : ℕ) : Type 0 where
@@ -49,7 +49,7 @@ pub record PiecesStayWhole (size : ℕ) : Type 0 where
   pub made : (capacity : ℕ) → 0 < size → capacity % size ≡ 0
       → HasWholePieces (empty_ring capacity) size
   pub changed : (ring : RingView) (bytes : List ℕ) → HasWholePieces ring size
-      → HasWholePieces (with_bytes ring bytes) size
+      → HasWholePieces (with_contents ring bytes) size
   pub put_front : (ring : RingView) (bytes : List ℕ) → HasWholePieces ring size
       → length bytes % size ≡ 0 → HasWholePieces (with_front ring bytes) size
   pub taken_front : (ring : RingView) (count : ℕ) → HasWholePieces ring size → count % size ≡ 0
@@ -74,9 +74,9 @@ pub record RingIsUndone (ring : RingView) : Type 0 where
       → without_front (with_front ring bytes) (length bytes) ≡ ring
   pub taken_front : (count : ℕ) → count ≤ length ring.bytes
       → with_front (without_front ring count) (take count ring.bytes) ≡ ring
-  pub cleared : with_back (with_bytes ring []) ring.bytes ≡ ring
+  pub cleared : with_back (with_contents ring []) ring.bytes ≡ ring
   pub restored : (at : ℕ) (piece : List ℕ) → at + length piece ≤ length ring.bytes
-      → replaced (replaced ring.bytes at piece) at (take (length piece) (drop at ring.bytes))
+      → with_piece (with_piece ring.bytes at piece) at (take (length piece) (drop at ring.bytes))
       ≡ ring.bytes
 
 -- whichever ring it is

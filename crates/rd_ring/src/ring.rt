@@ -2,7 +2,7 @@
 
 ghost use Rattle.std.specs.Prelude.{◌≡◌, ◌↔◌, ◌+◌, ◌-◌, ◌%◌, ◌<◌, ◌≤◌, [], ◌++◌, length};
 ghost use Rattle.std.specs.Prelude.{take, drop, slice_index, slice_set, IsTrue, IfOk};
-ghost use Rattle.rd_ring.specs.Rings.{empty_ring, with_bytes, replaced};
+ghost use Rattle.rd_ring.specs.Rings.{empty_ring, with_contents, with_piece};
 ghost use Rattle.rd_ring.specs.Rings.{with_back, without_back, with_front, without_front};
 ghost use Rattle.rd_ring.specs.Rings.{IsSizedRing, EachRingChangeIsUndone};
 ghost use Rattle.rd_ring.specs.Rings.{HasWholePieces, WholePiecesStayWhole};
@@ -162,7 +162,7 @@ impl ByteRing {
 
     /// Takes all bytes out. The front stays where it is.
     pub fn clear(&mut self)
-        ensures { self.new ≡ with_bytes self.old [] }
+        ensures { self.new ≡ with_contents self.old [] }
     {
         self.len = 0;
     }
@@ -179,7 +179,7 @@ impl ByteRing {
     /// Puts a byte in the place of the one at `at`, 0 the front.
     pub fn set(&mut self, at: usize, value: u8)
         requires { at < length self.old.bytes }
-        ensures { self.new ≡ with_bytes self.old (slice_set self.old.bytes at value) }
+        ensures { self.new ≡ with_contents self.old (slice_set self.old.bytes at value) }
     {
         let offset = memory::offset_after(self.memory.len(), self.start, at);
         self.memory[offset] = value;
@@ -200,7 +200,7 @@ impl ByteRing {
     /// Puts bytes in the place of as many, from `at` on, 0 the front. It takes no memory.
     pub fn set_piece(&mut self, at: usize, bytes: &[u8])
         requires { at + length bytes.now ≤ length self.old.bytes }
-        ensures { self.new ≡ with_bytes self.old (replaced self.old.bytes at bytes.now) }
+        ensures { self.new ≡ with_contents self.old (with_piece self.old.bytes at bytes.now) }
     {
         let offset = memory::offset_after(self.memory.len(), self.start, at);
         memory::write_from(self.memory.as_mut_slice(), offset, bytes);

@@ -4,11 +4,11 @@ use Rattle.std.specs.List.{AllByRecursion}
 use Rattle.std.proofs.lemmas.List.{append-nil}
 use Rattle.serde_json.specs.Data.{Data, Items, no_items, item}
 use Rattle.serde_json.specs.Events.{items_len}
-use Rattle.rd_text.specs.Names.{AreNames}
-use Rattle.rd_text.proofs.Offered.{AreNames-push, IsNewName, IsNewName-in}
+use Rattle.rd_text.specs.Names.{AreDistinctNames}
+use Rattle.rd_text.proofs.Offered.{AreDistinctNames-push, IsNewName, IsNewName-in}
 use Rattle.rd_script.specs.declared.error.AppError.{AppError}
 use Rattle.rd_app.specs.Named.{Named}
-use Rattle.rd_script.specs.Values.{named_after, with_named, SayEach, SayNamed}
+use Rattle.rd_script.specs.Values.{named_after, with_named, SayEach, SayEachNamed}
 use Rattle.rd_script.proofs.Steps.{bind_ok, then_is}
 
 -- what holds of each, one by one
@@ -24,12 +24,12 @@ pub AllByRecursion-first : {X : Type 0} (P : X → Type 0) (xs ys : List X) → 
 AllByRecursion-first P [] ys h = tt
 AllByRecursion-first P (x ∷ xs) ys h = (h.0, AllByRecursion-first P xs ys h.1)
 
-pub no_names : AreNames []
+pub no_names : AreDistinctNames []
 no_names = record { named = refl; distinct = refl }
 
 -- what is said of these names and things is said of them together
 pub said_named : {X : Type 0} (Is : Data → List ℕ → X → Type 0) (ds : Items) (named : Named X) (names : List (List ℕ)) (things : List X)
-    → named.names ≡ names → named.things ≡ things → SayEach Is ds names things → SayNamed Is ds named
+    → named.names ≡ names → named.things ≡ things → SayEach Is ds names things → SayEachNamed Is ds named
 said_named Is ds named names things names_are things_are said =
     subst (λ (ns : List (List ℕ)). SayEach Is ds ns named.things) (sym names_are) (subst (SayEach Is ds names) (sym things_are) said)
 
@@ -44,7 +44,7 @@ length_named Is (item d ds) (n ∷ names) [] h = absurd h
 length_named Is (item d ds) (n ∷ names) (x ∷ things) h = let rest = length_named Is ds names things h.1 in (ap suc rest.0, ap suc rest.1)
 
 pub record AreKept {X : Type 0} (InLimits : List X → Type 0) (named : Named X) : Type 0 where
-  pub are_names : AreNames named.names
+  pub are_names : AreDistinctNames named.names
   pub are_things : InLimits named.things
 
 -- what an array adds
@@ -76,7 +76,7 @@ named_take read Is InLimits takes (item d ds) before after e kept =
     let taken = takes before d first.0 first.1 kept.are_things in
     let rest =
     named_take read Is InLimits takes ds (with_named before first.0.0 first.0.1) after first.2 (record {
-      are_names = AreNames-push before.names first.0.0 kept.are_names taken.1;
+      are_names = AreDistinctNames-push before.names first.0.0 kept.are_names taken.1;
       are_things = taken.2;
     }) in (
       first.0.0 ∷ rest.0,
@@ -98,14 +98,14 @@ pub named_again : {X : Type 0} (read : Named X → Data → Result (List ℕ × 
     → ((before : Named X) (d : Data) (name : List ℕ) (x : X) → Is d name x → IsNewName before.names name → InLimits (before.things ++ x ∷ [])
     → read before d ≡ Ok (name, x))
     → (ds : Items) (before : Named X) (more : List (List ℕ)) (others : List X) → SayEach Is ds more others
-    → AreNames (before.names ++ more) → InLimits (before.things ++ others) → named_after read before ds ≡ Ok (named_more before more others)
+    → AreDistinctNames (before.names ++ more) → InLimits (before.things ++ others) → named_after read before ds ≡ Ok (named_more before more others)
 named_again read Is InLimits first again no_items before [] [] h are limits = rw (append-nil before.names, append-nil before.things) refl
 named_again read Is InLimits first again no_items before [] (x ∷ others) h are limits = absurd h
 named_again read Is InLimits first again no_items before (n ∷ more) others h are limits = absurd h
 named_again read Is InLimits first again (item d ds) before [] others h are limits = absurd h
 named_again read Is InLimits first again (item d ds) before (n ∷ more) [] h are limits = absurd h
 named_again read Is InLimits first again (item d ds) before (n ∷ more) (x ∷ others) h are limits =
-    let all : AreNames ((before.names ++ n ∷ []) ++ more) = subst AreNames (sym (append_assoc before.names (n ∷ []) more)) are in
+    let all : AreDistinctNames ((before.names ++ n ∷ []) ++ more) = subst AreDistinctNames (sym (append_assoc before.names (n ∷ []) more)) are in
     let within : InLimits ((before.things ++ x ∷ []) ++ others) = subst InLimits (sym (append_assoc before.things (x ∷ []) others)) limits in
     then_is (read before d) _ (n, x) _
     (again before d n x h.0 (IsNewName-in before.names n more are) (first (before.things ++ x ∷ []) others within))

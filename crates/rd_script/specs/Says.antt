@@ -12,7 +12,7 @@ use Rattle.rd_app.specs.TaskScript.{TaskScript}
 use Rattle.rd_script.specs.File.{ends, task_keys}
 use Rattle.rd_script.specs.Objects.{SaysObjects, file_keys}
 use Rattle.rd_script.specs.Spelling.{Spells}
-use Rattle.rd_script.specs.Values.{IsNumberOr, SayNamed, is_object_with}
+use Rattle.rd_script.specs.Values.{IsNumberOr, SayEachNamed, is_object_with}
 use Rattle.rd_text.specs.Words.{words_of}
 
 -- a text whose words spell the instruction
@@ -45,7 +45,7 @@ pub record IsTask
 
 abbrev pub AreTasks : NamedObjects → Items → Named TaskScript → Type 0
 AreTasks objects ds tasks =
-    SayNamed (λ d name task. (values : Items) × IsTask objects d name task values) ds tasks
+    SayEachNamed (λ d name task. (values : Items) × IsTask objects d name task values) ds tasks
 
 pub record Says (d : Data) (app : Application) (task_items : Items) : Type 0 where
   pub keys : is_object_with file_keys d ≡ true

@@ -110,13 +110,13 @@ SayEach Is (item d ds) (name ∷ names) (thing ∷ things) =
     Is d name thing × SayEach Is ds names things
 SayEach Is _ _ _ = ⊥
 
-abbrev pub SayNamed : {X : Type 0} → (Data → List ℕ → X → Type 0) → Items → Named X → Type 0
-SayNamed Is ds named = SayEach Is ds named.names named.things
+abbrev pub SayEachNamed : {X : Type 0} → (Data → List ℕ → X → Type 0) → Items → Named X → Type 0
+SayEachNamed Is ds named = SayEach Is ds named.names named.things
 
 -- The array at a key says these things of these names.
 abbrev pub SaysNamed : {X : Type 0} → (Data → List ℕ → X → Type 0) → List ℕ → Data → Named X
     → Type 0
-SaysNamed Is key d named = (ds : Items) × IsArrayOrEmpty (get key d) ds × SayNamed Is ds named
+SaysNamed Is key d named = (ds : Items) × IsArrayOrEmpty (get key d) ds × SayEachNamed Is ds named
 
 -- ---- what the code gives
 

@@ -11,7 +11,7 @@ use Rattle.clap.specs.declared.parser.matches.Found.{Found}
 use Rattle.clap.proofs.OnLiterals.{clap_on_literals}
 use Rattle.clap.proofs.WalkLemmas.{first_value-rows, one_text-rows}
 use Rattle.rd_start.specs.Requests.{AreSettingsIn, HasMoves, IsAskedBy, IsFaultOfError, IsFaultOfWords, IsHelp, command_line}
-use Rattle.rd_start.specs.Requests.{faults_of, count_of, options_in, options_of, words_read}
+use Rattle.rd_start.specs.Requests.{faults_of, moves_asked, options_in, options_of, words_read}
 use Rattle.rd_start.specs.declared.fault.Fault.{Fault}
 use Rattle.rd_start.specs.declared.fault.Fault.TheVariants.{BadCommandLine, CannotRead, App, NoMemory}
 use Rattle.rd_start.specs.declared.options.Settings.{Settings}
@@ -77,19 +77,19 @@ moves_in f sub e has =
     let same = options_are (rows_of f) sub e in
     (has.0, one_text-rows f (codes "moves") ∙ (ap (one_of (codes "moves")) (sym same) ∙ has.1), has.2)
 
-pub moves_read : (one : Option Text) (n : ℕ) → (one ≡ None → Some n ≡ None) → ((text : Text) → one ≡ Some text → n ≡ count_of text)
-    → Some n ≡ option_map count_of one
+pub moves_read : (one : Option Text) (n : ℕ) → (one ≡ None → Some n ≡ None) → ((text : Text) → one ≡ Some text → n ≡ moves_asked text)
+    → Some n ≡ option_map moves_asked one
 moves_read None n none value = absurd (let bad = none refl in cc)
 moves_read (Some text) n none value = ap Some (value text refl)
 
 pub settings_in : (f : Found) (sub : Option (Text × List Row)) (settings : Settings) → Some (rows_of f) ≡ option_map (λ p. p.1) sub
     → option_map (λ path. path.now) settings.app ≡ first_value f (codes "app")
-    → Some settings.moves ≡ option_map count_of (one_text f (codes "moves")) → AreSettingsIn (options_of sub) settings
+    → Some settings.moves ≡ option_map moves_asked (one_text f (codes "moves")) → AreSettingsIn (options_of sub) settings
 settings_in f sub settings e app moves =
     let same = options_are (rows_of f) sub e in
     record {
       app = app ∙ (first_value-rows f (codes "app") ∙ ap (first_of (codes "app")) (sym same));
-      moves = moves ∙ ap (option_map count_of) (one_text-rows f (codes "moves") ∙ ap (one_of (codes "moves")) (sym same));
+      moves = moves ∙ ap (option_map moves_asked) (one_text-rows f (codes "moves") ∙ ap (one_of (codes "moves")) (sym same));
     }
 
 pub settings_of_words : (words read : List Text) (options : List Row) (o : Option Settings) (settings : Settings) → read ≡ words

@@ -82,13 +82,13 @@ unfoldable pub options_in : List Text → List Row
 options_in words = options_of (subcommand_of command_line words)
 
 -- A number as it is written: decimal digits, behind a plus or not.
-abbrev pub count_of : Text → ℕ
-count_of text = digits_value 10 (without_leading_plus text)
+abbrev pub moves_asked : Text → ℕ
+moves_asked text = digits_value 10 (without_leading_plus text)
 
 -- The settings are the values of these options.
 pub record AreSettingsIn (options : List Row) (settings : Settings) : Type 0 where
   pub app : option_map (λ path. path.now) settings.app ≡ first_of (codes "app") options
-  pub moves : Some settings.moves ≡ option_map count_of (one_of (codes "moves") options)
+  pub moves : Some settings.moves ≡ option_map moves_asked (one_of (codes "moves") options)
 
 -- Among these options are moves, and as many as may be.
 abbrev pub HasMoves : List Row → Type 0

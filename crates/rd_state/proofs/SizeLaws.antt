@@ -18,7 +18,7 @@ use Rattle.rd_state.specs.declared.state.State.TheInside.{Inside}
 use Rattle.rd_state.specs.declared.task_change.TaskChange.{TaskChange}
 use Rattle.rd_state.specs.declared.task_change.TaskChange.TheVariants.{SetPc, SetReg, SetPhase, SetData}
 use Rattle.rd_state.specs.Boot.{all_joined, fresh_task}
-use Rattle.rd_state.specs.Change.{Fits, NamesObjects}
+use Rattle.rd_state.specs.Change.{Fits, MentionsObjects}
 use Rattle.rd_state.specs.Inside.{HasSizes, snapshot_of}
 use Rattle.rd_state.specs.Objects.{AreSizedObjects, Numbers, ObjectsSnapshot, new_objects, numbers_in, object_applied}
 use Rattle.rd_state.specs.Sizes.{IsSized, IsSizedPhase, IsSizedTask, IsTaskOrIdle}
@@ -94,7 +94,7 @@ IsSized-objects s n same sized kept = record {
 }
 
 -- A task that was changed has a phase with objects that are there.
-phase_then : (s : Snapshot) (task : ℕ) (change : TaskChange) → IsSized s → task < length s.tasks → NamesObjects (numbers_of s) change
+phase_then : (s : Snapshot) (task : ℕ) (change : TaskChange) → IsSized s → task < length s.tasks → MentionsObjects (numbers_of s) change
     → IsSizedPhase (numbers_of s) (task_applied (task_at s task) change).phase
 phase_then s task (SetPc pc) sized there names = phase_sized s task sized there
 phase_then s task (SetReg register value) sized there names = phase_sized s task sized there

@@ -7,7 +7,7 @@ use Rattle.rd_state.specs.declared.change.Change.{Change}
 use Rattle.rd_state.specs.declared.change.Change.TheVariants.{SetTick, SetTurn, SetCore, InsReady, DelReady, Task, Object}
 use Rattle.rd_state.specs.declared.task_change.TaskChange.{TaskChange}
 use Rattle.rd_state.specs.declared.task_change.TaskChange.TheVariants.{SetPc, SetReg, SetPhase, SetData}
-use Rattle.rd_state.specs.Change.{applied, inverse_of, Fits, NamesObjects}
+use Rattle.rd_state.specs.Change.{applied, inverse_of, Fits, MentionsObjects}
 use Rattle.rd_state.specs.Objects.{ObjectsSnapshot}
 use Rattle.rd_state.specs.Sizes.{IsSized, IsSizedPhase, IsSizedTask, IsTaskOrIdle}
 use Rattle.rd_state.specs.Snapshot.{Snapshot, TaskSnapshot, no_task, numbers_of, task_at}
@@ -40,7 +40,7 @@ inverse_undoes s (Object change) sized fits =
 
 -- The objects that a task named before a change are there.
 names_back : (s : Snapshot) (task : ℕ) (change : TaskChange) → IsSized s → task < length s.tasks
-    → NamesObjects (numbers_of s) (task_inverse_of (task_at s task) change)
+    → MentionsObjects (numbers_of s) (task_inverse_of (task_at s task) change)
 names_back s task (SetPc pc) sized there = tt
 names_back s task (SetReg register value) sized there = tt
 names_back s task (SetPhase phase) sized there = phase_sized s task sized there

@@ -34,11 +34,11 @@ inverse_of s (Task task change) = Task task (task_inverse_of (task_at s task) ch
 inverse_of s (Object change) = Object (object_inverse_of s.objects change)
 
 -- The objects that a change of a task names are there.
-abbrev pub NamesObjects : Numbers → TaskChange → Type 0
-NamesObjects numbers (SetPc pc) = Unit {0}
-NamesObjects numbers (SetReg register value) = Unit {0}
-NamesObjects numbers (SetPhase phase) = IsSizedPhase numbers phase
-NamesObjects numbers (SetData bytes) = Unit {0}
+abbrev pub MentionsObjects : Numbers → TaskChange → Type 0
+MentionsObjects numbers (SetPc pc) = Unit {0}
+MentionsObjects numbers (SetReg register value) = Unit {0}
+MentionsObjects numbers (SetPhase phase) = IsSizedPhase numbers phase
+MentionsObjects numbers (SetData bytes) = Unit {0}
 
 -- The change names what is there, and there is room.
 abbrev pub Fits : Snapshot → Change → Type 0
@@ -49,7 +49,7 @@ Fits s (InsReady index task) =
     (index ≤ length s.ready) × (length s.ready < length s.tasks) × (task < length s.tasks)
 Fits s (DelReady index) = index < length s.ready
 Fits s (Task task change) =
-    (task < length s.tasks) × TaskFits change × NamesObjects (numbers_of s) change
+    (task < length s.tasks) × TaskFits change × MentionsObjects (numbers_of s) change
 Fits s (Object change) = ObjectFits s.objects change
 
 -- the bytes that a change carries

@@ -127,8 +127,8 @@ first_queues app zero = []
 first_queues app (suc n) = first_queues app n ++ new_queue app n ∷ []
 
 -- The set can be made: it has room for 1 to 2,048 handles.
-abbrev pub HasRoomForHandles : QueueSetShapeView → Type 0
-HasRoomForHandles shape = (0 < shape.capacity) × (shape.capacity ≤ MAX_HANDLES)
+abbrev pub IsHandleCapacity : QueueSetShapeView → Type 0
+IsHandleCapacity shape = (0 < shape.capacity) × (shape.capacity ≤ MAX_HANDLES)
 
 -- a set without handles, at which that many tasks can wait, for handles of so many queues
 abbrev pub new_queue_set : ℕ → ℕ → QueueSetShapeView → QueueSetSnapshot

@@ -10,7 +10,7 @@ ghost use Rattle.rd_state.specs.Objects.{no_objects};
 ghost use Rattle.rd_state.specs.Objects.{object_applied, object_inverse_of, object_saved_bytes};
 ghost use Rattle.rd_state.specs.Objects.{objects_with_queue, objects_with_queue_set, queue_in};
 ghost use Rattle.rd_state.specs.Objects.{queue_set_in};
-ghost use Rattle.rd_state.specs.Objects.{HasRoomForHandles, ObjectFits};
+ghost use Rattle.rd_state.specs.Objects.{IsHandleCapacity, ObjectFits};
 
 use crate::whole::{Whole, all_same, copy_all};
 use rd_app::app::App;
@@ -127,7 +127,7 @@ fn new_queue_sets(
     queue_count: usize,
     task_count: usize,
 ) -> Result<Vec<QueueSet>, NoMemory>
-    requires { All HasRoomForHandles shapes.now }
+    requires { All IsHandleCapacity shapes.now }
     ensures { IfOk result (λ queue_sets.
         queue_sets.items ≡ map (new_queue_set task_count queue_count) shapes.now) }
 {

@@ -4,7 +4,7 @@ use Rattle.std.specs.List.{list_all, list_any}
 use Rattle.std.specs.Str.{bytes_eq}
 use Rattle.std.proofs.lemmas.List.Folds.{list_all-append, list_any-append}
 use Rattle.std.proofs.lemmas.Slice.Eq.{bytes_eq-Decides}
-use Rattle.rd_text.specs.Names.{AreNames, are_distinct}
+use Rattle.rd_text.specs.Names.{AreDistinctNames, are_distinct}
 use Rattle.rd_text.specs.Words.{is_name}
 use Rattle.rd_text.proofs.WordLemmas.{and_left, and_right}
 
@@ -39,8 +39,8 @@ distinct_more (n ∷ names) name d f =
     let still : list_any (bytes_eq n) (names ++ name ∷ []) ≡ false = list_any-append (bytes_eq n) names (name ∷ []) ∙ rw (alone, apart name n parts.0) refl in
     rw still (distinct_more names name (and_right (not (list_any (bytes_eq n) names)) _ d) parts.1)
 
-pub AreNames-push : (names : List (List ℕ)) (name : List ℕ) → AreNames names → IsNewName names name → AreNames (names ++ name ∷ [])
-AreNames-push names name are new = record {
+pub AreDistinctNames-push : (names : List (List ℕ)) (name : List ℕ) → AreDistinctNames names → IsNewName names name → AreDistinctNames (names ++ name ∷ [])
+AreDistinctNames-push names name are new = record {
   named = list_all-append is_name names (name ∷ []) ∙ rw (are.named, new.named) refl;
   distinct = distinct_more names name are.distinct new.fresh;
 }
@@ -63,5 +63,5 @@ named_in : (names : List (List ℕ)) (name : List ℕ) (rest : List (List ℕ)) 
 named_in names name rest h =
     and_left (is_name name) (list_all is_name rest) (and_right (list_all is_name names) _ (sym (list_all-append is_name names (name ∷ rest)) ∙ h))
 
-pub IsNewName-in : (names : List (List ℕ)) (name : List ℕ) (rest : List (List ℕ)) → AreNames (names ++ name ∷ rest) → IsNewName names name
+pub IsNewName-in : (names : List (List ℕ)) (name : List ℕ) (rest : List (List ℕ)) → AreDistinctNames (names ++ name ∷ rest) → IsNewName names name
 IsNewName-in names name rest are = record { named = named_in names name rest are.named; fresh = fresh_where_distinct names name rest are.distinct }

@@ -10,6 +10,6 @@ are_distinct [] = true
 are_distinct (name ∷ names) = not (list_any (bytes_eq name) names) && are_distinct names
 
 -- names of one kind
-pub record AreNames (names : List (List ℕ)) : Type 0 where
+pub record AreDistinctNames (names : List (List ℕ)) : Type 0 where
   pub named : list_all is_name names ≡ true
   pub distinct : are_distinct names ≡ true

@@ -3,7 +3,7 @@ use Rattle.std.proofs.Common.{◌≡◌, ◌∙◌, ℕ, ◌<◌, length, ap, su
 use Rattle.rd_ring.specs.Memory.{offset_after}
 use Rattle.rd_ring.specs.RingView.{RingView}
 use Rattle.std.proofs.Common.{set}
-use Rattle.rd_ring.specs.Rings.{with_bytes}
+use Rattle.rd_ring.specs.Rings.{with_contents}
 use Rattle.rd_ring.proofs.RingLaws.{ring_in, length-bytes, ring_with_byte}
 use Rattle.rd_ring.proofs.ring.ByteRing.set.Goals as goal
 
@@ -18,5 +18,5 @@ returns c =
     c.offset_after-offset.ensures.after ∙ ap (λ (n : ℕ). offset_after n ring.start c.args.at) capacity in
     let there : c.args.at < ring.len = omega (arith, c.requires, ap (λ (v : RingView). length v.bytes) c.self.view_is, length_old) in
     rw offset (subst (λ (v : RingView). ring_in (set memory (offset_after (length memory) ring.start c.args.at) c.args.value) ring.start ring.len
-    ≡ with_bytes v (set v.bytes c.args.at c.args.value))
+    ≡ with_contents v (set v.bytes c.args.at c.args.value))
     c.self.view_is (ring_with_byte memory ring.start ring.len c.args.at c.args.value kept.1 kept.0 there))

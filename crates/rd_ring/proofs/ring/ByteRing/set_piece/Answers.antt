@@ -3,7 +3,7 @@ use Rattle.std.proofs.Common.{◌≡◌, ◌∙◌, ℕ, ◌+◌, ◌≤◌, len
 use Rattle.rd_ring.specs.Memory.{offset_after}
 use Rattle.rd_ring.specs.RingView.{RingView}
 use Rattle.std.proofs.lemmas.List.{with_items_is}
-use Rattle.rd_ring.specs.Rings.{with_bytes, replaced}
+use Rattle.rd_ring.specs.Rings.{with_contents, with_piece}
 use Rattle.rd_ring.proofs.RingLaws.{ring_in, length-bytes, written_there, ring_with_piece}
 use Rattle.rd_ring.proofs.ring.ByteRing.set_piece.Goals as goal
 
@@ -22,5 +22,5 @@ returns c =
     let items = with_items_is ring.memory after (omega (arith, same_length, capacity, c.len.ensures)) in
     let within : c.args.at + length bytes ≤ ring.len = omega (arith, c.requires, ap (λ (v : RingView). length v.bytes) c.self.view_is, length_old) in
     let written = written_there memory c.as_mut_slice.result.now after bytes c.offset_after-offset.result _ offset c.as_mut_slice.ensures.value c.write_from.ensures.written in
-    rw items (subst (λ (v : RingView). ring_in after ring.start ring.len ≡ with_bytes v (replaced v.bytes c.args.at bytes))
+    rw items (subst (λ (v : RingView). ring_in after ring.start ring.len ≡ with_contents v (with_piece v.bytes c.args.at bytes))
     c.self.view_is (ring_with_piece memory after bytes ring.start ring.len c.args.at kept.1 kept.0 within same_length written))
