@@ -100,7 +100,8 @@ impl NamedObjects {
     /// These queues, and no objects of any other kind.
     pub fn of_queues(alloc: Global, queues: Named<QueueShape>) -> Result<NamedObjects, AllocError>
         ensures { IfOk result
-            (λ objects. objects_view objects ≡ record no_named_objects { queues = named_view queues }) }
+            (λ objects. objects_view objects
+            ≡ record no_named_objects { queues = named_view queues }) }
     {
         let none = NamedObjects::none(alloc)?;
         Ok(NamedObjects { queues, ..none })

@@ -100,9 +100,10 @@ pub fn why_not(app: &App, state: &State, action: &Move) -> Option<Refusal>
     }
 }
 
-/// Makes a move where the state and the record are, and adds what undoes it to the record. A refusal
-/// leaves the state and the record as they were: `NoTask` where the core is idle, `TickLimit` where
-/// the tick is 4,294,967,295, `NoMemory` where a growth was refused. There is no other.
+/// Makes a move where the state and the record are, and adds what undoes it to the record. A
+/// refusal leaves the state and the record as they were: `NoTask` where the core is idle,
+/// `TickLimit` where the tick is 4,294,967,295, `NoMemory` where a growth was refused. There is no
+/// other.
 pub fn move_on(alloc: Global, editing: &mut Editing, app: &App, action: Move) -> Result<(), Refusal>
     requires valid { IsValid app.now editing.old.now }
     requires named { IsMoveOf app.now action }

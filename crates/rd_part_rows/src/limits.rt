@@ -1,6 +1,6 @@
-//! States at the limits, copied and compared: 8 cores, 32 tasks, 32 queues with room for 64 items of
-//! 64 bytes, 32 queue sets with room for 2,048 handles, 4 notification entries, 256 bytes of data,
-//! 256 instructions, names of 16 characters, and the last ticks. `ci/limits` sees the same
+//! States at the limits, copied and compared: 8 cores, 32 tasks, 32 queues with room for 64 items
+//! of 64 bytes, 32 queue sets with room for 2,048 handles, 4 notification entries, 256 bytes of
+//! data, 256 instructions, names of 16 characters, and the last ticks. `ci/limits` sees the same
 //! application through its views.
 //!
 //! The number of a task tells its priority, task 0 the first: at boot tasks 0 to 7 are on the cores

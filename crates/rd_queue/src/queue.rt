@@ -65,9 +65,9 @@ impl Model for Queue {
       queue_set_count = q.queue_set_count;
     } };
 
-    // The ring is one of whole items, 1 to 64 of them at the most, of 1 to 64 bytes. Both lists have
-    // the same room, and those that wait are tasks. The queue is a member of a set that is there, or
-    // of none.
+    // The ring is one of whole items, 1 to 64 of them at the most, of 1 to 64 bytes. Both lists
+    // have the same room, and those that wait are tasks. The queue is a member of a set that is
+    // there, or of none.
     ghost invariant = { λ q. HoldsItems q.ring q.capacity q.item_size
         × (0 < q.capacity) × (q.capacity ≤ MAX_ITEMS) × (q.item_size ≤ MAX_ITEM_SIZE)
         × (q.sending.capacity ≡ q.receiving.capacity)

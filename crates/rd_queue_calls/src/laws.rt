@@ -15,8 +15,8 @@ pub fn overwrites_post_once()
     ensures { OverwritesPostOnce }
 {}
 
-/// A send that fails leaves everything as it was: into a full queue, where it may not wait, and into
-/// a member of a set that has no room for its handle.
+/// A send that fails leaves everything as it was: into a full queue, where it may not wait, and
+/// into a member of a set that has no room for its handle.
 pub fn failed_sends_leave_all()
     ensures { FailedSendsLeaveAll }
 {}

@@ -43,8 +43,8 @@ pub record HasWholePieces (ring : RingView) (size : ℕ) : Type 0 where
   pub capacity : ring.capacity % size ≡ 0
   pub start : ring.start % size ≡ 0
 
--- A new ring for a number of pieces has them whole. They stay whole where the front stays, and where
--- whole pieces are put in or taken out there.
+-- A new ring for a number of pieces has them whole. They stay whole where the front stays, and
+-- where whole pieces are put in or taken out there.
 pub record PiecesStayWhole (size : ℕ) : Type 0 where
   pub made : (capacity : ℕ) → 0 < size → capacity % size ≡ 0
       → HasWholePieces (empty_ring capacity) size
@@ -64,8 +64,8 @@ pub record IsSizedRing (ring : RingView) : Type 0 where
   pub room : length ring.bytes ≤ ring.capacity
   pub start : IsOffset ring.capacity ring.start
 
--- The ring is what it was, with its bytes where they lay, once what was put in at an end is taken out
--- there, and once what was taken out, cleared or replaced is put in again.
+-- The ring is what it was, with its bytes where they lay, once what was put in at an end is taken
+-- out there, and once what was taken out, cleared or replaced is put in again.
 pub record RingIsUndone (ring : RingView) : Type 0 where
   pub put_back : (bytes : List ℕ) → without_back (with_back ring bytes) (length bytes) ≡ ring
   pub taken_back : (count : ℕ)

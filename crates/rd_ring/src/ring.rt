@@ -185,8 +185,8 @@ impl ByteRing {
         self.memory[offset] = value;
     }
 
-    /// The piece of `size` bytes that begins at `at`, 0 the front, where all pieces of that size lie
-    /// whole in the memory.
+    /// The piece of `size` bytes that begins at `at`, 0 the front, where all pieces of that size
+    /// lie whole in the memory.
     pub fn piece(&self, at: usize, size: usize) -> &[u8]
         requires there { at + size ≤ length self.now.bytes }
         requires whole { HasWholePieces self.now size }

@@ -1,5 +1,5 @@
-//! Application files: what the program says of one that it refuses, and what it shows of one that it
-//! reads.
+//! Application files: what the program says of one that it refuses, and what it shows of one that
+//! it reads.
 
 use crate::asserts::assert_same;
 use crate::programs::{assert_ending, run_file};

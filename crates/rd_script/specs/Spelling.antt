@@ -2,7 +2,8 @@
 use Rattle.std.specs.Prelude.{ℕ, ◌≡◌, ◌-◌, ◌&&◌, ◌==◌, Bool, true, false, nat_lt, nat_le}
 use Rattle.std.specs.Prelude.{if◌then◌else◌, codes}
 use Rattle.std.specs.Prelude.{List, [], ◌∷◌, drop, length, slice_get, slice_index}
-use Rattle.std.specs.Prelude.{Option, Some, None, IfSome, is_some, option_map, option_and_then, position}
+use Rattle.std.specs.Prelude.{Option, Some, None, IfSome, is_some, option_map, option_and_then}
+use Rattle.std.specs.Prelude.{position}
 use Rattle.std.specs.Prelude.{Result, Ok, Err, ok_or}
 use Rattle.std.specs.Option.{option_map_or, option_or}
 use Rattle.std.specs.Str.{bytes_eq}

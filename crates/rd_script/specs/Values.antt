@@ -1,4 +1,5 @@
--- The values of a file: what stands there, or the first fault that is met, and which values say that.
+-- The values of a file: what stands there, or the first fault that is met, and which values say
+-- that.
 use Rattle.std.specs.Prelude.{ℕ, ◌≡◌, ◌&&◌, Bool, false, not, List, [], ◌∷◌, ◌++◌, nat_le}
 use Rattle.std.specs.Prelude.{if◌then◌else◌, Option, Some, None, option_map, option_and_then}
 use Rattle.std.specs.Prelude.{unwrap_or}

@@ -16,7 +16,8 @@ use Rattle.rd_app.specs.Application.{Application, IsApplication}
 use Rattle.rd_script.specs.File.{app_of_bytes}
 use Rattle.rd_script.specs.Says.{FileSays}
 use Rattle.rd_start.specs.declared.fault.Fault.{Fault}
-use Rattle.rd_start.specs.declared.fault.Fault.TheVariants.{BadCommandLine, CannotRead, App, NoMemory}
+use Rattle.rd_start.specs.declared.fault.Fault.TheVariants.{BadCommandLine, CannotRead, App}
+use Rattle.rd_start.specs.declared.fault.Fault.TheVariants.{NoMemory}
 use Rattle.rd_start.specs.declared.options.Settings.{Settings}
 use Rattle.rd_start.specs.declared.options.Request.{Request}
 use Rattle.rd_start.specs.declared.options.Request.TheVariants.{Run, Help}

@@ -8,7 +8,8 @@ ghost use Rattle.rd_app.specs.Application.{IsApplication};
 ghost use Rattle.rd_script.specs.Says.{FileSays};
 ghost use Rattle.rd_start.specs.Requests.{IsFile, IsOfAFile, IsFaultOf, IsFaultOfKind};
 ghost use Rattle.rd_start.specs.Requests.{IsOfARefusedFile, IsRefusalOf, IsSaidBy};
-ghost use Rattle.rd_start.specs.declared.fault.Fault.TheVariants.{BadCommandLine, CannotRead, NoMemory};
+ghost use Rattle.rd_start.specs.declared.fault.Fault.TheVariants.{BadCommandLine, CannotRead};
+ghost use Rattle.rd_start.specs.declared.fault.Fault.TheVariants.{NoMemory};
 
 use crate::fault::Fault;
 use rd_app::app::App;

@@ -132,8 +132,8 @@ fn without_settings<'a>(alloc: Global, error: &clap::Error) -> Result<Request<'a
 
 /// What the words of the command line ask for, without the program's own name: a session, by
 /// `run [--app FILE] [--moves COUNT]` or no words at all, with 1 to 1,000,000 moves, or help.
-/// `BadCommandLine` where the words are no such line, `NoMemory` where there is no memory to read them or
-/// for the text of help.
+/// `BadCommandLine` where the words are no such line, `NoMemory` where there is no memory to read
+/// them or for the text of help.
 pub fn options<'a>(alloc: Global, words: &'a [String]) -> Result<Request<'a>, Fault>
     ensures limits { IfOk result IsRequestWithinLimits }
     ensures no_words { length words.entry.now ≡ 0
