@@ -37,13 +37,6 @@ with_items queue items = record queue { items = items }
 abbrev pub as_member_of : QueueSnapshot → Option ℕ → QueueSnapshot
 as_member_of queue queue_set = record queue { queue_set = queue_set }
 
--- Are they one list?
-abbrev pub same_list : WaitingList → WaitingList → Bool
-same_list Receiving Receiving = true
-same_list Receiving Sending = false
-same_list Sending Receiving = false
-same_list Sending Sending = true
-
 -- the tasks of a list
 abbrev pub tasks_in_list : WaitingList → QueueSnapshot → List ℕ
 tasks_in_list Receiving queue = queue.receiving
