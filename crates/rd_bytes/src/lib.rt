@@ -1,6 +1,9 @@
-//! Bytes that lie in the value itself, and the refusal of a growth.
+//! Bytes that lie in the value itself, bytes that are read and changed at their end, and the refusal
+//! of a growth.
 #![tactic(auto)]
 
+pub mod byte_stack;
 pub mod bytes;
+pub mod ends;
 pub mod no_memory;
-pub mod saved;
+pub mod tag;

@@ -3,3 +3,4 @@ pub mod InstrLaws
 pub mod HandleMoveLaws
 pub mod StepLaws
 pub mod PlayLaws
+pub mod Offered

@@ -1,62 +1,117 @@
 -- What a move leaves with its record, from the step in the middle that made it.
 use Rattle.std.proofs.Common.{◌≡◌, ◌∙◌, ℕ, ◌+◌, ◌*◌, ◌<◌, ◌≤◌, true, List, length, Some, Option, refl, ap, subst, sym, arith}
-use Rattle.std.specs.Prelude.{Result, Ok, Err, OnOk, nat_lt}
+use Rattle.std.specs.Prelude.{Result, Ok, Err, OnErr, OnOk, nat_lt}
 use Rattle.std.proofs.lemmas.Bool.{lt-ltb}
+use Rattle.std.proofs.Common.{None, inl, inr}
+use Rattle.std.proofs.lemmas.Bool.{cases_lt}
+use Rattle.std.proofs.lemmas.List.{get_or_past}
+use Rattle.std.specs.List.{concat}
 use Rattle.rd_app.specs.Application.{Application, IsApplication, priorities_of}
-use Rattle.rd_state.specs.declared.change.Change.{Change}
+use Rattle.rd_app.specs.declared.instr.Instr.{Instr}
+use Rattle.rd_app.specs.declared.instr.Instr.TheVariants.{Local, Queue, QueueSet}
+use Rattle.rd_app.specs.declared.instr.QueueCall.{QueueCall}
+use Rattle.rd_app.specs.declared.instr.QueueCall.TheVariants.{Send, Receive, Peek, Overwrite, Reset, Count, Spaces, AddToSet, RemoveFromSet}
+use Rattle.rd_queue.proofs.Offered.{items_short}
+use Rattle.rd_queue.specs.QueueSnapshot.{QueueSnapshot}
+use Rattle.rd_queue_calls.specs.QueueCalls.{dropped_by}
+use Rattle.rd_state.proofs.Offered.{length-weight-le, queue_sized, weight_bounds_bytes}
+use Rattle.rd_state.specs.Objects.{no_queue}
+use Rattle.rd_state.specs.PackedChanges.{all_packed}
+use Rattle.rd_state.specs.Change.{Change}
 use Rattle.rd_state.specs.Change.{weight_of}
-use Rattle.rd_state.specs.Edit.{Base, Edit, GoesOn, Reaches, added, begun_at}
+use Rattle.rd_state.specs.Edit.{Base, Edit, GivesUp, GoesOn, Reaches, added, begun_at, room_for}
 use Rattle.rd_state.specs.Settled.{IsSettled}
 use Rattle.rd_state.specs.Sizes.{IsSized}
-use Rattle.rd_state.specs.Snapshot.{Snapshot, core_at}
+use Rattle.rd_state.specs.Snapshot.{Snapshot, core_at, queue_at}
 use Rattle.rd_state.specs.Undoing.{undone, CanUndo}
 use Rattle.rd_state.specs.Valid.{IsValid}
 use Rattle.rd_calls.specs.declared.moves.Move.{Move}
 use Rattle.rd_calls.specs.declared.moves.Move.TheVariants.{Core, Tick}
-use Rattle.rd_calls.specs.Step.{core_step, dropped_by_move, dropped_by_task, instr_cost, last_tick, next_instr, step, step_of_core, tick_step}
+use Rattle.rd_calls.specs.Step.{core_step, dropped_by_instr, dropped_by_task, instr_cost, last_tick, next_instr, record_limit, step, step_of_core, tick_step}
 use Rattle.rd_calls.specs.Step.{IsPlayed}
 use Rattle.rd_calls.proofs.StepLaws.{IsSettled-step, IsSettled-tick, IsValid-step, IsValid-tick}
 
--- the most that the record of a move takes
-abbrev pub most_of : Application → Snapshot → Move → ℕ
-most_of app s move = 4 * length s.tasks + 6 * length s.cores + 16 + 512 + dropped_by_move app s move
+-- The items that a move drops are those of one queue at the most.
+dropped_by_few : (s : Snapshot) (queue : ℕ) (call : QueueCall) → IsSized s → dropped_by s queue call ≤ 4096
+dropped_by_few s queue (Send end wait) sized = omega arith
+dropped_by_few s queue (Receive wait) sized = omega arith
+dropped_by_few s queue (Peek wait) sized = omega arith
+dropped_by_few s queue Overwrite sized = omega arith
+dropped_by_few s queue Reset sized = elim (cases_lt queue (length s.objects.queues)) [
+  | inl there ↦ items_short (queue_at s queue) (queue_sized s queue sized there).0
+  | inr past ↦ omega (arith, ap (λ (q : QueueSnapshot). length (concat q.items)) (get_or_past s.objects.queues queue no_queue past))
+]
+dropped_by_few s queue Count sized = omega arith
+dropped_by_few s queue Spaces sized = omega arith
+dropped_by_few s queue (AddToSet queue_set) sized = omega arith
+dropped_by_few s queue (RemoveFromSet queue_set) sized = omega arith
+
+dropped_by_instr_few : (s : Snapshot) (instr : Instr) → IsSized s → dropped_by_instr s instr ≤ 4096
+dropped_by_instr_few s (Local instr) sized = omega arith
+dropped_by_instr_few s (Queue queue call) sized = dropped_by_few s queue call sized
+dropped_by_instr_few s (QueueSet queue_set call) sized = omega arith
+
+dropped_by_task_few : (app : Application) (s : Snapshot) (running : Option ℕ) → IsSized s → dropped_by_task app s running ≤ 4096
+dropped_by_task_few app s None sized = omega arith
+dropped_by_task_few app s (Some task) sized = dropped_by_instr_few s (next_instr app s task) sized
+
+most_is_few : (app : Application) (s : Snapshot) (move : Move) → IsSized s → record_limit app s move < 65536
+most_is_few app s (Core core) sized =
+    omega (arith, dropped_by_task_few app s (core_at s core) sized, sized.tasks.few, sized.scheduling.few_cores)
+most_is_few app s Tick sized = omega (arith, sized.tasks.few, sized.scheduling.few_cores)
+
+-- The record of a move has few changes.
+pub played_few : (app : Application) (s s' : Snapshot) (move : Move) (changes : List Change) → IsSized s → IsPlayed app s move s' changes → length changes < 65536
+played_few app s s' move changes sized played = omega (arith, length-weight-le changes, played.small, most_is_few app s move sized)
 
 -- where a move leads, and at what cost
 pub record Leads (app : Application) (s : Snapshot) (move : Move) (target : Snapshot) (cost : ℕ) : Type 0 where
   pub step : step app s move ≡ Ok target
-  pub few : cost ≤ most_of app s move
+  pub few : cost ≤ record_limit app s move
+  pub most_few : record_limit app s move < 65536
   pub valid : (s' : Snapshot) → s' ≡ target → IsSized s' → IsValid app s'
   pub settled : (s' : Snapshot) → s' ≡ target → IsSettled (priorities_of app) s'
 
-goes_on : (app : Application) (s s' : Snapshot) (move : Move) (target : Snapshot) (cost : ℕ) (begun made : Edit) (before changes : List Change)
-    → begun ≡ begun_at s before → Leads app s move target cost → IsSized s' → Reaches begun made target cost → s' ≡ made.now → GoesOn made changes
+goes_on : (app : Application) (s s' : Snapshot) (move : Move) (target : Snapshot) (cost : ℕ) (begun made : Edit) (before changes : List Change) (room : ℕ)
+    → begun ≡ begun_at s before room → Leads app s move target cost → IsSized s' → Reaches begun made target cost → s' ≡ made.now → GoesOn made changes
     → IsPlayed app s move s' (added before changes)
-goes_on app s s' move target cost begun made before changes is leads sized comes now goes =
-    let base : made.base ≡ (begun_at s before).base = comes.base ∙ ap (λ (edit : Edit). edit.base) is in
+goes_on app s s' move target cost begun made before changes room is leads sized comes now goes =
+    let base : made.base ≡ (begun_at s before room).base = comes.base ∙ ap (λ (edit : Edit). edit.base) is in
     let there : s' ≡ target = now ∙ comes.now in
     let Q : Snapshot → Base → Type 0 = λ t b. (undone t (added b.recorded changes) ≡ b.state) × CanUndo t (added b.recorded changes)
     × (weight_of (added b.recorded changes) ≡ made.weight) in
-    let here : Q s' (begun_at s before).base =
-    subst (λ (t : Snapshot). Q t (begun_at s before).base) (sym now)
+    let here : Q s' (begun_at s before room).base =
+    subst (λ (t : Snapshot). Q t (begun_at s before room).base) (sym now)
     (subst (λ (b : Base). Q made.now b) base (goes.leads_back, goes.can_undo, goes.weight)) in
     record {
       step = leads.step ∙ ap (λ (t : Snapshot). Ok t) (sym there);
       leads_back = here.0;
       can_undo = here.1;
       small = omega (arith, here.2, comes.weight, ap (λ (edit : Edit). edit.weight) is, leads.few);
+      packable =
+          omega (
+            arith,
+            weight_bounds_bytes (added before changes),
+            length-weight-le (added before changes),
+            here.2,
+            comes.weight,
+            ap (λ (edit : Edit). edit.weight) is,
+            leads.few,
+            leads.most_few,
+          );
       valid = leads.valid s' there sized;
       settled = leads.settled s' there;
     }
 
 -- the same, seen by what the move returns
 pub IsPlayed-from : {T E : Type 0} (r : Result T E) (app : Application) (s s' : Snapshot) (move : Move) (target : Snapshot) (cost : ℕ) (begun made : Edit)
-    (before changes : List Change) → begun ≡ begun_at s before → Leads app s move target cost → IsSized s'
+    (before changes : List Change) (room : ℕ) → begun ≡ begun_at s before room → Leads app s move target cost → IsSized s'
     → OnOk r (Reaches begun made target cost) → OnOk r (s' ≡ made.now) → OnOk r (GoesOn made changes)
     → OnOk r (IsPlayed app s move s' (added before changes))
-IsPlayed-from r app s s' move target cost begun made before changes is leads sized =
+IsPlayed-from r app s s' move target cost begun made before changes room is leads sized =
     elim r as (λ q. OnOk q (Reaches begun made target cost) → OnOk q (s' ≡ made.now) → OnOk q (GoesOn made changes)
     → OnOk q (IsPlayed app s move s' (added before changes)))
-    [ Ok x ↦ λ f g h. goes_on app s s' move target cost begun made before changes is leads sized f g h | Err y ↦ λ f g h. tt ]
+    [ Ok x ↦ λ f g h. goes_on app s s' move target cost begun made before changes room is leads sized f g h | Err y ↦ λ f g h. tt ]
 
 pub Leads-core : (app : Application) (s : Snapshot) (core task : ℕ) → IsApplication app → IsValid app s → core < length s.cores → core_at s core ≡ Some task
     → Leads app s (Core core) (core_step app s core task) (instr_cost s (next_instr app s task) + 1 + 3 * length s.cores)
@@ -67,6 +122,7 @@ Leads-core app s core task limits valid there e = record {
       ≤ 4 * length s.tasks + 6 * length s.cores + 16 + 512 + dropped_by_task app s running in
       let here : P (Some task) = omega arith in
       subst P (sym e) here;
+  most_few = most_is_few app s (Core core) valid.in_limits.sized;
   valid = λ s' is sized. IsValid-step app s s' core task limits valid there e is sized;
   settled = λ s' is. IsSettled-step app s s' core task limits valid there e is;
 }
@@ -77,6 +133,14 @@ Leads-tick app s limits valid later =
     let is_later : nat_lt s.tick last_tick ≡ true = lt-ltb s.tick last_tick later in record {
       step = rw is_later refl;
       few = omega arith;
+      most_few = most_is_few app s Tick valid.in_limits.sized;
       valid = λ s' is sized. IsValid-tick app s s' limits valid is sized;
       settled = λ s' is. IsSettled-tick app s s' limits valid is;
     }
+
+-- the room that was short, where the move gave up
+pub short-from : {T E : Type 0} (r : Result T E) (app : Application) (s : Snapshot) (move : Move) (target : Snapshot) (cost room : ℕ) (begun made : Edit)
+    → begun.room ≡ room → Leads app s move target cost → OnErr r (GivesUp begun made cost) → OnErr r (room < room_for (record_limit app s move))
+short-from r app s move target cost room begun made same leads =
+    elim r as (λ q. OnErr q (GivesUp begun made cost) → OnErr q (room < room_for (record_limit app s move)))
+    [ Ok x ↦ λ f. tt | Err y ↦ λ f. omega (arith, same, f.short, leads.few) ]

@@ -3,6 +3,7 @@ use Rattle.std.specs.Prelude.{ℕ, ◌+◌, ◌%◌, ◌^◌, ◌<◌, ◌≤◌
 use Rattle.std.specs.Prelude.{if◌then◌else◌}
 use Rattle.std.specs.Int.{w32, to_le_bytes, from_le_bytes}
 use Rattle.rd_bytes.specs.declared.bytes.TheConstants.{MAX_BYTES}
+use Rattle.rd_app.specs.declared.app.TheConstants.{MAX_CODE}
 use Rattle.rd_app.specs.declared.instr.TheConstants.{REGISTERS}
 use Rattle.rd_app.specs.declared.instr.LocalInstr.{LocalInstr}
 use Rattle.rd_app.specs.declared.instr.LocalInstr.TheVariants.{Set, Add, Move, Data, Pack}
@@ -35,17 +36,18 @@ local_step s core task (JumpZero register target) =
     (if nat_eq (register_at s task register) 0 then target else (task_at s task).pc + 1)
 local_step s core task End = with_idle_core (with_phase s task Ended) core
 
--- The registers that a local instruction names are there, and its bytes fit a task's data.
-abbrev pub NamesRegisters : LocalInstr → Type 0
-NamesRegisters (Set register value) = register < REGISTERS
-NamesRegisters (Add register value) = register < REGISTERS
-NamesRegisters (Move into from) = (into < REGISTERS) × (from < REGISTERS)
-NamesRegisters (Data bytes) = length bytes ≤ MAX_BYTES
-NamesRegisters (Pack register) = register < REGISTERS
-NamesRegisters (Unpack register) = register < REGISTERS
-NamesRegisters (Jump target) = Unit {0}
-NamesRegisters (JumpZero register target) = register < REGISTERS
-NamesRegisters End = Unit {0}
+-- The registers that a local instruction names are there, its bytes fit a task's data, and an
+-- instruction can have the number of its target.
+abbrev pub NamesLocalParts : LocalInstr → Type 0
+NamesLocalParts (Set register value) = register < REGISTERS
+NamesLocalParts (Add register value) = register < REGISTERS
+NamesLocalParts (Move into from) = (into < REGISTERS) × (from < REGISTERS)
+NamesLocalParts (Data bytes) = length bytes ≤ MAX_BYTES
+NamesLocalParts (Pack register) = register < REGISTERS
+NamesLocalParts (Unpack register) = register < REGISTERS
+NamesLocalParts (Jump target) = target ≤ MAX_CODE
+NamesLocalParts (JumpZero register target) = (register < REGISTERS) × (target ≤ MAX_CODE)
+NamesLocalParts End = Unit {0}
 
 -- what a local instruction takes in a record at the most: the data, and the next instruction
 abbrev pub local_cost : ℕ

@@ -8,14 +8,15 @@ use Rattle.rd_app.specs.Application.{Application, IsQueueCall, IsQueueSetCall, i
 use Rattle.rd_app.specs.Application.{priorities_of, queue_call_of}
 use Rattle.rd_text.specs.declared.refusal.Refusal.{Refusal}
 use Rattle.rd_text.specs.declared.refusal.Refusal.TheVariants.{NoTask, TickLimit}
-use Rattle.rd_state.specs.declared.change.Change.{Change}
+use Rattle.rd_state.specs.Change.{Change}
 use Rattle.rd_state.specs.Change.{weight_of}
 use Rattle.rd_state.specs.Settled.{settled, rotated, IsSettled}
+use Rattle.rd_state.specs.PackedChanges.{IsPackable}
 use Rattle.rd_state.specs.Snapshot.{Snapshot, task_at, core_at}
 use Rattle.rd_state.specs.Objects.{Numbers}
 use Rattle.rd_state.specs.Undoing.{undone, CanUndo}
 use Rattle.rd_state.specs.Valid.{IsValid}
-use Rattle.rd_calls.specs.Local.{local_step, NamesRegisters}
+use Rattle.rd_calls.specs.Local.{local_step, NamesLocalParts}
 use Rattle.rd_kernel.specs.Costs.{ending_cost}
 use Rattle.rd_kernel.specs.Outcomes.{concluded}
 use Rattle.rd_kernel.specs.Waking.{timed_out}
@@ -106,12 +107,15 @@ abbrev pub dropped_by_move : Application → Snapshot → Move → ℕ
 dropped_by_move app s (Core core) = dropped_by_task app s (core_at s core)
 dropped_by_move app s Tick = 0
 
--- The record of a move is small: its weight has a bound that only the numbers of tasks and cores
--- enter, apart from the bytes of one task's data and one item, and those that a reset drops.
+-- The weight that the record of a move has at the most: only the numbers of tasks and cores enter,
+-- apart from the bytes of one task's data and one item, and those that a reset drops.
+abbrev pub record_limit : Application → Snapshot → Move → ℕ
+record_limit app s move =
+    4 * length s.tasks + 6 * length s.cores + 16 + 512 + dropped_by_move app s move
+
+-- The record of a move is small.
 abbrev pub IsSmall : Application → Snapshot → Move → List Change → Type 0
-IsSmall app s move changes =
-    weight_of changes
-    ≤ 4 * length s.tasks + 6 * length s.cores + 16 + 512 + dropped_by_move app s move
+IsSmall app s move changes = weight_of changes ≤ record_limit app s move
 
 -- What a move leaves: the written state, valid and with nothing left to schedule, and few changes,
 -- which lead back from there.
@@ -121,12 +125,13 @@ pub record IsPlayed (app : Application) (s : Snapshot) (move : Move) (s' : Snaps
   pub leads_back : undone s' changes ≡ s
   pub can_undo : CanUndo s' changes
   pub small : IsSmall app s move changes
+  pub packable : IsPackable changes
   pub valid : IsValid app s'
   pub settled : IsSettled (priorities_of app) s'
 
 -- The registers and objects that an instruction names are there.
 abbrev pub NamesParts : Numbers → Instr → Type 0
-NamesParts numbers (Local instr) = NamesRegisters instr
+NamesParts numbers (Local instr) = NamesLocalParts instr
 NamesParts numbers (Queue queue call) =
     (queue < numbers.queue_count) × IsQueueCall numbers.queue_set_count call
 NamesParts numbers (QueueSet queue_set call) =

@@ -5,12 +5,12 @@ ghost use Rattle.std.specs.Int.{w32, from_le_bytes};
 ghost use Rattle.rd_bytes.specs.declared.bytes.TheConstants.{MAX_BYTES};
 ghost use Rattle.rd_app.specs.declared.app.TheConstants.{MAX_CODE};
 ghost use Rattle.rd_app.specs.declared.instr.TheConstants.{REGISTERS};
-ghost use Rattle.rd_state.specs.Edit.{Reaches, KeepsBase};
+ghost use Rattle.rd_state.specs.Edit.{Reaches, GivesUp};
 ghost use Rattle.rd_state.specs.Snapshot.{task_at};
 ghost use Rattle.rd_kernel.specs.Costs.{data_cost};
 ghost use Rattle.rd_kernel.specs.Tasks.{register_at, with_register, with_bytes, advanced};
 ghost use Rattle.rd_kernel.specs.Tasks.{with_idle_core, with_pc, with_phase};
-ghost use Rattle.rd_calls.specs.Local.{local_cost, local_step, NamesRegisters};
+ghost use Rattle.rd_calls.specs.Local.{local_cost, local_step, NamesLocalParts};
 
 use rd_app::instr::LocalInstr;
 use rd_bytes::no_memory::NoMemory;
@@ -18,7 +18,6 @@ use rd_kernel::changes::{advance, set_bytes, set_pc, set_phase, set_register};
 use rd_state::change::Change;
 use rd_state::editing::Editing;
 use rd_state::phase::Phase;
-use std::alloc::Global;
 
 // The number whose four bytes, lowest first, begin the bytes; missing ones are 0.
 fn unpacked(bytes: &[u8]) -> u32
@@ -48,7 +47,7 @@ fn assign_register(
     requires pc { (task_at editing.old.now task).pc < MAX_CODE }
     ensures ok { OnOk result (Reaches editing.old editing.new
         (advanced (with_register editing.old.now task register value) task) 2) }
-    ensures err { OnErr result (KeepsBase editing.old editing.new) }
+    ensures err { OnErr result (GivesUp editing.old editing.new 2) }
 {
     set_register(editing, task, register, value)?;
     advance(editing, task)
@@ -67,7 +66,7 @@ fn add_to_register(
     ensures ok { OnOk result (Reaches editing.old editing.new
         (advanced (with_register editing.old.now task register
         ((register_at editing.old.now task register + value) % 2 ^ 32)) task) 2) }
-    ensures err { OnErr result (KeepsBase editing.old editing.new) }
+    ensures err { OnErr result (GivesUp editing.old editing.new 2) }
 {
     let sum = register_at(editing, task, register).wrapping_add(value);
     assign_register(editing, task, register, sum)
@@ -82,12 +81,13 @@ fn jump_if_zero(
 ) -> Result<(), NoMemory>
     requires task { task < length editing.old.now.tasks }
     requires register { register < REGISTERS }
+    requires target { target ≤ MAX_CODE }
     requires pc { (task_at editing.old.now task).pc < MAX_CODE }
     ensures ok { OnOk result (Reaches editing.old editing.new
         (with_pc editing.old.now task
         (if nat_eq (register_at editing.old.now task register) 0 then target
         else (task_at editing.old.now task).pc + 1)) 1) }
-    ensures err { OnErr result (KeepsBase editing.old editing.new) }
+    ensures err { OnErr result (GivesUp editing.old editing.new 1) }
 {
     let next = editing.state().task(task).pc() + 1;
     let is_zero = register_at(editing, task, register) == 0;
@@ -95,20 +95,15 @@ fn jump_if_zero(
 }
 
 // The data becomes these bytes, and the script goes on.
-fn assign_bytes(
-    alloc: Global,
-    editing: &mut Editing,
-    task: usize,
-    bytes: &[u8],
-) -> Result<(), NoMemory>
+fn assign_bytes(editing: &mut Editing, task: usize, bytes: &[u8]) -> Result<(), NoMemory>
     requires task { task < length editing.old.now.tasks }
     requires few { length bytes.now ≤ MAX_BYTES }
     requires pc { (task_at editing.old.now task).pc < MAX_CODE }
     ensures ok { OnOk result (Reaches editing.old editing.new
         (advanced (with_bytes editing.old.now task bytes.now) task) (data_cost + 1)) }
-    ensures err { OnErr result (KeepsBase editing.old editing.new) }
+    ensures err { OnErr result (GivesUp editing.old editing.new (data_cost + 1)) }
 {
-    set_bytes(alloc, editing, task, bytes)?;
+    set_bytes(editing, task, bytes)?;
     advance(editing, task)
 }
 
@@ -118,7 +113,7 @@ fn end_task(editing: &mut Editing, core: usize, task: usize) -> Result<(), NoMem
     requires core { core < length editing.old.now.cores }
     ensures ok { OnOk result (Reaches editing.old editing.new
         (with_idle_core (with_phase editing.old.now task Phase.Ended) core) 2) }
-    ensures err { OnErr result (KeepsBase editing.old editing.new) }
+    ensures err { OnErr result (GivesUp editing.old editing.new 2) }
 {
     set_phase(editing, task, Phase::Ended)?;
     editing.change(Change::SetCore { core, task: None })
@@ -126,7 +121,6 @@ fn end_task(editing: &mut Editing, core: usize, task: usize) -> Result<(), NoMem
 
 /// Does an instruction that touches nothing but its own task.
 pub fn do_local(
-    alloc: Global,
     editing: &mut Editing,
     core: usize,
     task: usize,
@@ -135,11 +129,11 @@ pub fn do_local(
     requires task { task < length editing.old.now.tasks }
     requires core { core < length editing.old.now.cores }
     requires pc { (task_at editing.old.now task).pc < MAX_CODE }
-    requires registers { NamesRegisters instr.now }
+    requires names { NamesLocalParts instr.now }
     ensures ok { OnOk result
         (Reaches editing.old editing.new (local_step editing.old.now core task instr.now)
         local_cost) }
-    ensures err { OnErr result (KeepsBase editing.old editing.new) }
+    ensures err { OnErr result (GivesUp editing.old editing.new local_cost) }
 {
     match instr {
         LocalInstr::Set { register, value } => assign_register(editing, task, *register, *value),
@@ -148,10 +142,10 @@ pub fn do_local(
             let value = register_at(editing, task, *from);
             assign_register(editing, task, *into, value)
         }
-        LocalInstr::Data { bytes } => assign_bytes(alloc, editing, task, bytes.as_slice()),
+        LocalInstr::Data { bytes } => assign_bytes(editing, task, bytes.as_slice()),
         LocalInstr::Pack { register } => {
             let bytes = register_at(editing, task, *register).to_le_bytes();
-            assign_bytes(alloc, editing, task, &bytes)
+            assign_bytes(editing, task, &bytes)
         }
         LocalInstr::Unpack { register } => {
             let value = unpacked(editing.state().task(task).bytes());

@@ -3,7 +3,7 @@
 ghost use Rattle.std.specs.Prelude.{◌≡◌, ◌+◌, ◌*◌, ◌<◌, length, Some, OnOk, OnErr};
 ghost use Rattle.rd_app.specs.declared.app.TheConstants.{MAX_CODE};
 ghost use Rattle.rd_app.specs.Application.{priorities_of};
-ghost use Rattle.rd_state.specs.Edit.{Reaches, KeepsBase};
+ghost use Rattle.rd_state.specs.Edit.{Reaches, GivesUp};
 ghost use Rattle.rd_state.specs.Snapshot.{core_at, numbers_of, task_at};
 ghost use Rattle.rd_state.specs.Valid.{IsValid};
 ghost use Rattle.rd_kernel.specs.Outcomes.{IsCalling};
@@ -19,11 +19,9 @@ use rd_kernel::conclude::conclude;
 use rd_queue_calls::calls::call_queue;
 use rd_queue_calls::selecting::call_queue_set;
 use rd_state::editing::Editing;
-use std::alloc::Global;
 
 // Does one instruction of the task on a core.
 fn perform(
-    alloc: Global,
     app: &App,
     editing: &mut Editing,
     core: usize,
@@ -37,10 +35,11 @@ fn perform(
     ensures ok { OnOk result (Reaches editing.old editing.new
         (performed (priorities_of app.now) editing.old.now core task instr.now)
         (instr_cost editing.old.now instr.now)) }
-    ensures err { OnErr result (KeepsBase editing.old editing.new) }
+    ensures err { OnErr result (GivesUp editing.old editing.new
+        (instr_cost editing.old.now instr.now)) }
 {
     match instr {
-        Instr::Local { instr } => do_local(alloc, editing, core, task, instr),
+        Instr::Local { instr } => do_local(editing, core, task, instr),
         Instr::Queue { queue, call } => {
             let outcome = call_queue(app, editing, task, *queue, *call)?;
             conclude(editing, core, task, outcome)
@@ -53,25 +52,20 @@ fn perform(
 }
 
 /// The move of a core whose task is known: its instruction, the turn, the scheduler.
-pub fn move_core(
-    alloc: Global,
-    app: &App,
-    editing: &mut Editing,
-    core: usize,
-    task: usize,
-) -> Result<(), NoMemory>
+pub fn move_core(app: &App, editing: &mut Editing, core: usize, task: usize) -> Result<(), NoMemory>
     requires caller { IsCalling app.now editing.old.now task }
     requires core { core < length editing.old.now.cores }
     ensures ok { OnOk result
         (Reaches editing.old editing.new (core_step app.now editing.old.now core task)
         (instr_cost editing.old.now (next_instr app.now editing.old.now task)
         + 1 + 3 * length editing.old.now.cores)) }
-    ensures err { OnErr result (KeepsBase editing.old editing.new) }
+    ensures err { OnErr result (GivesUp editing.old editing.new
+        (instr_cost editing.old.now (next_instr app.now editing.old.now task) + 1 + 3 * length editing.old.now.cores)) }
 {
     app.limits();
     let pc = editing.state().task(task).pc();
     let instr = &app.code(task)[pc];
-    perform(alloc, app, editing, core, task, instr)?;
+    perform(app, editing, core, task, instr)?;
     set_turn(editing, core + 1)?;
     editing.settle(app.priorities())
 }

@@ -1,9 +1,10 @@
 //! Moves, made whole or not at all.
 
-ghost use Rattle.std.specs.Prelude.{◌≡◌, ◌↔◌, ◌<◌, ◌⊎◌, length, take, Ok, Err};
+ghost use Rattle.std.specs.Prelude.{◌≡◌, ◌↔◌, ◌<◌, ◌≤◌, ◌⊎◌, length, take, Ok, Err};
 ghost use Rattle.std.specs.Prelude.{None, Some, IfErr, IfOk, IfSome, OnOk, OnErr, IsErrOf, IsOk};
 ghost use Rattle.rd_app.specs.Application.{priorities_of};
-ghost use Rattle.rd_state.specs.Edit.{added, GoesOn};
+ghost use Rattle.rd_state.specs.Edit.{added, room_for, GoesOn};
+ghost use Rattle.rd_state.specs.PackedChanges.{IsPackable};
 ghost use Rattle.rd_state.specs.Settled.{IsSettled};
 ghost use Rattle.rd_state.specs.Sizes.{IsSized};
 ghost use Rattle.rd_state.specs.Snapshot.{core_at};
@@ -11,7 +12,8 @@ ghost use Rattle.rd_state.specs.Undoing.{undone, CanUndo};
 ghost use Rattle.rd_state.specs.Valid.{IsValid};
 ghost use Rattle.rd_kernel.specs.Outcomes.{IsCalling};
 ghost use Rattle.rd_kernel.specs.Waking.{FirstTriesWait};
-ghost use Rattle.rd_calls.specs.Step.{step, last_tick, IsMoveOf, IsPlayed, IsSmall};
+ghost use Rattle.rd_calls.specs.Step.{last_tick, record_limit, step, IsMoveOf, IsPlayed};
+ghost use Rattle.rd_calls.specs.Step.{IsSmall};
 
 use crate::moves::Move;
 use crate::perform::move_core;
@@ -31,6 +33,7 @@ fn finish(editing: &mut Editing, made: Result<(), NoMemory>) -> Result<(), NoMem
     ensures made { result ≡ made }
     ensures state { OnOk made (editing.new.now ≡ editing.old.now) }
     ensures record { OnOk made (GoesOn editing.old editing.new.changes) }
+    ensures room { editing.old.room ≤ editing.new.room }
     ensures err { OnErr made (editing.new.now ≡ editing.old.base.state) }
     ensures err_record { OnErr made (editing.new.changes ≡ editing.old.base.recorded) }
     ensures sized { IsSized editing.new.now }
@@ -44,13 +47,7 @@ fn finish(editing: &mut Editing, made: Result<(), NoMemory>) -> Result<(), NoMem
 }
 
 // The move of a core whose task is known.
-fn play_core(
-    alloc: Global,
-    editing: &mut Editing,
-    app: &App,
-    core: usize,
-    task: usize,
-) -> Result<(), NoMemory>
+fn play_core(editing: &mut Editing, app: &App, core: usize, task: usize) -> Result<(), NoMemory>
     requires caller { IsCalling app.now editing.old.now task }
     requires core { core < length editing.old.now.cores }
     requires task { core_at editing.old.now core ≡ Some task }
@@ -58,12 +55,14 @@ fn play_core(
         (take (length editing.old.changes) editing.new.changes ≡ editing.old.changes) }
     ensures played { OnOk result (IsPlayed app.now editing.old.now (Move.Core core) editing.new.now
         (added editing.old.changes editing.new.changes)) }
+    ensures short { OnErr result
+        (editing.old.room < room_for (record_limit app.now editing.old.now (Move.Core core))) }
     ensures err { OnErr result (editing.new.now ≡ editing.old.now) }
     ensures err_record { OnErr result (editing.new.changes ≡ editing.old.changes) }
 {
     app.limits();
     editing.begin();
-    let made = move_core(alloc, app, editing, core, task);
+    let made = move_core(app, editing, core, task);
     finish(editing, made)
 }
 
@@ -75,6 +74,8 @@ fn play_tick(editing: &mut Editing, app: &App) -> Result<(), NoMemory>
         (take (length editing.old.changes) editing.new.changes ≡ editing.old.changes) }
     ensures played { OnOk result (IsPlayed app.now editing.old.now Move.Tick editing.new.now
         (added editing.old.changes editing.new.changes)) }
+    ensures short { OnErr result
+        (editing.old.room < room_for (record_limit app.now editing.old.now Move.Tick)) }
     ensures err { OnErr result (editing.new.now ≡ editing.old.now) }
     ensures err_record { OnErr result (editing.new.changes ≡ editing.old.changes) }
 {
@@ -102,9 +103,9 @@ pub fn why_not(app: &App, state: &State, action: &Move) -> Option<Refusal>
 
 /// Makes a move where the state and the record are, and adds what undoes it to the record. A
 /// refusal leaves the state and the record as they were: `NoTask` where the core is idle,
-/// `TickLimit` where the tick is 4,294,967,295, `NoMemory` where a growth was refused. There is no
-/// other.
-pub fn move_on(alloc: Global, editing: &mut Editing, app: &App, action: Move) -> Result<(), Refusal>
+/// `TickLimit` where the tick is 4,294,967,295, `NoMemory` where a growth was refused, which none is
+/// where the record has room for the move. There is no other.
+pub fn move_on(editing: &mut Editing, app: &App, action: Move) -> Result<(), Refusal>
     requires valid { IsValid app.now editing.old.now }
     requires named { IsMoveOf app.now action }
     ensures before { OnOk result
@@ -117,6 +118,8 @@ pub fn move_on(alloc: Global, editing: &mut Editing, app: &App, action: Move) ->
         ↔ (step app.now editing.old.now action ≡ Err Refusal.TickLimit) }
     ensures refusals { IfErr result (λ refusal.
         (step app.now editing.old.now action ≡ Err refusal) ⊎ (refusal ≡ Refusal.NoMemory)) }
+    ensures short { IsErrOf result Refusal.NoMemory
+        → editing.old.room < room_for (record_limit app.now editing.old.now action) }
     ensures err { OnErr result (editing.new.now ≡ editing.old.now) }
     ensures err_record { OnErr result (editing.new.changes ≡ editing.old.changes) }
 {
@@ -125,7 +128,7 @@ pub fn move_on(alloc: Global, editing: &mut Editing, app: &App, action: Move) ->
             let Some(task) = caller_on(app, editing.state(), core) else {
                 return Err(Refusal::NoTask);
             };
-            play_core(alloc, editing, app, core, task).map_err(Refusal::from)
+            play_core(editing, app, core, task).map_err(Refusal::from)
         }
         Move::Tick if editing.state().tick() == u32::MAX => Err(Refusal::TickLimit),
         Move::Tick => play_tick(editing, app).map_err(Refusal::from),
@@ -159,7 +162,7 @@ pub fn play_on(
 {
     let before = mem::replace(undo, Undo::new(alloc));
     let mut editing = Editing::new(mem::replace(state, State::hollow(alloc)), before);
-    let made = move_on(alloc, &mut editing, app, action);
+    let made = move_on(&mut editing, app, action);
     mem::replace(undo, editing.end(state)).retire();
     made
 }
@@ -179,10 +182,11 @@ pub fn play(alloc: Global, state: &mut State, app: &App, action: Move) -> Result
         (step app.now state.old action ≡ Err refusal) ⊎ (refusal ≡ Refusal.NoMemory)) }
     ensures err { OnErr result (state.new ≡ state.old) }
 
-    // The record leads back, and is small.
+    // The record leads back, is small, and can be kept.
     ensures undone { IfOk result (λ undo. undone state.new undo ≡ state.old) }
     ensures can_undo { IfOk result (λ undo. CanUndo state.new undo) }
     ensures small { IfOk result (λ undo. IsSmall app.now state.old action undo) }
+    ensures packable { IfOk result (λ undo. IsPackable undo) }
 
     // A valid state stays valid, and nothing is left to schedule between moves.
     ensures valid { OnOk result (IsValid app.now state.new) }

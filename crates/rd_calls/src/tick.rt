@@ -1,7 +1,7 @@
 //! The move of a tick in the middle.
 ghost use Rattle.std.specs.Prelude.{◌≡◌, ◌+◌, ◌*◌, ◌<◌, length, OnOk, OnErr};
 ghost use Rattle.rd_app.specs.Application.{priorities_of};
-ghost use Rattle.rd_state.specs.Edit.{Reaches, KeepsBase};
+ghost use Rattle.rd_state.specs.Edit.{Reaches, GivesUp};
 ghost use Rattle.rd_state.specs.Valid.{IsValid};
 ghost use Rattle.rd_calls.specs.Step.{ticked, tick_step, last_tick};
 
@@ -19,7 +19,8 @@ fn begin_tick(app: &App, editing: &mut Editing, tick: u32) -> Result<(), NoMemor
     ensures ok { OnOk result
         (Reaches editing.old editing.new (ticked (priorities_of app.now) editing.old.now)
         (1 + 3 * length editing.old.now.tasks)) }
-    ensures err { OnErr result (KeepsBase editing.old editing.new) }
+    ensures err { OnErr result (GivesUp editing.old editing.new
+        (1 + 3 * length editing.old.now.tasks)) }
 {
     editing.change(Change::SetTick { tick })?;
     for task in 0..editing.state().task_count() {
@@ -36,7 +37,8 @@ pub fn move_tick(app: &App, editing: &mut Editing) -> Result<(), NoMemory>
     requires later { editing.old.now.tick < last_tick }
     ensures ok { OnOk result (Reaches editing.old editing.new (tick_step app.now editing.old.now)
         (5 + 3 * length editing.old.now.tasks + 3 * length editing.old.now.cores)) }
-    ensures err { OnErr result (KeepsBase editing.old editing.new) }
+    ensures err { OnErr result (GivesUp editing.old editing.new
+        (5 + 3 * length editing.old.now.tasks + 3 * length editing.old.now.cores)) }
 {
     app.limits();
     let tick = editing.state().tick() + 1;

@@ -4,7 +4,7 @@ ghost use Rattle.rd_bytes.specs.declared.bytes.TheConstants.{MAX_BYTES};
 ghost use Rattle.rd_app.specs.declared.app.TheConstants.{MAX_CODE};
 ghost use Rattle.rd_app.specs.declared.instr.TheConstants.{REGISTERS};
 ghost use Rattle.rd_state.specs.declared.phase.Phase.TheVariants.{Run};
-ghost use Rattle.rd_state.specs.Edit.{Reaches, KeepsBase};
+ghost use Rattle.rd_state.specs.Edit.{Reaches, GivesUp};
 ghost use Rattle.rd_state.specs.Sizes.{IsSizedPhase};
 ghost use Rattle.rd_state.specs.Snapshot.{numbers_of, task_at};
 ghost use Rattle.rd_kernel.specs.Costs.{data_cost, ending_cost};
@@ -13,12 +13,10 @@ ghost use Rattle.rd_kernel.specs.Tasks.{with_phase, advanced};
 ghost use Rattle.rd_kernel.specs.Outcomes.{returned};
 
 use rd_bytes::no_memory::NoMemory;
-use rd_bytes::saved::SavedBytes;
 use rd_state::change::Change;
 use rd_state::editing::Editing;
 use rd_state::phase::Phase;
 use rd_state::task_change::TaskChange;
-use std::alloc::Global;
 
 /// Sets a register of a task. If it has the value already, nothing changes, and no memory is taken.
 #[inline(always)]
@@ -33,7 +31,7 @@ pub fn set_register(
     ensures ok { OnOk result
         (Reaches editing.old editing.new (with_register editing.old.now task register value) 1) }
     ensures has_it { register_at editing.old.now task register ≡ value → IsOk result }
-    ensures err { OnErr result (KeepsBase editing.old editing.new) }
+    ensures err { OnErr result (GivesUp editing.old editing.new 1) }
 {
     if editing.state().task(task).register(register) == value {
         return Ok(());
@@ -44,20 +42,14 @@ pub fn set_register(
 
 /// Makes these bytes a task's data.
 #[inline(always)]
-pub fn set_bytes(
-    alloc: Global,
-    editing: &mut Editing,
-    task: usize,
-    bytes: &[u8],
-) -> Result<(), NoMemory>
+pub fn set_bytes(editing: &mut Editing, task: usize, bytes: &[u8]) -> Result<(), NoMemory>
     requires task { task < length editing.old.now.tasks }
     requires few { length bytes.now ≤ MAX_BYTES }
     ensures ok { OnOk result
         (Reaches editing.old editing.new (with_bytes editing.old.now task bytes.now) data_cost) }
-    ensures err { OnErr result (KeepsBase editing.old editing.new) }
+    ensures err { OnErr result (GivesUp editing.old editing.new data_cost) }
 {
     editing.state().sizes();
-    let bytes = SavedBytes::from_slice(alloc, bytes)?;
     let change = TaskChange::SetData { bytes };
     editing.change(Change::Task { task, change })
 }
@@ -65,9 +57,10 @@ pub fn set_bytes(
 /// Moves a task to another instruction of its script.
 #[inline(always)]
 pub fn set_pc(editing: &mut Editing, task: usize, pc: usize) -> Result<(), NoMemory>
-    requires { task < length editing.old.now.tasks }
+    requires task { task < length editing.old.now.tasks }
+    requires pc { pc ≤ MAX_CODE }
     ensures ok { OnOk result (Reaches editing.old editing.new (with_pc editing.old.now task pc) 1) }
-    ensures err { OnErr result (KeepsBase editing.old editing.new) }
+    ensures err { OnErr result (GivesUp editing.old editing.new 1) }
 {
     let change = TaskChange::SetPc { pc };
     editing.change(Change::Task { task, change })
@@ -79,7 +72,7 @@ pub fn advance(editing: &mut Editing, task: usize) -> Result<(), NoMemory>
     requires task { task < length editing.old.now.tasks }
     requires pc { (task_at editing.old.now task).pc < MAX_CODE }
     ensures ok { OnOk result (Reaches editing.old editing.new (advanced editing.old.now task) 1) }
-    ensures err { OnErr result (KeepsBase editing.old editing.new) }
+    ensures err { OnErr result (GivesUp editing.old editing.new 1) }
 {
     let pc = editing.state().task(task).pc();
     set_pc(editing, task, pc + 1)
@@ -94,7 +87,7 @@ pub fn set_phase(editing: &mut Editing, task: usize, phase: Phase) -> Result<(),
     ensures ok { OnOk result
         (Reaches editing.old editing.new (with_phase editing.old.now task phase) 1) }
     ensures in_it { (task_at editing.old.now task).phase ≡ phase → IsOk result }
-    ensures err { OnErr result (KeepsBase editing.old editing.new) }
+    ensures err { OnErr result (GivesUp editing.old editing.new 1) }
 {
     if editing.state().phase(task) == phase {
         return Ok(());
@@ -110,7 +103,7 @@ pub fn return_from(editing: &mut Editing, task: usize, value: u32) -> Result<(),
     requires pc { (task_at editing.old.now task).pc < MAX_CODE }
     ensures ok { OnOk result
         (Reaches editing.old editing.new (returned editing.old.now task value) ending_cost) }
-    ensures err { OnErr result (KeepsBase editing.old editing.new) }
+    ensures err { OnErr result (GivesUp editing.old editing.new ending_cost) }
 {
     let pc = editing.state().task(task).pc();
     set_register(editing, task, 0, value)?;
@@ -126,7 +119,7 @@ pub fn set_turn(editing: &mut Editing, turn: usize) -> Result<(), NoMemory>
     ensures ok { OnOk result
         (Reaches editing.old editing.new (record editing.old.now { turn = turn }) 1) }
     ensures has_it { editing.old.now.turn ≡ turn → IsOk result }
-    ensures err { OnErr result (KeepsBase editing.old editing.new) }
+    ensures err { OnErr result (GivesUp editing.old editing.new 1) }
 {
     if editing.state().turn() == turn {
         return Ok(());

@@ -2,7 +2,7 @@
 
 ghost use Rattle.std.specs.Prelude.{◌≡◌, ◌<◌, length, OnOk, OnErr};
 ghost use Rattle.rd_app.specs.declared.app.TheConstants.{MAX_CODE};
-ghost use Rattle.rd_state.specs.Edit.{Reaches, KeepsBase};
+ghost use Rattle.rd_state.specs.Edit.{Reaches, GivesUp};
 ghost use Rattle.rd_state.specs.Sizes.{IsSizedPhase};
 ghost use Rattle.rd_state.specs.Snapshot.{numbers_of, task_at};
 ghost use Rattle.rd_kernel.specs.Costs.{ending_cost};
@@ -23,7 +23,7 @@ fn stop(editing: &mut Editing, core: usize, task: usize, phase: Phase) -> Result
     requires sized { IsSizedPhase (numbers_of editing.old.now) phase }
     ensures ok { OnOk result
         (Reaches editing.old editing.new (stopped editing.old.now core task phase) 2) }
-    ensures err { OnErr result (KeepsBase editing.old editing.new) }
+    ensures err { OnErr result (GivesUp editing.old editing.new 2) }
 {
     set_phase(editing, task, phase)?;
     editing.change(Change::SetCore { core, task: None })
@@ -44,7 +44,7 @@ pub fn conclude(
     ensures ok { OnOk result (Reaches editing.old editing.new
         (concluded (record { state = editing.old.now; outcome = outcome }) core task)
         ending_cost) }
-    ensures err { OnErr result (KeepsBase editing.old editing.new) }
+    ensures err { OnErr result (GivesUp editing.old editing.new ending_cost) }
 {
     match outcome {
         Outcome::Returns(value) => return_from(editing, task, value),

@@ -2,7 +2,7 @@
 ghost use Rattle.std.specs.Prelude.{◌≡◌, ◌<◌, ◌≤◌, [], None, false, length, nat_eq};
 ghost use Rattle.std.specs.Prelude.{position, IfOk, IsOk, OnOk, OnErr, IsTrue};
 ghost use Rattle.rd_app.specs.Application.{IsOperand, priorities_of};
-ghost use Rattle.rd_state.specs.Edit.{Reaches, KeepsBase};
+ghost use Rattle.rd_state.specs.Edit.{Reaches, GivesUp};
 ghost use Rattle.rd_state.specs.Sizes.{IsDeadline};
 ghost use Rattle.rd_state.specs.Snapshot.{task_at};
 ghost use Rattle.rd_state.specs.Valid.{is_ahead, seats_to_run};
@@ -86,7 +86,7 @@ pub fn block(
     ensures ok { IfOk result (DoesCall editing.old editing.new
         (blocked (priorities_of app.now) editing.old.now task place wait) 1) }
     ensures at_once { may_wait editing.old.now task wait ≡ false → IsOk result }
-    ensures err { OnErr result (KeepsBase editing.old editing.new) }
+    ensures err { OnErr result (GivesUp editing.old editing.new 1) }
 {
     let deadline = deadline_of(editing, task, wait);
     if !is_ahead(editing.state().tick(), deadline) {
@@ -106,7 +106,7 @@ fn leave_list(editing: &mut Editing, place: Place, task: usize) -> Result<(), No
         (Reaches editing.old editing.new (without_waiter editing.old.now place task) 1) }
     ensures absent { position (λ member. nat_eq member task) (waiting_at editing.old.now place)
         ≡ None → IsOk result }
-    ensures err { OnErr result (KeepsBase editing.old editing.new) }
+    ensures err { OnErr result (GivesUp editing.old editing.new 1) }
 {
     match editing.state().waiting(place).position(task) {
         None => Ok(()),
@@ -124,7 +124,7 @@ pub fn wake(editing: &mut Editing, priorities: &[u8], task: usize) -> Result<(),
     ensures ok { OnOk result
         (Reaches editing.old editing.new (woken priorities.now editing.old.now task) waking_cost) }
     ensures awake { 1 ≤ seats_to_run (task_at editing.old.now task).phase → IsOk result }
-    ensures err { OnErr result (KeepsBase editing.old editing.new) }
+    ensures err { OnErr result (GivesUp editing.old editing.new waking_cost) }
 {
     let phase = editing.state().phase(task);
     let Some(place) = phase.waits_at() else {
@@ -145,7 +145,7 @@ pub fn wake_first(editing: &mut Editing, priorities: &[u8], place: Place) -> Res
         (Reaches editing.old editing.new (woken_first priorities.now editing.old.now place)
         waking_cost) }
     ensures nobody { waiting_at editing.old.now place ≡ [] → IsOk result }
-    ensures err { OnErr result (KeepsBase editing.old editing.new) }
+    ensures err { OnErr result (GivesUp editing.old editing.new waking_cost) }
 {
     match editing.state().waiting(place).first() {
         None => Ok(()),
@@ -161,7 +161,7 @@ pub fn pass(editing: &mut Editing, priorities: &[u8], place: Place) -> Result<Ou
     ensures ok { IfOk result (DoesCall editing.old editing.new
         (passed priorities.now editing.old.now place) waking_cost) }
     ensures nobody { waiting_at editing.old.now place ≡ [] → IsOk result }
-    ensures err { OnErr result (KeepsBase editing.old editing.new) }
+    ensures err { OnErr result (GivesUp editing.old editing.new waking_cost) }
 {
     wake_first(editing, priorities, place)?;
     Ok(Outcome::Returns(1))
@@ -187,7 +187,7 @@ pub fn wake_if_due(editing: &mut Editing, priorities: &[u8], task: usize) -> Res
         waking_cost) }
     ensures early { is_due editing.old.now.tick (task_at editing.old.now task).phase ≡ false
         → IsOk result }
-    ensures err { OnErr result (KeepsBase editing.old editing.new) }
+    ensures err { OnErr result (GivesUp editing.old editing.new waking_cost) }
 {
     if is_due(editing, task) {
         wake(editing, priorities, task)

@@ -11,6 +11,8 @@ mod items;
 #[cfg(test)]
 mod limits;
 #[cfg(test)]
+mod packing;
+#[cfg(test)]
 mod parts;
 #[cfg(test)]
 mod records;

@@ -4,4 +4,6 @@ pub mod ItemLaws
 pub mod ItemRingLaws
 pub mod QueueLaws
 pub mod QueueSetLaws
+pub mod PackingLaws
+pub mod QueueSetPackingLaws
 pub mod Offered

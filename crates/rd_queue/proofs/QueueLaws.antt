@@ -5,8 +5,8 @@ use Rattle.std.proofs.lemmas.List.{length-take-le, length-drop}
 use Rattle.std.proofs.lemmas.List.Edits.{length-insert}
 use Rattle.std.proofs.lemmas.List.Elements.{All-get_or, All-nil, All-cons, All-push, All-set, All-take, All-drop}
 use Rattle.std.specs.Prelude.{All, insert, remove, Option, IfSome}
-use Rattle.rd_queue.specs.declared.change.QueueChange.{QueueChange}
-use Rattle.rd_queue.specs.declared.change.QueueChange.TheVariants.{InsWait, DelWait, PutBack, TakeBack, PutFront, TakeFront, SetItem, Clear, Fill, SetMember}
+use Rattle.rd_queue.specs.Changes.{QueueChange}
+use Rattle.rd_queue.specs.Changes.{InsWait, DelWait, PutBack, TakeBack, PutFront, TakeFront, SetItem, Clear, Fill, SetMember}
 use Rattle.rd_queue.specs.declared.waiting_list.WaitingList.{WaitingList}
 use Rattle.rd_queue.specs.declared.waiting_list.WaitingList.TheVariants.{Receiving, Sending}
 use Rattle.rd_queue.specs.QueueSnapshot.{QueueSnapshot}

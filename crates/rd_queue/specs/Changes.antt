@@ -1,18 +1,47 @@
 -- The primitive changes of a queue: what each does, at which queues it fits, and what undoes it.
-use Rattle.std.specs.Prelude.{ℕ, ◌≡◌, ◌-◌, ◌*◌, ◌<◌, ◌≤◌, List, [], ◌∷◌, ◌++◌, length, take, drop}
+use Rattle.std.specs.Prelude.{ℕ, ◌≡◌, ◌-◌, ◌*◌, ◌<◌, ◌≤◌, List, [], ◌∷◌, ◌++◌, length, take, drop, Option}
 use Rattle.std.specs.Prelude.{insert, remove, slice_index, slice_index_or, slice_set, IfSome}
 use Rattle.std.specs.List.{concat}
-use Rattle.rd_queue.specs.declared.change.QueueChange.{QueueChange}
-use Rattle.rd_queue.specs.declared.change.QueueChange.TheVariants.{InsWait, DelWait}
-use Rattle.rd_queue.specs.declared.change.QueueChange.TheVariants.{PutBack, TakeBack}
-use Rattle.rd_queue.specs.declared.change.QueueChange.TheVariants.{PutFront, TakeFront}
-use Rattle.rd_queue.specs.declared.change.QueueChange.TheVariants.{SetItem, Clear, Fill, SetMember}
 use Rattle.rd_queue.specs.declared.end.End.{End}
 use Rattle.rd_queue.specs.declared.end.End.TheVariants.{Back, Front}
+use Rattle.rd_queue.specs.declared.change.QueueChange as declared
+use Rattle.rd_queue.specs.declared.change.QueueChange.TheVariants as borrowed
+use Rattle.rd_queue.specs.declared.waiting_list.WaitingList.{WaitingList}
 use Rattle.rd_queue.specs.QueueSnapshot.{QueueSnapshot}
 use Rattle.rd_queue.specs.Queues.{count_in, items_in, tasks_in_list}
 use Rattle.rd_queue.specs.Queues.{with_items, as_member_of, with_waiting}
 use Rattle.rd_queue.specs.Sizes.{IsSizedQueue}
+
+-- a primitive change of a queue, whatever lends its bytes; an index counts from the front
+pub data QueueChange : Type 0 where
+  -- The task is put into the list of those that wait, at the index; and leaves it.
+  InsWait : WaitingList → ℕ → ℕ → QueueChange
+  DelWait : WaitingList → ℕ → QueueChange
+  -- The item goes to the back, and to the front; the item there leaves.
+  PutBack : List ℕ → QueueChange
+  TakeBack : QueueChange
+  PutFront : List ℕ → QueueChange
+  TakeFront : QueueChange
+  -- The item takes the place of the one at the index.
+  SetItem : ℕ → List ℕ → QueueChange
+  -- All items leave; an empty queue gets those that these bytes are, one after the other.
+  Clear : QueueChange
+  Fill : List ℕ → QueueChange
+  -- The queue becomes a member of that set, or of none.
+  SetMember : Option ℕ → QueueChange
+
+-- the change that one with borrowed bytes is
+abbrev pub the_queue_change : declared.QueueChange → QueueChange
+the_queue_change (borrowed.InsWait list index task) = InsWait list index task
+the_queue_change (borrowed.DelWait list index) = DelWait list index
+the_queue_change (borrowed.PutBack item) = PutBack item.now
+the_queue_change borrowed.TakeBack = TakeBack
+the_queue_change (borrowed.PutFront item) = PutFront item.now
+the_queue_change borrowed.TakeFront = TakeFront
+the_queue_change (borrowed.SetItem index item) = SetItem index item.now
+the_queue_change borrowed.Clear = Clear
+the_queue_change (borrowed.Fill front back) = Fill (front.now ++ back.now)
+the_queue_change (borrowed.SetMember queue_set) = SetMember queue_set
 
 -- the queue after a change
 abbrev pub queue_applied : QueueSnapshot → QueueChange → QueueSnapshot

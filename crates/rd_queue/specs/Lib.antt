@@ -7,3 +7,5 @@ pub mod QueueSets
 pub mod Sizes
 pub mod Changes
 pub mod QueueSetChanges
+pub mod PackedChanges
+pub mod PackedQueueSetChanges

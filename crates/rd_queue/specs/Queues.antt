@@ -1,5 +1,5 @@
 -- Queues as lists of items and of waiting tasks.
-use Rattle.std.specs.Prelude.{ℕ, zero, suc, ◌++◌, ◌/◌, Bool, true, false, List, [], ◌∷◌, length}
+use Rattle.std.specs.Prelude.{ℕ, zero, suc, ◌++◌, ◌/◌, List, [], ◌∷◌, length}
 use Rattle.std.specs.Prelude.{take, drop, replicate, Option, None}
 use Rattle.rd_queue.specs.declared.waiting_list.WaitingList.{WaitingList}
 use Rattle.rd_queue.specs.declared.waiting_list.WaitingList.TheVariants.{Receiving, Sending}

@@ -7,14 +7,11 @@ ghost use Rattle.rd_queue.specs.Sizes.{IsSizedQueue};
 ghost use Rattle.std.specs.List.{concat};
 ghost use Rattle.rd_queue.specs.Queues.{count_in, empty_queue, fitted, items_in, with_items};
 ghost use Rattle.rd_queue.specs.Queues.{tasks_in_list, as_member_of, with_waiting};
-ghost use Rattle.rd_queue.specs.Changes.{HasRoomForAll, put_at, queue_applied};
-ghost use Rattle.rd_queue.specs.declared.change.QueueChange.TheVariants.{SetItem};
+ghost use Rattle.rd_queue.specs.Changes.{HasRoomForAll, put_at, queue_applied, SetItem};
 
 use crate::end::End;
 use crate::item::{Item, MAX_ITEM_SIZE};
 use crate::waiting_list::WaitingList;
-use rd_bytes::no_memory::NoMemory;
-use rd_bytes::saved::SavedBytes;
 use rd_ring::ring::ByteRing;
 use rd_wait::prio_list::PrioList;
 use std::alloc::{AllocError, Global};
@@ -399,16 +396,23 @@ impl Queue {
         self.ring.push_back(bytes);
     }
 
-    /// The bytes of all items, one after the other, the front first. Up to 16 of them take no
+    /// Fills an empty queue likewise, with bytes in two pieces that follow one another. It takes no
     /// memory.
-    pub fn saved_items(&self, alloc: Global) -> Result<SavedBytes, NoMemory>
-        ensures bytes { IfOk result (λ saved. saved ≡ concat self.now.items) }
-        ensures short { length (concat self.now.items) ≤ 16 → IsOk result }
+    pub(crate) fn fill_halves(&mut self, front: &[u8], back: &[u8])
+        requires { HasRoomForAll self.old (front.now ++ back.now) }
+        ensures { self.new
+            ≡ with_items self.old (items_in self.old.item_size (front.now ++ back.now)) }
     {
-        let (front, back) = self.ring.halves();
-        let mut saved = SavedBytes::from_slice(alloc, front)?;
-        saved.append(back)?;
-        Ok(saved)
+        self.ring.push_back(front);
+        self.ring.push_back(back);
+    }
+
+    /// The bytes of all items, one after the other, the front first, in two pieces that follow one
+    /// another.
+    pub fn item_bytes(&self) -> (&[u8], &[u8])
+        ensures { result.0.now ++ result.1.now ≡ concat self.now.items }
+    {
+        self.ring.halves()
     }
 
     /// The tasks that wait to receive, or to send.

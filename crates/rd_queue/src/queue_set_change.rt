@@ -26,37 +26,37 @@ pub enum QueueSetChange {
 impl QueueSet {
     /// Makes a change. It takes no memory.
     #[inline(always)]
-    pub fn apply(&mut self, change: &QueueSetChange)
-        requires { QueueSetFits self.old change.now }
-        ensures { self.new ≡ queue_set_applied self.old change.now }
+    pub fn apply(&mut self, change: QueueSetChange)
+        requires { QueueSetFits self.old change }
+        ensures { self.new ≡ queue_set_applied self.old change }
     {
         match change {
-            QueueSetChange::InsWait { index, task } => self.insert(*index, *task),
+            QueueSetChange::InsWait { index, task } => self.insert(index, task),
             QueueSetChange::DelWait { index } => {
-                self.remove(*index);
+                self.remove(index);
             }
-            QueueSetChange::PushHandle { queue } => self.push_handle(*queue),
+            QueueSetChange::PushHandle { queue } => self.push_handle(queue),
             QueueSetChange::DropHandle => {
                 self.drop_handle();
             }
             QueueSetChange::TakeHandle => {
                 self.take_handle();
             }
-            QueueSetChange::UntakeHandle { queue } => self.untake_handle(*queue),
+            QueueSetChange::UntakeHandle { queue } => self.untake_handle(queue),
         }
     }
 
     /// The change that undoes `change`, made at this set. It takes no memory.
     #[inline(always)]
-    pub fn inverse_of(&self, change: &QueueSetChange) -> QueueSetChange
-        requires { QueueSetFits self.now change.now }
-        ensures { result ≡ queue_set_inverse_of self.now change.now }
+    pub fn inverse_of(&self, change: QueueSetChange) -> QueueSetChange
+        requires { QueueSetFits self.now change }
+        ensures { result ≡ queue_set_inverse_of self.now change }
     {
         match change {
-            QueueSetChange::InsWait { index, .. } => QueueSetChange::DelWait { index: *index },
+            QueueSetChange::InsWait { index, .. } => QueueSetChange::DelWait { index },
             QueueSetChange::DelWait { index } => QueueSetChange::InsWait {
-                index: *index,
-                task: self.waiting().as_slice()[*index],
+                index,
+                task: self.waiting().as_slice()[index],
             },
             QueueSetChange::PushHandle { .. } => QueueSetChange::DropHandle,
             QueueSetChange::DropHandle => QueueSetChange::PushHandle {

@@ -4,7 +4,7 @@ ghost use Rattle.std.specs.Prelude.{◌≡◌, ◌+◌, ◌<◌, ◌&&◌, lengt
 ghost use Rattle.std.specs.Prelude.{IfOk, IsOk, OnOk, OnErr};
 ghost use Rattle.std.specs.List.{concat};
 ghost use Rattle.rd_app.specs.Application.{IsOperand, IsQueueCall, priorities_of};
-ghost use Rattle.rd_state.specs.Edit.{Reaches, KeepsBase};
+ghost use Rattle.rd_state.specs.Edit.{Reaches, GivesUp};
 ghost use Rattle.rd_state.specs.Sizes.{IsSized};
 ghost use Rattle.rd_state.specs.Snapshot.{queue_at, task_at};
 ghost use Rattle.rd_kernel.specs.Costs.{data_cost, item_cost};
@@ -38,7 +38,7 @@ use rd_state::change::Change;
 use rd_state::editing::Editing;
 use rd_state::objects::ObjectChange;
 use rd_state::phase::{Cause, Place};
-use rd_state::transfer::Transfer;
+use rd_state::transfer::{Sink, Source, Transfer};
 
 // The queue's first item becomes the task's data.
 fn dequeue(editing: &mut Editing, task: usize, queue: usize) -> Result<(), NoMemory>
@@ -49,9 +49,10 @@ fn dequeue(editing: &mut Editing, task: usize, queue: usize) -> Result<(), NoMem
     ensures ok { OnOk result
         (Reaches editing.old editing.new (with_item_taken editing.old.now task queue)
         (data_cost + item_cost)) }
-    ensures err { OnErr result (KeepsBase editing.old editing.new) }
+    ensures err { OnErr result (GivesUp editing.old editing.new (data_cost + item_cost)) }
 {
-    editing.transfer(Transfer::FrontToData { queue, task })?;
+    let source = Source::QueueFront { queue };
+    editing.transfer(Transfer::ToData { source, task })?;
     let change = QueueChange::TakeFront;
     let change = ObjectChange::Queue { queue, change };
     editing.change(Change::Object { change })
@@ -89,13 +90,14 @@ fn deliver(
     ensures full_queue_set { is_in_full_queue_set editing.old.now (membership_of editing.old.now queue) ≡ true
         → IsOk result }
     ensures stays { OnOk result (KeepsPc editing.old.now editing.new.now task) }
-    ensures err { OnErr result (KeepsBase editing.old editing.new) }
+    ensures err { OnErr result (GivesUp editing.old editing.new send_cost) }
 {
     let queue_set = editing.state().queue(queue).set_of();
     if is_in_full_queue_set(editing.state(), queue_set) {
         return Ok(Outcome::Fails(Cause::SetFull));
     }
-    editing.transfer(Transfer::DataToQueue { task, queue, end })?;
+    let sink = Sink::QueueEnd { queue, end };
+    editing.transfer(Transfer::FromData { task, sink })?;
     post(app, editing, queue, queue_set)
 }
 
@@ -118,7 +120,7 @@ fn send(
         → may_wait editing.old.now task wait ≡ false → IsOk result }
     ensures full_queue_set { IsIntoFullQueueSet editing.old.now queue → IsOk result }
     ensures stays { OnOk result (KeepsPc editing.old.now editing.new.now task) }
-    ensures err { OnErr result (KeepsBase editing.old editing.new) }
+    ensures err { OnErr result (GivesUp editing.old editing.new send_cost) }
 {
     if editing.state().queue(queue).spaces() == 0 {
         return block(app, editing, task, sending(queue), wait);
@@ -142,7 +144,7 @@ fn receive(
     ensures empty { is_empty (queue_at editing.old.now queue) ≡ true
         → may_wait editing.old.now task wait ≡ false → IsOk result }
     ensures stays { OnOk result (KeepsPc editing.old.now editing.new.now task) }
-    ensures err { OnErr result (KeepsBase editing.old editing.new) }
+    ensures err { OnErr result (GivesUp editing.old editing.new receive_cost) }
 {
     if editing.state().queue(queue).count() == 0 {
         return block(app, editing, task, receiving(queue), wait);
@@ -167,12 +169,13 @@ fn peek(
     ensures empty { is_empty (queue_at editing.old.now queue) ≡ true
         → may_wait editing.old.now task wait ≡ false → IsOk result }
     ensures stays { OnOk result (KeepsPc editing.old.now editing.new.now task) }
-    ensures err { OnErr result (KeepsBase editing.old editing.new) }
+    ensures err { OnErr result (GivesUp editing.old editing.new peek_cost) }
 {
     if editing.state().queue(queue).count() == 0 {
         return block(app, editing, task, receiving(queue), wait);
     }
-    editing.transfer(Transfer::FrontToData { queue, task })?;
+    let source = Source::QueueFront { queue };
+    editing.transfer(Transfer::ToData { source, task })?;
     pass(editing, app.priorities(), receiving(queue))
 }
 
@@ -191,13 +194,14 @@ fn overwrite(
         → is_in_full_queue_set editing.old.now (membership_of editing.old.now queue) ≡ true
         → IsOk result }
     ensures stays { OnOk result (KeepsPc editing.old.now editing.new.now task) }
-    ensures err { OnErr result (KeepsBase editing.old editing.new) }
+    ensures err { OnErr result (GivesUp editing.old editing.new overwrite_cost) }
 {
     if editing.state().queue(queue).count() == 0 {
         return deliver(app, editing, task, queue, End::Back);
     }
     let queue_set = editing.state().queue(queue).set_of();
-    editing.transfer(Transfer::DataOverFront { task, queue })?;
+    let sink = Sink::OverFront { queue };
+    editing.transfer(Transfer::FromData { task, sink })?;
     match queue_set {
         Some(_) => Ok(Outcome::Returns(1)),
         None => pass(editing, app.priorities(), receiving(queue)),
@@ -212,7 +216,8 @@ fn reset(app: &App, editing: &mut Editing, task: usize, queue: usize) -> Result<
         (reset_outcome (priorities_of app.now) editing.old.now queue)
         (reset_cost + length (concat (queue_at editing.old.now queue).items))) }
     ensures stays { OnOk result (KeepsPc editing.old.now editing.new.now task) }
-    ensures err { OnErr result (KeepsBase editing.old editing.new) }
+    ensures err { OnErr result (GivesUp editing.old editing.new
+        (reset_cost + length (concat (queue_at editing.old.now queue).items))) }
 {
     let _ = task;
     let change = QueueChange::Clear;
@@ -231,7 +236,7 @@ fn add_to_set(editing: &mut Editing, queue: usize, queue_set: usize) -> Result<O
     ensures refused { (is_empty (queue_at editing.old.now queue)
         && is_in_no_queue_set (membership_of editing.old.now queue)) ≡ false → IsOk result }
     ensures tasks { OnOk result (editing.new.now.tasks ≡ editing.old.now.tasks) }
-    ensures err { OnErr result (KeepsBase editing.old editing.new) }
+    ensures err { OnErr result (GivesUp editing.old editing.new member_cost) }
 {
     let target = editing.state().queue(queue);
     if target.count() > 0 || target.set_of().is_some() {
@@ -259,7 +264,7 @@ fn remove_from_set(
     ensures refused { (is_empty (queue_at editing.old.now queue)
         && is_in_queue_set queue_set (membership_of editing.old.now queue)) ≡ false → IsOk result }
     ensures tasks { OnOk result (editing.new.now.tasks ≡ editing.old.now.tasks) }
-    ensures err { OnErr result (KeepsBase editing.old editing.new) }
+    ensures err { OnErr result (GivesUp editing.old editing.new member_cost) }
 {
     let target = editing.state().queue(queue);
     if target.count() > 0 || target.set_of() != Some(queue_set) {
@@ -288,7 +293,8 @@ pub fn call_queue(
         (queue_call_cost + dropped_by editing.old.now queue call)) }
     ensures nothing { ChangesNothing editing.old.now task queue call → IsOk result }
     ensures stays { OnOk result (KeepsPc editing.old.now editing.new.now task) }
-    ensures err { OnErr result (KeepsBase editing.old editing.new) }
+    ensures err { OnErr result (GivesUp editing.old editing.new
+        (queue_call_cost + dropped_by editing.old.now queue call)) }
 {
     match call {
         QueueCall::Send { end, wait } => send(app, editing, task, queue, end, wait),

@@ -5,7 +5,7 @@ ghost use Rattle.rd_app.specs.Application.{priorities_of};
 ghost use Rattle.rd_kernel.specs.Costs.{waking_cost};
 ghost use Rattle.rd_kernel.specs.Outcomes.{DoesCall};
 ghost use Rattle.rd_queue_calls.specs.Posts.{is_in_full_queue_set, posted, HasRoomToWake};
-ghost use Rattle.rd_state.specs.Edit.{KeepsBase};
+ghost use Rattle.rd_state.specs.Edit.{GivesUp};
 
 use rd_app::app::App;
 use rd_bytes::no_memory::NoMemory;
@@ -46,7 +46,7 @@ pub fn post(
     requires priorities { length (priorities_of app.now) ≡ length editing.old.now.tasks }
     ensures ok { IfOk result (DoesCall editing.old editing.new
         (posted (priorities_of app.now) editing.old.now queue queue_set) (1 + waking_cost)) }
-    ensures err { OnErr result (KeepsBase editing.old editing.new) }
+    ensures err { OnErr result (GivesUp editing.old editing.new (1 + waking_cost)) }
 {
     let Some(queue_set) = queue_set else {
         let list = WaitingList::Receiving;

@@ -4,11 +4,15 @@ use Rattle.std.proofs.Math.Seq.{drop-length, take-length}
 use Rattle.std.proofs.lemmas.List.{drop-append-le, length-set, length-take-le, length_push, take-append-le}
 use Rattle.std.proofs.lemmas.List.Sums.{sum_by_push}
 use Rattle.std.specs.Prelude.{Result, Ok, Err, OnOk, OnErr}
-use Rattle.rd_state.specs.declared.change.Change.{Change}
-use Rattle.rd_state.specs.declared.change.Change.TheVariants.{SetTick, SetTurn, SetCore, InsReady, DelReady, Task, Object}
+use Rattle.rd_state.specs.Change.{Change}
+use Rattle.rd_state.specs.Change.{SetTick, SetTurn, SetCore, InsReady, DelReady, Task, Object}
 use Rattle.rd_state.specs.Snapshot.{Snapshot}
 use Rattle.rd_state.specs.Change.{applied, inverse_of, cost_of, weight_of, Fits}
 use Rattle.rd_state.specs.Edit.{Base, Edit, GoesOn, SameShape, Reaches, begun_at, edit_of}
+use Rattle.std.proofs.Common.{zero, suc, ◌+◌, ◌-◌, ◌*◌, ◌<◌, ap₂, length-append}
+use Rattle.rd_state.specs.Edit.{room_for, room_of}
+use Rattle.rd_state.specs.PackedChanges.{all_packed, packed, ChangeListView}
+use Rattle.rd_state.proofs.PackingLaws.{all_packed-push, packed_short}
 use Rattle.rd_state.specs.Sizes.{IsSized}
 use Rattle.rd_state.specs.Undoing.{undone, CanUndo}
 use Rattle.rd_state.proofs.ObjectLaws.{object_numbers}
@@ -30,23 +34,68 @@ base_of s changes = record { state = s; recorded = changes }
 base_same : (s t : Snapshot) (xs ys : List Change) → s ≡ t → xs ≡ ys → base_of s xs ≡ base_of t ys
 base_same s t xs ys e f = rw (e, f) refl
 
+-- The room that a change leaves, once the list has as much memory or more.
+room_after : (list list' : ChangeListView) (change : Change) → list'.changes ≡ list.changes ++ change ∷ [] → list.capacity ≤ list'.capacity
+    → room_of list ≤ room_of list' + room_for (cost_of change)
+room_after list list' change e grows =
+    omega (
+      arith,
+      ap (λ changes. length (all_packed changes)) e,
+      ap length (all_packed-push list.changes change),
+      length-append (all_packed list.changes) (packed change),
+      packed_short change,
+      grows,
+    )
+
+-- Where the list grew and yet has no room for the change, it had less than that cost needs.
+pub short_of_room : (list : ChangeListView) (change : Change) → list.capacity < length (all_packed list.changes ++ packed change)
+    → room_of list < room_for (cost_of change)
+short_of_room list change short = omega (arith, short, length-append (all_packed list.changes) (packed change), packed_short change)
+
+-- Going back takes bytes away, and leaves the memory.
+all_packed-take-le : (n : ℕ) (changes : List Change) → length (all_packed (take n changes)) ≤ length (all_packed changes)
+all_packed-take-le zero changes = omega arith
+all_packed-take-le (suc n) [] = omega arith
+all_packed-take-le (suc n) (change ∷ later) =
+    omega (
+      arith,
+      all_packed-take-le n later,
+      length-append (packed change) (all_packed later),
+      length-append (packed change) (all_packed (take n later)),
+    )
+
+pub room_back : (edit : Edit) (s : Snapshot) (list list' : ChangeListView) (start n : ℕ) → edit_of s list start ≡ edit → list'.changes ≡ take n list.changes
+    → list'.capacity ≡ list.capacity → edit.room ≤ room_of list'
+room_back edit s list list' start n e f same =
+    omega (
+      arith,
+      ap (λ (old : Edit). old.room) e,
+      ap (λ changes. length (all_packed changes)) f,
+      all_packed-take-le n list.changes,
+      same,
+    )
+
 -- what `act` makes of a state and its record
-pub Reaches-act : (s s' : Snapshot) (changes changes' : List Change) (start : ℕ) (change : Change) → IsSized s → Fits s change → start ≤ length changes
-    → s' ≡ applied s change → changes' ≡ changes ++ inverse_of s change ∷ []
-    → Reaches (edit_of s changes start) (edit_of s' changes' start) (applied s change) (cost_of (inverse_of s change))
-Reaches-act s s' changes changes' start change sized fits within e f =
+pub Reaches-act : (s s' : Snapshot) (list list' : ChangeListView) (start : ℕ) (change : Change) → IsSized s → Fits s change → start ≤ length list.changes
+    → list.capacity ≤ list'.capacity → s' ≡ applied s change → list'.changes ≡ list.changes ++ inverse_of s change ∷ []
+    → Reaches (edit_of s list start) (edit_of s' list' start) (applied s change) (cost_of (inverse_of s change))
+Reaches-act s s' list list' start change sized fits within grows e f =
     let law = each_is_undone s change sized fits in
     let back = inverse_of s change in
+    let changes = list.changes in
     let later = drop start changes in
     let more : drop start (changes ++ back ∷ []) ≡ later ++ back ∷ [] = drop-append-le start changes (back ∷ []) within in
     let leads : undone (applied s change) (drop start (changes ++ back ∷ [])) ≡ undone s later =
     ap (undone (applied s change)) more ∙ undone-push (applied s change) later back ∙ ap (λ (t : Snapshot). undone t later) law.back in
-    rw (e, f) (record {
-      now = refl;
-      base = base_same _ _ _ _ leads (take-append-le start changes (back ∷ []) within);
-      weight = omega (arith, ap weight_of more, sum_by_push cost_of later back);
-      shape = shape-applied s change;
-    })
+    record {
+      now = e;
+      base =
+          base_same _ _ _ _ (ap₂ (λ (t : Snapshot) cs. undone t (drop start cs)) e f ∙ leads)
+          (ap (take start) f ∙ take-append-le start changes (back ∷ []) within);
+      weight = omega (arith, ap (λ cs. weight_of (drop start cs)) f, ap weight_of more, sum_by_push cost_of later back);
+      room = room_after list list' back f grows;
+      shape = subst (SameShape s) (sym e) (shape-applied s change);
+    }
 
 pub CanUndo-act : (s s' : Snapshot) (changes changes' : List Change) (start : ℕ) (change : Change) → IsSized s → Fits s change → start ≤ length changes
     → s' ≡ applied s change → changes' ≡ changes ++ inverse_of s change ∷ []
@@ -63,38 +112,50 @@ CanUndo-act s s' changes changes' start change sized fits within e f can =
     )
 
 -- the same, seen by what `act` returns
-pub Reaches-from_act : {T E : Type 0} (r : Result T E) (old : Edit) (s s' : Snapshot) (changes changes' : List Change) (start : ℕ) (change : Change)
-    → edit_of s changes start ≡ old → IsSized s → Fits old.now change → start ≤ length changes
-    → OnOk r (s' ≡ applied s change) → OnOk r (changes' ≡ changes ++ inverse_of s change ∷ [])
-    → OnOk r (Reaches old (edit_of s' changes' start) (applied old.now change) (cost_of (inverse_of old.now change)))
-Reaches-from_act r old s s' changes changes' start change e sized =
-    let P : Edit → Type 0 = λ f. Fits f.now change → start ≤ length changes
-    → OnOk r (s' ≡ applied s change) → OnOk r (changes' ≡ changes ++ inverse_of s change ∷ [])
-    → OnOk r (Reaches f (edit_of s' changes' start) (applied f.now change) (cost_of (inverse_of f.now change))) in
+pub Reaches-from_act : {T E : Type 0} (r : Result T E) (old : Edit) (s s' : Snapshot) (list list' : ChangeListView) (start : ℕ) (change : Change)
+    → edit_of s list start ≡ old → IsSized s → Fits old.now change → start ≤ length list.changes → list.capacity ≤ list'.capacity
+    → OnOk r (s' ≡ applied s change) → OnOk r (list'.changes ≡ list.changes ++ inverse_of s change ∷ [])
+    → OnOk r (Reaches old (edit_of s' list' start) (applied old.now change) (cost_of (inverse_of old.now change)))
+Reaches-from_act r old s s' list list' start change e sized =
+    let P : Edit → Type 0 = λ f. Fits f.now change → start ≤ length list.changes → list.capacity ≤ list'.capacity
+    → OnOk r (s' ≡ applied s change) → OnOk r (list'.changes ≡ list.changes ++ inverse_of s change ∷ [])
+    → OnOk r (Reaches f (edit_of s' list' start) (applied f.now change) (cost_of (inverse_of f.now change))) in
     subst P e
-    (λ fits within.
-    elim r as (λ q. OnOk q (s' ≡ applied s change) → OnOk q (changes' ≡ changes ++ inverse_of s change ∷ [])
-    → OnOk q (Reaches (edit_of s changes start) (edit_of s' changes' start) (applied s change) (cost_of (inverse_of s change))))
-    [ Ok x ↦ λ f g. Reaches-act s s' changes changes' start change sized fits within f g | Err y ↦ λ f g. tt ])
+    (λ fits within grows.
+    elim r as (λ q. OnOk q (s' ≡ applied s change) → OnOk q (list'.changes ≡ list.changes ++ inverse_of s change ∷ [])
+    → OnOk q (Reaches (edit_of s list start) (edit_of s' list' start) (applied s change) (cost_of (inverse_of s change))))
+    [ Ok x ↦ λ f g. Reaches-act s s' list list' start change sized fits within grows f g | Err y ↦ λ f g. tt ])
 
-pub CanUndo-from_act : {T E : Type 0} (r : Result T E) (old : Edit) (s s' : Snapshot) (changes changes' : List Change) (start : ℕ) (change : Change)
-    → edit_of s changes start ≡ old → IsSized s → Fits old.now change → (start ≤ length changes) × CanUndo s (drop start changes)
-    → OnOk r (s' ≡ applied s change) → OnOk r (changes' ≡ changes ++ inverse_of s change ∷ []) → OnErr r (s' ≡ s) → OnErr r (changes' ≡ changes)
-    → (start ≤ length changes') × CanUndo s' (drop start changes')
-CanUndo-from_act r old s s' changes changes' start change e sized fits can =
+-- the room that was short, where `act` found no memory
+pub short-from_act : {T E : Type 0} (r : Result T E) (old : Edit) (s : Snapshot) (list : ChangeListView) (start : ℕ) (change : Change)
+    → edit_of s list start ≡ old → OnErr r (list.capacity < length (all_packed list.changes ++ packed (inverse_of s change)))
+    → OnErr r (old.room < room_for (cost_of (inverse_of old.now change)))
+short-from_act r old s list start change e =
+    subst (λ (f : Edit). OnErr r (list.capacity < length (all_packed list.changes ++ packed (inverse_of s change))) → OnErr r (f.room < room_for (cost_of (inverse_of f.now change)))) e
+    (elim r as (λ q. OnErr q (list.capacity < length (all_packed list.changes ++ packed (inverse_of s change)))
+    → OnErr q (room_of list < room_for (cost_of (inverse_of s change))))
+    [ Ok x ↦ λ f. tt | Err y ↦ λ f. short_of_room list (inverse_of s change) f ])
+
+pub CanUndo-from_act : {T E : Type 0} (r : Result T E) (old : Edit) (s s' : Snapshot) (list list' : ChangeListView) (start : ℕ) (change : Change)
+    → edit_of s list start ≡ old → IsSized s → Fits old.now change → (start ≤ length list.changes) × CanUndo s (drop start list.changes)
+    → OnOk r (s' ≡ applied s change) → OnOk r (list'.changes ≡ list.changes ++ inverse_of s change ∷ []) → OnErr r (s' ≡ s) → OnErr r (list' ≡ list)
+    → (start ≤ length list'.changes) × CanUndo s' (drop start list'.changes)
+CanUndo-from_act r old s s' list list' start change e sized fits can =
     let fits_here = subst (λ (f : Edit). Fits f.now change) (sym e) fits in
-    elim r as (λ q. OnOk q (s' ≡ applied s change) → OnOk q (changes' ≡ changes ++ inverse_of s change ∷ []) → OnErr q (s' ≡ s) → OnErr q (changes' ≡ changes)
-    → (start ≤ length changes') × CanUndo s' (drop start changes'))
-    [ Ok x ↦ λ f g h k. CanUndo-act s s' changes changes' start change sized fits_here can.0 f g can.1 | Err y ↦ λ f g h k. rw (h, k) can ]
+    elim r as (λ q. OnOk q (s' ≡ applied s change) → OnOk q (list'.changes ≡ list.changes ++ inverse_of s change ∷ []) → OnErr q (s' ≡ s) → OnErr q (list' ≡ list)
+    → (start ≤ length list'.changes) × CanUndo s' (drop start list'.changes))
+    [ Ok x ↦ λ f g h k. CanUndo-act s s' list.changes list'.changes start change sized fits_here can.0 f g can.1 | Err y ↦ λ f g h k. rw (h, k) can ]
 
 -- A move begins where it is, with nothing recorded.
-pub edit_of-begin : (s : Snapshot) (changes : List Change) (start : ℕ) → start ≡ length changes → edit_of s changes start ≡ begun_at s changes
-edit_of-begin s changes start e = rw (e, drop-length changes, take-length changes) refl
+pub edit_of-begin : (s : Snapshot) (list : ChangeListView) (start : ℕ) → start ≡ length list.changes
+    → edit_of s list start ≡ begun_at s list.changes (room_of list)
+edit_of-begin s list start e = rw (e, drop-length list.changes, take-length list.changes) refl
 
 -- What a step recorded goes on from what was there before.
-pub GoesOn-edit_of : (edit : Edit) (s : Snapshot) (changes : List Change) (start : ℕ) → edit_of s changes start ≡ edit
-    → start ≤ length changes → CanUndo s (drop start changes) → GoesOn edit edit.changes
-GoesOn-edit_of edit s changes start e within can =
+pub GoesOn-edit_of : (edit : Edit) (s : Snapshot) (list : ChangeListView) (start : ℕ) → edit_of s list start ≡ edit
+    → start ≤ length list.changes → CanUndo s (drop start list.changes) → GoesOn edit edit.changes
+GoesOn-edit_of edit s list start e within can =
+    let changes = list.changes in
     let count : length (take start changes) ≡ start = length-take-le start changes within in
     subst (λ (f : Edit). GoesOn f f.changes) e (record {
       before = ap (λ n. take n changes) count;

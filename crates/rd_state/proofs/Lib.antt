@@ -11,3 +11,5 @@ pub mod PlaceLaws
 pub mod BootLaws
 pub mod EndLaws
 pub mod Offered
+pub mod TaskPackingLaws
+pub mod PackingLaws

@@ -17,8 +17,8 @@ use Rattle.rd_app.specs.declared.objects.QueueShape.{QueueShape}
 use Rattle.rd_app.specs.Application.{Application, IsApplication}
 use Rattle.rd_app.specs.Objects.{IsQueueShape, IsQueueSetShape, queue_set_at_boot, shape_at}
 use Rattle.rd_wait.proofs.Offered.{replaced_back}
-use Rattle.rd_state.specs.declared.objects.ObjectChange.{ObjectChange}
-use Rattle.rd_state.specs.declared.objects.ObjectChange.TheVariants.{Queue, QueueSet}
+use Rattle.rd_state.specs.Objects.{ObjectChange}
+use Rattle.rd_state.specs.Objects.{Queue, QueueSet}
 use Rattle.rd_state.specs.Objects.{ObjectsSnapshot, no_queue, no_queue_set, numbers_in, queue_in, queue_set_in}
 use Rattle.rd_state.specs.Objects.{AreShaped, AreSizedObjects, Shapes, shapes_in, shapes_named, IsQueueFor, IsQueueSetFor, first_queues, new_objects, new_queue, new_queue_set, capacity_of, shape_of}
 use Rattle.rd_state.specs.Objects.{object_applied, object_inverse_of, ObjectFits}
@@ -72,7 +72,9 @@ object_sized task_count o (Queue queue change) sized fits =
     let now = queue_applied (queue_in o queue) change in
     record {
       queues = All-set (IsQueueFor task_count (length o.queue_sets)) o.queues queue now (law.sized, law.task_count ∙ was.1, law.queue_set_count ∙ was.2) sized.queues;
+      few_queues = omega (arith, length-set o.queues queue now, sized.few_queues);
       queue_sets = subst (λ n. All (IsQueueSetFor task_count n) o.queue_sets) (sym (length-set o.queues queue now)) sized.queue_sets;
+      few_queue_sets = sized.few_queue_sets;
     }
 object_sized task_count o (QueueSet number change) sized fits =
     let was = queue_set_in_sized task_count o number sized fits.0 in
@@ -80,7 +82,9 @@ object_sized task_count o (QueueSet number change) sized fits =
     let now = queue_set_applied (queue_set_in o number) change in
     record {
       queues = subst (λ n. All (IsQueueFor task_count n) o.queues) (sym (length-set o.queue_sets number now)) sized.queues;
+      few_queues = sized.few_queues;
       queue_sets = All-set (IsQueueSetFor task_count (length o.queues)) o.queue_sets number now (law.sized, law.task_count ∙ was.1, law.queue_count ∙ was.2) sized.queue_sets;
+      few_queue_sets = omega (arith, length-set o.queue_sets number now, sized.few_queue_sets);
     }
 
 -- and the numbers of objects.
@@ -159,7 +163,9 @@ AreSizedObjects-new app task_count limits same =
     app.objects.queue_sets.things limits.objects.queue_sets) in
     record {
       queues = IsQueueFor-first_queues app n task_count (length (map made app.objects.queue_sets.things)) limits (omega arith) same (length-map app.objects.queue_sets.things made);
+      few_queues = omega (arith, length-first_queues app n, limits.objects.few_queues);
       queue_sets = subst (λ q. All (IsQueueSetFor task_count q) (map made app.objects.queue_sets.things)) (sym (length-first_queues app n)) queue_sets;
+      few_queue_sets = omega (arith, length-map app.objects.queue_sets.things made, limits.objects.few_queue_sets);
     }
 
 -- the shapes of the queues so far

@@ -21,5 +21,6 @@ Reaches-still priorities rounds old new some still comes = record {
   now = comes.now ∙ settled_in-still priorities 1 old.now still ∙ sym (settled_in-still priorities rounds old.now still);
   base = comes.base;
   weight = omega (arith, comes.weight);
+  room = omega (arith, comes.room);
   shape = comes.shape;
 }

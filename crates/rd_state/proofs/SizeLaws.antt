@@ -1,5 +1,5 @@
 -- The sizes of a state, kept by a change.
-use Rattle.std.proofs.Common.{◌≡◌, ◌∙◌, ℕ, zero, suc, ◌+◌, ◌<◌, ◌≤◌, List, length, get_or, replicate, set, None}
+use Rattle.std.proofs.Common.{◌≡◌, ◌∙◌, ℕ, zero, suc, ◌+◌, ◌^◌, ◌<◌, ◌≤◌, List, length, get_or, replicate, set, Option, None}
 use Rattle.std.proofs.Common.{refl, ap, sym, subst, arith}
 use Rattle.std.specs.Prelude.{All, insert, remove, slice_index}
 use Rattle.std.specs.Vec.{with_item}
@@ -12,11 +12,11 @@ use Rattle.rd_app.specs.Application.{Application, IsApplication, priorities_of}
 use Rattle.rd_wait.specs.Joined.{joined, is_at_least}
 use Rattle.rd_wait.specs.TaskList.{TaskList}
 use Rattle.rd_wait.proofs.Offered.{All-insert, All-remove}
-use Rattle.rd_state.specs.declared.change.Change.TheVariants.{InsReady, Task, Object}
-use Rattle.rd_state.specs.declared.objects.ObjectChange.{ObjectChange}
+use Rattle.rd_state.specs.Change.{InsReady, Task, Object}
+use Rattle.rd_state.specs.Objects.{ObjectChange}
 use Rattle.rd_state.specs.declared.state.State.TheInside.{Inside}
-use Rattle.rd_state.specs.declared.task_change.TaskChange.{TaskChange}
-use Rattle.rd_state.specs.declared.task_change.TaskChange.TheVariants.{SetPc, SetReg, SetPhase, SetData}
+use Rattle.rd_state.specs.TaskChanges.{TaskChange}
+use Rattle.rd_state.specs.TaskChanges.{SetPc, SetReg, SetPhase, SetData}
 use Rattle.rd_state.specs.Boot.{all_joined, fresh_task}
 use Rattle.rd_state.specs.Change.{Fits, MentionsObjects}
 use Rattle.rd_state.specs.Inside.{HasSizes, snapshot_of}
@@ -35,8 +35,15 @@ HasSizes-ready s tasks among few kept =
     let scheduling = kept.sized.scheduling in
     record {
       sized = record {
-        scheduling = record { turn = scheduling.turn; cores = scheduling.cores; ready = among; room = few };
-        tasks = record { tasks = kept.sized.tasks.tasks; phases = kept.sized.tasks.phases };
+        scheduling = record {
+          tick = scheduling.tick;
+          turn = scheduling.turn;
+          cores = scheduling.cores;
+          few_cores = scheduling.few_cores;
+          ready = among;
+          room = few;
+        };
+        tasks = record { tasks = kept.sized.tasks.tasks; few = kept.sized.tasks.few; phases = kept.sized.tasks.phases };
         objects = kept.sized.objects;
       };
       capacity = kept.capacity;
@@ -64,13 +71,16 @@ IsSized-task s task new sized phase kept =
     let same : length s.tasks ≡ length (set s.tasks task new) = sym (length-set s.tasks task new) in
     record {
       scheduling = record {
+        tick = kept.scheduling.tick;
         turn = kept.scheduling.turn;
         cores = subst (λ n. All (IsTaskOrIdle n) s.cores) same kept.scheduling.cores;
+        few_cores = kept.scheduling.few_cores;
         ready = subst (λ n. All (λ t. t < n) s.ready) same kept.scheduling.ready;
         room = subst (λ n. length s.ready ≤ n) same kept.scheduling.room;
       };
       tasks = record {
         tasks = All-set IsSizedTask s.tasks task new sized kept.tasks.tasks;
+        few = omega (arith, same, kept.tasks.few);
         phases = All-set (λ (t : TaskSnapshot). IsSizedPhase (numbers_of s) t.phase) s.tasks task new phase kept.tasks.phases;
       };
       objects = subst (λ n. AreSizedObjects n s.objects) same kept.objects;
@@ -81,13 +91,16 @@ IsSized-objects : (s : Snapshot) (n : ObjectsSnapshot) → numbers_of s ≡ numb
     → IsSized (record s { objects = n })
 IsSized-objects s n same sized kept = record {
   scheduling = record {
+    tick = kept.scheduling.tick;
     turn = kept.scheduling.turn;
     cores = kept.scheduling.cores;
+    few_cores = kept.scheduling.few_cores;
     ready = kept.scheduling.ready;
     room = kept.scheduling.room;
   };
   tasks = record {
     tasks = kept.tasks.tasks;
+    few = kept.tasks.few;
     phases = subst (λ (n : Numbers). All (λ (t : TaskSnapshot). IsSizedPhase n t.phase) s.tasks) same kept.tasks.phases;
   };
   objects = sized;
@@ -150,21 +163,32 @@ All-all_joined priorities zero limit h = All-nil (λ task. task < limit)
 All-all_joined priorities (suc n) limit h =
     All-insert (λ task. task < limit) (all_joined priorities n) _ n (All-all_joined priorities n limit (omega (arith, h))) (omega (arith, h))
 
+-- a task at its first instruction
+IsSizedTask-fresh : (entries : ℕ) → IsSizedTask (fresh_task entries)
+IsSizedTask-fresh entries = record {
+  pc = omega arith;
+  registers = refl;
+  values = All-replicate (λ v. v < 2 ^ 32) 8 0 (omega arith);
+  bytes = omega arith;
+}
+
 -- a new state
-pub HasSizes-new : (app : Application) (s : Inside) (n : ℕ) → IsApplication app → s.turn ≡ 0 → s.cores.items ≡ replicate app.cores None
+pub HasSizes-new : (app : Application) (s : Inside) (n : ℕ) → IsApplication app → s.tick ≡ app.tick → s.turn ≡ 0 → s.cores.items ≡ replicate app.cores None
     → s.ready ≡ record { tasks = all_joined (priorities_of app) n; capacity = n } → s.tasks.items ≡ replicate n (fresh_task app.entries)
     → n ≡ length app.tasks.things → s.objects ≡ new_objects app → HasSizes s
-HasSizes-new app s n limits turn cores ready tasks scripts objects =
+HasSizes-new app s n limits tick turn cores ready tasks scripts objects =
     let count : length s.tasks.items ≡ n = omega (arith, ap length tasks, length-replicate n (fresh_task app.entries)) in
     let listed : s.ready.tasks ≡ all_joined (priorities_of app) n = ap (λ (l : TaskList). l.tasks) ready in
     let HasPhase : TaskSnapshot → Type 0 = λ task. IsSizedPhase (numbers_of (snapshot_of s)) task.phase in
     record {
       sized = record {
         scheduling = record {
+          tick = omega (arith, tick, limits.tick);
           turn = omega (arith, turn);
           cores =
               All-same (IsTaskOrIdle (length s.tasks.items)) s.cores.items (replicate app.cores None) cores
               (All-replicate (IsTaskOrIdle (length s.tasks.items)) app.cores None tt);
+          few_cores = omega (arith, ap length cores, length-replicate {A = Option ℕ} app.cores None, limits.few_cores);
           ready =
               All-same (λ task. task < length s.tasks.items) s.ready.tasks (all_joined (priorities_of app) n) listed
               (All-all_joined (priorities_of app) n (length s.tasks.items) (omega (arith, count)));
@@ -173,7 +197,8 @@ HasSizes-new app s n limits turn cores ready tasks scripts objects =
         tasks = record {
           tasks =
               All-same IsSizedTask s.tasks.items (replicate n (fresh_task app.entries)) tasks
-              (All-replicate IsSizedTask n (fresh_task app.entries) (refl, omega arith));
+              (All-replicate IsSizedTask n (fresh_task app.entries) (IsSizedTask-fresh app.entries));
+          few = omega (arith, count, scripts, limits.few_tasks);
           phases =
               All-same HasPhase s.tasks.items (replicate n (fresh_task app.entries)) tasks (All-replicate HasPhase n (fresh_task app.entries) tt);
         };

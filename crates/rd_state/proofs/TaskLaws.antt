@@ -1,8 +1,9 @@
 -- Changes of a task, undone each by its inverse.
-use Rattle.std.proofs.Common.{◌≡◌, ◌∙◌, ℕ, List, refl, ap}
+use Rattle.std.proofs.Common.{◌≡◌, ◌∙◌, ℕ, ◌<◌, ◌^◌, List, refl, ap, arith}
 use Rattle.std.proofs.lemmas.List.{length-set}
-use Rattle.rd_state.specs.declared.task_change.TaskChange.{TaskChange}
-use Rattle.rd_state.specs.declared.task_change.TaskChange.TheVariants.{SetPc, SetReg, SetPhase, SetData}
+use Rattle.std.proofs.lemmas.List.Elements.{All-get_or, All-set}
+use Rattle.rd_state.specs.TaskChanges.{TaskChange}
+use Rattle.rd_state.specs.TaskChanges.{SetPc, SetReg, SetPhase, SetData}
 use Rattle.rd_state.specs.Sizes.{IsSizedTask}
 use Rattle.rd_state.specs.Snapshot.{TaskSnapshot}
 use Rattle.rd_state.specs.TaskChanges.{task_applied, task_inverse_of, TaskFits, EachTaskChangeIsUndone}
@@ -15,16 +16,22 @@ undoes task (SetPhase phase) = refl
 undoes task (SetData bytes) = refl
 
 inverse_fits : (task : TaskSnapshot) (change : TaskChange) → IsSizedTask task → TaskFits change → TaskFits (task_inverse_of task change)
-inverse_fits task (SetPc pc) sized fits = tt
-inverse_fits task (SetReg register value) sized fits = fits
+inverse_fits task (SetPc pc) sized fits = sized.pc
+inverse_fits task (SetReg register value) sized fits =
+    (fits.0, All-get_or (λ v. v < 2 ^ 32) task.registers register 0 (omega (arith, sized.registers, fits.0)) sized.values)
 inverse_fits task (SetPhase phase) sized fits = tt
-inverse_fits task (SetData bytes) sized fits = sized.1
+inverse_fits task (SetData bytes) sized fits = sized.bytes
 
 sized_then : (task : TaskSnapshot) (change : TaskChange) → IsSizedTask task → TaskFits change → IsSizedTask (task_applied task change)
-sized_then task (SetPc pc) sized fits = sized
-sized_then task (SetReg register value) sized fits = (length-set task.registers register value ∙ sized.0, sized.1)
-sized_then task (SetPhase phase) sized fits = sized
-sized_then task (SetData bytes) sized fits = (sized.0, fits)
+sized_then task (SetPc pc) sized fits = record { pc = fits; registers = sized.registers; values = sized.values; bytes = sized.bytes }
+sized_then task (SetReg register value) sized fits = record {
+  pc = sized.pc;
+  registers = length-set task.registers register value ∙ sized.registers;
+  values = All-set (λ v. v < 2 ^ 32) task.registers register value fits.1 sized.values;
+  bytes = sized.bytes;
+}
+sized_then task (SetPhase phase) sized fits = record { pc = sized.pc; registers = sized.registers; values = sized.values; bytes = sized.bytes }
+sized_then task (SetData bytes) sized fits = record { pc = sized.pc; registers = sized.registers; values = sized.values; bytes = fits }
 
 pub each_is_undone : EachTaskChangeIsUndone
 each_is_undone task change sized fits = record {

@@ -8,17 +8,23 @@ use Rattle.rd_queue.specs.declared.end.End.TheVariants.{Back, Front}
 use Rattle.rd_queue.specs.Changes.{put_at, QueueFits}
 use Rattle.rd_queue.specs.QueueSnapshot.{QueueSnapshot}
 use Rattle.rd_queue.specs.Queues.{fitted}
+use Rattle.rd_state.specs.declared.transfer.Sink.{Sink}
+use Rattle.rd_state.specs.declared.transfer.Sink.TheVariants.{QueueEnd, OverFront}
+use Rattle.rd_state.specs.declared.transfer.Source.{Source}
+use Rattle.rd_state.specs.declared.transfer.Source.TheVariants.{QueueFront}
 use Rattle.rd_state.specs.declared.transfer.Transfer.{Transfer}
-use Rattle.rd_state.specs.declared.transfer.Transfer.TheVariants.{DataToQueue, DataOverFront, FrontToData}
-use Rattle.rd_state.specs.declared.change.Change.{Change}
+use Rattle.rd_state.specs.declared.transfer.Transfer.TheVariants.{FromData, ToData}
+use Rattle.rd_state.specs.Objects.{ObjectsSnapshot, queue_in, AreSizedObjects, ObjectFits}
+use Rattle.rd_state.specs.Change.{Change}
 use Rattle.rd_state.specs.Change.{applied, cost_of, inverse_of, Fits}
-use Rattle.rd_state.specs.Edit.{Edit, Reaches, edit_of}
+use Rattle.rd_state.specs.Edit.{Edit, Reaches, edit_of, room_for}
+use Rattle.rd_state.specs.PackedChanges.{all_packed, packed, ChangeListView}
 use Rattle.rd_state.specs.Sizes.{IsSized}
-use Rattle.rd_state.specs.Snapshot.{Snapshot, queue_at, task_at, items_at}
-use Rattle.rd_state.specs.Transfers.{change_of, CanTransfer}
+use Rattle.rd_state.specs.Snapshot.{Snapshot, task_at}
+use Rattle.rd_state.specs.Transfers.{bytes_at, change_of, sunk, CanTransfer, HasSink, HasSource}
 use Rattle.rd_state.specs.Undoing.{CanUndo}
-use Rattle.rd_state.proofs.EditLaws.{CanUndo-from_act, Reaches-from_act}
-use Rattle.rd_state.proofs.PlaceLaws.{queue_sized}
+use Rattle.rd_state.proofs.EditLaws.{CanUndo-from_act, Reaches-from_act, short-from_act}
+use Rattle.rd_state.proofs.ObjectLaws.{queue_in_sized}
 
 pub length-fitted : (size : ℕ) (bytes : List ℕ) → length (fitted size bytes) ≡ size
 length-fitted size bytes =
@@ -31,36 +37,50 @@ pub put_fits : (queue : QueueSnapshot) (end : End) (size : ℕ) (bytes : List �
 put_fits queue Back size bytes room same = (room, length-fitted size bytes ∙ same)
 put_fits queue Front size bytes room same = (room, length-fitted size bytes ∙ same)
 
+pub sink_fits : (o : ObjectsSnapshot) (sink : Sink) (bytes : List ℕ) → HasSink o sink → ObjectFits o (sunk o sink bytes)
+sink_fits o (QueueEnd queue end) bytes can = (can.0, put_fits (queue_in o queue) end (queue_in o queue).item_size bytes can.1 refl)
+sink_fits o (OverFront queue) bytes can = (can.0, (can.1, length-fitted (queue_in o queue).item_size bytes))
+
 -- the item at a queue's front
-first_is_short : (s : Snapshot) (queue : ℕ) → IsSized s → queue < length s.objects.queues → 0 < length (items_at s queue) → length (get_or (items_at s queue) 0 []) ≤ 64
-first_is_short s queue sized there some =
-    let here = (queue_sized s queue sized there).0 in
-    omega (arith, here.small, All-get_or (λ (item : List ℕ). length item ≡ (queue_at s queue).item_size) (items_at s queue) 0 [] some here.items)
+first_is_short : (task_count : ℕ) (o : ObjectsSnapshot) (queue : ℕ) → AreSizedObjects task_count o → queue < length o.queues → 0 < length (queue_in o queue).items
+    → length (get_or (queue_in o queue).items 0 []) ≤ 64
+first_is_short task_count o queue sized there some =
+    let here = (queue_in_sized task_count o queue sized there).0 in
+    omega (arith, here.small, All-get_or (λ (item : List ℕ). length item ≡ (queue_in o queue).item_size) (queue_in o queue).items 0 [] some here.items)
+
+source_is_short : (task_count : ℕ) (o : ObjectsSnapshot) (source : Source) → AreSizedObjects task_count o → HasSource o source → length (bytes_at o source) ≤ 256
+source_is_short task_count o (QueueFront queue) sized can = omega (arith, first_is_short task_count o queue sized can.0 can.1)
 
 pub transfer_fits : (s : Snapshot) (transfer : Transfer) → IsSized s → CanTransfer s transfer → Fits s (change_of s transfer)
-transfer_fits s (DataToQueue task queue end) sized can =
-    (can.1, put_fits (queue_at s queue) end (queue_at s queue).item_size (task_at s task).bytes can.2 refl)
-transfer_fits s (DataOverFront task queue) sized can =
-    (can.1, (can.2, length-fitted (queue_at s queue).item_size (task_at s task).bytes))
-transfer_fits s (FrontToData queue task) sized can = (can.1, omega (arith, first_is_short s queue sized can.0 can.2), tt)
+transfer_fits s (FromData task sink) sized can = sink_fits s.objects sink (task_at s task).bytes can.1
+transfer_fits s (ToData source task) sized can = (can.1, source_is_short (length s.tasks) s.objects source sized.objects can.0, tt)
 
 -- what `act_transfer` makes of a state and its record
-pub Reaches-from_transfer : {T E : Type 0} (r : Result T E) (old : Edit) (s s' : Snapshot) (changes changes' : List Change) (start : ℕ) (transfer : Transfer)
-    → edit_of s changes start ≡ old → IsSized s → CanTransfer old.now transfer → start ≤ length changes
-    → OnOk r (s' ≡ applied s (change_of s transfer)) → OnOk r (changes' ≡ changes ++ inverse_of s (change_of s transfer) ∷ [])
-    → OnOk r (Reaches old (edit_of s' changes' start) (applied old.now (change_of old.now transfer)) (cost_of (inverse_of old.now (change_of old.now transfer))))
-Reaches-from_transfer r old s s' changes changes' start transfer e sized =
-    let P : Edit → Type 0 = λ f. CanTransfer f.now transfer → start ≤ length changes
-    → OnOk r (s' ≡ applied s (change_of s transfer)) → OnOk r (changes' ≡ changes ++ inverse_of s (change_of s transfer) ∷ [])
-    → OnOk r (Reaches f (edit_of s' changes' start) (applied f.now (change_of f.now transfer)) (cost_of (inverse_of f.now (change_of f.now transfer)))) in
+pub Reaches-from_transfer : {T E : Type 0} (r : Result T E) (old : Edit) (s s' : Snapshot) (list list' : ChangeListView) (start : ℕ) (transfer : Transfer)
+    → edit_of s list start ≡ old → IsSized s → CanTransfer old.now transfer → start ≤ length list.changes → list.capacity ≤ list'.capacity
+    → OnOk r (s' ≡ applied s (change_of s transfer)) → OnOk r (list'.changes ≡ list.changes ++ inverse_of s (change_of s transfer) ∷ [])
+    → OnOk r (Reaches old (edit_of s' list' start) (applied old.now (change_of old.now transfer)) (cost_of (inverse_of old.now (change_of old.now transfer))))
+Reaches-from_transfer r old s s' list list' start transfer e sized =
+    let P : Edit → Type 0 = λ f. CanTransfer f.now transfer → start ≤ length list.changes → list.capacity ≤ list'.capacity
+    → OnOk r (s' ≡ applied s (change_of s transfer)) → OnOk r (list'.changes ≡ list.changes ++ inverse_of s (change_of s transfer) ∷ [])
+    → OnOk r (Reaches f (edit_of s' list' start) (applied f.now (change_of f.now transfer)) (cost_of (inverse_of f.now (change_of f.now transfer)))) in
     subst P e
-    (λ can. Reaches-from_act r (edit_of s changes start) s s' changes changes' start (change_of s transfer) refl sized (transfer_fits s transfer sized can))
+    (λ can. Reaches-from_act r (edit_of s list start) s s' list list' start (change_of s transfer) refl sized (transfer_fits s transfer sized can))
 
-pub CanUndo-from_transfer : {T E : Type 0} (r : Result T E) (old : Edit) (s s' : Snapshot) (changes changes' : List Change) (start : ℕ) (transfer : Transfer)
-    → edit_of s changes start ≡ old → IsSized s → CanTransfer old.now transfer → (start ≤ length changes) × CanUndo s (drop start changes)
-    → OnOk r (s' ≡ applied s (change_of s transfer)) → OnOk r (changes' ≡ changes ++ inverse_of s (change_of s transfer) ∷ [])
-    → OnErr r (s' ≡ s) → OnErr r (changes' ≡ changes)
-    → (start ≤ length changes') × CanUndo s' (drop start changes')
-CanUndo-from_transfer r old s s' changes changes' start transfer e sized can =
+pub short-from_transfer : {T E : Type 0} (r : Result T E) (old : Edit) (s : Snapshot) (list : ChangeListView) (start : ℕ) (transfer : Transfer)
+    → edit_of s list start ≡ old → OnErr r (list.capacity < length (all_packed list.changes ++ packed (inverse_of s (change_of s transfer))))
+    → OnErr r (old.room < room_for (cost_of (inverse_of old.now (change_of old.now transfer))))
+short-from_transfer r old s list start transfer e =
+    subst
+    (λ (f : Edit). OnErr r (list.capacity < length (all_packed list.changes ++ packed (inverse_of s (change_of s transfer))))
+    → OnErr r (f.room < room_for (cost_of (inverse_of f.now (change_of f.now transfer))))) e
+    (short-from_act r (edit_of s list start) s list start (change_of s transfer) refl)
+
+pub CanUndo-from_transfer : {T E : Type 0} (r : Result T E) (old : Edit) (s s' : Snapshot) (list list' : ChangeListView) (start : ℕ) (transfer : Transfer)
+    → edit_of s list start ≡ old → IsSized s → CanTransfer old.now transfer → (start ≤ length list.changes) × CanUndo s (drop start list.changes)
+    → OnOk r (s' ≡ applied s (change_of s transfer)) → OnOk r (list'.changes ≡ list.changes ++ inverse_of s (change_of s transfer) ∷ [])
+    → OnErr r (s' ≡ s) → OnErr r (list' ≡ list)
+    → (start ≤ length list'.changes) × CanUndo s' (drop start list'.changes)
+CanUndo-from_transfer r old s s' list list' start transfer e sized can =
     let here = subst (λ (f : Edit). CanTransfer f.now transfer) (sym e) can in
-    CanUndo-from_act r (edit_of s changes start) s s' changes changes' start (change_of s transfer) refl sized (transfer_fits s transfer sized here)
+    CanUndo-from_act r (edit_of s list start) s s' list list' start (change_of s transfer) refl sized (transfer_fits s transfer sized here)

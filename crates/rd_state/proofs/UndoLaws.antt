@@ -1,12 +1,12 @@
 -- Changes undone: each by its inverse, and records from their end.
-use Rattle.std.proofs.Common.{◌≡◌, ℕ, ◌<◌, List, [], ◌∷◌, ◌++◌, Option, None, length, refl, ap, sym, subst, arith}
-use Rattle.std.proofs.lemmas.List.{length-set}
+use Rattle.std.proofs.Common.{◌≡◌, ◌∙◌, ℕ, ◌<◌, ◌≤◌, List, [], ◌∷◌, ◌++◌, Option, None, length, drop, take, refl, ap, sym, subst, arith}
+use Rattle.std.proofs.lemmas.List.{drop-append-le, length-set, length_push, take-append-le}
 use Rattle.std.proofs.lemmas.List.Edits.{length-remove, length-insert}
 use Rattle.std.proofs.lemmas.List.Elements.{All-get_or}
-use Rattle.rd_state.specs.declared.change.Change.{Change}
-use Rattle.rd_state.specs.declared.change.Change.TheVariants.{SetTick, SetTurn, SetCore, InsReady, DelReady, Task, Object}
-use Rattle.rd_state.specs.declared.task_change.TaskChange.{TaskChange}
-use Rattle.rd_state.specs.declared.task_change.TaskChange.TheVariants.{SetPc, SetReg, SetPhase, SetData}
+use Rattle.rd_state.specs.Change.{Change}
+use Rattle.rd_state.specs.Change.{SetTick, SetTurn, SetCore, InsReady, DelReady, Task, Object}
+use Rattle.rd_state.specs.TaskChanges.{TaskChange}
+use Rattle.rd_state.specs.TaskChanges.{SetPc, SetReg, SetPhase, SetData}
 use Rattle.rd_state.specs.Change.{applied, inverse_of, Fits, MentionsObjects}
 use Rattle.rd_state.specs.Objects.{ObjectsSnapshot}
 use Rattle.rd_state.specs.Sizes.{IsSized, IsSizedPhase, IsSizedTask, IsTaskOrIdle}
@@ -47,7 +47,7 @@ names_back s task (SetPhase phase) sized there = phase_sized s task sized there
 names_back s task (SetData bytes) sized there = tt
 
 inverse_fits : (s : Snapshot) (change : Change) → IsSized s → Fits s change → Fits (applied s change) (inverse_of s change)
-inverse_fits s (SetTick tick) sized fits = tt
+inverse_fits s (SetTick tick) sized fits = sized.scheduling.tick
 inverse_fits s (SetTurn turn) sized fits = sized.scheduling.turn
 inverse_fits s (SetCore core task) sized fits =
     (omega (arith, length-set s.cores core task, fits.0), All-get_or (IsTaskOrIdle (length s.tasks)) s.cores core None fits.0 sized.scheduling.cores)
@@ -88,3 +88,25 @@ CanUndo-pop s (first ∷ later) change can =
     let rest = CanUndo-pop s later change can.0 in
     let P : Snapshot → Type 0 = λ t. Fits t first in
     (rest.0, (rest.1, subst P (undone-push s later change) can.1))
+
+-- a list of changes whose last one is one of those to go back by
+pub record IsLast (s : Snapshot) (n : ℕ) (all rest : List Change) (change : Change) : Type 0 where
+  pub within : n ≤ length rest
+  pub fits : Fits s change
+  pub leads : undone (applied s change) (drop n rest) ≡ undone s (drop n all)
+  pub rest_fits : CanUndo (applied s change) (drop n rest)
+  pub before : take n rest ≡ take n all
+
+pub last_of : (s : Snapshot) (n : ℕ) (all rest : List Change) (change : Change) → all ≡ rest ++ change ∷ [] → n < length all
+    → CanUndo s (drop n all) → IsLast s n all rest change
+last_of s n all rest change e more can =
+    let within : n ≤ length rest = omega (arith, more, ap length e, length_push rest change) in
+    let later : drop n all ≡ drop n rest ++ change ∷ [] = ap (drop n) e ∙ drop-append-le n rest (change ∷ []) within in
+    let popped = CanUndo-pop s (drop n rest) change (subst (CanUndo s) later can) in
+    record {
+      within = within;
+      fits = popped.0;
+      leads = sym (ap (undone s) later ∙ undone-push s (drop n rest) change);
+      rest_fits = popped.1;
+      before = sym (ap (take n) e ∙ take-append-le n rest (change ∷ []) within);
+    }

@@ -1,17 +1,46 @@
 -- The primitive changes: what each does, at which states it fits, and what undoes it.
-use Rattle.std.specs.Prelude.{ℕ, ◌+◌, ◌<◌, ◌≤◌, List, length, slice_index, slice_set}
-use Rattle.std.specs.Prelude.{insert, remove, sum_by, IfSome}
-use Rattle.rd_state.specs.declared.change.Change.{Change}
-use Rattle.rd_state.specs.declared.change.Change.TheVariants.{SetTick, SetTurn, SetCore}
-use Rattle.rd_state.specs.declared.change.Change.TheVariants.{InsReady, DelReady, Task, Object}
-use Rattle.rd_state.specs.declared.task_change.TaskChange.{TaskChange}
-use Rattle.rd_state.specs.declared.task_change.TaskChange.TheVariants.{SetPc, SetReg, SetPhase}
-use Rattle.rd_state.specs.declared.task_change.TaskChange.TheVariants.{SetData}
+use Rattle.std.specs.Prelude.{ℕ, ◌+◌, ◌^◌, ◌<◌, ◌≤◌, List, length, slice_index, slice_set}
+use Rattle.std.specs.Prelude.{insert, remove, sum_by, Option, IfSome}
+use Rattle.rd_state.specs.declared.change.Change as declared
+use Rattle.rd_state.specs.declared.change.Change.TheVariants as borrowed
 use Rattle.rd_state.specs.Objects.{Numbers, object_applied, object_inverse_of}
-use Rattle.rd_state.specs.Objects.{object_saved_bytes, ObjectFits}
+use Rattle.rd_state.specs.Objects.{ObjectChange, object_saved_bytes, the_object_change, ObjectFits}
 use Rattle.rd_state.specs.Sizes.{IsSizedPhase}
 use Rattle.rd_state.specs.Snapshot.{Snapshot, core_at, numbers_of, task_at, with_objects, with_task}
-use Rattle.rd_state.specs.TaskChanges.{task_applied, task_inverse_of, task_saved_bytes, TaskFits}
+use Rattle.rd_state.specs.TaskChanges.{TaskChange, SetPc, SetReg, SetPhase, SetData}
+use Rattle.rd_state.specs.TaskChanges.{task_applied, task_inverse_of, task_saved_bytes}
+use Rattle.rd_state.specs.TaskChanges.{the_task_change, TaskFits}
+
+-- a primitive change of the state, whatever lends its bytes; tasks and cores go by number, an index
+-- counts from the front
+pub data Change : Type 0 where
+  -- It is this tick.
+  SetTick : ℕ → Change
+  -- The turn becomes this core's.
+  SetTurn : ℕ → Change
+  -- The core has this task, or none.
+  SetCore : ℕ → Option ℕ → Change
+  -- The task is put into the ready list at the index; and leaves it.
+  InsReady : ℕ → ℕ → Change
+  DelReady : ℕ → Change
+  -- The task changes so.
+  Task : ℕ → TaskChange → Change
+  -- An object changes so.
+  Object : ObjectChange → Change
+
+-- the change that one with borrowed bytes is
+abbrev pub the_change : declared.Change → Change
+the_change (borrowed.SetTick tick) = SetTick tick
+the_change (borrowed.SetTurn turn) = SetTurn turn
+the_change (borrowed.SetCore core task) = SetCore core task
+the_change (borrowed.InsReady index task) = InsReady index task
+the_change (borrowed.DelReady index) = DelReady index
+the_change (borrowed.Task task change) = Task task (the_task_change change)
+the_change (borrowed.Object change) = Object (the_object_change change)
+
+-- what stands for a change that isn't there
+abbrev pub no_change : Change
+no_change = SetTick 0
 
 -- the state after a change
 abbrev pub applied : Snapshot → Change → Snapshot
@@ -42,7 +71,7 @@ MentionsObjects numbers (SetData bytes) = Unit {0}
 
 -- The change names what is there, and there is room.
 abbrev pub Fits : Snapshot → Change → Type 0
-Fits s (SetTick tick) = Unit {0}
+Fits s (SetTick tick) = tick < 2 ^ 32
 Fits s (SetTurn turn) = turn ≤ length s.cores
 Fits s (SetCore core task) = (core < length s.cores) × IfSome task (λ t. t < length s.tasks)
 Fits s (InsReady index task) =

@@ -1,8 +1,9 @@
 -- A move in the middle: the state now, where the move began, the weight of what it recorded since,
--- and all that the record has.
-use Rattle.std.specs.Prelude.{ℕ, ◌≡◌, ◌+◌, ◌≤◌, List, length, drop, take}
-use Rattle.rd_state.specs.declared.change.Change.{Change}
+-- all that the record has, and for how many bytes more it has room.
+use Rattle.std.specs.Prelude.{ℕ, ◌≡◌, ◌+◌, ◌-◌, ◌*◌, ◌<◌, ◌≤◌, List, length, drop, take}
+use Rattle.rd_state.specs.Change.{Change}
 use Rattle.rd_state.specs.Change.{weight_of}
+use Rattle.rd_state.specs.PackedChanges.{all_packed, ChangeListView}
 use Rattle.rd_state.specs.Snapshot.{Snapshot, numbers_of}
 use Rattle.rd_state.specs.Undoing.{undone, CanUndo}
 
@@ -16,23 +17,30 @@ pub record Edit : Type 0 where
   pub base : Base
   pub weight : ℕ
   pub changes : List Change
+  pub room : ℕ
+
+-- for how many bytes more a list of changes has room
+abbrev pub room_of : ChangeListView → ℕ
+room_of list = list.capacity - length (all_packed list.changes)
 
 -- a move whose record had so many changes before
-abbrev pub edit_of : Snapshot → List Change → ℕ → Edit
-edit_of s changes start = record {
+abbrev pub edit_of : Snapshot → ChangeListView → ℕ → Edit
+edit_of s list start = record {
   now = s;
-  base = record { state = undone s (drop start changes); recorded = take start changes };
-  weight = weight_of (drop start changes);
-  changes = changes;
+  base = record { state = undone s (drop start list.changes); recorded = take start list.changes };
+  weight = weight_of (drop start list.changes);
+  changes = list.changes;
+  room = room_of list;
 }
 
 -- a move that begins here
-abbrev pub begun_at : Snapshot → List Change → Edit
-begun_at s changes = record {
+abbrev pub begun_at : Snapshot → List Change → ℕ → Edit
+begun_at s changes room = record {
   now = s;
   base = record { state = s; recorded = changes };
   weight = 0;
   changes = changes;
+  room = room;
 }
 
 -- what a record has got since
@@ -46,9 +54,16 @@ pub record GoesOn (edit : Edit) (changes : List Change) : Type 0 where
   pub can_undo : CanUndo edit.now (added edit.base.recorded changes)
   pub weight : weight_of (added edit.base.recorded changes) ≡ edit.weight
 
--- The move still began where it did, and its record leads back there.
-abbrev pub KeepsBase : Edit → Edit → Type 0
-KeepsBase old new = new.base ≡ old.base
+-- The room that a record needs, at the most, for what costs so much: a change takes no more than 15
+-- bytes and those that it carries.
+abbrev pub room_for : ℕ → ℕ
+room_for cost = 16 * cost
+
+-- The move goes no further: there is no memory, and less room than that cost needs. It still began
+-- where it did, and its record leads back there.
+pub record GivesUp (old new : Edit) (cost : ℕ) : Type 0 where
+  pub base : new.base ≡ old.base
+  pub short : old.room < room_for cost
 
 -- the same numbers of cores, of tasks, and of objects of each kind
 pub record SameShape (old new : Snapshot) : Type 0 where
@@ -61,4 +76,5 @@ pub record Reaches (old new : Edit) (target : Snapshot) (cost : ℕ) : Type 0 wh
   pub now : new.now ≡ target
   pub base : new.base ≡ old.base
   pub weight : new.weight ≤ old.weight + cost
+  pub room : old.room ≤ new.room + room_for cost
   pub shape : SameShape old.now new.now

@@ -8,6 +8,8 @@ pub mod TaskChanges
 pub mod Change
 pub mod Transfers
 pub mod Inside
+pub mod PackedTaskChanges
+pub mod PackedChanges
 pub mod Undoing
 pub mod Edit
 pub mod Settled

@@ -2,7 +2,9 @@
 -- changes. A kind has a row or a field in each of these.
 use Rattle.std.specs.Prelude.{ℕ, zero, suc, ◌≡◌, ◌<◌, ◌≤◌, ◌∷◌, ◌++◌, List, [], All, None}
 use Rattle.std.specs.Prelude.{length, map, slice_index_or, slice_set}
-use Rattle.rd_queue.specs.Changes.{queue_applied, queue_inverse_of, queue_saved_bytes, QueueFits}
+use Rattle.rd_queue.specs.Changes.{QueueChange, queue_applied, queue_inverse_of}
+use Rattle.rd_queue.specs.Changes.{queue_saved_bytes, the_queue_change, QueueFits}
+use Rattle.rd_queue.specs.declared.queue_set_change.QueueSetChange.{QueueSetChange}
 use Rattle.rd_queue.specs.QueueSnapshot.{QueueSnapshot}
 use Rattle.rd_queue.specs.Queues.{empty_queue, as_member_of}
 use Rattle.rd_queue.specs.QueueSetChanges.{queue_set_applied, queue_set_inverse_of, QueueSetFits}
@@ -10,12 +12,13 @@ use Rattle.rd_queue.specs.QueueSetSnapshot.{QueueSetSnapshot}
 use Rattle.rd_queue.specs.QueueSets.{empty_queue_set}
 use Rattle.rd_queue.specs.Sizes.{IsSizedQueue, IsSizedQueueSet}
 use Rattle.rd_queue.specs.declared.queue_set.TheConstants.{MAX_HANDLES}
+use Rattle.rd_app.specs.declared.objects.TheConstants.{MAX_QUEUES, MAX_QUEUE_SETS}
 use Rattle.rd_app.specs.declared.objects.QueueShape.{QueueShape}
 use Rattle.rd_app.specs.Application.{Application}
 use Rattle.rd_app.specs.Objects.{NamedObjects, queue_set_at_boot, shape_at}
 use Rattle.rd_app.specs.QueueSetShapeView.{QueueSetShapeView}
-use Rattle.rd_state.specs.declared.objects.ObjectChange.{ObjectChange}
-use Rattle.rd_state.specs.declared.objects.ObjectChange.TheVariants.{Queue, QueueSet}
+use Rattle.rd_state.specs.declared.objects.ObjectChange as declared
+use Rattle.rd_state.specs.declared.objects.ObjectChange.TheVariants as borrowed
 
 pub record ObjectsSnapshot : Type 0 where
   pub queues : List QueueSnapshot
@@ -81,10 +84,12 @@ IsQueueSetFor task_count queue_count queue_set =
     IsSizedQueueSet queue_set × (queue_set.task_count ≡ task_count)
     × (queue_set.queue_count ≡ queue_count)
 
--- objects at which that many tasks can wait
+-- objects at which that many tasks can wait, no more of each kind than an application has
 pub record AreSizedObjects (task_count : ℕ) (o : ObjectsSnapshot) : Type 0 where
   pub queues : All (IsQueueFor task_count (length o.queue_sets)) o.queues
+  pub few_queues : length o.queues ≤ MAX_QUEUES
   pub queue_sets : All (IsQueueSetFor task_count (length o.queues)) o.queue_sets
+  pub few_queue_sets : length o.queue_sets ≤ MAX_QUEUE_SETS
 
 abbrev pub shape_of : QueueSnapshot → QueueShape
 shape_of queue = record { capacity = queue.capacity; item_size = queue.item_size }
@@ -143,6 +148,16 @@ new_objects app = record {
       map (new_queue_set (length app.tasks.things) (length app.objects.queues.things))
       app.objects.queue_sets.things;
 }
+
+-- a primitive change of an object, whichever kind it is of; objects go by number
+pub data ObjectChange : Type 0 where
+  Queue : ℕ → QueueChange → ObjectChange
+  QueueSet : ℕ → QueueSetChange → ObjectChange
+
+-- the change that one with borrowed bytes is
+abbrev pub the_object_change : declared.ObjectChange → ObjectChange
+the_object_change (borrowed.Queue queue change) = Queue queue (the_queue_change change)
+the_object_change (borrowed.QueueSet queue_set change) = QueueSet queue_set change
 
 -- the objects after a change of one
 abbrev pub object_applied : ObjectsSnapshot → ObjectChange → ObjectsSnapshot

@@ -2,6 +2,7 @@
 -- lengths are within what there is room for.
 use Rattle.std.specs.Prelude.{ℕ, ◌≡◌, ◌<◌, ◌≤◌, ◌^◌, length, All, Option, Some, None, IfSome}
 use Rattle.rd_bytes.specs.declared.bytes.TheConstants.{MAX_BYTES}
+use Rattle.rd_app.specs.declared.app.TheConstants.{MAX_CODE, MAX_CORES, MAX_TASKS}
 use Rattle.rd_app.specs.declared.instr.TheConstants.{REGISTERS}
 use Rattle.rd_state.specs.declared.phase.Phase.{Phase}
 use Rattle.rd_state.specs.declared.phase.Place.{Place}
@@ -14,8 +15,12 @@ use Rattle.rd_state.specs.Waiting.{IsPlace}
 abbrev pub IsTaskOrIdle : ℕ → Option ℕ → Type 0
 IsTaskOrIdle tasks running = IfSome running (λ task. task < tasks)
 
-abbrev pub IsSizedTask : TaskSnapshot → Type 0
-IsSizedTask task = (length task.registers ≡ REGISTERS) × (length task.bytes ≤ MAX_BYTES)
+-- The instruction that comes next can be one of a script, and each register has 32 bits.
+pub record IsSizedTask (task : TaskSnapshot) : Type 0 where
+  pub pc : task.pc ≤ MAX_CODE
+  pub registers : length task.registers ≡ REGISTERS
+  pub values : All (λ value. value < 2 ^ 32) task.registers
+  pub bytes : length task.bytes ≤ MAX_BYTES
 
 -- A deadline, where there is one, is a sum of a tick and a block time.
 abbrev pub IsDeadline : Option ℕ → Type 0
@@ -29,15 +34,18 @@ IsSizedWait numbers (Some place) deadline = IsPlace numbers place × IsDeadline 
 abbrev pub IsSizedPhase : Numbers → Phase → Type 0
 IsSizedPhase numbers phase = IsSizedWait numbers (waits_at phase) (kept_deadline phase)
 
--- who has the turn, who runs, and who is ready
+-- the time, who has the turn, who runs, and who is ready
 pub record IsSizedScheduling (s : Snapshot) : Type 0 where
+  pub tick : s.tick < 2 ^ 32
   pub turn : s.turn ≤ length s.cores
   pub cores : All (IsTaskOrIdle (length s.tasks)) s.cores
+  pub few_cores : length s.cores ≤ MAX_CORES
   pub ready : All (λ task. task < length s.tasks) s.ready
   pub room : length s.ready ≤ length s.tasks
 
 pub record AreSizedTasks (s : Snapshot) : Type 0 where
   pub tasks : All IsSizedTask s.tasks
+  pub few : length s.tasks ≤ MAX_TASKS
   pub phases : All (λ task. IsSizedPhase (numbers_of s) task.phase) s.tasks
 
 pub record IsSized (s : Snapshot) : Type 0 where

@@ -1,12 +1,31 @@
 -- The primitive changes of a task: what each does, and what undoes it.
-use Rattle.std.specs.Prelude.{ℕ, ◌≡◌, ◌<◌, ◌≤◌, length, slice_index, slice_set}
+use Rattle.std.specs.Prelude.{ℕ, ◌≡◌, ◌^◌, ◌<◌, ◌≤◌, List, length, slice_index, slice_set}
 use Rattle.rd_bytes.specs.declared.bytes.TheConstants.{MAX_BYTES}
+use Rattle.rd_app.specs.declared.app.TheConstants.{MAX_CODE}
 use Rattle.rd_app.specs.declared.instr.TheConstants.{REGISTERS}
-use Rattle.rd_state.specs.declared.task_change.TaskChange.{TaskChange}
-use Rattle.rd_state.specs.declared.task_change.TaskChange.TheVariants.{SetPc, SetReg, SetPhase}
-use Rattle.rd_state.specs.declared.task_change.TaskChange.TheVariants.{SetData}
+use Rattle.rd_state.specs.declared.phase.Phase.{Phase}
+use Rattle.rd_state.specs.declared.task_change.TaskChange as declared
+use Rattle.rd_state.specs.declared.task_change.TaskChange.TheVariants as borrowed
 use Rattle.rd_state.specs.Sizes.{IsSizedTask}
 use Rattle.rd_state.specs.Snapshot.{TaskSnapshot}
+
+-- a primitive change of a task, whatever lends its bytes
+pub data TaskChange : Type 0 where
+  -- The task stands at this instruction.
+  SetPc : ℕ → TaskChange
+  -- The register becomes the value.
+  SetReg : ℕ → ℕ → TaskChange
+  -- The task is in this phase.
+  SetPhase : Phase → TaskChange
+  -- The data becomes these bytes.
+  SetData : List ℕ → TaskChange
+
+-- the change that one with borrowed bytes is
+abbrev pub the_task_change : declared.TaskChange → TaskChange
+the_task_change (borrowed.SetPc pc) = SetPc pc
+the_task_change (borrowed.SetReg register value) = SetReg register value
+the_task_change (borrowed.SetPhase phase) = SetPhase phase
+the_task_change (borrowed.SetData bytes) = SetData bytes.now
 
 -- the task after a change
 abbrev pub task_applied : TaskSnapshot → TaskChange → TaskSnapshot
@@ -23,10 +42,11 @@ task_inverse_of task (SetReg register value) = SetReg register (slice_index task
 task_inverse_of task (SetPhase phase) = SetPhase task.phase
 task_inverse_of task (SetData bytes) = SetData task.bytes
 
--- The register is there, and the bytes fit a task's data.
+-- An instruction can have that number, the register is there and has room for the value, and the
+-- bytes fit a task's data.
 abbrev pub TaskFits : TaskChange → Type 0
-TaskFits (SetPc pc) = Unit {0}
-TaskFits (SetReg register value) = register < REGISTERS
+TaskFits (SetPc pc) = pc ≤ MAX_CODE
+TaskFits (SetReg register value) = (register < REGISTERS) × (value < 2 ^ 32)
 TaskFits (SetPhase phase) = Unit {0}
 TaskFits (SetData bytes) = length bytes ≤ MAX_BYTES
 

@@ -1,31 +1,44 @@
 -- Bytes that go from one part of the state to another: the change that each transfer makes.
-use Rattle.std.specs.Prelude.{◌<◌, [], length, slice_index_or}
-use Rattle.rd_queue.specs.declared.change.QueueChange.TheVariants.{SetItem}
-use Rattle.rd_queue.specs.Changes.{put_at}
+use Rattle.std.specs.Prelude.{ℕ, ◌<◌, List, [], length, slice_index_or}
+use Rattle.rd_queue.specs.Changes.{SetItem, put_at}
 use Rattle.rd_queue.specs.Queues.{fitted}
-use Rattle.rd_state.specs.declared.change.Change.{Change}
-use Rattle.rd_state.specs.declared.change.Change.TheVariants.{Object, Task}
-use Rattle.rd_state.specs.declared.objects.ObjectChange.TheVariants.{Queue}
-use Rattle.rd_state.specs.declared.task_change.TaskChange.TheVariants.{SetData}
+use Rattle.rd_state.specs.Change.{Change, Object, Task}
+use Rattle.rd_state.specs.Objects.{ObjectChange, ObjectsSnapshot, Queue, queue_in}
+use Rattle.rd_state.specs.TaskChanges.{SetData}
+use Rattle.rd_state.specs.declared.transfer.Sink.{Sink}
+use Rattle.rd_state.specs.declared.transfer.Sink.TheVariants.{QueueEnd, OverFront}
+use Rattle.rd_state.specs.declared.transfer.Source.{Source}
+use Rattle.rd_state.specs.declared.transfer.Source.TheVariants.{QueueFront}
 use Rattle.rd_state.specs.declared.transfer.Transfer.{Transfer}
-use Rattle.rd_state.specs.declared.transfer.Transfer.TheVariants.{DataToQueue, DataOverFront}
-use Rattle.rd_state.specs.declared.transfer.Transfer.TheVariants.{FrontToData}
-use Rattle.rd_state.specs.Snapshot.{Snapshot, task_at, queue_at, items_at}
+use Rattle.rd_state.specs.declared.transfer.Transfer.TheVariants.{FromData, ToData}
+use Rattle.rd_state.specs.Snapshot.{Snapshot, task_at}
+
+-- the bytes at a source
+abbrev pub bytes_at : ObjectsSnapshot → Source → List ℕ
+bytes_at o (QueueFront queue) = slice_index_or (queue_in o queue).items 0 []
+
+-- the change by which bytes come to a sink
+abbrev pub sunk : ObjectsSnapshot → Sink → List ℕ → ObjectChange
+sunk o (QueueEnd queue end) bytes =
+    Queue queue (put_at end (fitted (queue_in o queue).item_size bytes))
+sunk o (OverFront queue) bytes = Queue queue (SetItem 0 (fitted (queue_in o queue).item_size bytes))
+
+-- There are bytes at the source.
+abbrev pub HasSource : ObjectsSnapshot → Source → Type 0
+HasSource o (QueueFront queue) = (queue < length o.queues) × (0 < length (queue_in o queue).items)
+
+-- The sink takes bytes: there is room for an item, or one to be replaced.
+abbrev pub HasSink : ObjectsSnapshot → Sink → Type 0
+HasSink o (QueueEnd queue end) =
+    (queue < length o.queues) × (length (queue_in o queue).items < (queue_in o queue).capacity)
+HasSink o (OverFront queue) = (queue < length o.queues) × (0 < length (queue_in o queue).items)
 
 -- the change that a transfer makes of a state
 abbrev pub change_of : Snapshot → Transfer → Change
-change_of s (DataToQueue task queue end) =
-    Object (Queue queue (put_at end (fitted (queue_at s queue).item_size (task_at s task).bytes)))
-change_of s (DataOverFront task queue) =
-    Object (Queue queue (SetItem 0 (fitted (queue_at s queue).item_size (task_at s task).bytes)))
-change_of s (FrontToData queue task) = Task task (SetData (slice_index_or (items_at s queue) 0 []))
+change_of s (FromData task sink) = Object (sunk s.objects sink (task_at s task).bytes)
+change_of s (ToData source task) = Task task (SetData (bytes_at s.objects source))
 
--- Both parts are there, with room for an item or with one.
+-- Both parts are there, with room or with bytes.
 abbrev pub CanTransfer : Snapshot → Transfer → Type 0
-CanTransfer s (DataToQueue task queue end) =
-    (task < length s.tasks) × (queue < length s.objects.queues)
-    × (length (items_at s queue) < (queue_at s queue).capacity)
-CanTransfer s (DataOverFront task queue) =
-    (task < length s.tasks) × (queue < length s.objects.queues) × (0 < length (items_at s queue))
-CanTransfer s (FrontToData queue task) =
-    (queue < length s.objects.queues) × (task < length s.tasks) × (0 < length (items_at s queue))
+CanTransfer s (FromData task sink) = (task < length s.tasks) × HasSink s.objects sink
+CanTransfer s (ToData source task) = HasSource s.objects source × (task < length s.tasks)

@@ -1,6 +1,6 @@
 -- Records: lists of inverse changes, in the order of recording, undone last first.
 use Rattle.std.specs.Prelude.{◌≡◌, List, [], ◌∷◌}
-use Rattle.rd_state.specs.declared.change.Change.{Change}
+use Rattle.rd_state.specs.Change.{Change}
 use Rattle.rd_state.specs.Snapshot.{Snapshot}
 use Rattle.rd_state.specs.Change.{applied, inverse_of, Fits}
 use Rattle.rd_state.specs.Sizes.{IsSized}

@@ -1,15 +1,16 @@
 //! The primitive changes of the state.
 
 ghost use Rattle.std.specs.Prelude.{◌≡◌};
-ghost use Rattle.rd_state.specs.Change.{cost_of};
+ghost use Rattle.rd_state.specs.Change.{cost_of, the_change};
 
 use crate::objects::ObjectChange;
 use crate::task_change::TaskChange;
 
 /// A primitive change of the state: all that a move does is made of these, and each has an inverse
-/// among them. Tasks and cores go by number, an index counts from the front.
-#[derive(Debug, Drop)]
-pub enum Change {
+/// among them. Tasks and cores go by number, an index counts from the front. Its bytes are
+/// borrowed: from the state, or from where changes are kept.
+#[derive(Clone, Copy, Debug)]
+pub enum Change<'a> {
     /// It is this tick.
     SetTick { tick: u32 },
     /// The turn becomes this core's.
@@ -21,15 +22,15 @@ pub enum Change {
     /// The task at the index leaves the ready list.
     DelReady { index: usize },
     /// The task changes so.
-    Task { task: usize, change: TaskChange },
+    Task { task: usize, change: TaskChange<'a> },
     /// An object changes so.
-    Object { change: ObjectChange },
+    Object { change: ObjectChange<'a> },
 }
 
-impl Change {
+impl Change<'_> {
     /// How much it takes in a record: one, and the bytes that it carries.
-    pub fn cost(&self) -> usize
-        ensures { result ≡ cost_of self.now }
+    pub fn cost(self) -> usize
+        ensures { result ≡ cost_of (the_change self.entry) }
     {
         match self {
             Change::SetTick { .. }

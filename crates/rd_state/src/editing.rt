@@ -2,19 +2,20 @@
 
 ghost use Rattle.std.specs.Prelude.{◌≡◌, ◌<◌, ◌≤◌, length, drop, insert, remove, take};
 ghost use Rattle.std.specs.Prelude.{OnOk, OnErr};
-ghost use Rattle.rd_state.specs.Change.{applied, inverse_of, cost_of, Fits};
-ghost use Rattle.rd_state.specs.Edit.{begun_at, GoesOn, Reaches};
+ghost use Rattle.rd_state.specs.Change.{applied, cost_of, inverse_of, the_change, Fits};
+ghost use Rattle.rd_state.specs.Edit.{begun_at, room_for, GoesOn, Reaches};
 ghost use Rattle.rd_state.specs.Sizes.{IsSized};
 ghost use Rattle.rd_state.specs.Transfers.{change_of, CanTransfer};
 ghost use Rattle.rd_state.specs.Undoing.{undone, CanUndo};
 ghost use Rattle.rd_state.specs.Waiting.{HasPlace, waiting_at, with_waiting_at};
 
 use crate::change::Change;
+use crate::change_list::ChangeList;
 use crate::objects::ObjectChange;
 use crate::phase::Place;
 use crate::state::State;
 use crate::transfer::Transfer;
-use crate::undo::{Undo, act, act_transfer};
+use crate::undo::Undo;
 use rd_bytes::no_memory::NoMemory;
 use rd_queue::change::QueueChange;
 use rd_queue::queue_set_change::QueueSetChange;
@@ -26,7 +27,7 @@ use std::marker::Model;
 #[derive(Debug)]
 pub struct Editing {
     state: State,
-    undo: Undo,
+    changes: ChangeList,
     // So many changes the record had when the move began.
     start: usize,
 }
@@ -40,27 +41,33 @@ impl Model for Editing {
     ghost use Rattle.rd_state.specs.Edit.{edit_of};
     ghost use Rattle.rd_state.specs.Undoing.{CanUndo};
 
-    ghost view = { λ e. edit_of e.state e.undo e.start };
+    ghost view = { λ e. edit_of e.state e.changes e.start };
 
-    ghost invariant = { λ e. (e.start ≤ length e.undo) × CanUndo e.state (drop e.start e.undo) };
+    ghost invariant = { λ e. (e.start ≤ length e.changes.changes)
+        × CanUndo e.state (drop e.start e.changes.changes) };
 }
 
 impl Editing {
     /// A state, with a record to which the changes of moves will be added. The first move begins
     /// here.
     pub fn new(state: State, undo: Undo) -> Editing
-        ensures { result ≡ begun_at state undo }
+        ensures { result ≡ begun_at state undo result.room }
     {
-        let start = undo.len();
-        Editing { state, undo, start }
+        let Undo { changes } = undo;
+        let start = changes.len();
+        Editing {
+            state,
+            changes,
+            start,
+        }
     }
 
     /// A move begins here.
     #[inline(always)]
     pub fn begin(&mut self)
-        ensures { self.new ≡ begun_at self.old.now self.old.changes }
+        ensures { self.new ≡ begun_at self.old.now self.old.changes self.old.room }
     {
-        self.start = self.undo.len();
+        self.start = self.changes.len();
     }
 
     /// How many changes the record has.
@@ -68,7 +75,7 @@ impl Editing {
     pub fn len(&self) -> usize
         ensures { result ≡ length self.now.changes }
     {
-        self.undo.len()
+        self.changes.len()
     }
 
     /// What the record got since the move began leads back to where it did.
@@ -91,14 +98,17 @@ impl Editing {
     /// Makes a change and records what undoes it. Where there is no
     /// memory for that, nothing has changed.
     #[inline(always)]
-    pub fn change(&mut self, change: Change) -> Result<(), NoMemory>
-        requires { Fits self.old.now change }
-        ensures ok { OnOk result (Reaches self.old self.new (applied self.old.now change)
-            (cost_of (inverse_of self.old.now change))) }
+    pub fn change(&mut self, change: Change<'_>) -> Result<(), NoMemory>
+        requires { Fits self.old.now (the_change change) }
+        ensures ok { OnOk result (Reaches self.old self.new
+            (applied self.old.now (the_change change.entry))
+            (cost_of (inverse_of self.old.now (the_change change.entry)))) }
+        ensures short { OnErr result (self.old.room
+            < room_for (cost_of (inverse_of self.old.now (the_change change.entry)))) }
         ensures err { OnErr result (self.new ≡ self.old) }
     {
         self.state.sizes();
-        act(&mut self.state, &mut self.undo, change)
+        self.changes.act(&mut self.state, change)
     }
 
     /// Makes a transfer and records what undoes it. Where there is no memory for that, nothing has
@@ -109,10 +119,12 @@ impl Editing {
         ensures ok { OnOk result (Reaches self.old self.new
             (applied self.old.now (change_of self.old.now transfer))
             (cost_of (inverse_of self.old.now (change_of self.old.now transfer)))) }
+        ensures short { OnErr result (self.old.room
+            < room_for (cost_of (inverse_of self.old.now (change_of self.old.now transfer)))) }
         ensures err { OnErr result (self.new ≡ self.old) }
     {
         self.state.sizes();
-        act_transfer(&mut self.state, &mut self.undo, transfer)
+        self.changes.act_transfer(&mut self.state, transfer)
     }
 
     /// Puts a task into the list of a place, at the index.
@@ -130,6 +142,7 @@ impl Editing {
         ensures ok { OnOk result (Reaches self.old self.new
             (with_waiting_at self.old.now place
             (insert (waiting_at self.old.now place) index task)) 1) }
+        ensures short { OnErr result (self.old.room < room_for 1) }
         ensures err { OnErr result (self.new ≡ self.old) }
     {
         self.state.sizes();
@@ -155,6 +168,7 @@ impl Editing {
         ensures ok { OnOk result (Reaches self.old self.new
             (with_waiting_at self.old.now place (remove (waiting_at self.old.now place) index))
             1) }
+        ensures short { OnErr result (self.old.room < room_for 1) }
         ensures err { OnErr result (self.new ≡ self.old) }
     {
         match place {
@@ -174,9 +188,11 @@ impl Editing {
     /// Takes the move back, to where it began. It takes no memory.
     #[inline(always)]
     pub fn roll_back(&mut self)
-        ensures { self.new ≡ begun_at self.old.base.state self.old.base.recorded }
+        ensures begun { self.new
+            ≡ begun_at self.old.base.state self.old.base.recorded self.new.room }
+        ensures room { self.old.room ≤ self.new.room }
     {
-        self.state.back_to(&mut self.undo, self.start);
+        self.changes.back_to(&mut self.state, self.start);
     }
 
     /// Goes back by the changes that the record has after its first `len`, the last one first; they
@@ -186,10 +202,11 @@ impl Editing {
         requires fits { CanUndo self.old.now (drop len self.old.changes) }
         ensures state { self.new.now ≡ undone self.old.now (drop len self.old.changes) }
         ensures record { self.new.changes ≡ take len self.old.changes }
-        ensures begun { self.new ≡ begun_at self.new.now self.new.changes }
+        ensures begun { self.new ≡ begun_at self.new.now self.new.changes self.new.room }
+        ensures room { self.old.room ≤ self.new.room }
     {
         self.start = len;
-        self.state.back_to(&mut self.undo, len);
+        self.changes.back_to(&mut self.state, len);
     }
 
     /// Hands out the state and the record.
@@ -199,20 +216,19 @@ impl Editing {
     {
         let Editing {
             state: now,
-            undo,
+            changes,
             start: _,
         } = self;
         *state = now;
-        undo
+        Undo { changes }
     }
 
     /// Ends it: nobody needs the state, nor will go back by the record.
     pub fn retire(self) {
         let Editing {
             state: _,
-            undo,
+            changes: _,
             start: _,
         } = self;
-        undo.retire();
     }
 }

@@ -3,13 +3,16 @@
 
 mod boot;
 pub mod change;
+pub mod change_list;
 pub mod editing;
 pub mod objects;
+pub mod packing;
 pub mod phase;
 pub mod scheduling;
 pub mod state;
 pub mod task;
 pub mod task_change;
+pub mod task_packing;
 pub mod transfer;
 pub mod undo;
 mod whole;

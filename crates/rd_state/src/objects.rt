@@ -1,17 +1,20 @@
 //! The objects of the target, and their changes. A kind has a row or a field in each of these.
 
-ghost use Rattle.std.specs.Prelude.{◌≡◌, ◌↔◌, ◌+◌, ◌<◌, ◌≤◌, length, map, All, IfOk, IsOk, IsTrue};
-ghost use Rattle.rd_queue.specs.Changes.{put_at, queue_applied, QueueFits};
+ghost use Rattle.std.specs.Prelude.{◌≡◌, ◌↔◌, ◌+◌, ◌<◌, ◌≤◌, ℕ, List, length, map, All, IfOk};
+ghost use Rattle.std.specs.Prelude.{IsTrue};
+ghost use Rattle.rd_bytes.specs.declared.bytes.TheConstants.{MAX_BYTES};
+ghost use Rattle.rd_queue.specs.Changes.{put_at, queue_applied, the_queue_change, QueueFits, SetItem};
 ghost use Rattle.rd_queue.specs.Queues.{fitted};
 ghost use Rattle.rd_queue.specs.QueueSetChanges.{queue_set_applied, QueueSetFits};
-ghost use Rattle.rd_queue.specs.declared.change.QueueChange.TheVariants.{SetItem};
 ghost use Rattle.rd_state.specs.Objects.{first_queues, new_objects, new_queue, new_queue_set};
 ghost use Rattle.rd_state.specs.Objects.{no_objects};
 ghost use Rattle.rd_state.specs.Objects.{object_applied, object_inverse_of, object_saved_bytes};
 ghost use Rattle.rd_state.specs.Objects.{objects_with_queue, objects_with_queue_set, queue_in};
 ghost use Rattle.rd_state.specs.Objects.{queue_set_in};
-ghost use Rattle.rd_state.specs.Objects.{IsHandleCapacity, ObjectFits};
+ghost use Rattle.rd_state.specs.Objects.{the_object_change, IsHandleCapacity, ObjectFits};
+ghost use Rattle.rd_state.specs.Transfers.{bytes_at, sunk, HasSink, HasSource};
 
+use crate::transfer::{Sink, Source};
 use crate::whole::{Whole, all_same, copy_all};
 use rd_app::app::App;
 use rd_app::objects::QueueSetShape;
@@ -25,12 +28,12 @@ use std::alloc::{AllocError, Global};
 use std::marker::Model;
 
 /// A primitive change of an object, whichever kind it is of. Objects go by number.
-#[derive(Debug, Drop)]
-pub enum ObjectChange {
+#[derive(Clone, Copy, Debug)]
+pub enum ObjectChange<'a> {
     /// The queue changes so.
     Queue {
         queue: usize,
-        change: QueueChange,
+        change: QueueChange<'a>,
     },
     /// The queue set changes so.
     QueueSet {
@@ -39,10 +42,10 @@ pub enum ObjectChange {
     },
 }
 
-impl ObjectChange {
+impl ObjectChange<'_> {
     /// How much it takes in a record: one, and the bytes that it carries.
-    pub fn cost(&self) -> usize
-        ensures { result ≡ 1 + object_saved_bytes self.now }
+    pub fn cost(self) -> usize
+        ensures { result ≡ 1 + object_saved_bytes (the_object_change self.entry) }
     {
         match self {
             ObjectChange::Queue { change, .. } => change.cost(),
@@ -210,11 +213,11 @@ impl Objects {
 
     // Changes a queue.
     #[inline(always)]
-    fn change_queue(&mut self, queue: usize, change: &QueueChange)
+    fn change_queue(&mut self, queue: usize, change: QueueChange<'_>)
         requires there { queue < length self.old.queues }
-        requires fits { QueueFits (queue_in self.old queue) change.now }
+        requires fits { QueueFits (queue_in self.old queue) (the_queue_change change) }
         ensures { self.new ≡ objects_with_queue self.old queue
-            (queue_applied (queue_in self.old queue) change.now) }
+            (queue_applied (queue_in self.old queue) (the_queue_change change.entry)) }
     {
         let target = &mut self.queues[queue];
         target.apply(change);
@@ -222,11 +225,11 @@ impl Objects {
 
     // Changes a queue set.
     #[inline(always)]
-    fn change_queue_set(&mut self, queue_set: usize, change: &QueueSetChange)
+    fn change_queue_set(&mut self, queue_set: usize, change: QueueSetChange)
         requires there { queue_set < length self.old.queue_sets }
-        requires fits { QueueSetFits (queue_set_in self.old queue_set) change.now }
+        requires fits { QueueSetFits (queue_set_in self.old queue_set) change }
         ensures { self.new ≡ objects_with_queue_set self.old queue_set
-            (queue_set_applied (queue_set_in self.old queue_set) change.now) }
+            (queue_set_applied (queue_set_in self.old queue_set) change) }
     {
         let target = &mut self.queue_sets[queue_set];
         target.apply(change);
@@ -234,47 +237,88 @@ impl Objects {
 
     /// Makes a change of an object. It takes no memory.
     #[inline(always)]
-    pub(crate) fn apply(&mut self, change: &ObjectChange)
-        requires { ObjectFits self.old change.now }
-        ensures { self.new ≡ object_applied self.old change.now }
+    pub(crate) fn apply(&mut self, change: ObjectChange<'_>)
+        requires { ObjectFits self.old (the_object_change change) }
+        ensures { self.new ≡ object_applied self.old (the_object_change change.entry) }
     {
         match change {
-            ObjectChange::Queue { queue, change } => self.change_queue(*queue, change),
+            ObjectChange::Queue { queue, change } => self.change_queue(queue, change),
             ObjectChange::QueueSet { queue_set, change } => {
-                self.change_queue_set(*queue_set, change);
+                self.change_queue_set(queue_set, change);
             }
         }
     }
 
-    /// The change that undoes `change`, made at these objects. It needs memory only where more than
-    /// 16 bytes are saved.
+    /// The change that undoes `change`, made at these objects, which lend it its bytes. It takes no
+    /// memory.
     #[inline(always)]
-    pub(crate) fn inverse_of(
-        &self,
-        alloc: Global,
-        change: &ObjectChange,
-    ) -> Result<ObjectChange, NoMemory>
-        requires { ObjectFits self.now change.now }
-        ensures inverse { IfOk result
-            (λ inverse. inverse ≡ object_inverse_of self.now change.now) }
-        ensures memory { object_saved_bytes (object_inverse_of self.now change.now) ≤ 16
-            → IsOk result }
+    pub(crate) fn inverse_of(&self, change: ObjectChange<'_>) -> ObjectChange<'_>
+        requires { ObjectFits self.now (the_object_change change) }
+        ensures { the_object_change result
+            ≡ object_inverse_of self.now (the_object_change change.entry) }
     {
         match change {
-            ObjectChange::Queue { queue, change } => Ok(ObjectChange::Queue {
-                queue: *queue,
-                change: self.queue(*queue).inverse_of(alloc, change)?,
-            }),
-            ObjectChange::QueueSet { queue_set, change } => Ok(ObjectChange::QueueSet {
-                queue_set: *queue_set,
-                change: self.queue_set(*queue_set).inverse_of(change),
-            }),
+            ObjectChange::Queue { queue, change } => ObjectChange::Queue {
+                queue,
+                change: self.queue(queue).inverse_of(change),
+            },
+            ObjectChange::QueueSet { queue_set, change } => ObjectChange::QueueSet {
+                queue_set,
+                change: self.queue_set(queue_set).inverse_of(change),
+            },
         }
     }
 
-    /// Puts the item that these bytes make at an end of a queue that has room.
+    /// The bytes at a source.
     #[inline(always)]
-    pub(crate) fn put_fitted(&mut self, queue: usize, end: End, bytes: &[u8])
+    pub(crate) fn bytes_at(&self, source: Source) -> &[u8]
+        requires { HasSource self.now source }
+        ensures bytes { result.now ≡ bytes_at self.now source }
+        ensures few { length result.now ≤ MAX_BYTES }
+    {
+        match source {
+            Source::QueueFront { queue } => self.queue(queue).first(),
+        }
+    }
+
+    /// Brings bytes to a sink. It takes no memory.
+    #[inline(always)]
+    pub(crate) fn sink(&mut self, sink: Sink, bytes: &[u8])
+        requires { HasSink self.old sink }
+        ensures { self.new ≡ object_applied self.old (sunk self.old sink bytes.now) }
+    {
+        match sink {
+            Sink::QueueEnd { queue, end } => self.put_fitted(queue, end, bytes),
+            Sink::OverFront { queue } => self.set_first_fitted(queue, bytes),
+        }
+    }
+
+    /// The change that undoes what comes to a sink of these objects, which lend it its bytes.
+    #[inline(always)]
+    pub(crate) fn inverse_of_sink(&self, sink: Sink) -> ObjectChange<'_>
+        requires { HasSink self.now sink }
+        ensures { (bytes : List ℕ) → the_object_change result
+            ≡ object_inverse_of self.now (sunk self.now sink bytes) }
+    {
+        match sink {
+            Sink::QueueEnd { queue, end } => {
+                let change = match end {
+                    End::Back => QueueChange::TakeBack,
+                    End::Front => QueueChange::TakeFront,
+                };
+                ObjectChange::Queue { queue, change }
+            }
+            Sink::OverFront { queue } => {
+                let item = self.queue(queue).first();
+                let change = QueueChange::SetItem { index: 0, item };
+                ObjectChange::Queue { queue, change }
+            }
+        }
+    }
+
+    // Puts the item that these bytes make at an end of a queue that has room.
+    #[inline(always)]
+    fn put_fitted(&mut self, queue: usize, end: End, bytes: &[u8])
         requires there { queue < length self.old.queues }
         requires room { length (queue_in self.old queue).items
             < (queue_in self.old queue).capacity }
@@ -286,9 +330,9 @@ impl Objects {
         target.put_fitted(end, bytes);
     }
 
-    /// Puts the item that these bytes make in the place of a queue's first.
+    // Puts the item that these bytes make in the place of a queue's first.
     #[inline(always)]
-    pub(crate) fn set_first_fitted(&mut self, queue: usize, bytes: &[u8])
+    fn set_first_fitted(&mut self, queue: usize, bytes: &[u8])
         requires there { queue < length self.old.queues }
         requires some { 0 < length (queue_in self.old queue).items }
         ensures { self.new ≡ objects_with_queue self.old queue

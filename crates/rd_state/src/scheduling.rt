@@ -3,7 +3,7 @@
 ghost use Rattle.std.specs.Prelude.{◌≡◌, ◌+◌, ◌*◌, ◌-◌, ◌<◌, ◌≤◌, length, slice_index};
 ghost use Rattle.std.specs.Prelude.{Ok, false, IfOk, IsOk, OnOk, OnErr};
 ghost use Rattle.rd_wait.specs.Joined.{joined};
-ghost use Rattle.rd_state.specs.Edit.{Reaches, KeepsBase};
+ghost use Rattle.rd_state.specs.Edit.{room_for, GivesUp, Reaches};
 ghost use Rattle.rd_state.specs.Settled.{settled, settled_in, rotated, weakest_of, rank_of};
 ghost use Rattle.rd_state.specs.Settled.{head_of, seated_on, after_one_round, seating_of};
 ghost use Rattle.rd_state.specs.Settled.{shares_core, with_seats, IsSettled, SchedulingSettles};
@@ -53,6 +53,7 @@ impl Editing {
         requires priorities { length priorities.now ≡ length self.old.now.tasks }
         ensures ok { OnOk result (Reaches self.old self.new
             (record self.old.now { ready = joined priorities.now self.old.now.ready task }) 1) }
+        ensures short { OnErr result (self.old.room < room_for 1) }
         ensures err { OnErr result (self.new ≡ self.old) }
     {
         let index = self.state().ready().index_for(priorities, priorities[task]);
@@ -67,7 +68,7 @@ impl Editing {
         requires priorities { length priorities.now ≡ length self.old.now.tasks }
         ensures ok { OnOk result (Reaches self.old self.new
             (with_seats self.old.now (seated_on priorities.now (seating_of self.old.now) core)) 3) }
-        ensures err { OnErr result (KeepsBase self.old self.new) }
+        ensures err { OnErr result (GivesUp self.old self.new 3) }
     {
         let running = self.state().core(core);
         self.change(Change::DelReady { index: 0 })?;
@@ -88,7 +89,7 @@ impl Editing {
         ensures settled { IsSettled priorities.now self.old.now → result ≡ Ok false }
         ensures still { result ≡ Ok false
             → after_one_round priorities.now (seating_of self.old.now) ≡ seating_of self.old.now }
-        ensures err { OnErr result (KeepsBase self.old self.new) }
+        ensures err { OnErr result (GivesUp self.old self.new 3) }
     {
         let Some(head) = self.state().ready().first() else {
             return Ok(false);
@@ -110,7 +111,7 @@ impl Editing {
             (Reaches self.old self.new (settled_in priorities.now rounds self.old.now)
             (3 * rounds)) }
         ensures settled { IsSettled priorities.now self.old.now → IsOk result }
-        ensures err { OnErr result (KeepsBase self.old self.new) }
+        ensures err { OnErr result (GivesUp self.old self.new (3 * rounds)) }
     {
         if rounds == 0 {
             return Ok(());
@@ -130,7 +131,7 @@ impl Editing {
         ensures ok { OnOk result (Reaches self.old self.new (settled priorities.now self.old.now)
             (3 * length self.old.now.cores)) }
         ensures settled { IsSettled priorities.now self.old.now → IsOk result }
-        ensures err { OnErr result (KeepsBase self.old self.new) }
+        ensures err { OnErr result (GivesUp self.old self.new (3 * length self.old.now.cores)) }
     {
         let rounds = self.state().cores().len();
         self.settle_in(priorities, rounds)
@@ -146,7 +147,7 @@ impl Editing {
             (Reaches self.old self.new (rotated priorities.now core self.old.now) 3) }
         ensures stays { shares_core priorities.now (seating_of self.old.now) core ≡ false
             → IsOk result }
-        ensures err { OnErr result (KeepsBase self.old self.new) }
+        ensures err { OnErr result (GivesUp self.old self.new 3) }
     {
         let Some(head) = self.state().ready().first() else {
             return Ok(());

@@ -1,16 +1,20 @@
 //! The whole state of the target: what is read of it, and each primitive change of it.
 
-ghost use Rattle.std.specs.Prelude.{◌≡◌, ◌<◌, ◌≤◌, ◌↔◌, length, All, IfOk, IsOk, IsTrue};
+ghost use Rattle.std.specs.Prelude.{◌≡◌, ◌<◌, ◌≤◌, ◌↔◌, length, All, IfOk, IsTrue};
 ghost use Rattle.rd_state.specs.Boot.{before_scheduling};
-ghost use Rattle.rd_state.specs.Change.{applied, inverse_of, saved_bytes, Fits};
-ghost use Rattle.rd_state.specs.Objects.{AreSizedObjects, IsQueueFor, IsQueueSetFor};
+ghost use Rattle.rd_state.specs.Change as changes;
+ghost use Rattle.rd_state.specs.Change.{applied, inverse_of, the_change, Fits};
+ghost use Rattle.rd_state.specs.Objects.{the_object_change, AreSizedObjects, IsQueueFor};
+ghost use Rattle.rd_state.specs.Objects.{IsQueueSetFor};
 ghost use Rattle.rd_state.specs.Settled.{weakest_of, rank_of};
 ghost use Rattle.rd_state.specs.Sizes.{IsSized, IsSizedPhase, IsTaskOrIdle};
 ghost use Rattle.rd_state.specs.Snapshot.{hollow_state, numbers_of, task_at, queue_at};
 ghost use Rattle.rd_state.specs.Snapshot.{queue_set_at};
 ghost use Rattle.rd_state.specs.Snapshot.{core_at};
 ghost use Rattle.rd_state.specs.Snapshot.{SameScheduling, SameObjects};
-ghost use Rattle.rd_state.specs.Transfers.{change_of, CanTransfer};
+ghost use Rattle.rd_state.specs.TaskChanges.{the_task_change};
+ghost use Rattle.rd_state.specs.Transfers.{change_of, CanTransfer, HasSink, HasSource};
+ghost use Rattle.rd_state.specs.declared.transfer.Transfer.TheVariants as transfer;
 ghost use Rattle.rd_state.specs.Waiting.{HasPlace, waiting_at};
 
 use crate::boot::{all_ready, new_tasks};
@@ -19,13 +23,10 @@ use crate::objects::{ObjectChange, Objects};
 use crate::phase::{Phase, Place};
 use crate::task::Task;
 use crate::task_change::TaskChange;
-use crate::transfer::Transfer;
+use crate::transfer::{Sink, Source, Transfer};
 use crate::whole::{all_same, copy_all};
 use rd_app::app::App;
 use rd_bytes::no_memory::NoMemory;
-use rd_bytes::saved::SavedBytes;
-use rd_queue::change::QueueChange;
-use rd_queue::end::End;
 use rd_queue::queue::Queue;
 use rd_queue::queue_set::QueueSet;
 use rd_wait::prio_list::PrioList;
@@ -255,107 +256,96 @@ impl State {
 
     #[inline(always)]
     fn set_tick(&mut self, tick: u32)
-        requires { Fits self.old (Change.SetTick tick) }
-        ensures { self.new ≡ applied self.old (Change.SetTick tick) }
+        requires { Fits self.old (changes.SetTick tick) }
+        ensures { self.new ≡ applied self.old (changes.SetTick tick) }
     {
         self.tick = tick;
     }
 
     #[inline(always)]
     fn set_turn(&mut self, turn: usize)
-        requires { Fits self.old (Change.SetTurn turn) }
-        ensures { self.new ≡ applied self.old (Change.SetTurn turn) }
+        requires { Fits self.old (changes.SetTurn turn) }
+        ensures { self.new ≡ applied self.old (changes.SetTurn turn) }
     {
         self.turn = turn;
     }
 
     #[inline(always)]
     fn set_core(&mut self, core: usize, task: Option<usize>)
-        requires { Fits self.old (Change.SetCore core task) }
-        ensures { self.new ≡ applied self.old (Change.SetCore core task) }
+        requires { Fits self.old (changes.SetCore core task) }
+        ensures { self.new ≡ applied self.old (changes.SetCore core task) }
     {
         self.cores[core] = task;
     }
 
     #[inline(always)]
     fn insert_ready(&mut self, index: usize, task: usize)
-        requires { Fits self.old (Change.InsReady index task) }
-        ensures { self.new ≡ applied self.old (Change.InsReady index task) }
+        requires { Fits self.old (changes.InsReady index task) }
+        ensures { self.new ≡ applied self.old (changes.InsReady index task) }
     {
         self.ready.insert_at(index, task);
     }
 
     #[inline(always)]
     fn delete_ready(&mut self, index: usize)
-        requires { Fits self.old (Change.DelReady index) }
-        ensures { self.new ≡ applied self.old (Change.DelReady index) }
+        requires { Fits self.old (changes.DelReady index) }
+        ensures { self.new ≡ applied self.old (changes.DelReady index) }
     {
         self.ready.remove_at(index);
     }
 
     #[inline(always)]
-    fn change_task(&mut self, task: usize, change: &TaskChange)
-        requires { Fits self.old (Change.Task task change.now) }
-        ensures { self.new ≡ applied self.old (Change.Task task change.now) }
+    fn change_task(&mut self, task: usize, change: TaskChange<'_>)
+        requires { Fits self.old (changes.Task task (the_task_change change)) }
+        ensures { self.new
+            ≡ applied self.old (changes.Task task (the_task_change change.entry)) }
     {
         let target = &mut self.tasks[task];
         target.apply(change);
     }
 
     #[inline(always)]
-    fn change_object(&mut self, change: &ObjectChange)
-        requires { Fits self.old (Change.Object change.now) }
-        ensures { self.new ≡ applied self.old (Change.Object change.now) }
+    fn change_object(&mut self, change: ObjectChange<'_>)
+        requires { Fits self.old (changes.Object (the_object_change change)) }
+        ensures { self.new ≡ applied self.old (changes.Object (the_object_change change.entry)) }
     {
         self.objects.apply(change);
     }
 
     /// Makes a change. It takes no memory.
     #[inline(always)]
-    pub fn apply(&mut self, change: &Change)
-        requires { Fits self.old change.now }
-        ensures { self.new ≡ applied self.old change.now }
+    pub fn apply(&mut self, change: Change<'_>)
+        requires { Fits self.old (the_change change) }
+        ensures { self.new ≡ applied self.old (the_change change.entry) }
     {
         match change {
-            Change::SetTick { tick } => self.set_tick(*tick),
-            Change::SetTurn { turn } => self.set_turn(*turn),
-            Change::SetCore { core, task } => self.set_core(*core, *task),
-            Change::InsReady { index, task } => self.insert_ready(*index, *task),
-            Change::DelReady { index } => self.delete_ready(*index),
-            Change::Task { task, change } => self.change_task(*task, change),
+            Change::SetTick { tick } => self.set_tick(tick),
+            Change::SetTurn { turn } => self.set_turn(turn),
+            Change::SetCore { core, task } => self.set_core(core, task),
+            Change::InsReady { index, task } => self.insert_ready(index, task),
+            Change::DelReady { index } => self.delete_ready(index),
+            Change::Task { task, change } => self.change_task(task, change),
             Change::Object { change } => self.change_object(change),
         }
     }
 
     #[inline(always)]
-    fn put_data(&mut self, task: usize, queue: usize, end: End)
-        requires { CanTransfer self.old (Transfer.DataToQueue task queue end) }
-        ensures { self.new
-            ≡ applied self.old (change_of self.old (Transfer.DataToQueue task queue end)) }
+    fn transfer_from_data(&mut self, task: usize, sink: Sink)
+        requires { CanTransfer self.old (transfer.FromData task sink) }
+        ensures { self.new ≡ applied self.old (change_of self.old (transfer.FromData task sink)) }
     {
         let bytes = self.tasks[task].bytes();
-        self.objects.put_fitted(queue, end, bytes);
+        self.objects.sink(sink, bytes);
     }
 
     #[inline(always)]
-    fn put_over(&mut self, task: usize, queue: usize)
-        requires { CanTransfer self.old (Transfer.DataOverFront task queue) }
-        ensures { self.new
-            ≡ applied self.old (change_of self.old (Transfer.DataOverFront task queue)) }
+    fn transfer_to_data(&mut self, source: Source, task: usize)
+        requires { CanTransfer self.old (transfer.ToData source task) }
+        ensures { self.new ≡ applied self.old (change_of self.old (transfer.ToData source task)) }
     {
-        let bytes = self.tasks[task].bytes();
-        self.objects.set_first_fitted(queue, bytes);
-    }
-
-    #[inline(always)]
-    fn take_data(&mut self, queue: usize, task: usize)
-        requires { CanTransfer self.old (Transfer.FrontToData queue task) }
-        ensures { self.new
-            ≡ applied self.old (change_of self.old (Transfer.FrontToData queue task)) }
-    {
-        let item = self.objects.queue(queue).first();
+        let bytes = self.objects.bytes_at(source);
         let target = &mut self.tasks[task];
-        target.set_bytes(item);
+        target.set_bytes(bytes);
     }
 
     /// Makes the change that a transfer stands for, with no copy of the bytes but the one that
@@ -366,75 +356,56 @@ impl State {
         ensures { self.new ≡ applied self.old (change_of self.old transfer) }
     {
         match transfer {
-            Transfer::DataToQueue { task, queue, end } => self.put_data(task, queue, end),
-            Transfer::DataOverFront { task, queue } => self.put_over(task, queue),
-            Transfer::FrontToData { queue, task } => self.take_data(queue, task),
+            Transfer::FromData { task, sink } => self.transfer_from_data(task, sink),
+            Transfer::ToData { source, task } => self.transfer_to_data(source, task),
         }
     }
 
-    /// The change that undoes a transfer, made at this state. It needs memory only where more than
-    /// 16 bytes are saved.
+    /// The change that undoes a transfer, made at this state, which lends it its bytes. It takes no
+    /// memory.
     #[inline(always)]
-    pub fn inverse_of_transfer(&self, alloc: Global, transfer: Transfer) -> Result<Change, NoMemory>
+    pub fn inverse_of_transfer(&self, transfer: Transfer) -> Change<'_>
         requires { CanTransfer self.now transfer }
-        ensures inverse { IfOk result
-            (λ inverse. inverse ≡ inverse_of self.now (change_of self.now transfer)) }
-        ensures memory { saved_bytes (inverse_of self.now (change_of self.now transfer)) ≤ 16
-            → IsOk result }
+        ensures { the_change result ≡ inverse_of self.now (change_of self.now transfer) }
     {
         match transfer {
-            Transfer::DataToQueue { queue, end, .. } => {
-                let change = match end {
-                    End::Back => QueueChange::TakeBack,
-                    End::Front => QueueChange::TakeFront,
-                };
-                let change = ObjectChange::Queue { queue, change };
-                Ok(Change::Object { change })
+            Transfer::FromData { sink, .. } => Change::Object {
+                change: self.objects.inverse_of_sink(sink),
+            },
+            Transfer::ToData { task, .. } => {
+                let bytes = self.task(task).bytes();
+                let change = TaskChange::SetData { bytes };
+                Change::Task { task, change }
             }
-            Transfer::DataOverFront { queue, .. } => {
-                let change = QueueChange::SetItem {
-                    index: 0,
-                    item: SavedBytes::from_slice(alloc, self.queue(queue).first())?,
-                };
-                let change = ObjectChange::Queue { queue, change };
-                Ok(Change::Object { change })
-            }
-            Transfer::FrontToData { task, .. } => Ok(Change::Task {
-                task,
-                change: TaskChange::SetData {
-                    bytes: SavedBytes::from_slice(alloc, self.task(task).bytes())?,
-                },
-            }),
         }
     }
 
-    /// The change that undoes `change`, made at this state. It needs memory only where
-    /// more than 16 bytes are saved.
+    /// The change that undoes `change`, made at this state, which lends it its bytes. It takes no
+    /// memory.
     #[inline(always)]
-    pub fn inverse_of(&self, alloc: Global, change: &Change) -> Result<Change, NoMemory>
-        requires { Fits self.now change.now }
-        ensures inverse { IfOk result (λ inverse. inverse ≡ inverse_of self.now change.now) }
-        ensures memory { saved_bytes (inverse_of self.now change.now) ≤ 16 → IsOk result }
+    pub fn inverse_of(&self, change: Change<'_>) -> Change<'_>
+        requires { Fits self.now (the_change change) }
+        ensures { the_change result ≡ inverse_of self.now (the_change change.entry) }
     {
         match change {
-            Change::SetTick { .. } => Ok(Change::SetTick { tick: self.tick }),
-            Change::SetTurn { .. } => Ok(Change::SetTurn { turn: self.turn }),
-            Change::SetCore { core, .. } => Ok(Change::SetCore {
-                core: *core,
-                task: self.core(*core),
-            }),
-            Change::InsReady { index, .. } => Ok(Change::DelReady { index: *index }),
-            Change::DelReady { index } => Ok(Change::InsReady {
-                index: *index,
-                task: self.ready.as_slice()[*index],
-            }),
-            Change::Task { task, change } => Ok(Change::Task {
-                task: *task,
-                change: self.task(*task).inverse_of(alloc, change)?,
-            }),
-            Change::Object { change } => Ok(Change::Object {
-                change: self.objects.inverse_of(alloc, change)?,
-            }),
+            Change::SetTick { .. } => Change::SetTick { tick: self.tick },
+            Change::SetTurn { .. } => Change::SetTurn { turn: self.turn },
+            Change::SetCore { core, .. } => Change::SetCore {
+                core,
+                task: self.core(core),
+            },
+            Change::InsReady { index, .. } => Change::DelReady { index },
+            Change::DelReady { index } => Change::InsReady {
+                index,
+                task: self.ready.as_slice()[index],
+            },
+            Change::Task { task, change } => Change::Task {
+                task,
+                change: self.task(task).inverse_of(change),
+            },
+            Change::Object { change } => Change::Object {
+                change: self.objects.inverse_of(change),
+            },
         }
     }
 }

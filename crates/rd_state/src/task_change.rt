@@ -1,19 +1,16 @@
 //! The primitive changes of a task, each with the change that undoes it.
 
-ghost use Rattle.std.specs.Prelude.{◌≡◌, ◌+◌, ◌≤◌, IfOk, IsOk};
-ghost use Rattle.rd_state.specs.Sizes.{IsSizedTask};
+ghost use Rattle.std.specs.Prelude.{◌≡◌, ◌+◌};
 ghost use Rattle.rd_state.specs.TaskChanges.{task_applied, task_inverse_of, task_saved_bytes};
-ghost use Rattle.rd_state.specs.TaskChanges.{TaskFits, EachTaskChangeIsUndone};
+ghost use Rattle.rd_state.specs.TaskChanges.{the_task_change, TaskFits, EachTaskChangeIsUndone};
 
 use crate::phase::Phase;
 use crate::task::Task;
-use rd_bytes::no_memory::NoMemory;
-use rd_bytes::saved::SavedBytes;
-use std::alloc::Global;
 
-/// A primitive change of a task.
-#[derive(Debug, Drop)]
-pub enum TaskChange {
+/// A primitive change of a task. Its bytes are borrowed: from the task, from an object, or from
+/// where changes are kept.
+#[derive(Clone, Copy, Debug)]
+pub enum TaskChange<'a> {
     /// The task stands at this instruction.
     SetPc { pc: usize },
     /// The register becomes the value.
@@ -21,17 +18,17 @@ pub enum TaskChange {
     /// The task is in this phase.
     SetPhase { phase: Phase },
     /// The data becomes these bytes.
-    SetData { bytes: SavedBytes },
+    SetData { bytes: &'a [u8] },
 }
 
-impl TaskChange {
+impl TaskChange<'_> {
     /// How much it takes in a record: one, and the bytes that it carries.
-    pub fn cost(&self) -> usize
-        ensures { result ≡ 1 + task_saved_bytes self.now }
+    pub fn cost(self) -> usize
+        ensures { result ≡ 1 + task_saved_bytes (the_task_change self.entry) }
     {
         match self {
             TaskChange::SetPc { .. } | TaskChange::SetReg { .. } | TaskChange::SetPhase { .. } => 1,
-            TaskChange::SetData { bytes } => 1 + bytes.as_slice().len(),
+            TaskChange::SetData { bytes } => 1 + bytes.len(),
         }
     }
 }
@@ -39,39 +36,38 @@ impl TaskChange {
 impl Task {
     /// Makes a change. It takes no memory.
     #[inline(always)]
-    pub fn apply(&mut self, change: &TaskChange)
-        requires { TaskFits change.now }
-        ensures { self.new ≡ task_applied self.old change.now }
+    pub fn apply(&mut self, change: TaskChange<'_>)
+        requires { TaskFits (the_task_change change) }
+        ensures { self.new ≡ task_applied self.old (the_task_change change.entry) }
     {
         match change {
-            TaskChange::SetPc { pc } => self.set_pc(*pc),
-            TaskChange::SetReg { register, value } => self.set_register(*register, *value),
-            TaskChange::SetPhase { phase } => self.set_phase(*phase),
-            TaskChange::SetData { bytes } => self.set_bytes(bytes.as_slice()),
+            TaskChange::SetPc { pc } => self.set_pc(pc),
+            TaskChange::SetReg { register, value } => self.set_register(register, value),
+            TaskChange::SetPhase { phase } => self.set_phase(phase),
+            TaskChange::SetData { bytes } => self.set_bytes(bytes),
         }
     }
 
-    /// The change that undoes `change`, made at this task. It needs memory only where more than 16
-    /// bytes are saved.
+    /// The change that undoes `change`, made at this task, which lends it its bytes. It takes no
+    /// memory.
     #[inline(always)]
-    pub fn inverse_of(&self, alloc: Global, change: &TaskChange) -> Result<TaskChange, NoMemory>
-        requires { TaskFits change.now }
-        ensures inverse { IfOk result (λ inverse. inverse ≡ task_inverse_of self.now change.now) }
-        ensures memory { task_saved_bytes (task_inverse_of self.now change.now) ≤ 16
-            → IsOk result }
+    pub fn inverse_of(&self, change: TaskChange<'_>) -> TaskChange<'_>
+        requires { TaskFits (the_task_change change) }
+        ensures { the_task_change result
+            ≡ task_inverse_of self.now (the_task_change change.entry) }
     {
         match change {
-            TaskChange::SetPc { .. } => Ok(TaskChange::SetPc { pc: self.pc() }),
-            TaskChange::SetReg { register, .. } => Ok(TaskChange::SetReg {
-                register: *register,
-                value: self.register(*register),
-            }),
-            TaskChange::SetPhase { .. } => Ok(TaskChange::SetPhase {
+            TaskChange::SetPc { .. } => TaskChange::SetPc { pc: self.pc() },
+            TaskChange::SetReg { register, .. } => TaskChange::SetReg {
+                register,
+                value: self.register(register),
+            },
+            TaskChange::SetPhase { .. } => TaskChange::SetPhase {
                 phase: self.phase(),
-            }),
-            TaskChange::SetData { .. } => Ok(TaskChange::SetData {
-                bytes: SavedBytes::from_slice(alloc, self.bytes())?,
-            }),
+            },
+            TaskChange::SetData { .. } => TaskChange::SetData {
+                bytes: self.bytes(),
+            },
         }
     }
 }

@@ -2,15 +2,27 @@
 
 use rd_queue::end::End;
 
-/// Bytes that go from one part of the state straight to the place where they stay in another.
+/// From where a task's data can get bytes.
+#[derive(Clone, Copy, Debug, PartialEq, Eq)]
+pub enum Source {
+    /// The item at a queue's front. The queue keeps it.
+    QueueFront { queue: usize },
+}
+
+/// Where the bytes of a task's data can go.
+#[derive(Clone, Copy, Debug, PartialEq, Eq)]
+pub enum Sink {
+    /// An end of a queue, cut or filled up with zero bytes to the item size.
+    QueueEnd { queue: usize, end: End },
+    /// The place of the item at a queue's front, made to fit likewise.
+    OverFront { queue: usize },
+}
+
+/// Bytes that go between a task's data and another part of the state, straight to where they stay.
 #[derive(Clone, Copy, Debug, PartialEq, Eq)]
 pub enum Transfer {
-    /// A task's data, cut or filled up with zero bytes to the item size, is put at an end of a
-    /// queue. The task keeps it.
-    DataToQueue { task: usize, queue: usize, end: End },
-    /// A task's data, made to fit likewise, takes the place of the item at a queue's front. The
-    /// task keeps it.
-    DataOverFront { task: usize, queue: usize },
-    /// The item at a queue's front becomes a task's data. The queue keeps it.
-    FrontToData { queue: usize, task: usize },
+    /// A task's data goes to a sink. The task keeps it.
+    FromData { task: usize, sink: Sink },
+    /// The bytes at a source become a task's data.
+    ToData { source: Source, task: usize },
 }

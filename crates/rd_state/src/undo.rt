@@ -1,32 +1,31 @@
-//! Records of changes, and the way back by one.
+//! The record of one move, and the way back by it.
 
-ghost use Rattle.std.specs.Prelude.{◌≡◌, ◌∷◌, ◌++◌, ◌^◌, ◌<◌, ◌≤◌, [], length, drop, take};
-ghost use Rattle.std.specs.Prelude.{IfErr, OnOk, OnErr};
-ghost use Rattle.rd_state.specs.Change.{applied, inverse_of, cost_of, weight_of, Fits};
-ghost use Rattle.rd_state.specs.Transfers.{change_of, CanTransfer};
+ghost use Rattle.std.specs.Prelude.{◌≡◌, ◌<◌, ◌^◌, [], length, slice_index_or};
+ghost use Rattle.rd_state.specs.Change.{no_change, the_change, weight_of};
+ghost use Rattle.rd_state.specs.PackedChanges.{all_packed, changes_in, AreChanges};
 ghost use Rattle.rd_state.specs.Undoing.{undone, CanUndo, EachIsUndone};
 
 use crate::change::Change;
+use crate::change_list::{ChangeList, go_back};
 use crate::state::State;
-use crate::transfer::Transfer;
-use rd_bytes::no_memory::NoMemory;
 use std::alloc::Global;
 use std::marker::Model;
 
-/// The record of a move, or of moves one after the other: the changes that undo them, in the order
-/// of recording. It can't be dropped: it ends in `State::back`, in a log or in `retire`.
+/// The record of a move: the changes that undo it, in the order of recording. Those of nearly every
+/// move take no memory elsewhere. It can't be dropped: it ends in `State::back`, in a log or in
+/// `retire`.
 #[derive(Debug)]
 pub struct Undo {
-    changes: Vec<Change>,
+    pub(crate) changes: ChangeList,
 }
 
 impl Model for Undo {
     ghost use Rattle.std.specs.Prelude.{List};
-    ghost use Rattle.rd_state.specs.declared.change.Change.{Change};
+    ghost use Rattle.rd_state.specs.Change.{Change};
 
     ghost Value = { List Change };
 
-    ghost view = { λ u. u.changes.items };
+    ghost view = { λ u. u.changes.changes };
 }
 
 impl Undo {
@@ -35,7 +34,7 @@ impl Undo {
         ensures { result ≡ [] }
     {
         Undo {
-            changes: Vec::new(alloc),
+            changes: ChangeList::new(alloc),
         }
     }
 
@@ -44,11 +43,28 @@ impl Undo {
         let Undo { changes: _ } = self;
     }
 
-    /// How many changes it has.
+    /// How many changes it has. It takes no memory.
     pub fn len(&self) -> usize
         ensures { result ≡ length self.now }
     {
         self.changes.len()
+    }
+
+    /// The change at `index`, in the order of recording. It takes no memory.
+    pub fn get(&self, index: usize) -> Change<'_>
+        requires { index < length self.now }
+        ensures { the_change result ≡ slice_index_or self.now index no_change }
+    {
+        self.changes.get(index)
+    }
+
+    /// The bytes of its changes, one after the other.
+    pub fn bytes(&self) -> &[u8]
+        ensures bytes { result.now ≡ all_packed self.now }
+        ensures changes { changes_in (length self.now) result.now ≡ self.now }
+        ensures are { AreChanges (length self.now) result.now }
+    {
+        self.changes.bytes()
     }
 
     /// How much it takes: the number of its changes and the bytes that they carry.
@@ -56,98 +72,29 @@ impl Undo {
         requires { weight_of self.now < 2 ^ 64 }
         ensures { result ≡ weight_of self.now }
     {
-        let mut weight = 0;
-        for change in self.changes.as_slice() {
-            weight += change.cost();
-        }
-        weight
+        self.changes.weight()
     }
-
-    #[inline(always)]
-    fn push(&mut self, change: Change) -> Result<(), NoMemory>
-        ensures ok { OnOk result (self.new ≡ self.old ++ change ∷ []) }
-        ensures err { OnErr result (self.new ≡ self.old) }
-    {
-        self.changes.push(change)?;
-        Ok(())
-    }
-
-    /// Adds the changes of another record after its own. Where there is no memory for that, the
-    /// other is handed back and this one is as it was.
-    pub fn append(&mut self, other: Undo) -> Result<(), Undo>
-        ensures ok { OnOk result (self.new ≡ self.old ++ other) }
-        ensures back { IfErr result (λ back. back ≡ other) }
-        ensures err { OnErr result (self.new ≡ self.old) }
-    {
-        let Undo { mut changes } = other;
-        match self.changes.append(&mut changes) {
-            Ok(()) => Ok(()),
-            Err(_) => Err(Undo { changes }),
-        }
-    }
-}
-
-/// Makes a change, and adds the change that undoes it to the record. Where there is no memory for
-/// that, nothing has changed.
-#[inline(always)]
-pub fn act(state: &mut State, undo: &mut Undo, change: Change) -> Result<(), NoMemory>
-    requires { Fits state.old change }
-    ensures state { OnOk result (state.new ≡ applied state.old change) }
-    ensures record { OnOk result (undo.new ≡ undo.old ++ inverse_of state.old change ∷ []) }
-    ensures err { OnErr result (state.new ≡ state.old) }
-    ensures err_record { OnErr result (undo.new ≡ undo.old) }
-{
-    let alloc = *undo.changes.allocator();
-    let inverse = state.inverse_of(alloc, &change)?;
-    undo.push(inverse)?;
-    state.apply(&change);
-    Ok(())
-}
-
-/// Makes a transfer, and adds the change that undoes it to the record. Where there is no memory for
-/// that, nothing has changed.
-#[inline(always)]
-pub fn act_transfer(state: &mut State, undo: &mut Undo, transfer: Transfer) -> Result<(), NoMemory>
-    requires { CanTransfer state.old transfer }
-    ensures state { OnOk result
-        (state.new ≡ applied state.old (change_of state.old transfer)) }
-    ensures record { OnOk result
-        (undo.new ≡ undo.old ++ inverse_of state.old (change_of state.old transfer) ∷ []) }
-    ensures err { OnErr result (state.new ≡ state.old) }
-    ensures err_record { OnErr result (undo.new ≡ undo.old) }
-{
-    let alloc = *undo.changes.allocator();
-    let inverse = state.inverse_of_transfer(alloc, transfer)?;
-    undo.push(inverse)?;
-    state.transfer(transfer);
-    Ok(())
 }
 
 impl State {
-    /// Goes back by the changes that a record has after its first `len`, the last one first; they
-    /// leave the record. It takes no memory.
-    #[inline(always)]
-    pub fn back_to(&mut self, undo: &mut Undo, len: usize)
-        requires within { len ≤ length undo.old }
-        requires fits { CanUndo self.old (drop len undo.old) }
-        ensures state { self.new ≡ undone self.old (drop len undo.old) }
-        ensures record { undo.new ≡ take len undo.old }
-    {
-        while undo.changes.len() > len {
-            let change = undo.changes.pop().unwrap();
-            self.apply(&change);
-            drop(change);
-        }
-    }
-
     /// Goes back by a record, its last change first. It takes no memory.
     pub fn back(&mut self, undo: Undo)
         requires { CanUndo self.old undo }
         ensures { self.new ≡ undone self.old undo }
     {
         let mut undo = undo;
-        self.back_to(&mut undo, 0);
+        undo.changes.back_to(self, 0);
         undo.retire();
+    }
+
+    /// Goes back by so many changes, which these bytes are, the last one first. It takes no memory.
+    #[inline(always)]
+    pub fn back_by(&mut self, bytes: &[u8], count: usize)
+        requires are { AreChanges count bytes.now }
+        requires fits { CanUndo self.old (changes_in count bytes.now) }
+        ensures { self.new ≡ undone self.old (changes_in count bytes.now) }
+    {
+        go_back(self, bytes, count, 0);
     }
 }
 

@@ -6,7 +6,7 @@ use Rattle.std.proofs.lemmas.List.{append_assoc, take_all, drop_all, take-append
 use Rattle.std.proofs.lemmas.List.{take-take, take-append-drop, drop-take, drop-drop}
 use Rattle.std.proofs.lemmas.List.Sums.{fold_push}
 use Rattle.rd_app.specs.Application.{Application, priorities_of}
-use Rattle.rd_state.specs.declared.change.Change.{Change}
+use Rattle.rd_state.specs.Change.{Change}
 use Rattle.rd_state.specs.Boot.{boot_of}
 use Rattle.rd_state.specs.Snapshot.{Snapshot}
 use Rattle.rd_state.specs.Undoing.{undone, CanUndo}

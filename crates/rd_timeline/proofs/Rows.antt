@@ -4,11 +4,11 @@ use Rattle.rd_notify.specs.Entries.{idle_entry}
 use Rattle.rd_queue.specs.QueueSnapshot.{QueueSnapshot}
 use Rattle.rd_app.specs.Builtin.{builtin}
 use Rattle.rd_state.specs.declared.phase.Phase.TheVariants.{Run}
-use Rattle.rd_state.specs.declared.change.Change.{Change}
-use Rattle.rd_state.specs.declared.change.Change.TheVariants.{Object, Task}
-use Rattle.rd_state.specs.declared.objects.ObjectChange.TheVariants.{Queue}
-use Rattle.rd_state.specs.declared.task_change.TaskChange.TheVariants.{SetPc, SetReg}
-use Rattle.rd_queue.specs.declared.change.QueueChange.TheVariants.{PutBack}
+use Rattle.rd_state.specs.Change.{Change}
+use Rattle.rd_state.specs.Change.{Object, Task}
+use Rattle.rd_state.specs.Objects.{Queue}
+use Rattle.rd_state.specs.TaskChanges.{SetPc, SetReg}
+use Rattle.rd_queue.specs.Changes.{PutBack}
 use Rattle.rd_state.specs.Boot.{boot_of}
 use Rattle.rd_state.specs.Change.{applied, inverse_of}
 use Rattle.rd_state.specs.Snapshot.{Snapshot, TaskSnapshot}

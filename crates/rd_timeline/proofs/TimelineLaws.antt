@@ -3,7 +3,7 @@ use Rattle.std.proofs.Common.{◌≡◌, ◌∙◌, ◌≢◌, ◌+◌, ◌-◌,
 use Rattle.std.specs.Prelude.{Ok}
 use Rattle.std.proofs.lemmas.List.{length_push, take_all, take_more}
 use Rattle.rd_app.specs.Application.{IsApplication, priorities_of}
-use Rattle.rd_state.specs.declared.change.Change.{Change}
+use Rattle.rd_state.specs.Change.{Change}
 use Rattle.rd_state.specs.Boot.{boot_of}
 use Rattle.rd_state.specs.Snapshot.{Snapshot}
 use Rattle.rd_state.specs.Undoing.{undone, CanUndo}

@@ -3,7 +3,7 @@ use Rattle.std.specs.Prelude.{ℕ, ◌≡◌, ◌≢◌, ◌≤◌, ◌⊎◌, L
 use Rattle.rd_text.specs.declared.refusal.Refusal.{Refusal}
 use Rattle.rd_text.specs.declared.refusal.Refusal.TheVariants.{MovesFull, NoMemory}
 use Rattle.rd_app.specs.Application.{Application}
-use Rattle.rd_state.specs.declared.change.Change.{Change}
+use Rattle.rd_state.specs.Change.{Change}
 use Rattle.rd_state.specs.Snapshot.{Snapshot}
 use Rattle.rd_calls.specs.declared.moves.Move.{Move}
 use Rattle.rd_calls.specs.Step.{step}

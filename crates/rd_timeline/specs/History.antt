@@ -2,7 +2,7 @@
 use Rattle.std.specs.Prelude.{ℕ, ◌≡◌, ◌≤◌, List, [], ◌∷◌, length, take, drop, fold, Result, Ok, Err}
 use Rattle.rd_text.specs.declared.refusal.Refusal.{Refusal}
 use Rattle.rd_app.specs.Application.{Application, priorities_of}
-use Rattle.rd_state.specs.declared.change.Change.{Change}
+use Rattle.rd_state.specs.Change.{Change}
 use Rattle.rd_state.specs.Boot.{boot_of}
 use Rattle.rd_state.specs.Settled.{IsSettled}
 use Rattle.rd_state.specs.Snapshot.{Snapshot}

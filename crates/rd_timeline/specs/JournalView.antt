@@ -1,17 +1,19 @@
 -- What a contract sees of a journal.
 use Rattle.std.specs.Prelude.{ℕ, ◌≡◌, ◌∷◌, ◌++◌, [], List}
-use Rattle.rd_state.specs.declared.change.Change.{Change}
+use Rattle.rd_state.specs.Change.{Change}
 use Rattle.rd_state.specs.Snapshot.{Snapshot}
 use Rattle.rd_calls.specs.declared.moves.Move.{Move}
 
 -- The target, the moves done in order, with the record of each, and the moves undone, the one to be
--- redone next first. There is room for so many moves done with their records.
+-- redone next first. There is room for so many moves done with their records, and for so many bytes
+-- more of the records' changes.
 pub record JournalView : Type 0 where
   pub target : Snapshot
   pub done : List Move
   pub records : List (List Change)
   pub undone : List Move
   pub capacity : ℕ
+  pub room : ℕ
 
 -- The target, the moves and their records are as they were.
 pub record IsAsBefore (old new : JournalView) : Type 0 where

@@ -1,12 +1,12 @@
 -- What a contract sees of a log.
 use Rattle.std.specs.Prelude.{ℕ, ◌≡◌, ◌-◌, List, [], ◌∷◌, ◌++◌, length, slice_index_or}
 use Rattle.rd_app.specs.Application.{Application}
-use Rattle.rd_state.specs.declared.change.Change.{Change}
+use Rattle.rd_state.specs.Change.{Change}
 use Rattle.rd_state.specs.Snapshot.{Snapshot}
 use Rattle.rd_calls.specs.declared.moves.Move.{Move}
 use Rattle.rd_calls.specs.Step.{IsPlayed}
 
--- the records in order, and for how many there is room
+-- the records in order, and for how many bytes there is room
 pub record LogView : Type 0 where
   pub records : List (List Change)
   pub capacity : ℕ

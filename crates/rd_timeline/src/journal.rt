@@ -2,9 +2,11 @@
 
 ghost use Rattle.std.specs.Prelude.{◌≡◌, ◌↔◌, ◌-◌, ◌∷◌, ◌++◌, ◌<◌, ◌≤◌, ◌⊎◌, [], length, take};
 ghost use Rattle.std.specs.Prelude.{Err, IfErr, IsErrOf, IsOk, OnErr, OnOk};
-ghost use Rattle.rd_calls.specs.Step.{step, IsMoveOf};
+ghost use Rattle.rd_calls.specs.Step.{record_limit, step, IsMoveOf};
+ghost use Rattle.rd_state.specs.Edit.{room_for};
 ghost use Rattle.rd_state.specs.Undoing.{undone, CanUndo};
 ghost use Rattle.rd_state.specs.Valid.{IsValid};
+ghost use Rattle.rd_timeline.specs.JournalInside.{move_of_byte, HasByte};
 ghost use Rattle.rd_timeline.specs.JournalView.{IsAsBefore, TakesBack};
 ghost use Rattle.rd_timeline.specs.LogView.{last_record, RecordsMove};
 
@@ -21,7 +23,8 @@ use std::marker::Model;
 /// done. It can't be dropped: it ends in `retire`.
 #[derive(Debug)]
 pub struct Journal {
-    moves: Vec<Move>,
+    // A byte a move: the number of its core, or 255 for a tick.
+    moves: Vec<u8>,
     // So many of them are done; the others are undone, the one to be redone next first.
     done: usize,
     trail: Trail,
@@ -38,6 +41,17 @@ impl Model for Journal {
     ghost view = { journal_of };
 
     ghost invariant = { λ j. (j.done ≤ length j.moves.items) × (length j.trail.records ≡ j.done) };
+}
+
+// The byte that stands for a move.
+fn byte_of_move(action: &Move) -> u8
+    requires { HasByte action.now }
+    ensures { move_of_byte result ≡ action.now }
+{
+    match action {
+        Move::Core { core } => *core as u8,
+        Move::Tick => 255,
+    }
 }
 
 impl Journal {
@@ -84,6 +98,7 @@ impl Journal {
         ensures ok { OnOk result (length self.new.done < self.new.capacity) }
         ensures enough { length self.old.done < self.old.capacity → IsOk result }
         ensures room { self.old.capacity ≤ self.new.capacity }
+        ensures kept_room { self.new.room ≡ self.old.room }
     {
         let missing = (self.done + 1).saturating_sub(self.moves.len());
         self.moves.reserve(missing)?;
@@ -92,8 +107,9 @@ impl Journal {
 
     /// Makes a move: it is laid on the moves done, with its record, and the moves undone are
     /// forgotten. A refusal is one of `move_on`, and leaves the target, the moves and their records
-    /// as they were.
-    pub fn play(&mut self, alloc: Global, app: &App, action: Move) -> Result<(), Refusal>
+    /// as they were. Where there is room for the bytes that a record takes at the most, no memory is
+    /// asked for.
+    pub fn play(&mut self, app: &App, action: Move) -> Result<(), Refusal>
         requires valid { IsValid app.now self.old.target }
         requires named { IsMoveOf app.now action }
         requires room { length self.old.done < self.old.capacity }
@@ -108,12 +124,16 @@ impl Journal {
             ↔ (step app.now self.old.target action ≡ Err Refusal.TickLimit) }
         ensures refusals { IfErr result (λ refusal.
             (step app.now self.old.target action ≡ Err refusal) ⊎ (refusal ≡ Refusal.NoMemory)) }
+        ensures short { IsErrOf result Refusal.NoMemory
+            → self.old.room < room_for (record_limit app.now self.old.target action) }
         ensures err { OnErr result (IsAsBefore self.old self.new) }
         ensures kept_capacity { self.new.capacity ≡ self.old.capacity }
     {
-        self.trail.play(alloc, app, action.copy())?;
+        app.limits();
+        let byte = byte_of_move(&action);
+        self.trail.play(app, action)?;
         self.moves.truncate(self.done);
-        self.moves.push_reserved(action);
+        self.moves.push_reserved(byte);
         self.done += 1;
         Ok(())
     }
@@ -128,6 +148,7 @@ impl Journal {
         ensures records { self.new.records
             ≡ take (length self.old.records - 1) self.old.records }
         ensures room { self.new.capacity ≡ self.old.capacity }
+        ensures more_room { self.old.room ≤ self.new.room }
     {
         self.done -= 1;
         self.trail.take_back();

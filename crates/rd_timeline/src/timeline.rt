@@ -4,6 +4,7 @@ ghost use Rattle.std.specs.Prelude.{◌≡◌, ◌↔◌, ◌-◌, ◌<◌, ◌�
 ghost use Rattle.std.specs.Prelude.{Ok, IfOk, IfErr, OnOk, OnErr, IsOk, IsErrOf};
 ghost use Rattle.rd_state.specs.Boot.{boot_of};
 ghost use Rattle.rd_app.specs.Application.{priorities_of};
+ghost use Rattle.rd_state.specs.PackedChanges.{IsPackable};
 ghost use Rattle.rd_state.specs.Settled.{IsSettled};
 ghost use Rattle.rd_state.specs.Valid.{IsValid};
 ghost use Rattle.rd_calls.specs.Step.{step, IsMoveOf};
@@ -26,7 +27,6 @@ use std::marker::Model;
 /// The target with the moves that led to it. It can't be dropped: it ends in `close`.
 #[derive(Debug)]
 pub struct Timeline {
-    alloc: Global,
     app: App,
     limit: usize,
     journal: Journal,
@@ -59,7 +59,6 @@ impl Timeline {
         app.limits();
         let target = State::boot(alloc, &app)?;
         Ok(Timeline {
-            alloc,
             app,
             limit,
             journal: Journal::new(alloc, target),
@@ -138,7 +137,7 @@ impl Timeline {
             let cause = why_not(&self.app, self.journal.target(), &action);
             return Err(cause.unwrap_or(Refusal::NoMemory));
         }
-        self.journal.play(self.alloc, &self.app, action)?;
+        self.journal.play(&self.app, action)?;
         Ok(self.at())
     }
 
@@ -184,6 +183,7 @@ impl Timeline {
     /// Keeps a record at the log's end. Where the log can't grow, the record is handed back, and
     /// both are as they were.
     pub fn keep(log: &mut Log, undo: Undo) -> Result<(), Undo>
+        requires { IsPackable undo }
         ensures ok { OnOk result (log.new.records ≡ log.old.records ++ undo ∷ []) }
         ensures back { IfErr result (λ back. back ≡ undo) }
         ensures err { OnErr result (log.new.records ≡ log.old.records) }
@@ -194,7 +194,6 @@ impl Timeline {
     /// Ends the timeline.
     pub fn close(self) {
         let Timeline {
-            alloc: _,
             app: _,
             limit: _,
             journal,

@@ -2,7 +2,8 @@
 
 ghost use Rattle.std.specs.Prelude.{◌≡◌, ◌↔◌, ◌-◌, ◌∷◌, ◌++◌, ◌<◌, ◌≤◌, ◌⊎◌, [], length, take};
 ghost use Rattle.std.specs.Prelude.{Err, IfErr, IsErrOf, IsOk, OnErr, OnOk};
-ghost use Rattle.rd_calls.specs.Step.{step, IsMoveOf};
+ghost use Rattle.rd_calls.specs.Step.{record_limit, step, IsMoveOf};
+ghost use Rattle.rd_state.specs.Edit.{room_for};
 ghost use Rattle.rd_state.specs.Undoing.{undone, CanUndo};
 ghost use Rattle.rd_state.specs.Valid.{IsValid};
 ghost use Rattle.rd_timeline.specs.LogView.{last_record, RecordsMove};
@@ -24,8 +25,8 @@ use std::marker::Model;
 pub struct Trail {
     // The target, and the changes of all records, one record after the other.
     editing: Editing,
-    // How many of them each record has.
-    counts: Vec<usize>,
+    // How many of them each record has, which is always few.
+    counts: Vec<u16>,
 }
 
 impl Model for Trail {
@@ -39,6 +40,7 @@ impl Model for Trail {
       target = t.editing.now;
       records = cut t.counts.items t.editing.changes;
       capacity = vec_capacity t.counts;
+      room = t.editing.room;
     } };
 
     ghost invariant = { λ t. sum t.counts.items ≡ length t.editing.changes };
@@ -71,14 +73,16 @@ impl Trail {
         ensures ok { OnOk result (length self.new.records < self.new.capacity) }
         ensures enough { length self.old.records < self.old.capacity → IsOk result }
         ensures room { self.old.capacity ≤ self.new.capacity }
+        ensures kept_room { self.new.room ≡ self.old.room }
     {
         self.counts.reserve(1)?;
         Ok(())
     }
 
     /// Makes a move, and its record is the last one then. A refusal is one of `move_on`, and leaves
-    /// the target and the records as they were.
-    pub fn play(&mut self, alloc: Global, app: &App, action: Move) -> Result<(), Refusal>
+    /// the target and the records as they were. Where there is room for the bytes that a record takes
+    /// at the most, no memory is asked for.
+    pub fn play(&mut self, app: &App, action: Move) -> Result<(), Refusal>
         requires valid { IsValid app.now self.old.target }
         requires named { IsMoveOf app.now action }
         requires room { length self.old.records < self.old.capacity }
@@ -90,13 +94,16 @@ impl Trail {
             ↔ (step app.now self.old.target action ≡ Err Refusal.TickLimit) }
         ensures refusals { IfErr result (λ refusal.
             (step app.now self.old.target action ≡ Err refusal) ⊎ (refusal ≡ Refusal.NoMemory)) }
+        ensures short { IsErrOf result Refusal.NoMemory
+            → self.old.room < room_for (record_limit app.now self.old.target action) }
         ensures err { OnErr result (self.new.records ≡ self.old.records) }
         ensures err_target { OnErr result (self.new.target ≡ self.old.target) }
         ensures kept_capacity { self.new.capacity ≡ self.old.capacity }
     {
         let before = self.editing.len();
-        move_on(alloc, &mut self.editing, app, action)?;
-        self.counts.push_reserved(self.editing.len() - before);
+        move_on(&mut self.editing, app, action)?;
+        let count = self.editing.len() - before;
+        self.counts.push_reserved(count as u16);
         Ok(())
     }
 
@@ -108,8 +115,9 @@ impl Trail {
         ensures records { self.new.records
             ≡ take (length self.old.records - 1) self.old.records }
         ensures room { self.new.capacity ≡ self.old.capacity }
+        ensures more_room { self.old.room ≤ self.new.room }
     {
-        let count = self.counts.pop().unwrap();
+        let count = usize::from(self.counts.pop().unwrap());
         let before = self.editing.len() - count;
         self.editing.back_to(before);
     }

@@ -1,11 +1,20 @@
 -- The goals of `play_tick` that the check left open.
-use Rattle.std.proofs.Common.{rules}
-use Rattle.rd_calls.proofs.PlayLaws.{IsPlayed-from, Leads-tick}
+use Rattle.std.proofs.Common.{refl, rules}
+use Rattle.rd_state.specs.Edit.{begun_at}
+use Rattle.rd_calls.proofs.PlayLaws.{short-from, IsPlayed-from, Leads-tick}
 use Rattle.rd_calls.proofs.play.play_tick.Goals as goal
 
 pub returns-clause-played : goal.returns-clause-played
 returns-clause-played c =
     rw c.finish.ensures.made
     (IsPlayed-from c.move_tick-made.result c.args.app.now c.args.editing.now.now c.finish.new.editing.now _ _ _ c.begin.new.self _ c.args.editing.now.changes
-    c.finish.new.editing.changes (search rules) (Leads-tick c.args.app.now c.args.editing.now.now c.limits.ensures c.requires.valid c.requires.later)
+    c.finish.new.editing.changes c.args.editing.now.room (search rules) (Leads-tick c.args.app.now c.args.editing.now.now c.limits.ensures c.requires.valid c.requires.later)
     c.finish.ensures.sized (search rules) c.finish.ensures.state c.finish.ensures.record)
+
+pub returns-clause-short : goal.returns-clause-short
+returns-clause-short c =
+    let old = c.args.editing.now in
+    rw c.finish.ensures.made
+    (short-from c.move_tick-made.result c.args.app.now old.now _ _ _ old.room (begun_at old.now old.changes old.room) c.move_tick-made.new.editing refl
+    (Leads-tick c.args.app.now c.args.editing.now.now c.limits.ensures c.requires.valid c.requires.later)
+    (rw c.begin.ensures at c.move_tick-made.ensures.err))

@@ -2,7 +2,7 @@
 use Rattle.std.proofs.Common.{subst, sym}
 use Rattle.rd_state.specs.Snapshot.{Snapshot}
 use Rattle.rd_state.specs.Change.{Fits}
-use Rattle.rd_state.specs.declared.change.Change.TheVariants.{InsReady}
+use Rattle.rd_state.specs.Change.{InsReady}
 use Rattle.rd_state.proofs.SizeLaws.{HasSizes-insert}
 use Rattle.rd_state.proofs.state.State.insert_ready.Goals as goal
 

@@ -1,6 +1,6 @@
 -- The goals of `back_one` that the check left open.
 use Rattle.std.proofs.Common.{◌<◌, ◌∙◌, ◌++◌, ◌∷◌, [], List, ap, arith, length, sym}
-use Rattle.rd_state.specs.declared.change.Change.{Change}
+use Rattle.rd_state.specs.Change.{Change}
 use Rattle.rd_timeline.specs.Course.{Course}
 use Rattle.rd_timeline.specs.LogView.{last_record}
 use Rattle.rd_timeline.proofs.TimelineLaws.{IsWhole-pop, can_undo_last, up_to_last}

@@ -1,5 +1,8 @@
 -- The goals of `Trail::play` that the check left open.
-use Rattle.std.proofs.Common.{◌∙◌, ◌++◌, ◌∷◌, [], ap, arith, drop, length, subst}
+use Rattle.std.proofs.Common.{◌∙◌, ◌++◌, ◌∷◌, [], ap, arith, drop, length, subst, sym}
+use Rattle.std.proofs.lemmas.List.{length-drop}
+use Rattle.rd_calls.proofs.Offered.{played_few}
+use Rattle.rd_state.specs.Valid.{IsValid}
 use Rattle.rd_state.specs.Snapshot.{Snapshot}
 use Rattle.rd_calls.specs.Step.{IsPlayed}
 use Rattle.rd_timeline.specs.TrailView.{TrailView}
@@ -35,3 +38,10 @@ returns-clause-lays c =
           subst (λ (s : Snapshot). IsPlayed c.args.app.now s c.args.action c.move_on.new.editing.now (drop (length c.self.inside.editing.changes) c.move_on.new.editing.changes))
           (ap (λ (v : TrailView). v.target) c.self.view_is) c.in_ok-move_on.ensures.played;
     }
+
+pub overflow_cast-count : goal.overflow_cast-count
+overflow_cast-count c =
+    let undo = drop (length c.self.inside.editing.changes) c.move_on.new.editing.changes in
+    let valid = subst (IsValid c.args.app.now) (sym (ap (λ (v : TrailView). v.target) c.self.view_is)) c.requires.valid in
+    let few = played_few c.args.app.now c.self.inside.editing.now c.move_on.new.editing.now c.args.action undo valid.in_limits.sized c.in_ok-move_on.ensures.played in
+    omega (arith, few, c.len.ensures, c.len-before.ensures, length-drop (length c.self.inside.editing.changes) c.move_on.new.editing.changes)

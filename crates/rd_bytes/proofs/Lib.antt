@@ -1,0 +1,3 @@
+-- The files of laws of rd_bytes.
+pub mod EndLaws
+pub mod Offered

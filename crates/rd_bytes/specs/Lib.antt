@@ -1,0 +1,4 @@
+-- The files of definitions of rd_bytes.
+pub mod Ends
+pub mod StackView
+pub mod Tags

@@ -1,0 +1,137 @@
+//! The numbers that stand for changes and for the lists of places in packed bytes. Those of kinds of
+//! objects that are still to come are left free.
+
+ghost use Rattle.std.specs.Prelude.{◌≡◌, ◌≤◌, length};
+ghost use Rattle.rd_bytes.specs.Ends.{end_byte};
+ghost use Rattle.rd_bytes.specs.Tags.{kind_of_list, kind_of_tag, last_kind};
+
+use crate::ends::end_byte;
+
+/// `SetTick`: it is another tick.
+pub const SET_TICK: u8 = 1;
+
+/// `SetTurn`: the turn is another core's.
+pub const SET_TURN: u8 = 2;
+
+/// `SetCore`: a core has another task, or none.
+pub const SET_CORE: u8 = 3;
+
+/// `SetPc`: a task stands at another instruction.
+pub const SET_PC: u8 = 4;
+
+/// `SetReg`: a register of a task has another value.
+pub const SET_REG: u8 = 5;
+
+/// `SetPhase`: a task is in another phase.
+pub const SET_PHASE: u8 = 6;
+
+// 7 is for the notification entries of a task.
+
+/// `SetData`: a task has other data.
+pub const SET_DATA: u8 = 8;
+
+/// `InsReady`: a task is put into the ready list.
+pub const INS_READY: u8 = 9;
+
+/// `DelReady`: a task leaves the ready list.
+pub const DEL_READY: u8 = 10;
+
+/// `InsWait`: a task is put among those that wait in a list.
+pub const INS_WAIT: u8 = 11;
+
+/// `DelWait`: a task leaves those that wait in a list.
+pub const DEL_WAIT: u8 = 12;
+
+// 13 and 14 are for those that wait at an event group.
+
+/// `PutBack`: an item goes to the back of a queue.
+pub const PUT_BACK: u8 = 15;
+
+/// `PutFront`: an item goes to the front of a queue.
+pub const PUT_FRONT: u8 = 16;
+
+/// `TakeBack`: the item at the back of a queue leaves.
+pub const TAKE_BACK: u8 = 17;
+
+/// `TakeFront`: the item at the front of a queue leaves.
+pub const TAKE_FRONT: u8 = 18;
+
+/// `SetItem`: an item takes the place of another in a queue.
+pub const SET_ITEM: u8 = 19;
+
+/// `Clear`: all items leave a queue.
+pub const CLEAR_QUEUE: u8 = 20;
+
+/// `Fill`: an empty queue gets items.
+pub const FILL_QUEUE: u8 = 21;
+
+/// `SetMember`: a queue is a member of another set, or of none.
+pub const SET_MEMBER: u8 = 22;
+
+/// `PushHandle`: a handle goes to the back of a queue set.
+pub const PUSH_HANDLE: u8 = 23;
+
+/// `DropHandle`: the handle at the back of a queue set leaves.
+pub const DROP_HANDLE: u8 = 24;
+
+/// `TakeHandle`: the handle at the front of a queue set leaves.
+pub const TAKE_HANDLE: u8 = 25;
+
+/// `UntakeHandle`: a handle goes to the front of a queue set.
+pub const UNTAKE_HANDLE: u8 = 26;
+
+// 27 to 43 are for stream and message buffers and for event groups.
+
+/// The list of those that wait to receive from a queue.
+pub const RECEIVING_LIST: u8 = 0;
+
+/// The list of those that wait to send to a queue.
+pub const SENDING_LIST: u8 = 1;
+
+/// The list of those that wait to select from a queue set.
+pub const SELECTING_LIST: u8 = 2;
+
+// 3 to 8 are for buffers, notification entries and event groups.
+
+/// The kinds of objects, as `last_kind` tells them apart: a queue.
+pub const OF_QUEUE: u8 = 0;
+
+/// A queue set.
+pub const OF_QUEUE_SET: u8 = 1;
+
+// The kind of object that has a list of that byte.
+fn kind_of_list(list: u8) -> u8
+    ensures { result ≡ kind_of_list list }
+{
+    if list < SELECTING_LIST {
+        OF_QUEUE
+    } else {
+        OF_QUEUE_SET
+    }
+}
+
+// The kind of object that a change with that tag is of.
+fn kind_of_tag(tag: u8) -> u8
+    ensures { result ≡ kind_of_tag tag }
+{
+    if tag < PUSH_HANDLE {
+        OF_QUEUE
+    } else {
+        OF_QUEUE_SET
+    }
+}
+
+/// The kind of object that the change at the end of bytes is of.
+#[inline(always)]
+pub fn last_kind(bytes: &[u8]) -> u8
+    requires some { 1 ≤ length bytes.now }
+    requires insertion { end_byte 1 bytes.now ≡ INS_WAIT → 5 ≤ length bytes.now }
+    requires deletion { end_byte 1 bytes.now ≡ DEL_WAIT → 4 ≤ length bytes.now }
+    ensures { result ≡ last_kind bytes.now }
+{
+    match end_byte(bytes, 1) {
+        INS_WAIT => kind_of_list(end_byte(bytes, 5)),
+        DEL_WAIT => kind_of_list(end_byte(bytes, 4)),
+        tag => kind_of_tag(tag),
+    }
+}

@@ -1,0 +1,3 @@
+-- The files of lemmas of rd_packed.
+pub mod RecordLaws
+pub mod RecordRows

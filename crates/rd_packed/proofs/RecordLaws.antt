@@ -1,0 +1,158 @@
+-- Records that were put behind bytes are read at their end.
+use Rattle.std.proofs.Common.{◌≡◌, ◌∙◌, ℕ, zero, suc, ◌+◌, ◌-◌, ◌<◌, ◌≤◌, ◌^◌, List, [], ◌∷◌, ◌++◌, length, take, drop, get_or}
+use Rattle.std.proofs.Common.{add-one, refl, ap, sym, arith, append_assoc, append-nil, length-append}
+use Rattle.std.proofs.lemmas.List.{length-take-le, length-drop, get_or-drop, get_or-take}
+use Rattle.std.proofs.Math.Seq.{take-append_seam, drop-append_seam, get_or-append_seam}
+use Rattle.std.proofs.lemmas.Nat.{from_le_bytes-to_le_bytes_4}
+use Rattle.rd_bytes.proofs.Offered.{end_word_of, length-all_but}
+use Rattle.rd_bytes.specs.Ends.{all_but, end_byte, end_word}
+use Rattle.rd_state.proofs.Offered.{all_packed-changes_in, length-changes_in}
+use Rattle.rd_state.specs.Change.{Change}
+use Rattle.rd_state.specs.PackedChanges.{all_packed, changes_in, AreChanges}
+use Rattle.rd_packed.specs.Records.{trailer, record_packed, records_packed, body_size, change_count, record_size, last_body, last_record, last_of_all}
+use Rattle.rd_packed.specs.Records.{before_record, records_in, EndsInRecord, AreRecords}
+
+pub length-records_in : (n : ℕ) (bytes : List ℕ) → length (records_in n bytes) ≡ n
+length-records_in zero bytes = refl
+length-records_in (suc n) bytes = omega (arith, length-append (records_in n (before_record bytes)) (last_record bytes ∷ []), length-records_in n (before_record bytes))
+
+-- The record is at the end of bytes, behind the rest of them.
+pub record RecordIsAtEnd (bytes rest : List ℕ) (undo : List Change) : Type 0 where
+  pub ends : EndsInRecord bytes
+  pub same : last_record bytes ≡ undo
+  pub before : before_record bytes ≡ rest
+
+pub record_read : (b body : List ℕ) (count : ℕ) → length body < 2 ^ 32 → count < 2 ^ 32 → AreChanges count body
+    → RecordIsAtEnd ((b ++ body) ++ trailer (length body) count) b (changes_in count body)
+record_read b body count small few are =
+    let x : List ℕ = trailer (length body) count in
+    let f : List ℕ = b ++ body in
+    let size : body_size (f ++ x) ≡ length body = end_word_of f x 5 (omega arith) (omega arith) ∙ from_le_bytes-to_le_bytes_4 (length body) small in
+    let many : change_count (f ++ x) ≡ count = end_word_of f x 1 (omega arith) (omega arith) ∙ from_le_bytes-to_le_bytes_4 count few in
+    let start : length (f ++ x) - (8 + length body) ≡ length b = omega (arith, length-append f x, length-append b body) in
+    let saved : drop (length b) (f ++ x) ≡ body ++ x = ap (drop (length b)) (append_assoc b body x) ∙ drop-append_seam b (body ++ x) in
+    let inside : last_body (f ++ x) ≡ body = rw (size, start, saved) (take-append_seam body x) in
+    record {
+      same = ap (λ n. changes_in n (last_body (f ++ x))) many ∙ ap (changes_in count) inside;
+      before = rw (size, start) (ap (take (length b)) (append_assoc b body x) ∙ take-append_seam b (body ++ x));
+      ends = record {
+        trailer = omega (arith, length-append f x);
+        room = rw size (omega (arith, length-append f x, length-append b body));
+        are = rw (many, inside) are;
+      };
+    }
+
+pub records_in-push : (n : ℕ) (b body : List ℕ) (count : ℕ) → length body < 2 ^ 32 → count < 2 ^ 32 → AreChanges count body
+    → records_in (n + 1) ((b ++ body) ++ trailer (length body) count) ≡ records_in n b ++ changes_in count body ∷ []
+records_in-push n b body count small few are =
+    let r = record_read b body count small few are in
+    rw (add-one, r.same, r.before) refl
+
+-- the bytes of a record, by those of its changes
+record_again : (body : List ℕ) (count : ℕ) → AreChanges count body → record_packed (changes_in count body) ≡ body ++ trailer (length body) count
+record_again body count are = rw (all_packed-changes_in count body are, length-changes_in count body) refl
+
+pub AreRecords-push : (n : ℕ) (b body : List ℕ) (count : ℕ) → length body < 2 ^ 32 → count < 2 ^ 32 → AreChanges count body
+    → AreRecords n b → AreRecords (n + 1) ((b ++ body) ++ trailer (length body) count)
+AreRecords-push n b body count small few are all =
+    let r = record_read b body count small few are in
+    rw add-one (
+      r.ends,
+      rw (r.before, r.same, record_again body count are) (sym (append_assoc b body (trailer (length body) count))),
+      rw r.before all,
+    )
+
+-- what is read at the end of one record more
+pub record PeeledRecord (n : ℕ) (bytes : List ℕ) : Type 0 where
+  pub ends : EndsInRecord bytes
+  pub whole : before_record bytes ++ record_packed (last_record bytes) ≡ bytes
+  pub rest : AreRecords (n - 1) (before_record bytes)
+  pub is : records_in n bytes ≡ records_in (n - 1) (before_record bytes) ++ last_record bytes ∷ []
+
+pub peeled_record : (n : ℕ) (bytes : List ℕ) → 0 < n → AreRecords n bytes → PeeledRecord n bytes
+peeled_record zero bytes some are = absurd (omega arith)
+peeled_record (suc n) bytes some are =
+    let e : suc n - 1 ≡ n = omega arith in
+    record { ends = are.0; whole = are.1; rest = rw e are.2; is = rw e refl }
+
+records_packed-push : (records : List (List Change)) (undo : List Change) → records_packed (records ++ undo ∷ []) ≡ records_packed records ++ record_packed undo
+records_packed-push [] undo = append-nil (record_packed undo)
+records_packed-push (first ∷ later) undo =
+    ap (λ rest. record_packed first ++ rest) (records_packed-push later undo) ∙ sym (append_assoc (record_packed first) (records_packed later) (record_packed undo))
+
+-- The bytes are those of the records.
+pub records_packed-records_in : (n : ℕ) (bytes : List ℕ) → AreRecords n bytes → records_packed (records_in n bytes) ≡ bytes
+records_packed-records_in zero bytes are = sym are
+records_packed-records_in (suc n) bytes are =
+    records_packed-push (records_in n (before_record bytes)) (last_record bytes)
+    ∙ ap (λ before. before ++ record_packed (last_record bytes)) (records_packed-records_in n (before_record bytes) are.2) ∙ are.1
+
+-- Each record takes eight bytes at least.
+pub record_count-le : (n : ℕ) (bytes : List ℕ) → AreRecords n bytes → n ≤ length bytes
+record_count-le zero bytes are = omega arith
+record_count-le (suc n) bytes are =
+    omega (arith, record_count-le n (before_record bytes) are.2, length-all_but bytes (record_size bytes), are.0.room, are.0.trailer)
+
+-- the numbers of the trailer, read by itself
+trailer_byte : (bytes : List ℕ) (k : ℕ) → 1 ≤ k → k ≤ 8 → 8 ≤ length bytes → end_byte k (take 8 (drop (length bytes - 8) bytes)) ≡ end_byte k bytes
+trailer_byte bytes k some small there =
+    let rest = drop (length bytes - 8) bytes in
+    let eight : length (take 8 rest) ≡ 8 = length-take-le 8 rest (omega (arith, length-drop (length bytes - 8) bytes)) in
+    let e : length bytes - 8 + (8 - k) ≡ length bytes - k = omega arith in
+    ap (λ n. get_or (take 8 rest) (n - k) 0) eight ∙ get_or-take 8 rest (8 - k) 0 (omega arith) ∙ get_or-drop (length bytes - 8) bytes (8 - k) 0
+    ∙ ap (λ i. get_or bytes i 0) e
+
+pub record IsTrailer (bytes t : List ℕ) : Type 0 where
+  pub size : end_word 5 t ≡ body_size bytes
+  pub count : end_word 1 t ≡ change_count bytes
+
+trailer_numbers : (bytes t : List ℕ) → 8 ≤ length bytes → t ≡ take 8 (drop (length bytes - 8) bytes) → IsTrailer bytes t
+trailer_numbers bytes t there is =
+    let b : (k : ℕ) → 1 ≤ k → k ≤ 8 → end_byte k t ≡ end_byte k bytes = λ k some small. ap (end_byte k) is ∙ trailer_byte bytes k some small there in
+    let e8 = b 8 (omega arith) (omega arith) in
+    let e7 = b 7 (omega arith) (omega arith) in
+    let e6 = b 6 (omega arith) (omega arith) in
+    let e5 = b 5 (omega arith) (omega arith) in
+    let e4 = b 4 (omega arith) (omega arith) in
+    let e3 = b 3 (omega arith) (omega arith) in
+    let e2 = b 2 (omega arith) (omega arith) in
+    let e1 = b 1 (omega arith) (omega arith) in
+    record { size = rw (e8, e7, e6, e5) refl; count = rw (e4, e3, e2, e1) refl }
+
+-- what going back by the last record reads, and what it leaves
+pub record Plan (n : ℕ) (bytes : List ℕ) (end size count : ℕ) : Type 0 where
+  pub peel : PeeledRecord n bytes
+  pub many : count ≡ change_count bytes
+  pub room : size + 8 ≤ end
+  pub whole : end ≡ length bytes
+  pub body : take size (drop (end - 8 - size) bytes) ≡ last_body bytes
+  pub cut : take (end - 8 - size) bytes ≡ before_record bytes
+  pub taken : length (record_packed (last_record bytes)) ≡ size + 8
+
+pub plan : (n : ℕ) (bytes t : List ℕ) (end size count : ℕ) → 0 < n → AreRecords n bytes → end ≡ length bytes → t ≡ take 8 (drop (end - 8) bytes)
+    → size ≡ end_word 5 t → count ≡ end_word 1 t → Plan n bytes end size count
+plan n bytes t end size count some are all is first second =
+    let peel : PeeledRecord n bytes = peeled_record n bytes some are in
+    let numbers : IsTrailer bytes t = trailer_numbers bytes t peel.ends.trailer (is ∙ ap (λ k. take 8 (drop (k - 8) bytes)) all) in
+    let s : size ≡ body_size bytes = first ∙ numbers.size in
+    let start : end - 8 - size ≡ length bytes - record_size bytes = omega (arith, s, all) in
+    let shorter = length-all_but bytes (record_size bytes) in
+    record {
+      peel = peel;
+      many = second ∙ numbers.count;
+      room = omega (arith, s, all, peel.ends.room);
+      whole = all;
+      body = ap (λ k. take k (drop (end - 8 - size) bytes)) s ∙ ap (λ k. take (body_size bytes) (drop k bytes)) start;
+      cut = ap (λ k. take k bytes) start;
+      taken = omega (arith, ap length peel.whole, length-append (before_record bytes) (record_packed (last_record bytes)), shorter, s, peel.ends.room);
+    }
+
+pub last_is : (front : List (List Change)) (last : List Change) → last_of_all (front ++ last ∷ []) ≡ last
+last_is front last =
+    let e : length (front ++ last ∷ []) - 1 ≡ length front = omega (arith, length-append front (last ∷ [])) in
+    ap (λ k. get_or (front ++ last ∷ []) k []) e ∙ get_or-append_seam front last [] []
+
+pub front_is : (front : List (List Change)) (last : List Change) → take (length (front ++ last ∷ []) - 1) (front ++ last ∷ []) ≡ front
+front_is front last =
+    let e : length (front ++ last ∷ []) - 1 ≡ length front = omega (arith, length-append front (last ∷ [])) in
+    ap (λ k. take k (front ++ last ∷ [])) e ∙ take-append_seam front (last ∷ [])

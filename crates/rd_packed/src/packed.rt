@@ -1,0 +1,149 @@
+//! Records as bytes, one after the other.
+
+ghost use Rattle.std.specs.Prelude.{◌≡◌, ◌+◌, ◌-◌, ◌<◌, ◌≤◌, ◌∷◌, ◌++◌, ◌^◌, [], length, take};
+ghost use Rattle.std.specs.Prelude.{IfErr, IsOk, OnErr, OnOk};
+ghost use Rattle.rd_bytes.specs.Ends.{end_word};
+ghost use Rattle.rd_packed.specs.Records.{last_of_all, record_packed, records_packed, trailer};
+ghost use Rattle.rd_state.specs.PackedChanges.{IsPackable};
+ghost use Rattle.rd_state.specs.Undoing.{undone, CanUndo};
+
+use crate::tape::Tape;
+use rd_bytes::ends::end_word;
+use rd_bytes::no_memory::NoMemory;
+use rd_state::state::State;
+use rd_state::undo::Undo;
+use std::alloc::Global;
+use std::marker::Model;
+
+// How many bytes stand behind the changes of a record.
+const TRAILER: usize = 8;
+
+/// A list of records. It can't be dropped: it ends in `retire`.
+pub struct Packed {
+    tape: Tape,
+    records: usize,
+}
+
+impl Model for Packed {
+    ghost use Rattle.rd_packed.specs.Records.{PackedView, records_in, AreRecords};
+
+    ghost Value = { PackedView };
+
+    ghost view = { λ p. record {
+      records = records_in p.records p.tape.bytes;
+      capacity = p.tape.capacity;
+      read = p.tape.read;
+    } };
+
+    ghost invariant = { λ p. AreRecords p.records p.tape.bytes };
+}
+
+// The two numbers of a trailer.
+fn numbers_of(trailer: &[u8]) -> (usize, usize)
+    requires { length trailer.now ≡ 8 }
+    ensures size { result.0 ≡ end_word 5 trailer.now }
+    ensures count { result.1 ≡ end_word 1 trailer.now }
+{
+    (end_word(trailer, 5) as usize, end_word(trailer, 1) as usize)
+}
+
+// Puts the changes of a record at the end, and the two numbers behind them.
+fn push_record(tape: &mut Tape, body: &[u8], count: usize) -> Result<(), NoMemory>
+    requires small { length body.now < 2 ^ 32 }
+    requires few { count < 2 ^ 32 }
+    ensures ok { OnOk result (tape.new.bytes
+        ≡ (tape.old.bytes ++ body.now) ++ trailer (length body.now) count) }
+    ensures enough { length tape.old.bytes + (length body.now + 8) ≤ tape.old.capacity
+        → IsOk result }
+    ensures err { OnErr result (tape.new.bytes ≡ tape.old.bytes) }
+    ensures grows { tape.old.capacity ≤ tape.new.capacity }
+    ensures read { tape.new.read ≡ tape.old.read }
+{
+    let before = tape.len();
+    tape.push(body)?;
+    let [a, b, c, d] = (body.len() as u32).to_le_bytes();
+    let [e, f, g, h] = (count as u32).to_le_bytes();
+    let pushed = tape.push(&[a, b, c, d, e, f, g, h]);
+    if pushed.is_err() {
+        tape.cut(before);
+    }
+    pushed
+}
+
+impl Packed {
+    /// No records. It takes no memory.
+    pub fn new(alloc: Global) -> Packed
+        ensures records { result.records ≡ [] }
+        ensures read { result.read ≡ 0 }
+    {
+        Packed {
+            tape: Tape::new(alloc),
+            records: 0,
+        }
+    }
+
+    /// How many records there are. It takes no memory.
+    pub fn len(&self) -> usize
+        ensures { result ≡ length self.now.records }
+    {
+        self.records
+    }
+
+    /// How many bytes they take. It takes no memory.
+    pub fn bytes(&self) -> usize
+        ensures { result ≡ length (records_packed self.now.records) }
+    {
+        self.tape.len()
+    }
+
+    /// Puts a record at the end. It refuses for want of memory alone, and where there is room for
+    /// the record's bytes, it doesn't: then the same record is handed back, and the others are as
+    /// they were.
+    pub fn push(&mut self, undo: Undo) -> Result<(), Undo>
+        requires { IsPackable undo }
+        ensures ok { OnOk result (self.new.records ≡ self.old.records ++ undo ∷ []) }
+        ensures enough { length (records_packed self.old.records ++ record_packed undo)
+            ≤ self.old.capacity → IsOk result }
+        ensures back { IfErr result (λ back. back ≡ undo) }
+        ensures err { OnErr result (self.new.records ≡ self.old.records) }
+        ensures grows { self.old.capacity ≤ self.new.capacity }
+        ensures read { self.new.read ≡ self.old.read }
+    {
+        let count = undo.len();
+        match push_record(&mut self.tape, undo.bytes(), count) {
+            Ok(()) => {
+                // Each record takes eight bytes at least, so their number fits.
+                let _len = self.tape.len();
+                self.records += 1;
+                undo.retire();
+                Ok(())
+            }
+            Err(_) => Err(undo),
+        }
+    }
+
+    /// Goes back by the last record, which leaves the others, and of which each byte is read once.
+    /// It takes no memory, and keeps the memory that it has.
+    pub fn undo_last(&mut self, state: &mut State)
+        requires some { 0 < length self.old.records }
+        requires fits { CanUndo state.old (last_of_all self.old.records) }
+        ensures state { state.new ≡ undone state.old (last_of_all self.old.records) }
+        ensures records { self.new.records ≡ take (length self.old.records - 1) self.old.records }
+        ensures read { self.new.read
+            ≡ self.old.read + length (record_packed (last_of_all self.old.records)) }
+        ensures capacity { self.new.capacity ≡ self.old.capacity }
+    {
+        let end = self.tape.len();
+        let (size, count) = numbers_of(self.tape.read(end - TRAILER, TRAILER));
+        let start = end - TRAILER - size;
+        state.back_by(self.tape.read(start, size), count);
+        self.tape.cut(start);
+        self.records -= 1;
+    }
+
+    /// Ends it: nobody will go back by its records.
+    pub fn retire(self) {
+        let Packed { tape, records: _ } = self;
+        tape.retire();
+    }
+}

@@ -1,0 +1,214 @@
+//! The changes of a queue as bytes: those that a change carries, its other fields, and its tag.
+
+ghost use Rattle.std.specs.Prelude.{◌≡◌, ◌+◌, ◌<◌, ◌≤◌, ◌++◌, length, IsOk, OnOk, OnErr};
+ghost use Rattle.rd_bytes.specs.Ends.{all_but};
+ghost use Rattle.rd_queue.specs.Changes.{the_queue_change, Fill};
+ghost use Rattle.rd_queue.specs.PackedChanges.{byte_of_list, list_of_byte, queue_packed};
+ghost use Rattle.rd_queue.specs.PackedChanges.{last_queue, last_queue_change};
+ghost use Rattle.rd_queue.specs.PackedChanges.{queue_change_length, EndsInQueueChange};
+ghost use Rattle.rd_queue.specs.PackedChanges.{QueueHasBytes, EachQueueChangeIsReadBack};
+
+use crate::change::QueueChange;
+use crate::waiting_list::WaitingList;
+use rd_bytes::byte_stack::ByteStack;
+use rd_bytes::ends::{all_but, byte_of_number, bytes_before, end_byte, end_short, number_of_byte};
+use rd_bytes::no_memory::NoMemory;
+use rd_bytes::tag::{
+    CLEAR_QUEUE, DEL_WAIT, FILL_QUEUE, INS_WAIT, PUT_BACK, PUT_FRONT, RECEIVING_LIST, SENDING_LIST,
+    SET_ITEM, SET_MEMBER, TAKE_BACK, TAKE_FRONT,
+};
+
+/// The byte of a list.
+pub fn byte_of_list(list: WaitingList) -> u8
+    ensures { result ≡ byte_of_list list }
+{
+    match list {
+        WaitingList::Receiving => RECEIVING_LIST,
+        WaitingList::Sending => SENDING_LIST,
+    }
+}
+
+/// The list of such a byte.
+pub fn list_of_byte(byte: u8) -> WaitingList
+    ensures { result ≡ list_of_byte byte }
+{
+    if byte == RECEIVING_LIST {
+        WaitingList::Receiving
+    } else {
+        WaitingList::Sending
+    }
+}
+
+impl QueueChange<'_> {
+    /// Puts the bytes of this change of a queue behind the others. It takes no memory where there
+    /// is room for them. Where there is no memory for them, nothing has changed.
+    #[inline(always)]
+    pub fn pack(self, queue: usize, bytes: &mut ByteStack) -> Result<(), NoMemory>
+        requires { QueueHasBytes queue (the_queue_change self) }
+        ensures ok { OnOk result (bytes.new.bytes
+            ≡ bytes.old.bytes ++ queue_packed queue (the_queue_change self.entry)) }
+        ensures enough { length bytes.old.bytes
+            + length (queue_packed queue (the_queue_change self.entry)) ≤ bytes.old.capacity
+            → IsOk result }
+        ensures grows { bytes.old.capacity ≤ bytes.new.capacity }
+        ensures err { OnErr result (bytes.new ≡ bytes.old) }
+    {
+        let number = queue as u8;
+        match self {
+            QueueChange::InsWait { list, index, task } => {
+                let list = byte_of_list(list);
+                bytes.push(&[list, number, index as u8, task as u8, INS_WAIT])
+            }
+            QueueChange::DelWait { list, index } => {
+                bytes.push(&[byte_of_list(list), number, index as u8, DEL_WAIT])
+            }
+            QueueChange::PutBack { item } => {
+                let [low, high] = (item.len() as u16).to_le_bytes();
+                bytes.push_both(item, &[number, low, high, PUT_BACK])
+            }
+            QueueChange::TakeBack => bytes.push(&[number, TAKE_BACK]),
+            QueueChange::PutFront { item } => {
+                let [low, high] = (item.len() as u16).to_le_bytes();
+                bytes.push_both(item, &[number, low, high, PUT_FRONT])
+            }
+            QueueChange::TakeFront => bytes.push(&[number, TAKE_FRONT]),
+            QueueChange::SetItem { index, item } => {
+                let [low, high] = (item.len() as u16).to_le_bytes();
+                bytes.push_both(item, &[number, index as u8, low, high, SET_ITEM])
+            }
+            QueueChange::Clear => bytes.push(&[number, CLEAR_QUEUE]),
+            QueueChange::Fill { front, back } => pack_fill(number, front, back, bytes),
+            QueueChange::SetMember { queue_set } => {
+                bytes.push(&[number, byte_of_number(queue_set), SET_MEMBER])
+            }
+        }
+    }
+}
+
+// Puts the bytes of `Fill` behind the others, with those that it carries in two pieces that follow
+// one another.
+fn pack_fill(number: u8, front: &[u8], back: &[u8], bytes: &mut ByteStack) -> Result<(), NoMemory>
+    requires { length (front.now ++ back.now) < 65536 }
+    ensures ok { OnOk result (bytes.new.bytes
+        ≡ bytes.old.bytes ++ queue_packed number (Fill (front.now ++ back.now))) }
+    ensures enough { length bytes.old.bytes
+        + length (queue_packed number (Fill (front.now ++ back.now))) ≤ bytes.old.capacity
+        → IsOk result }
+    ensures grows { bytes.old.capacity ≤ bytes.new.capacity }
+    ensures err { OnErr result (bytes.new ≡ bytes.old) }
+{
+    let count = front.len() + back.len();
+    let [low, high] = (count as u16).to_le_bytes();
+    bytes.reserve(count + 4)?;
+    bytes.push(front)?;
+    bytes.push_both(back, &[number, low, high, FILL_QUEUE])
+}
+
+/// The change of a queue that stands at the end of bytes, which lend it those that it carries.
+#[derive(Clone, Copy, Debug)]
+pub struct LastQueueChange<'a> {
+    /// The queue that changes.
+    pub queue: usize,
+    /// How it changes.
+    pub change: QueueChange<'a>,
+    /// The bytes before the change.
+    pub rest: &'a [u8],
+}
+
+/// Reads the change of a queue that stands at the end of the bytes.
+#[inline(always)]
+pub fn last_queue_change(bytes: &[u8]) -> LastQueueChange<'_>
+    requires { EndsInQueueChange bytes.now }
+    ensures queue { result.queue ≡ last_queue bytes.now }
+    ensures change { the_queue_change result.change ≡ last_queue_change bytes.now }
+    ensures rest { result.rest.now ≡ all_but (queue_change_length bytes.now) bytes.now }
+{
+    match end_byte(bytes, 1) {
+        INS_WAIT => LastQueueChange {
+            queue: usize::from(end_byte(bytes, 4)),
+            change: QueueChange::InsWait {
+                list: list_of_byte(end_byte(bytes, 5)),
+                index: usize::from(end_byte(bytes, 3)),
+                task: usize::from(end_byte(bytes, 2)),
+            },
+            rest: all_but(bytes, 5),
+        },
+        DEL_WAIT => LastQueueChange {
+            queue: usize::from(end_byte(bytes, 3)),
+            change: QueueChange::DelWait {
+                list: list_of_byte(end_byte(bytes, 4)),
+                index: usize::from(end_byte(bytes, 2)),
+            },
+            rest: all_but(bytes, 4),
+        },
+        PUT_BACK => {
+            let size = usize::from(end_short(bytes, 2));
+            LastQueueChange {
+                queue: usize::from(end_byte(bytes, 4)),
+                change: QueueChange::PutBack {
+                    item: bytes_before(bytes, 4, size),
+                },
+                rest: all_but(bytes, 4 + size),
+            }
+        }
+        PUT_FRONT => {
+            let size = usize::from(end_short(bytes, 2));
+            LastQueueChange {
+                queue: usize::from(end_byte(bytes, 4)),
+                change: QueueChange::PutFront {
+                    item: bytes_before(bytes, 4, size),
+                },
+                rest: all_but(bytes, 4 + size),
+            }
+        }
+        TAKE_BACK => LastQueueChange {
+            queue: usize::from(end_byte(bytes, 2)),
+            change: QueueChange::TakeBack,
+            rest: all_but(bytes, 2),
+        },
+        TAKE_FRONT => LastQueueChange {
+            queue: usize::from(end_byte(bytes, 2)),
+            change: QueueChange::TakeFront,
+            rest: all_but(bytes, 2),
+        },
+        SET_ITEM => {
+            let size = usize::from(end_short(bytes, 2));
+            LastQueueChange {
+                queue: usize::from(end_byte(bytes, 5)),
+                change: QueueChange::SetItem {
+                    index: usize::from(end_byte(bytes, 4)),
+                    item: bytes_before(bytes, 5, size),
+                },
+                rest: all_but(bytes, 5 + size),
+            }
+        }
+        CLEAR_QUEUE => LastQueueChange {
+            queue: usize::from(end_byte(bytes, 2)),
+            change: QueueChange::Clear,
+            rest: all_but(bytes, 2),
+        },
+        FILL_QUEUE => {
+            let size = usize::from(end_short(bytes, 2));
+            LastQueueChange {
+                queue: usize::from(end_byte(bytes, 4)),
+                change: QueueChange::Fill {
+                    front: bytes_before(bytes, 4, size),
+                    back: &[],
+                },
+                rest: all_but(bytes, 4 + size),
+            }
+        }
+        _ => LastQueueChange {
+            queue: usize::from(end_byte(bytes, 3)),
+            change: QueueChange::SetMember {
+                queue_set: number_of_byte(end_byte(bytes, 2)),
+            },
+            rest: all_but(bytes, 3),
+        },
+    }
+}
+
+/// Each change of a queue that was put behind bytes is read at their end, and leaves those before.
+pub fn each_queue_change_is_read_back()
+    ensures { EachQueueChangeIsReadBack }
+{}

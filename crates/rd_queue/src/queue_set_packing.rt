@@ -1,0 +1,118 @@
+//! The changes of a queue set as bytes: its fields, and its tag.
+
+ghost use Rattle.std.specs.Prelude.{◌≡◌, ◌+◌, ◌≤◌, ◌++◌, length, IsOk, OnOk, OnErr};
+ghost use Rattle.rd_bytes.specs.Ends.{all_but};
+ghost use Rattle.rd_queue.specs.PackedQueueSetChanges.{queue_set_packed};
+ghost use Rattle.rd_queue.specs.PackedQueueSetChanges.{last_queue_set, last_queue_set_change};
+ghost use Rattle.rd_queue.specs.PackedQueueSetChanges.{queue_set_change_length};
+ghost use Rattle.rd_queue.specs.PackedQueueSetChanges.{QueueSetHasBytes, EndsInQueueSetChange};
+ghost use Rattle.rd_queue.specs.PackedQueueSetChanges.{EachQueueSetChangeIsReadBack};
+
+use crate::queue_set_change::QueueSetChange;
+use rd_bytes::byte_stack::ByteStack;
+use rd_bytes::ends::{all_but, end_byte};
+use rd_bytes::no_memory::NoMemory;
+use rd_bytes::tag::{
+    DEL_WAIT, DROP_HANDLE, INS_WAIT, PUSH_HANDLE, SELECTING_LIST, TAKE_HANDLE, UNTAKE_HANDLE,
+};
+
+impl QueueSetChange {
+    /// Puts the bytes of this change of a queue set behind the others. It takes no memory where
+    /// there is room for them. Where there is no memory for them, nothing has changed.
+    #[inline(always)]
+    pub fn pack(self, queue_set: usize, bytes: &mut ByteStack) -> Result<(), NoMemory>
+        requires { QueueSetHasBytes queue_set self }
+        ensures ok { OnOk result (bytes.new.bytes
+            ≡ bytes.old.bytes ++ queue_set_packed queue_set self) }
+        ensures enough { length bytes.old.bytes + length (queue_set_packed queue_set self)
+            ≤ bytes.old.capacity → IsOk result }
+        ensures grows { bytes.old.capacity ≤ bytes.new.capacity }
+        ensures err { OnErr result (bytes.new ≡ bytes.old) }
+    {
+        let number = queue_set as u8;
+        match self {
+            QueueSetChange::InsWait { index, task } => {
+                bytes.push(&[SELECTING_LIST, number, index as u8, task as u8, INS_WAIT])
+            }
+            QueueSetChange::DelWait { index } => {
+                bytes.push(&[SELECTING_LIST, number, index as u8, DEL_WAIT])
+            }
+            QueueSetChange::PushHandle { queue } => {
+                bytes.push(&[number, queue as u8, PUSH_HANDLE])
+            }
+            QueueSetChange::DropHandle => bytes.push(&[number, DROP_HANDLE]),
+            QueueSetChange::TakeHandle => bytes.push(&[number, TAKE_HANDLE]),
+            QueueSetChange::UntakeHandle { queue } => {
+                bytes.push(&[number, queue as u8, UNTAKE_HANDLE])
+            }
+        }
+    }
+}
+
+/// The change of a queue set that stands at the end of bytes.
+#[derive(Clone, Copy, Debug)]
+pub struct LastQueueSetChange<'a> {
+    /// The set that changes.
+    pub queue_set: usize,
+    /// How it changes.
+    pub change: QueueSetChange,
+    /// The bytes before the change.
+    pub rest: &'a [u8],
+}
+
+/// Reads the change of a queue set that stands at the end of the bytes.
+#[inline(always)]
+pub fn last_queue_set_change(bytes: &[u8]) -> LastQueueSetChange<'_>
+    requires { EndsInQueueSetChange bytes.now }
+    ensures queue_set { result.queue_set ≡ last_queue_set bytes.now }
+    ensures change { result.change ≡ last_queue_set_change bytes.now }
+    ensures rest { result.rest.now ≡ all_but (queue_set_change_length bytes.now) bytes.now }
+{
+    match end_byte(bytes, 1) {
+        INS_WAIT => LastQueueSetChange {
+            queue_set: usize::from(end_byte(bytes, 4)),
+            change: QueueSetChange::InsWait {
+                index: usize::from(end_byte(bytes, 3)),
+                task: usize::from(end_byte(bytes, 2)),
+            },
+            rest: all_but(bytes, 5),
+        },
+        DEL_WAIT => LastQueueSetChange {
+            queue_set: usize::from(end_byte(bytes, 3)),
+            change: QueueSetChange::DelWait {
+                index: usize::from(end_byte(bytes, 2)),
+            },
+            rest: all_but(bytes, 4),
+        },
+        PUSH_HANDLE => LastQueueSetChange {
+            queue_set: usize::from(end_byte(bytes, 3)),
+            change: QueueSetChange::PushHandle {
+                queue: usize::from(end_byte(bytes, 2)),
+            },
+            rest: all_but(bytes, 3),
+        },
+        DROP_HANDLE => LastQueueSetChange {
+            queue_set: usize::from(end_byte(bytes, 2)),
+            change: QueueSetChange::DropHandle,
+            rest: all_but(bytes, 2),
+        },
+        TAKE_HANDLE => LastQueueSetChange {
+            queue_set: usize::from(end_byte(bytes, 2)),
+            change: QueueSetChange::TakeHandle,
+            rest: all_but(bytes, 2),
+        },
+        _ => LastQueueSetChange {
+            queue_set: usize::from(end_byte(bytes, 3)),
+            change: QueueSetChange::UntakeHandle {
+                queue: usize::from(end_byte(bytes, 2)),
+            },
+            rest: all_but(bytes, 3),
+        },
+    }
+}
+
+/// Each change of a queue set that was put behind bytes is read at their end, and leaves those
+/// before.
+pub fn each_queue_set_change_is_read_back()
+    ensures { EachQueueSetChangeIsReadBack }
+{}

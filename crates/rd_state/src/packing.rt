@@ -1,0 +1,167 @@
+//! The changes of a state as bytes: those that a change carries, its other fields, and its tag.
+
+ghost use Rattle.std.specs.Prelude.{◌≡◌, ◌+◌, ◌≤◌, ◌++◌, length, IsOk, OnOk, OnErr};
+ghost use Rattle.rd_bytes.specs.Ends.{all_but};
+ghost use Rattle.rd_state.specs.Change.{the_change};
+ghost use Rattle.rd_state.specs.Objects.{the_object_change};
+ghost use Rattle.rd_state.specs.PackedChanges.{before_last, last_change, last_object_change};
+ghost use Rattle.rd_state.specs.PackedChanges.{object_change_length, object_packed, packed};
+ghost use Rattle.rd_state.specs.PackedChanges.{EachIsReadBack, EndsInChange};
+ghost use Rattle.rd_state.specs.PackedChanges.{HasBytes, ObjectHasBytes};
+
+use crate::change::Change;
+use crate::objects::ObjectChange;
+use crate::task_packing::last_task_change;
+use rd_bytes::byte_stack::ByteStack;
+use rd_bytes::ends::{all_but, byte_of_number, end_byte, end_word, number_of_byte};
+use rd_bytes::no_memory::NoMemory;
+use rd_bytes::tag::{DEL_READY, INS_READY, OF_QUEUE, SET_CORE, SET_TICK, SET_TURN, last_kind};
+use rd_queue::packing::last_queue_change;
+use rd_queue::queue_set_packing::last_queue_set_change;
+
+impl ObjectChange<'_> {
+    // Puts the bytes of this change behind the others.
+    #[inline(always)]
+    fn pack(self, bytes: &mut ByteStack) -> Result<(), NoMemory>
+        requires { ObjectHasBytes (the_object_change self) }
+        ensures ok { OnOk result (bytes.new.bytes
+            ≡ bytes.old.bytes ++ object_packed (the_object_change self.entry)) }
+        ensures enough { length bytes.old.bytes
+            + length (object_packed (the_object_change self.entry)) ≤ bytes.old.capacity
+            → IsOk result }
+        ensures grows { bytes.old.capacity ≤ bytes.new.capacity }
+        ensures err { OnErr result (bytes.new ≡ bytes.old) }
+    {
+        match self {
+            ObjectChange::Queue { queue, change } => change.pack(queue, bytes),
+            ObjectChange::QueueSet { queue_set, change } => change.pack(queue_set, bytes),
+        }
+    }
+}
+
+impl Change<'_> {
+    /// Puts the bytes of this change behind the others. It takes no memory where there is room for
+    /// them. Where there is no memory for them, nothing has changed.
+    #[inline(always)]
+    pub fn pack(self, bytes: &mut ByteStack) -> Result<(), NoMemory>
+        requires { HasBytes (the_change self) }
+        ensures ok { OnOk result
+            (bytes.new.bytes ≡ bytes.old.bytes ++ packed (the_change self.entry)) }
+        ensures enough { length bytes.old.bytes + length (packed (the_change self.entry))
+            ≤ bytes.old.capacity → IsOk result }
+        ensures grows { bytes.old.capacity ≤ bytes.new.capacity }
+        ensures err { OnErr result (bytes.new ≡ bytes.old) }
+    {
+        match self {
+            Change::SetTick { tick } => {
+                let [a, b, c, d] = tick.to_le_bytes();
+                bytes.push(&[a, b, c, d, SET_TICK])
+            }
+            Change::SetTurn { turn } => bytes.push(&[turn as u8, SET_TURN]),
+            Change::SetCore { core, task } => {
+                bytes.push(&[core as u8, byte_of_number(task), SET_CORE])
+            }
+            Change::InsReady { index, task } => {
+                bytes.push(&[index as u8, task as u8, INS_READY])
+            }
+            Change::DelReady { index } => bytes.push(&[index as u8, DEL_READY]),
+            Change::Task { task, change } => change.pack(task, bytes),
+            Change::Object { change } => change.pack(bytes),
+        }
+    }
+}
+
+/// The change that stands at the end of bytes, which lend it those that it carries.
+#[derive(Clone, Copy, Debug)]
+pub struct LastChange<'a> {
+    /// The change.
+    pub change: Change<'a>,
+    /// The bytes before it.
+    pub rest: &'a [u8],
+}
+
+// Reads the change of an object that stands at the end of the bytes.
+#[inline(always)]
+fn last_object_change(bytes: &[u8]) -> (ObjectChange<'_>, &[u8])
+    requires some { 1 ≤ length bytes.now }
+    requires whole { object_change_length bytes.now ≤ length bytes.now }
+    ensures change { the_object_change result.0 ≡ last_object_change bytes.now }
+    ensures rest { result.1.now ≡ all_but (object_change_length bytes.now) bytes.now }
+{
+    match last_kind(bytes) {
+        OF_QUEUE => {
+            let last = last_queue_change(bytes);
+            let (queue, change) = (last.queue, last.change);
+            (ObjectChange::Queue { queue, change }, last.rest)
+        }
+        _ => {
+            let last = last_queue_set_change(bytes);
+            let (queue_set, change) = (last.queue_set, last.change);
+            (ObjectChange::QueueSet { queue_set, change }, last.rest)
+        }
+    }
+}
+
+/// Reads the change that stands at the end of the bytes.
+#[inline(always)]
+pub fn last_change(bytes: &[u8]) -> LastChange<'_>
+    requires { EndsInChange bytes.now }
+    ensures change { the_change result.change ≡ last_change bytes.now }
+    ensures rest { result.rest.now ≡ before_last bytes.now }
+{
+    match end_byte(bytes, 1) {
+        SET_TICK => LastChange {
+            change: Change::SetTick {
+                tick: end_word(bytes, 2),
+            },
+            rest: all_but(bytes, 5),
+        },
+        SET_TURN => LastChange {
+            change: Change::SetTurn {
+                turn: usize::from(end_byte(bytes, 2)),
+            },
+            rest: all_but(bytes, 2),
+        },
+        SET_CORE => LastChange {
+            change: Change::SetCore {
+                core: usize::from(end_byte(bytes, 3)),
+                task: number_of_byte(end_byte(bytes, 2)),
+            },
+            rest: all_but(bytes, 3),
+        },
+        INS_READY => LastChange {
+            change: Change::InsReady {
+                index: usize::from(end_byte(bytes, 3)),
+                task: usize::from(end_byte(bytes, 2)),
+            },
+            rest: all_but(bytes, 3),
+        },
+        DEL_READY => LastChange {
+            change: Change::DelReady {
+                index: usize::from(end_byte(bytes, 2)),
+            },
+            rest: all_but(bytes, 2),
+        },
+        tag => {
+            if tag < INS_READY {
+                let last = last_task_change(bytes);
+                let (task, change) = (last.task, last.change);
+                LastChange {
+                    change: Change::Task { task, change },
+                    rest: last.rest,
+                }
+            } else {
+                let (change, rest) = last_object_change(bytes);
+                LastChange {
+                    change: Change::Object { change },
+                    rest,
+                }
+            }
+        }
+    }
+}
+
+/// Each change that was put behind bytes is read at their end, and leaves those before.
+pub fn each_change_is_read_back()
+    ensures { EachIsReadBack }
+{}
