@@ -1,7 +1,7 @@
 //! The changes of a queue as bytes: those that a change carries, its other fields, and its tag.
 
 ghost use Rattle.std.specs.Prelude.{◌≡◌, ◌+◌, ◌<◌, ◌≤◌, ◌++◌, length, IsOk, OnOk, OnErr};
-ghost use Rattle.rd_bytes.specs.Ends.{all_but};
+ghost use Rattle.rd_bytes.specs.Ends.{all_but, bytes_before, end_byte, end_short};
 ghost use Rattle.rd_queue.specs.Changes.{the_queue_change, Fill};
 ghost use Rattle.rd_queue.specs.PackedChanges.{byte_of_list, list_of_byte, queue_packed};
 ghost use Rattle.rd_queue.specs.PackedChanges.{last_queue, last_queue_change};
@@ -115,6 +115,48 @@ pub struct LastQueueChange<'a> {
     pub rest: &'a [u8],
 }
 
+impl<'a> LastQueueChange<'a> {
+    // The change of the queue that the byte names, behind the rest.
+    #[inline(always)]
+    fn of(queue: u8, change: QueueChange<'a>, rest: &'a [u8]) -> LastQueueChange<'a>
+        ensures queue { result.queue ≡ queue }
+        ensures change { the_queue_change result.change ≡ the_queue_change change.entry }
+        ensures rest { result.rest.now ≡ rest.now }
+    {
+        LastQueueChange {
+            queue: usize::from(queue),
+            change,
+            rest,
+        }
+    }
+
+    // A change without fields, behind which are the queue and the tag alone.
+    #[inline(always)]
+    fn bare(bytes: &'a [u8], change: QueueChange<'a>) -> LastQueueChange<'a>
+        requires { 2 ≤ length bytes.now }
+        ensures queue { result.queue ≡ end_byte 2 bytes.now }
+        ensures change { the_queue_change result.change ≡ the_queue_change change.entry }
+        ensures rest { result.rest.now ≡ all_but 2 bytes.now }
+    {
+        LastQueueChange::of(end_byte(bytes, 2), change, all_but(bytes, 2))
+    }
+}
+
+// The bytes that a change carries, before so many of its fields and its tag, and those before them.
+#[inline(always)]
+fn carried(bytes: &[u8], fields: usize) -> (&[u8], &[u8])
+    requires some { 3 ≤ length bytes.now }
+    requires there { fields + end_short 2 bytes.now ≤ length bytes.now }
+    ensures carried { result.0.now ≡ bytes_before fields (end_short 2 bytes.now) bytes.now }
+    ensures rest { result.1.now ≡ all_but (fields + end_short 2 bytes.now) bytes.now }
+{
+    let size = usize::from(end_short(bytes, 2));
+    (
+        bytes_before(bytes, fields, size),
+        all_but(bytes, fields + size),
+    )
+}
+
 /// Reads the change of a queue that stands at the end of the bytes.
 #[inline(always)]
 pub fn last_queue_change(bytes: &[u8]) -> LastQueueChange<'_>
@@ -124,87 +166,52 @@ pub fn last_queue_change(bytes: &[u8]) -> LastQueueChange<'_>
     ensures rest { result.rest.now ≡ all_but (queue_change_length bytes.now) bytes.now }
 {
     match end_byte(bytes, 1) {
-        INS_WAIT => LastQueueChange {
-            queue: usize::from(end_byte(bytes, 4)),
-            change: QueueChange::InsWait {
-                list: list_of_byte(end_byte(bytes, 5)),
-                index: usize::from(end_byte(bytes, 3)),
-                task: usize::from(end_byte(bytes, 2)),
-            },
-            rest: all_but(bytes, 5),
-        },
-        DEL_WAIT => LastQueueChange {
-            queue: usize::from(end_byte(bytes, 3)),
-            change: QueueChange::DelWait {
-                list: list_of_byte(end_byte(bytes, 4)),
-                index: usize::from(end_byte(bytes, 2)),
-            },
-            rest: all_but(bytes, 4),
-        },
+        INS_WAIT => {
+            let list = list_of_byte(end_byte(bytes, 5));
+            let index = usize::from(end_byte(bytes, 3));
+            let task = usize::from(end_byte(bytes, 2));
+            let change = QueueChange::InsWait { list, index, task };
+            LastQueueChange::of(end_byte(bytes, 4), change, all_but(bytes, 5))
+        }
+        DEL_WAIT => {
+            let list = list_of_byte(end_byte(bytes, 4));
+            let index = usize::from(end_byte(bytes, 2));
+            let change = QueueChange::DelWait { list, index };
+            LastQueueChange::of(end_byte(bytes, 3), change, all_but(bytes, 4))
+        }
         PUT_BACK => {
-            let size = usize::from(end_short(bytes, 2));
-            LastQueueChange {
-                queue: usize::from(end_byte(bytes, 4)),
-                change: QueueChange::PutBack {
-                    item: bytes_before(bytes, 4, size),
-                },
-                rest: all_but(bytes, 4 + size),
-            }
+            let (item, rest) = carried(bytes, 4);
+            LastQueueChange::of(end_byte(bytes, 4), QueueChange::PutBack { item }, rest)
         }
         PUT_FRONT => {
-            let size = usize::from(end_short(bytes, 2));
-            LastQueueChange {
-                queue: usize::from(end_byte(bytes, 4)),
-                change: QueueChange::PutFront {
-                    item: bytes_before(bytes, 4, size),
-                },
-                rest: all_but(bytes, 4 + size),
-            }
+            let (item, rest) = carried(bytes, 4);
+            LastQueueChange::of(end_byte(bytes, 4), QueueChange::PutFront { item }, rest)
         }
-        TAKE_BACK => LastQueueChange {
-            queue: usize::from(end_byte(bytes, 2)),
-            change: QueueChange::TakeBack,
-            rest: all_but(bytes, 2),
-        },
-        TAKE_FRONT => LastQueueChange {
-            queue: usize::from(end_byte(bytes, 2)),
-            change: QueueChange::TakeFront,
-            rest: all_but(bytes, 2),
-        },
+        TAKE_BACK => LastQueueChange::bare(bytes, QueueChange::TakeBack),
+        TAKE_FRONT => LastQueueChange::bare(bytes, QueueChange::TakeFront),
         SET_ITEM => {
-            let size = usize::from(end_short(bytes, 2));
-            LastQueueChange {
-                queue: usize::from(end_byte(bytes, 5)),
-                change: QueueChange::SetItem {
-                    index: usize::from(end_byte(bytes, 4)),
-                    item: bytes_before(bytes, 5, size),
-                },
-                rest: all_but(bytes, 5 + size),
-            }
+            let (item, rest) = carried(bytes, 5);
+            let index = usize::from(end_byte(bytes, 4));
+            LastQueueChange::of(
+                end_byte(bytes, 5),
+                QueueChange::SetItem { index, item },
+                rest,
+            )
         }
-        CLEAR_QUEUE => LastQueueChange {
-            queue: usize::from(end_byte(bytes, 2)),
-            change: QueueChange::Clear,
-            rest: all_but(bytes, 2),
-        },
+        CLEAR_QUEUE => LastQueueChange::bare(bytes, QueueChange::Clear),
         FILL_QUEUE => {
-            let size = usize::from(end_short(bytes, 2));
-            LastQueueChange {
-                queue: usize::from(end_byte(bytes, 4)),
-                change: QueueChange::Fill {
-                    front: bytes_before(bytes, 4, size),
-                    back: &[],
-                },
-                rest: all_but(bytes, 4 + size),
-            }
+            let (front, rest) = carried(bytes, 4);
+            LastQueueChange::of(
+                end_byte(bytes, 4),
+                QueueChange::Fill { front, back: &[] },
+                rest,
+            )
         }
-        _ => LastQueueChange {
-            queue: usize::from(end_byte(bytes, 3)),
-            change: QueueChange::SetMember {
-                queue_set: number_of_byte(end_byte(bytes, 2)),
-            },
-            rest: all_but(bytes, 3),
-        },
+        _ => {
+            let queue_set = number_of_byte(end_byte(bytes, 2));
+            let change = QueueChange::SetMember { queue_set };
+            LastQueueChange::of(end_byte(bytes, 3), change, all_but(bytes, 3))
+        }
     }
 }
 

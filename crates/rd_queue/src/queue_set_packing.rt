@@ -60,6 +60,22 @@ pub struct LastQueueSetChange<'a> {
     pub rest: &'a [u8],
 }
 
+impl<'a> LastQueueSetChange<'a> {
+    // The change of the set that the byte names, behind the rest.
+    #[inline(always)]
+    fn of(queue_set: u8, change: QueueSetChange, rest: &'a [u8]) -> LastQueueSetChange<'a>
+        ensures queue_set { result.queue_set ≡ queue_set }
+        ensures change { result.change ≡ change }
+        ensures rest { result.rest.now ≡ rest.now }
+    {
+        LastQueueSetChange {
+            queue_set: usize::from(queue_set),
+            change,
+            rest,
+        }
+    }
+}
+
 /// Reads the change of a queue set that stands at the end of the bytes.
 #[inline(always)]
 pub fn last_queue_set_change(bytes: &[u8]) -> LastQueueSetChange<'_>
@@ -69,45 +85,35 @@ pub fn last_queue_set_change(bytes: &[u8]) -> LastQueueSetChange<'_>
     ensures rest { result.rest.now ≡ all_but (queue_set_change_length bytes.now) bytes.now }
 {
     match end_byte(bytes, 1) {
-        INS_WAIT => LastQueueSetChange {
-            queue_set: usize::from(end_byte(bytes, 4)),
-            change: QueueSetChange::InsWait {
-                index: usize::from(end_byte(bytes, 3)),
-                task: usize::from(end_byte(bytes, 2)),
-            },
-            rest: all_but(bytes, 5),
-        },
-        DEL_WAIT => LastQueueSetChange {
-            queue_set: usize::from(end_byte(bytes, 3)),
-            change: QueueSetChange::DelWait {
-                index: usize::from(end_byte(bytes, 2)),
-            },
-            rest: all_but(bytes, 4),
-        },
-        PUSH_HANDLE => LastQueueSetChange {
-            queue_set: usize::from(end_byte(bytes, 3)),
-            change: QueueSetChange::PushHandle {
-                queue: usize::from(end_byte(bytes, 2)),
-            },
-            rest: all_but(bytes, 3),
-        },
-        DROP_HANDLE => LastQueueSetChange {
-            queue_set: usize::from(end_byte(bytes, 2)),
-            change: QueueSetChange::DropHandle,
-            rest: all_but(bytes, 2),
-        },
-        TAKE_HANDLE => LastQueueSetChange {
-            queue_set: usize::from(end_byte(bytes, 2)),
-            change: QueueSetChange::TakeHandle,
-            rest: all_but(bytes, 2),
-        },
-        _ => LastQueueSetChange {
-            queue_set: usize::from(end_byte(bytes, 3)),
-            change: QueueSetChange::UntakeHandle {
-                queue: usize::from(end_byte(bytes, 2)),
-            },
-            rest: all_but(bytes, 3),
-        },
+        INS_WAIT => {
+            let index = usize::from(end_byte(bytes, 3));
+            let task = usize::from(end_byte(bytes, 2));
+            let change = QueueSetChange::InsWait { index, task };
+            LastQueueSetChange::of(end_byte(bytes, 4), change, all_but(bytes, 5))
+        }
+        DEL_WAIT => {
+            let index = usize::from(end_byte(bytes, 2));
+            let change = QueueSetChange::DelWait { index };
+            LastQueueSetChange::of(end_byte(bytes, 3), change, all_but(bytes, 4))
+        }
+        PUSH_HANDLE => {
+            let queue = usize::from(end_byte(bytes, 2));
+            let change = QueueSetChange::PushHandle { queue };
+            LastQueueSetChange::of(end_byte(bytes, 3), change, all_but(bytes, 3))
+        }
+        DROP_HANDLE => {
+            let change = QueueSetChange::DropHandle;
+            LastQueueSetChange::of(end_byte(bytes, 2), change, all_but(bytes, 2))
+        }
+        TAKE_HANDLE => {
+            let change = QueueSetChange::TakeHandle;
+            LastQueueSetChange::of(end_byte(bytes, 2), change, all_but(bytes, 2))
+        }
+        _ => {
+            let queue = usize::from(end_byte(bytes, 2));
+            let change = QueueSetChange::UntakeHandle { queue };
+            LastQueueSetChange::of(end_byte(bytes, 3), change, all_but(bytes, 3))
+        }
     }
 }
 

@@ -102,6 +102,17 @@ fn last_object_change(bytes: &[u8]) -> (ObjectChange<'_>, &[u8])
     }
 }
 
+impl<'a> LastChange<'a> {
+    // The change, behind the rest.
+    #[inline(always)]
+    fn of(change: Change<'a>, rest: &'a [u8]) -> LastChange<'a>
+        ensures change { the_change result.change ≡ the_change change.entry }
+        ensures rest { result.rest.now ≡ rest.now }
+    {
+        LastChange { change, rest }
+    }
+}
+
 /// Reads the change that stands at the end of the bytes.
 #[inline(always)]
 pub fn last_change(bytes: &[u8]) -> LastChange<'_>
@@ -110,38 +121,28 @@ pub fn last_change(bytes: &[u8]) -> LastChange<'_>
     ensures rest { result.rest.now ≡ before_last bytes.now }
 {
     match end_byte(bytes, 1) {
-        SET_TICK => LastChange {
-            change: Change::SetTick {
-                tick: end_word(bytes, 2),
-            },
-            rest: all_but(bytes, 5),
-        },
-        SET_TURN => LastChange {
-            change: Change::SetTurn {
-                turn: usize::from(end_byte(bytes, 2)),
-            },
-            rest: all_but(bytes, 2),
-        },
-        SET_CORE => LastChange {
-            change: Change::SetCore {
-                core: usize::from(end_byte(bytes, 3)),
-                task: number_of_byte(end_byte(bytes, 2)),
-            },
-            rest: all_but(bytes, 3),
-        },
-        INS_READY => LastChange {
-            change: Change::InsReady {
-                index: usize::from(end_byte(bytes, 3)),
-                task: usize::from(end_byte(bytes, 2)),
-            },
-            rest: all_but(bytes, 3),
-        },
-        DEL_READY => LastChange {
-            change: Change::DelReady {
-                index: usize::from(end_byte(bytes, 2)),
-            },
-            rest: all_but(bytes, 2),
-        },
+        SET_TICK => {
+            let tick = end_word(bytes, 2);
+            LastChange::of(Change::SetTick { tick }, all_but(bytes, 5))
+        }
+        SET_TURN => {
+            let turn = usize::from(end_byte(bytes, 2));
+            LastChange::of(Change::SetTurn { turn }, all_but(bytes, 2))
+        }
+        SET_CORE => {
+            let core = usize::from(end_byte(bytes, 3));
+            let task = number_of_byte(end_byte(bytes, 2));
+            LastChange::of(Change::SetCore { core, task }, all_but(bytes, 3))
+        }
+        INS_READY => {
+            let index = usize::from(end_byte(bytes, 3));
+            let task = usize::from(end_byte(bytes, 2));
+            LastChange::of(Change::InsReady { index, task }, all_but(bytes, 3))
+        }
+        DEL_READY => {
+            let index = usize::from(end_byte(bytes, 2));
+            LastChange::of(Change::DelReady { index }, all_but(bytes, 2))
+        }
         tag => {
             if tag < INS_READY {
                 let last = last_task_change(bytes);
@@ -152,10 +153,7 @@ pub fn last_change(bytes: &[u8]) -> LastChange<'_>
                 }
             } else {
                 let (change, rest) = last_object_change(bytes);
-                LastChange {
-                    change: Change::Object { change },
-                    rest,
-                }
+                LastChange::of(Change::Object { change }, rest)
             }
         }
     }
