@@ -157,6 +157,22 @@ fn carried(bytes: &[u8], fields: usize) -> (&[u8], &[u8])
     )
 }
 
+// Reads the change that puts a task into a list, where that stands at the end.
+#[inline(always)]
+fn last_insertion(bytes: &[u8]) -> LastQueueChange<'_>
+    requires there { 5 ≤ length bytes.now }
+    requires tag { end_byte 1 bytes.now ≡ INS_WAIT }
+    ensures queue { result.queue ≡ last_queue bytes.now }
+    ensures change { the_queue_change result.change ≡ last_queue_change bytes.now }
+    ensures rest { result.rest.now ≡ all_but (queue_change_length bytes.now) bytes.now }
+{
+    let list = list_of_byte(end_byte(bytes, 5));
+    let index = usize::from(end_byte(bytes, 3));
+    let task = usize::from(end_byte(bytes, 2));
+    let change = QueueChange::InsWait { list, index, task };
+    LastQueueChange::of(end_byte(bytes, 4), change, all_but(bytes, 5))
+}
+
 /// Reads the change of a queue that stands at the end of the bytes.
 #[inline(always)]
 pub fn last_queue_change(bytes: &[u8]) -> LastQueueChange<'_>
@@ -166,13 +182,7 @@ pub fn last_queue_change(bytes: &[u8]) -> LastQueueChange<'_>
     ensures rest { result.rest.now ≡ all_but (queue_change_length bytes.now) bytes.now }
 {
     match end_byte(bytes, 1) {
-        INS_WAIT => {
-            let list = list_of_byte(end_byte(bytes, 5));
-            let index = usize::from(end_byte(bytes, 3));
-            let task = usize::from(end_byte(bytes, 2));
-            let change = QueueChange::InsWait { list, index, task };
-            LastQueueChange::of(end_byte(bytes, 4), change, all_but(bytes, 5))
-        }
+        INS_WAIT => last_insertion(bytes),
         DEL_WAIT => {
             let list = list_of_byte(end_byte(bytes, 4));
             let index = usize::from(end_byte(bytes, 2));
@@ -192,20 +202,14 @@ pub fn last_queue_change(bytes: &[u8]) -> LastQueueChange<'_>
         SET_ITEM => {
             let (item, rest) = carried(bytes, 5);
             let index = usize::from(end_byte(bytes, 4));
-            LastQueueChange::of(
-                end_byte(bytes, 5),
-                QueueChange::SetItem { index, item },
-                rest,
-            )
+            let change = QueueChange::SetItem { index, item };
+            LastQueueChange::of(end_byte(bytes, 5), change, rest)
         }
         CLEAR_QUEUE => LastQueueChange::bare(bytes, QueueChange::Clear),
         FILL_QUEUE => {
             let (front, rest) = carried(bytes, 4);
-            LastQueueChange::of(
-                end_byte(bytes, 4),
-                QueueChange::Fill { front, back: &[] },
-                rest,
-            )
+            let change = QueueChange::Fill { front, back: &[] };
+            LastQueueChange::of(end_byte(bytes, 4), change, rest)
         }
         _ => {
             let queue_set = number_of_byte(end_byte(bytes, 2));
