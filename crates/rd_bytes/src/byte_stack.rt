@@ -10,19 +10,76 @@ use std::marker::Model;
 /// How many bytes lie in the value itself.
 pub const INLINE_BYTES: usize = 48;
 
+// How many bytes are made ready at once, if there is room for so many.
+const READY_BYTES: usize = 1024;
+
 /// Bytes that are put in and taken out at their end. Up to 48 of them take no memory elsewhere; the
 /// memory for more grows by doubling, and is kept when bytes leave.
 #[derive(Debug, Drop)]
 pub struct ByteStack {
-    bytes: SmallVec<u8, INLINE_BYTES>,
+    // The bytes, and behind them those that are ready to be written over: so a few bytes are put in
+    // by a few instructions, whether they lie here or elsewhere.
+    slots: SmallVec<u8, INLINE_BYTES>,
+    len: usize,
 }
 
 impl Model for ByteStack {
+    ghost use Rattle.std.specs.Prelude.{◌≤◌, length, take};
     ghost use Rattle.rd_bytes.specs.StackView.{StackView};
 
     ghost Value = { StackView };
 
-    ghost view = { λ s. record { bytes = s.bytes.items; capacity = s.bytes.capacity } };
+    ghost view = { λ s. record { bytes = take s.len s.slots.items; capacity = s.slots.capacity } };
+
+    ghost invariant = { λ s. s.len ≤ length s.slots.items };
+}
+
+// Writes a few bytes over as many, from `at` on, one by one: where `N` is known, by as few stores.
+#[inline(always)]
+fn write_each<const N: usize>(slots: &mut [u8], at: usize, bytes: &[u8; N])
+    requires { at + N ≤ length slots.old }
+    ensures bytes { take (at + N) slots.new ≡ take at slots.old ++ bytes.now }
+    ensures len { length slots.new ≡ length slots.old }
+{
+    for index in 0..N {
+        slots[at + index] = bytes[index];
+    }
+}
+
+// Writes the bytes over as many, from `at` on.
+#[inline(always)]
+fn write_at(slots: &mut [u8], at: usize, bytes: &[u8])
+    requires { at + length bytes.now ≤ length slots.old }
+    ensures bytes { take (at + length bytes.now) slots.new ≡ take at slots.old ++ bytes.now }
+    ensures len { length slots.new ≡ length slots.old }
+{
+    slots[at..at + bytes.len()].copy_from_slice(bytes);
+}
+
+// Makes `count` slots ready behind the first `len`, and more where there is room.
+#[inline(never)]
+fn make_ready(
+    slots: &mut SmallVec<u8, INLINE_BYTES>,
+    len: usize,
+    count: usize,
+) -> Result<(), NoMemory>
+    requires { len ≤ length slots.old.items }
+    ensures kept { take len slots.new.items ≡ take len slots.old.items }
+    ensures ok { OnOk result (len + count ≤ length slots.new.items) }
+    ensures enough { len + count ≤ slots.old.capacity → IsOk result }
+    ensures grows { slots.old.capacity ≤ slots.new.capacity }
+    ensures err { OnErr result (slots.new ≡ slots.old) }
+{
+    let missing = count.saturating_sub(slots.len() - len);
+    slots.reserve(missing)?;
+    let capacity = slots.capacity();
+    if missing > READY_BYTES {
+        slots.resize(len + count, 0)?;
+        return Ok(());
+    }
+    let spare = capacity - slots.len();
+    slots.extend_from_slice(&[0; READY_BYTES][..spare.min(READY_BYTES)])?;
+    Ok(())
 }
 
 impl ByteStack {
@@ -31,7 +88,8 @@ impl ByteStack {
         ensures { result ≡ record { bytes = []; capacity = INLINE_BYTES } }
     {
         ByteStack {
-            bytes: SmallVec::new(alloc),
+            slots: SmallVec::new(alloc),
+            len: 0,
         }
     }
 
@@ -41,7 +99,9 @@ impl ByteStack {
         ensures len { result ≡ length self.now.bytes }
         ensures within { result ≤ self.now.capacity }
     {
-        self.bytes.len()
+        // (there are no more bytes than there is room for)
+        self.slots.len();
+        self.len
     }
 
     /// The bytes.
@@ -49,27 +109,53 @@ impl ByteStack {
     pub fn as_slice(&self) -> &[u8]
         ensures { result.now ≡ self.now.bytes }
     {
-        self.bytes.as_slice()
+        &self.slots.as_slice()[..self.len]
     }
 
-    /// Puts these bytes at the end. It takes no memory where there is room for them. Where there is
+    /// Puts a few bytes at the end. It takes no memory where there is room for them. Where there is
     /// no memory for them, nothing has changed.
-    #[inline(always)]
-    pub fn push(&mut self, bytes: &[u8]) -> Result<(), NoMemory>
+    #[inline(never)]
+    pub fn push<const N: usize>(&mut self, bytes: &[u8; N]) -> Result<(), NoMemory>
         ensures ok { OnOk result (self.new.bytes ≡ self.old.bytes ++ bytes.now) }
         ensures enough { length self.old.bytes + length bytes.now ≤ self.old.capacity
             → IsOk result }
         ensures grows { self.old.capacity ≤ self.new.capacity }
         ensures err { OnErr result (self.new ≡ self.old) }
     {
-        self.bytes.extend_from_slice(bytes)?;
+        if self.slots.len() - self.len < N {
+            make_ready(&mut self.slots, self.len, N)?;
+        }
+        write_each(self.slots.as_mut_slice(), self.len, bytes);
+        self.len += N;
         Ok(())
     }
 
-    /// Puts these bytes at the end, and the others behind them. It takes no memory where there is
+    /// Puts these bytes at the end, however many they are. It takes no memory where there is room
+    /// for them. Where there is no memory for them, nothing has changed.
+    #[inline(never)]
+    pub fn push_slice(&mut self, bytes: &[u8]) -> Result<(), NoMemory>
+        ensures ok { OnOk result (self.new.bytes ≡ self.old.bytes ++ bytes.now) }
+        ensures enough { length self.old.bytes + length bytes.now ≤ self.old.capacity
+            → IsOk result }
+        ensures grows { self.old.capacity ≤ self.new.capacity }
+        ensures err { OnErr result (self.new ≡ self.old) }
+    {
+        if self.slots.len() - self.len < bytes.len() {
+            make_ready(&mut self.slots, self.len, bytes.len())?;
+        }
+        write_at(self.slots.as_mut_slice(), self.len, bytes);
+        self.len += bytes.len();
+        Ok(())
+    }
+
+    /// Puts these bytes at the end, and a few others behind them. It takes no memory where there is
     /// room for all. Where there is no memory for them, nothing has changed.
     #[inline(always)]
-    pub fn push_both(&mut self, bytes: &[u8], others: &[u8]) -> Result<(), NoMemory>
+    pub fn push_both<const N: usize>(
+        &mut self,
+        bytes: &[u8],
+        others: &[u8; N],
+    ) -> Result<(), NoMemory>
         ensures ok { OnOk result
             (self.new.bytes ≡ self.old.bytes ++ (bytes.now ++ others.now)) }
         ensures enough { length self.old.bytes + length (bytes.now ++ others.now)
@@ -77,8 +163,8 @@ impl ByteStack {
         ensures grows { self.old.capacity ≤ self.new.capacity }
         ensures err { OnErr result (self.new ≡ self.old) }
     {
-        self.reserve(bytes.len() + others.len())?;
-        self.push(bytes)?;
+        self.reserve(bytes.len() + N)?;
+        self.push_slice(bytes)?;
         self.push(others)
     }
 
@@ -93,7 +179,12 @@ impl ByteStack {
         ensures grows { self.old.capacity ≤ self.new.capacity }
         ensures err { OnErr result (self.new ≡ self.old) }
     {
-        self.bytes.reserve(more)?;
+        let len = self.len();
+        if self.slots.capacity() - len >= more {
+            return Ok(());
+        }
+        let missing = more.saturating_sub(self.slots.len() - len);
+        self.slots.reserve(missing)?;
         Ok(())
     }
 
@@ -103,6 +194,6 @@ impl ByteStack {
         ensures bytes { self.new.bytes ≡ take len self.old.bytes }
         ensures capacity { self.new.capacity ≡ self.old.capacity }
     {
-        self.bytes.truncate(len);
+        self.len = self.len.min(len);
     }
 }

@@ -19,7 +19,7 @@ use Rattle.rd_state.specs.Objects.{no_queue}
 use Rattle.rd_state.specs.PackedChanges.{all_packed}
 use Rattle.rd_state.specs.Change.{Change}
 use Rattle.rd_state.specs.Change.{weight_of}
-use Rattle.rd_state.specs.Edit.{Base, Edit, GivesUp, GoesOn, Reaches, added, begun_at, room_for}
+use Rattle.rd_state.specs.Edit.{Base, Edit, GivesUp, GoesOn, Reaches, added, begun_at, capacity_of, room_for}
 use Rattle.rd_state.specs.Settled.{IsSettled}
 use Rattle.rd_state.specs.Sizes.{IsSized}
 use Rattle.rd_state.specs.Snapshot.{Snapshot, core_at, queue_at}
@@ -27,8 +27,9 @@ use Rattle.rd_state.specs.Undoing.{undone, CanUndo}
 use Rattle.rd_state.specs.Valid.{IsValid}
 use Rattle.rd_calls.specs.declared.moves.Move.{Move}
 use Rattle.rd_calls.specs.declared.moves.Move.TheVariants.{Core, Tick}
-use Rattle.rd_calls.specs.Step.{core_step, dropped_by_instr, dropped_by_task, instr_cost, last_tick, next_instr, record_limit, step, step_of_core, tick_step}
+use Rattle.rd_calls.specs.Step.{core_step, dropped_by_instr, dropped_by_move, dropped_by_task, instr_cost, last_tick, next_instr, record_limit, step, step_of_core, tick_step}
 use Rattle.rd_calls.specs.Step.{IsPlayed}
+use Rattle.rd_calls.specs.declared.play.TheConstants.{MAX_RECORD_BYTES}
 use Rattle.rd_calls.proofs.StepLaws.{IsSettled-step, IsSettled-tick, IsValid-step, IsValid-tick}
 
 -- The items that a move drops are those of one queue at the most.
@@ -55,10 +56,16 @@ dropped_by_task_few : (app : Application) (s : Snapshot) (running : Option ℕ) 
 dropped_by_task_few app s None sized = omega arith
 dropped_by_task_few app s (Some task) sized = dropped_by_instr_few s (next_instr app s task) sized
 
-most_is_few : (app : Application) (s : Snapshot) (move : Move) → IsSized s → record_limit app s move < 65536
-most_is_few app s (Core core) sized =
-    omega (arith, dropped_by_task_few app s (core_at s core) sized, sized.tasks.few, sized.scheduling.few_cores)
-most_is_few app s Tick sized = omega (arith, sized.tasks.few, sized.scheduling.few_cores)
+pub dropped_few : (app : Application) (s : Snapshot) (move : Move) → IsSized s → dropped_by_move app s move ≤ 4096
+dropped_few app s (Core core) sized = dropped_by_task_few app s (core_at s core) sized
+dropped_few app s Tick sized = omega arith
+
+most_is_few : (app : Application) (s : Snapshot) (move : Move) → IsSized s → record_limit app s move ≤ 4800
+most_is_few app s move sized = omega (arith, dropped_few app s move sized, sized.tasks.few, sized.scheduling.few_cores)
+
+-- Whatever the move, its record has room in so many bytes.
+pub record_has_room : (app : Application) (s : Snapshot) (move : Move) → IsSized s → room_for (record_limit app s move) ≤ MAX_RECORD_BYTES
+record_has_room app s move sized = omega (arith, most_is_few app s move sized)
 
 -- The record of a move has few changes.
 pub played_few : (app : Application) (s s' : Snapshot) (move : Move) (changes : List Change) → IsSized s → IsPlayed app s move s' changes → length changes < 65536
@@ -68,7 +75,7 @@ played_few app s s' move changes sized played = omega (arith, length-weight-le c
 pub record Leads (app : Application) (s : Snapshot) (move : Move) (target : Snapshot) (cost : ℕ) : Type 0 where
   pub step : step app s move ≡ Ok target
   pub few : cost ≤ record_limit app s move
-  pub most_few : record_limit app s move < 65536
+  pub most_few : record_limit app s move ≤ 4800
   pub valid : (s' : Snapshot) → s' ≡ target → IsSized s' → IsValid app s'
   pub settled : (s' : Snapshot) → s' ≡ target → IsSettled (priorities_of app) s'
 
@@ -137,6 +144,13 @@ Leads-tick app s limits valid later =
       valid = λ s' is sized. IsValid-tick app s s' limits valid is sized;
       settled = λ s' is. IsSettled-tick app s s' limits valid is;
     }
+
+-- No memory is given back, whether the move was made or gave up.
+pub grows-from : {T E : Type 0} (r : Result T E) (target : Snapshot) (cost : ℕ) (begun made : Edit) → OnOk r (Reaches begun made target cost)
+    → OnErr r (GivesUp begun made cost) → capacity_of begun ≤ capacity_of made
+grows-from r target cost begun made =
+    elim r as (λ q. OnOk q (Reaches begun made target cost) → OnErr q (GivesUp begun made cost) → capacity_of begun ≤ capacity_of made)
+    [ Ok x ↦ λ f g. f.grows | Err y ↦ λ f g. g.grows ]
 
 -- the room that was short, where the move gave up
 pub short-from : {T E : Type 0} (r : Result T E) (app : Application) (s : Snapshot) (move : Move) (target : Snapshot) (cost room : ℕ) (begun made : Edit)

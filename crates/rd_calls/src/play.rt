@@ -3,7 +3,7 @@
 ghost use Rattle.std.specs.Prelude.{◌≡◌, ◌↔◌, ◌<◌, ◌≤◌, ◌⊎◌, length, take, Ok, Err};
 ghost use Rattle.std.specs.Prelude.{None, Some, IfErr, IfOk, IfSome, OnOk, OnErr, IsErrOf, IsOk};
 ghost use Rattle.rd_app.specs.Application.{priorities_of};
-ghost use Rattle.rd_state.specs.Edit.{added, room_for, GoesOn};
+ghost use Rattle.rd_state.specs.Edit.{added, capacity_of, room_for, GoesOn};
 ghost use Rattle.rd_state.specs.PackedChanges.{IsPackable};
 ghost use Rattle.rd_state.specs.Settled.{IsSettled};
 ghost use Rattle.rd_state.specs.Sizes.{IsSized};
@@ -28,12 +28,15 @@ use rd_text::refusal::Refusal;
 use std::alloc::Global;
 use std::mem;
 
+/// How many bytes the record of a move takes at the most.
+pub const MAX_RECORD_BYTES: usize = 76_800;
+
 // Ends a move. Where memory ran out half-way, what was done of it is undone.
 fn finish(editing: &mut Editing, made: Result<(), NoMemory>) -> Result<(), NoMemory>
     ensures made { result ≡ made }
     ensures state { OnOk made (editing.new.now ≡ editing.old.now) }
     ensures record { OnOk made (GoesOn editing.old editing.new.changes) }
-    ensures room { editing.old.room ≤ editing.new.room }
+    ensures capacity { capacity_of editing.new ≡ capacity_of editing.old }
     ensures err { OnErr made (editing.new.now ≡ editing.old.base.state) }
     ensures err_record { OnErr made (editing.new.changes ≡ editing.old.base.recorded) }
     ensures sized { IsSized editing.new.now }
@@ -59,6 +62,7 @@ fn play_core(editing: &mut Editing, app: &App, core: usize, task: usize) -> Resu
         (editing.old.room < room_for (record_limit app.now editing.old.now (Move.Core core))) }
     ensures err { OnErr result (editing.new.now ≡ editing.old.now) }
     ensures err_record { OnErr result (editing.new.changes ≡ editing.old.changes) }
+    ensures grows { capacity_of editing.old ≤ capacity_of editing.new }
 {
     app.limits();
     editing.begin();
@@ -78,6 +82,7 @@ fn play_tick(editing: &mut Editing, app: &App) -> Result<(), NoMemory>
         (editing.old.room < room_for (record_limit app.now editing.old.now Move.Tick)) }
     ensures err { OnErr result (editing.new.now ≡ editing.old.now) }
     ensures err_record { OnErr result (editing.new.changes ≡ editing.old.changes) }
+    ensures grows { capacity_of editing.old ≤ capacity_of editing.new }
 {
     app.limits();
     editing.begin();
@@ -104,7 +109,8 @@ pub fn why_not(app: &App, state: &State, action: &Move) -> Option<Refusal>
 /// Makes a move where the state and the record are, and adds what undoes it to the record. A
 /// refusal leaves the state and the record as they were: `NoTask` where the core is idle,
 /// `TickLimit` where the tick is 4,294,967,295, `NoMemory` where a growth was refused, which none is
-/// where the record has room for the move. There is no other.
+/// where the record has room for the move. There is no other. The record keeps the memory that it
+/// has.
 pub fn move_on(editing: &mut Editing, app: &App, action: Move) -> Result<(), Refusal>
     requires valid { IsValid app.now editing.old.now }
     requires named { IsMoveOf app.now action }
@@ -122,6 +128,7 @@ pub fn move_on(editing: &mut Editing, app: &App, action: Move) -> Result<(), Ref
         → editing.old.room < room_for (record_limit app.now editing.old.now action) }
     ensures err { OnErr result (editing.new.now ≡ editing.old.now) }
     ensures err_record { OnErr result (editing.new.changes ≡ editing.old.changes) }
+    ensures grows { capacity_of editing.old ≤ capacity_of editing.new }
 {
     match action {
         Move::Core { core } => {

@@ -63,13 +63,13 @@ AreRecords-push n b body count small few are all =
     )
 
 -- what is read at the end of one record more
-pub record PeeledRecord (n : ℕ) (bytes : List ℕ) : Type 0 where
+record PeeledRecord (n : ℕ) (bytes : List ℕ) : Type 0 where
   pub ends : EndsInRecord bytes
   pub whole : before_record bytes ++ record_packed (last_record bytes) ≡ bytes
   pub rest : AreRecords (n - 1) (before_record bytes)
   pub is : records_in n bytes ≡ records_in (n - 1) (before_record bytes) ++ last_record bytes ∷ []
 
-pub peeled_record : (n : ℕ) (bytes : List ℕ) → 0 < n → AreRecords n bytes → PeeledRecord n bytes
+peeled_record : (n : ℕ) (bytes : List ℕ) → 0 < n → AreRecords n bytes → PeeledRecord n bytes
 peeled_record zero bytes some are = absurd (omega arith)
 peeled_record (suc n) bytes some are =
     let e : suc n - 1 ≡ n = omega arith in
@@ -102,11 +102,12 @@ trailer_byte bytes k some small there =
     ap (λ n. get_or (take 8 rest) (n - k) 0) eight ∙ get_or-take 8 rest (8 - k) 0 (omega arith) ∙ get_or-drop (length bytes - 8) bytes (8 - k) 0
     ∙ ap (λ i. get_or bytes i 0) e
 
+-- the two numbers, as they stand in all bytes
 pub record IsTrailer (bytes t : List ℕ) : Type 0 where
   pub size : end_word 5 t ≡ body_size bytes
   pub count : end_word 1 t ≡ change_count bytes
 
-trailer_numbers : (bytes t : List ℕ) → 8 ≤ length bytes → t ≡ take 8 (drop (length bytes - 8) bytes) → IsTrailer bytes t
+pub trailer_numbers : (bytes t : List ℕ) → 8 ≤ length bytes → t ≡ take 8 (drop (length bytes - 8) bytes) → IsTrailer bytes t
 trailer_numbers bytes t there is =
     let b : (k : ℕ) → 1 ≤ k → k ≤ 8 → end_byte k t ≡ end_byte k bytes = λ k some small. ap (end_byte k) is ∙ trailer_byte bytes k some small there in
     let e8 = b 8 (omega arith) (omega arith) in
@@ -119,40 +120,54 @@ trailer_numbers bytes t there is =
     let e1 = b 1 (omega arith) (omega arith) in
     record { size = rw (e8, e7, e6, e5) refl; count = rw (e4, e3, e2, e1) refl }
 
--- what going back by the last record reads, and what it leaves
-pub record Plan (n : ℕ) (bytes : List ℕ) (end size count : ℕ) : Type 0 where
-  pub peel : PeeledRecord n bytes
-  pub many : count ≡ change_count bytes
-  pub room : size + 8 ≤ end
-  pub whole : end ≡ length bytes
-  pub body : take size (drop (end - 8 - size) bytes) ≡ last_body bytes
-  pub cut : take (end - 8 - size) bytes ≡ before_record bytes
-  pub taken : length (record_packed (last_record bytes)) ≡ size + 8
-
-pub plan : (n : ℕ) (bytes t : List ℕ) (end size count : ℕ) → 0 < n → AreRecords n bytes → end ≡ length bytes → t ≡ take 8 (drop (end - 8) bytes)
-    → size ≡ end_word 5 t → count ≡ end_word 1 t → Plan n bytes end size count
-plan n bytes t end size count some are all is first second =
-    let peel : PeeledRecord n bytes = peeled_record n bytes some are in
-    let numbers : IsTrailer bytes t = trailer_numbers bytes t peel.ends.trailer (is ∙ ap (λ k. take 8 (drop (k - 8) bytes)) all) in
-    let s : size ≡ body_size bytes = first ∙ numbers.size in
-    let start : end - 8 - size ≡ length bytes - record_size bytes = omega (arith, s, all) in
-    let shorter = length-all_but bytes (record_size bytes) in
-    record {
-      peel = peel;
-      many = second ∙ numbers.count;
-      room = omega (arith, s, all, peel.ends.room);
-      whole = all;
-      body = ap (λ k. take k (drop (end - 8 - size) bytes)) s ∙ ap (λ k. take (body_size bytes) (drop k bytes)) start;
-      cut = ap (λ k. take k bytes) start;
-      taken = omega (arith, ap length peel.whole, length-append (before_record bytes) (record_packed (last_record bytes)), shorter, s, peel.ends.room);
-    }
-
-pub last_is : (front : List (List Change)) (last : List Change) → last_of_all (front ++ last ∷ []) ≡ last
+last_is : (front : List (List Change)) (last : List Change) → last_of_all (front ++ last ∷ []) ≡ last
 last_is front last =
     let e : length (front ++ last ∷ []) - 1 ≡ length front = omega (arith, length-append front (last ∷ [])) in
     ap (λ k. get_or (front ++ last ∷ []) k []) e ∙ get_or-append_seam front last [] []
 
-pub front_is : (front : List (List Change)) (last : List Change) → take (length (front ++ last ∷ []) - 1) (front ++ last ∷ []) ≡ front
+front_is : (front : List (List Change)) (last : List Change) → take (length (front ++ last ∷ []) - 1) (front ++ last ∷ []) ≡ front
 front_is front last =
     let e : length (front ++ last ∷ []) - 1 ≡ length front = omega (arith, length-append front (last ∷ [])) in
     ap (λ k. take k (front ++ last ∷ [])) e ∙ take-append_seam front (last ∷ [])
+
+-- What going back by the last record reads, and what it leaves.
+pub record Plan (n : ℕ) (bytes : List ℕ) (records : List (List Change)) (end size : ℕ) : Type 0 where
+  pub ends : EndsInRecord bytes
+  pub rest : AreRecords (n - 1) (before_record bytes)
+  pub room : size + 8 ≤ end
+  pub body : take size (drop (end - 8 - size) bytes) ≡ last_body bytes
+  pub cut : take (end - 8 - size) bytes ≡ before_record bytes
+  pub taken : length (record_packed (last_record bytes)) ≡ size + 8
+  pub last : last_of_all records ≡ last_record bytes
+  pub front : take (length records - 1) records ≡ records_in (n - 1) (before_record bytes)
+
+pub plan : (n : ℕ) (bytes : List ℕ) (records : List (List Change)) (end size : ℕ) → records_in n bytes ≡ records → 0 < length records
+    → AreRecords n bytes → end ≡ length bytes → size ≡ body_size bytes → Plan n bytes records end size
+plan n bytes records end size view some are all is =
+    let peel : PeeledRecord n bytes = peeled_record n bytes (omega (arith, some, length-records_in n bytes, ap length view)) are in
+    let start : end - 8 - size ≡ length bytes - record_size bytes = omega (arith, is, all) in
+    let peeled : records ≡ records_in (n - 1) (before_record bytes) ++ last_record bytes ∷ [] = sym view ∙ peel.is in
+    record {
+      ends = peel.ends;
+      rest = peel.rest;
+      room = omega (arith, is, all, peel.ends.room);
+      body = ap (λ k. take k (drop (end - 8 - size) bytes)) is ∙ ap (λ k. take (body_size bytes) (drop k bytes)) start;
+      cut = ap (λ k. take k bytes) start;
+      taken =
+          omega (
+            arith,
+            ap length peel.whole,
+            length-append (before_record bytes) (record_packed (last_record bytes)),
+            length-all_but bytes (record_size bytes),
+            is,
+            peel.ends.room,
+          );
+      last = ap last_of_all peeled ∙ last_is (records_in (n - 1) (before_record bytes)) (last_record bytes);
+      front = ap (λ (r : List (List Change)). take (length r - 1) r) peeled ∙ front_is (records_in (n - 1) (before_record bytes)) (last_record bytes);
+    }
+
+-- There is a trailer, where there is a record.
+pub trailer_there : (n : ℕ) (bytes : List ℕ) (records : List (List Change)) → records_in n bytes ≡ records → 0 < length records → AreRecords n bytes
+    → 8 ≤ length bytes
+trailer_there n bytes records view some are =
+    (peeled_record n bytes (omega (arith, some, length-records_in n bytes, ap length view)) are).ends.trailer

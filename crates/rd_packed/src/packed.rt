@@ -3,7 +3,8 @@
 ghost use Rattle.std.specs.Prelude.{◌≡◌, ◌+◌, ◌-◌, ◌<◌, ◌≤◌, ◌∷◌, ◌++◌, ◌^◌, [], length, take};
 ghost use Rattle.std.specs.Prelude.{IfErr, IsOk, OnErr, OnOk};
 ghost use Rattle.rd_bytes.specs.Ends.{end_word};
-ghost use Rattle.rd_packed.specs.Records.{last_of_all, record_packed, records_packed, trailer};
+ghost use Rattle.rd_packed.specs.Records.{body_size, change_count, last_of_all};
+ghost use Rattle.rd_packed.specs.Records.{record_packed, records_packed, trailer};
 ghost use Rattle.rd_state.specs.PackedChanges.{IsPackable};
 ghost use Rattle.rd_state.specs.Undoing.{undone, CanUndo};
 
@@ -45,6 +46,18 @@ fn numbers_of(trailer: &[u8]) -> (usize, usize)
     ensures count { result.1 ≡ end_word 1 trailer.now }
 {
     (end_word(trailer, 5) as usize, end_word(trailer, 1) as usize)
+}
+
+// Reads the trailer of the last record. Answers how many bytes its changes take, and how many they
+// are.
+fn read_trailer(tape: &mut Tape) -> (usize, usize)
+    requires { 8 ≤ length tape.old.bytes }
+    ensures size { result.0 ≡ body_size tape.old.bytes }
+    ensures count { result.1 ≡ change_count tape.old.bytes }
+    ensures tape { tape.new ≡ record tape.old { read = tape.old.read + 8 } }
+{
+    let end = tape.len();
+    numbers_of(tape.read(end - TRAILER, TRAILER))
 }
 
 // Puts the changes of a record at the end, and the two numbers behind them.
@@ -133,8 +146,8 @@ impl Packed {
             ≡ self.old.read + length (record_packed (last_of_all self.old.records)) }
         ensures capacity { self.new.capacity ≡ self.old.capacity }
     {
+        let (size, count) = read_trailer(&mut self.tape);
         let end = self.tape.len();
-        let (size, count) = numbers_of(self.tape.read(end - TRAILER, TRAILER));
         let start = end - TRAILER - size;
         state.back_by(self.tape.read(start, size), count);
         self.tape.cut(start);

@@ -100,7 +100,7 @@ fn pack_fill(number: u8, front: &[u8], back: &[u8], bytes: &mut ByteStack) -> Re
     let count = front.len() + back.len();
     let [low, high] = (count as u16).to_le_bytes();
     bytes.reserve(count + 4)?;
-    bytes.push(front)?;
+    bytes.push_slice(front)?;
     bytes.push_both(back, &[number, low, high, FILL_QUEUE])
 }
 
@@ -115,31 +115,16 @@ pub struct LastQueueChange<'a> {
     pub rest: &'a [u8],
 }
 
-impl<'a> LastQueueChange<'a> {
-    // The change of the queue that the byte names, behind the rest.
-    #[inline(always)]
-    fn of(queue: u8, change: QueueChange<'a>, rest: &'a [u8]) -> LastQueueChange<'a>
-        ensures queue { result.queue ≡ queue }
-        ensures change { the_queue_change result.change ≡ the_queue_change change.entry }
-        ensures rest { result.rest.now ≡ rest.now }
-    {
+// The queue whose number is that far from the end, with its change, and the rest. It is a macro, so
+// that a change is made where it stays: one that is handed on is copied, at each step back.
+macro_rules! last {
+    ($bytes:expr, $at:expr, $change:expr, $rest:expr) => {
         LastQueueChange {
-            queue: usize::from(queue),
-            change,
-            rest,
+            queue: usize::from(end_byte($bytes, $at)),
+            change: $change,
+            rest: $rest,
         }
-    }
-
-    // A change without fields, behind which are the queue and the tag alone.
-    #[inline(always)]
-    fn bare(bytes: &'a [u8], change: QueueChange<'a>) -> LastQueueChange<'a>
-        requires { 2 ≤ length bytes.now }
-        ensures queue { result.queue ≡ end_byte 2 bytes.now }
-        ensures change { the_queue_change result.change ≡ the_queue_change change.entry }
-        ensures rest { result.rest.now ≡ all_but 2 bytes.now }
-    {
-        LastQueueChange::of(end_byte(bytes, 2), change, all_but(bytes, 2))
-    }
+    };
 }
 
 // The bytes that a change carries, before so many of its fields and its tag, and those before them.
@@ -169,8 +154,31 @@ fn last_insertion(bytes: &[u8]) -> LastQueueChange<'_>
     let list = list_of_byte(end_byte(bytes, 5));
     let index = usize::from(end_byte(bytes, 3));
     let task = usize::from(end_byte(bytes, 2));
-    let change = QueueChange::InsWait { list, index, task };
-    LastQueueChange::of(end_byte(bytes, 4), change, all_but(bytes, 5))
+    last!(
+        bytes,
+        4,
+        QueueChange::InsWait { list, index, task },
+        all_but(bytes, 5)
+    )
+}
+
+// Reads the change that takes a task out of a list, where that stands at the end.
+#[inline(always)]
+fn last_deletion(bytes: &[u8]) -> LastQueueChange<'_>
+    requires there { 4 ≤ length bytes.now }
+    requires tag { end_byte 1 bytes.now ≡ DEL_WAIT }
+    ensures queue { result.queue ≡ last_queue bytes.now }
+    ensures change { the_queue_change result.change ≡ last_queue_change bytes.now }
+    ensures rest { result.rest.now ≡ all_but (queue_change_length bytes.now) bytes.now }
+{
+    let list = list_of_byte(end_byte(bytes, 4));
+    let index = usize::from(end_byte(bytes, 2));
+    last!(
+        bytes,
+        3,
+        QueueChange::DelWait { list, index },
+        all_but(bytes, 4)
+    )
 }
 
 /// Reads the change of a queue that stands at the end of the bytes.
@@ -183,38 +191,35 @@ pub fn last_queue_change(bytes: &[u8]) -> LastQueueChange<'_>
 {
     match end_byte(bytes, 1) {
         INS_WAIT => last_insertion(bytes),
-        DEL_WAIT => {
-            let list = list_of_byte(end_byte(bytes, 4));
-            let index = usize::from(end_byte(bytes, 2));
-            let change = QueueChange::DelWait { list, index };
-            LastQueueChange::of(end_byte(bytes, 3), change, all_but(bytes, 4))
-        }
+        DEL_WAIT => last_deletion(bytes),
         PUT_BACK => {
             let (item, rest) = carried(bytes, 4);
-            LastQueueChange::of(end_byte(bytes, 4), QueueChange::PutBack { item }, rest)
+            last!(bytes, 4, QueueChange::PutBack { item }, rest)
         }
         PUT_FRONT => {
             let (item, rest) = carried(bytes, 4);
-            LastQueueChange::of(end_byte(bytes, 4), QueueChange::PutFront { item }, rest)
+            last!(bytes, 4, QueueChange::PutFront { item }, rest)
         }
-        TAKE_BACK => LastQueueChange::bare(bytes, QueueChange::TakeBack),
-        TAKE_FRONT => LastQueueChange::bare(bytes, QueueChange::TakeFront),
+        TAKE_BACK => last!(bytes, 2, QueueChange::TakeBack, all_but(bytes, 2)),
+        TAKE_FRONT => last!(bytes, 2, QueueChange::TakeFront, all_but(bytes, 2)),
         SET_ITEM => {
             let (item, rest) = carried(bytes, 5);
             let index = usize::from(end_byte(bytes, 4));
-            let change = QueueChange::SetItem { index, item };
-            LastQueueChange::of(end_byte(bytes, 5), change, rest)
+            last!(bytes, 5, QueueChange::SetItem { index, item }, rest)
         }
-        CLEAR_QUEUE => LastQueueChange::bare(bytes, QueueChange::Clear),
+        CLEAR_QUEUE => last!(bytes, 2, QueueChange::Clear, all_but(bytes, 2)),
         FILL_QUEUE => {
             let (front, rest) = carried(bytes, 4);
-            let change = QueueChange::Fill { front, back: &[] };
-            LastQueueChange::of(end_byte(bytes, 4), change, rest)
+            last!(bytes, 4, QueueChange::Fill { front, back: &[] }, rest)
         }
         _ => {
             let queue_set = number_of_byte(end_byte(bytes, 2));
-            let change = QueueChange::SetMember { queue_set };
-            LastQueueChange::of(end_byte(bytes, 3), change, all_but(bytes, 3))
+            last!(
+                bytes,
+                3,
+                QueueChange::SetMember { queue_set },
+                all_but(bytes, 3)
+            )
         }
     }
 }

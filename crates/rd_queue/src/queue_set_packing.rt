@@ -60,20 +60,16 @@ pub struct LastQueueSetChange<'a> {
     pub rest: &'a [u8],
 }
 
-impl<'a> LastQueueSetChange<'a> {
-    // The change of the set that the byte names, behind the rest.
-    #[inline(always)]
-    fn of(queue_set: u8, change: QueueSetChange, rest: &'a [u8]) -> LastQueueSetChange<'a>
-        ensures queue_set { result.queue_set ≡ queue_set }
-        ensures change { result.change ≡ change }
-        ensures rest { result.rest.now ≡ rest.now }
-    {
+// The set whose number is that far from the end, with its change of so many bytes. It is a macro,
+// so that a change is made where it stays: one that is handed on is copied, at each step back.
+macro_rules! last {
+    ($bytes:expr, $at:expr, $change:expr, $length:expr) => {
         LastQueueSetChange {
-            queue_set: usize::from(queue_set),
-            change,
-            rest,
+            queue_set: usize::from(end_byte($bytes, $at)),
+            change: $change,
+            rest: all_but($bytes, $length),
         }
-    }
+    };
 }
 
 /// Reads the change of a queue set that stands at the end of the bytes.
@@ -88,31 +84,21 @@ pub fn last_queue_set_change(bytes: &[u8]) -> LastQueueSetChange<'_>
         INS_WAIT => {
             let index = usize::from(end_byte(bytes, 3));
             let task = usize::from(end_byte(bytes, 2));
-            let change = QueueSetChange::InsWait { index, task };
-            LastQueueSetChange::of(end_byte(bytes, 4), change, all_but(bytes, 5))
+            last!(bytes, 4, QueueSetChange::InsWait { index, task }, 5)
         }
         DEL_WAIT => {
             let index = usize::from(end_byte(bytes, 2));
-            let change = QueueSetChange::DelWait { index };
-            LastQueueSetChange::of(end_byte(bytes, 3), change, all_but(bytes, 4))
+            last!(bytes, 3, QueueSetChange::DelWait { index }, 4)
         }
         PUSH_HANDLE => {
             let queue = usize::from(end_byte(bytes, 2));
-            let change = QueueSetChange::PushHandle { queue };
-            LastQueueSetChange::of(end_byte(bytes, 3), change, all_but(bytes, 3))
+            last!(bytes, 3, QueueSetChange::PushHandle { queue }, 3)
         }
-        DROP_HANDLE => {
-            let change = QueueSetChange::DropHandle;
-            LastQueueSetChange::of(end_byte(bytes, 2), change, all_but(bytes, 2))
-        }
-        TAKE_HANDLE => {
-            let change = QueueSetChange::TakeHandle;
-            LastQueueSetChange::of(end_byte(bytes, 2), change, all_but(bytes, 2))
-        }
+        DROP_HANDLE => last!(bytes, 2, QueueSetChange::DropHandle, 2),
+        TAKE_HANDLE => last!(bytes, 2, QueueSetChange::TakeHandle, 2),
         _ => {
             let queue = usize::from(end_byte(bytes, 2));
-            let change = QueueSetChange::UntakeHandle { queue };
-            LastQueueSetChange::of(end_byte(bytes, 3), change, all_but(bytes, 3))
+            last!(bytes, 3, QueueSetChange::UntakeHandle { queue }, 3)
         }
     }
 }

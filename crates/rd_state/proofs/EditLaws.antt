@@ -8,7 +8,7 @@ use Rattle.rd_state.specs.Change.{Change}
 use Rattle.rd_state.specs.Change.{SetTick, SetTurn, SetCore, InsReady, DelReady, Task, Object}
 use Rattle.rd_state.specs.Snapshot.{Snapshot}
 use Rattle.rd_state.specs.Change.{applied, inverse_of, cost_of, weight_of, Fits}
-use Rattle.rd_state.specs.Edit.{Base, Edit, GoesOn, SameShape, Reaches, begun_at, edit_of}
+use Rattle.rd_state.specs.Edit.{Base, Edit, GoesOn, SameShape, Reaches, begun_at, capacity_of, edit_of}
 use Rattle.std.proofs.Common.{zero, suc, ◌+◌, ◌-◌, ◌*◌, ◌<◌, ap₂, length-append}
 use Rattle.rd_state.specs.Edit.{room_for, room_of}
 use Rattle.rd_state.specs.PackedChanges.{all_packed, packed, ChangeListView}
@@ -47,6 +47,18 @@ room_after list list' change e grows =
       grows,
     )
 
+-- A change more, and as much memory or more, leave no less in all.
+capacity_after : (list list' : ChangeListView) (change : Change) → list'.changes ≡ list.changes ++ change ∷ [] → list.capacity ≤ list'.capacity
+    → length (all_packed list.changes) + room_of list ≤ length (all_packed list'.changes) + room_of list'
+capacity_after list list' change e grows =
+    omega (
+      arith,
+      ap (λ changes. length (all_packed changes)) e,
+      ap length (all_packed-push list.changes change),
+      length-append (all_packed list.changes) (packed change),
+      grows,
+    )
+
 -- Where the list grew and yet has no room for the change, it had less than that cost needs.
 pub short_of_room : (list : ChangeListView) (change : Change) → list.capacity < length (all_packed list.changes ++ packed change)
     → room_of list < room_for (cost_of change)
@@ -75,6 +87,19 @@ room_back edit s list list' start n e f same =
       same,
     )
 
+pub capacity_back : (edit : Edit) (s : Snapshot) (list list' : ChangeListView) (start n : ℕ) → edit_of s list start ≡ edit
+    → length (all_packed list.changes) ≤ list.capacity → list'.changes ≡ take n list.changes → list'.capacity ≡ list.capacity
+    → length (all_packed list'.changes) + room_of list' ≡ capacity_of edit
+capacity_back edit s list list' start n e within f same =
+    omega (
+      arith,
+      ap (λ (old : Edit). capacity_of old) e,
+      within,
+      ap (λ left. length (all_packed left)) f,
+      all_packed-take-le n list.changes,
+      same,
+    )
+
 -- what `act` makes of a state and its record
 pub Reaches-act : (s s' : Snapshot) (list list' : ChangeListView) (start : ℕ) (change : Change) → IsSized s → Fits s change → start ≤ length list.changes
     → list.capacity ≤ list'.capacity → s' ≡ applied s change → list'.changes ≡ list.changes ++ inverse_of s change ∷ []
@@ -94,6 +119,7 @@ Reaches-act s s' list list' start change sized fits within grows e f =
           (ap (take start) f ∙ take-append-le start changes (back ∷ []) within);
       weight = omega (arith, ap (λ cs. weight_of (drop start cs)) f, ap weight_of more, sum_by_push cost_of later back);
       room = room_after list list' back f grows;
+      grows = capacity_after list list' back f grows;
       shape = subst (SameShape s) (sym e) (shape-applied s change);
     }
 

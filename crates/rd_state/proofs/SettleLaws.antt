@@ -22,5 +22,6 @@ Reaches-still priorities rounds old new some still comes = record {
   base = comes.base;
   weight = omega (arith, comes.weight);
   room = omega (arith, comes.room);
+  grows = comes.grows;
   shape = comes.shape;
 }

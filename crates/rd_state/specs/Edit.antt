@@ -23,6 +23,10 @@ pub record Edit : Type 0 where
 abbrev pub room_of : ChangeListView → ℕ
 room_of list = list.capacity - length (all_packed list.changes)
 
+-- for how many bytes it has room in all
+abbrev pub capacity_of : Edit → ℕ
+capacity_of edit = length (all_packed edit.changes) + edit.room
+
 -- a move whose record had so many changes before
 abbrev pub edit_of : Snapshot → ChangeListView → ℕ → Edit
 edit_of s list start = record {
@@ -60,10 +64,11 @@ abbrev pub room_for : ℕ → ℕ
 room_for cost = 16 * cost
 
 -- The move goes no further: there is no memory, and less room than that cost needs. It still began
--- where it did, and its record leads back there.
+-- where it did, and its record leads back there, with no less memory.
 pub record GivesUp (old new : Edit) (cost : ℕ) : Type 0 where
   pub base : new.base ≡ old.base
   pub short : old.room < room_for cost
+  pub grows : capacity_of old ≤ capacity_of new
 
 -- the same numbers of cores, of tasks, and of objects of each kind
 pub record SameShape (old new : Snapshot) : Type 0 where
@@ -71,10 +76,12 @@ pub record SameShape (old new : Snapshot) : Type 0 where
   pub tasks : length new.tasks ≡ length old.tasks
   pub objects : numbers_of new ≡ numbers_of old
 
--- The state has become the target, at that cost at the most; the record leads back to where it did.
+-- The state has become the target, at that cost at the most; the record leads back to where it did,
+-- with no less memory.
 pub record Reaches (old new : Edit) (target : Snapshot) (cost : ℕ) : Type 0 where
   pub now : new.now ≡ target
   pub base : new.base ≡ old.base
   pub weight : new.weight ≤ old.weight + cost
   pub room : old.room ≤ new.room + room_for cost
+  pub grows : capacity_of old ≤ capacity_of new
   pub shape : SameShape old.now new.now

@@ -1,7 +1,7 @@
 //! A list of changes, kept as bytes and undone from its end.
 
 ghost use Rattle.std.specs.Prelude.{◌≡◌, ◌<◌, ◌≤◌, ◌∷◌, ◌++◌, ◌^◌, [], length, take, drop};
-ghost use Rattle.std.specs.Prelude.{slice_index_or, OnOk, OnErr};
+ghost use Rattle.std.specs.Prelude.{◌+◌, slice_index_or, IsOk, OnOk, OnErr};
 ghost use Rattle.rd_bytes.specs.declared.byte_stack.TheConstants.{INLINE_BYTES};
 ghost use Rattle.rd_state.specs.Change.{applied, inverse_of, no_change, the_change, weight_of};
 ghost use Rattle.rd_state.specs.Change.{Fits};
@@ -88,6 +88,7 @@ impl ChangeList {
         ensures are { AreChanges (length self.now.changes) result.now }
         ensures room { length (all_packed self.now.changes) ≤ self.now.capacity }
     {
+        // (there are no more bytes than there is room for)
         let _len = self.bytes.len();
         self.bytes.as_slice()
     }
@@ -139,6 +140,20 @@ impl ChangeList {
         let _len = self.bytes.len();
         self.count += 1;
         Ok(())
+    }
+
+    /// Makes room for `more` bytes of changes. Where there is no memory for it, nothing has changed.
+    #[inline(always)]
+    pub fn reserve(&mut self, more: usize) -> Result<(), NoMemory>
+        ensures changes { self.new.changes ≡ self.old.changes }
+        ensures ok { OnOk result
+            (length (all_packed self.new.changes) + more ≤ self.new.capacity) }
+        ensures enough { length (all_packed self.old.changes) + more ≤ self.old.capacity
+            → IsOk result }
+        ensures grows { self.old.capacity ≤ self.new.capacity }
+        ensures err { OnErr result (self.new ≡ self.old) }
+    {
+        self.bytes.reserve(more)
     }
 
     /// Makes a change, and puts the change that undoes it at the end. It takes no memory where

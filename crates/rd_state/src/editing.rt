@@ -1,9 +1,10 @@
 //! A move in the middle: the state and the record of what was changed.
 
 ghost use Rattle.std.specs.Prelude.{◌≡◌, ◌<◌, ◌≤◌, length, drop, insert, remove, take};
-ghost use Rattle.std.specs.Prelude.{OnOk, OnErr};
+ghost use Rattle.std.specs.Prelude.{IsOk, OnOk, OnErr};
 ghost use Rattle.rd_state.specs.Change.{applied, cost_of, inverse_of, the_change, Fits};
-ghost use Rattle.rd_state.specs.Edit.{begun_at, room_for, GoesOn, Reaches};
+ghost use Rattle.rd_state.specs.Edit.{begun_at, capacity_of, room_for, GoesOn, Reaches};
+ghost use Rattle.rd_state.specs.PackedChanges.{all_packed};
 ghost use Rattle.rd_state.specs.Sizes.{IsSized};
 ghost use Rattle.rd_state.specs.Transfers.{change_of, CanTransfer};
 ghost use Rattle.rd_state.specs.Undoing.{undone, CanUndo};
@@ -78,6 +79,29 @@ impl Editing {
         self.changes.len()
     }
 
+    /// How many bytes the record takes.
+    #[inline(always)]
+    pub fn bytes(&self) -> usize
+        ensures { result ≡ length (all_packed self.now.changes) }
+    {
+        self.changes.bytes().len()
+    }
+
+    /// Makes room for `more` bytes of the record. Where there is no memory for it, nothing has
+    /// changed.
+    #[inline(always)]
+    pub fn reserve(&mut self, more: usize) -> Result<(), NoMemory>
+        ensures same { self.new ≡ record self.old { room = self.new.room } }
+        ensures ok { OnOk result (more ≤ self.new.room) }
+        ensures enough { more ≤ self.old.room → IsOk result }
+        ensures grows { self.old.room ≤ self.new.room }
+        ensures err { OnErr result (self.new ≡ self.old) }
+    {
+        // (the record has no more bytes than there is room for)
+        self.changes.bytes();
+        self.changes.reserve(more)
+    }
+
     /// What the record got since the move began leads back to where it did.
     pub fn goes_on(&self)
         ensures { GoesOn self.now self.now.changes }
@@ -95,8 +119,8 @@ impl Editing {
         &self.state
     }
 
-    /// Makes a change and records what undoes it. Where there is no
-    /// memory for that, nothing has changed.
+    /// Makes a change and records what undoes it. Where there is no memory for that, nothing has
+    /// changed.
     #[inline(always)]
     pub fn change(&mut self, change: Change<'_>) -> Result<(), NoMemory>
         requires { Fits self.old.now (the_change change) }
@@ -191,7 +215,10 @@ impl Editing {
         ensures begun { self.new
             ≡ begun_at self.old.base.state self.old.base.recorded self.new.room }
         ensures room { self.old.room ≤ self.new.room }
+        ensures capacity { capacity_of self.new ≡ capacity_of self.old }
     {
+        // (the record has no more bytes than there is room for)
+        self.changes.bytes();
         self.changes.back_to(&mut self.state, self.start);
     }
 
@@ -204,7 +231,10 @@ impl Editing {
         ensures record { self.new.changes ≡ take len self.old.changes }
         ensures begun { self.new ≡ begun_at self.new.now self.new.changes self.new.room }
         ensures room { self.old.room ≤ self.new.room }
+        ensures capacity { capacity_of self.new ≡ capacity_of self.old }
     {
+        // (the record has no more bytes than there is room for)
+        self.changes.bytes();
         self.start = len;
         self.changes.back_to(&mut self.state, len);
     }

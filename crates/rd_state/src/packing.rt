@@ -11,13 +11,13 @@ ghost use Rattle.rd_state.specs.PackedChanges.{HasBytes, ObjectHasBytes};
 
 use crate::change::Change;
 use crate::objects::ObjectChange;
-use crate::task_packing::last_task_change;
+use crate::task_packing::{LastTaskChange, last_task_change};
 use rd_bytes::byte_stack::ByteStack;
 use rd_bytes::ends::{all_but, byte_of_number, end_byte, end_word, number_of_byte};
 use rd_bytes::no_memory::NoMemory;
 use rd_bytes::tag::{DEL_READY, INS_READY, OF_QUEUE, SET_CORE, SET_TICK, SET_TURN, last_kind};
-use rd_queue::packing::last_queue_change;
-use rd_queue::queue_set_packing::last_queue_set_change;
+use rd_queue::packing::{LastQueueChange, last_queue_change};
+use rd_queue::queue_set_packing::{LastQueueSetChange, last_queue_set_change};
 
 impl ObjectChange<'_> {
     // Puts the bytes of this change behind the others.
@@ -90,27 +90,33 @@ fn last_object_change(bytes: &[u8]) -> (ObjectChange<'_>, &[u8])
 {
     match last_kind(bytes) {
         OF_QUEUE => {
-            let last = last_queue_change(bytes);
-            let (queue, change) = (last.queue, last.change);
-            (ObjectChange::Queue { queue, change }, last.rest)
+            let LastQueueChange {
+                queue,
+                change,
+                rest,
+            } = last_queue_change(bytes);
+            (ObjectChange::Queue { queue, change }, rest)
         }
         _ => {
-            let last = last_queue_set_change(bytes);
-            let (queue_set, change) = (last.queue_set, last.change);
-            (ObjectChange::QueueSet { queue_set, change }, last.rest)
+            let LastQueueSetChange {
+                queue_set,
+                change,
+                rest,
+            } = last_queue_set_change(bytes);
+            (ObjectChange::QueueSet { queue_set, change }, rest)
         }
     }
 }
 
-impl<'a> LastChange<'a> {
-    // The change, behind the rest.
-    #[inline(always)]
-    fn of(change: Change<'a>, rest: &'a [u8]) -> LastChange<'a>
-        ensures change { the_change result.change ≡ the_change change.entry }
-        ensures rest { result.rest.now ≡ rest.now }
-    {
-        LastChange { change, rest }
-    }
+// The change, behind the rest. It is a macro, so that the change is made where it stays: one that is
+// handed on is copied, at each step back.
+macro_rules! last {
+    ($change:expr, $rest:expr) => {
+        LastChange {
+            change: $change,
+            rest: $rest,
+        }
+    };
 }
 
 /// Reads the change that stands at the end of the bytes.
@@ -123,37 +129,33 @@ pub fn last_change(bytes: &[u8]) -> LastChange<'_>
     match end_byte(bytes, 1) {
         SET_TICK => {
             let tick = end_word(bytes, 2);
-            LastChange::of(Change::SetTick { tick }, all_but(bytes, 5))
+            last!(Change::SetTick { tick }, all_but(bytes, 5))
         }
         SET_TURN => {
             let turn = usize::from(end_byte(bytes, 2));
-            LastChange::of(Change::SetTurn { turn }, all_but(bytes, 2))
+            last!(Change::SetTurn { turn }, all_but(bytes, 2))
         }
         SET_CORE => {
             let core = usize::from(end_byte(bytes, 3));
             let task = number_of_byte(end_byte(bytes, 2));
-            LastChange::of(Change::SetCore { core, task }, all_but(bytes, 3))
+            last!(Change::SetCore { core, task }, all_but(bytes, 3))
         }
         INS_READY => {
             let index = usize::from(end_byte(bytes, 3));
             let task = usize::from(end_byte(bytes, 2));
-            LastChange::of(Change::InsReady { index, task }, all_but(bytes, 3))
+            last!(Change::InsReady { index, task }, all_but(bytes, 3))
         }
         DEL_READY => {
             let index = usize::from(end_byte(bytes, 2));
-            LastChange::of(Change::DelReady { index }, all_but(bytes, 2))
+            last!(Change::DelReady { index }, all_but(bytes, 2))
         }
         tag => {
             if tag < INS_READY {
-                let last = last_task_change(bytes);
-                let (task, change) = (last.task, last.change);
-                LastChange {
-                    change: Change::Task { task, change },
-                    rest: last.rest,
-                }
+                let LastTaskChange { task, change, rest } = last_task_change(bytes);
+                last!(Change::Task { task, change }, rest)
             } else {
                 let (change, rest) = last_object_change(bytes);
-                LastChange::of(Change::Object { change }, rest)
+                last!(Change::Object { change }, rest)
             }
         }
     }

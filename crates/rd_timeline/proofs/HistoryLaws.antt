@@ -1,9 +1,9 @@
 -- Lists of moves with one more, and with one less.
-use Rattle.std.proofs.Common.{◌≡◌, ◌∙◌, ℕ, zero, suc, ◌+◌, ◌-◌, ◌<◌, ◌≤◌, List, [], ◌∷◌, ◌++◌, length, take, drop, refl, ap, subst, sym, arith, inl, inr}
+use Rattle.std.proofs.Common.{◌≡◌, ◌∙◌, ℕ, zero, suc, ◌+◌, ◌≤◌, List, [], ◌∷◌, ◌++◌, length, take, drop, refl, ap, subst, sym, arith, inl, inr}
 use Rattle.std.specs.Prelude.{Ok}
 use Rattle.std.proofs.lemmas.Bool.{cases_lt}
-use Rattle.std.proofs.lemmas.List.{append_assoc, take_all, drop_all, take-append-le, drop-append-le, length_push, length-take-le}
-use Rattle.std.proofs.lemmas.List.{take-take, take-append-drop, drop-take, drop-drop}
+use Rattle.std.proofs.lemmas.List.{take_all, drop_all, take-append-le, drop-append-le, length_push, length-take-le}
+use Rattle.std.proofs.lemmas.List.{take-take, take-append-drop}
 use Rattle.std.proofs.lemmas.List.Sums.{fold_push}
 use Rattle.rd_app.specs.Application.{Application, priorities_of}
 use Rattle.rd_state.specs.Change.{Change}
@@ -33,13 +33,34 @@ CanRewind-push s (first ∷ later) last can rewinds =
     let P : Snapshot → Type 0 = λ t. CanUndo t first in
     (CanRewind-push s later last can rewinds.0, subst P (sym (rewound-push s later last)) rewinds.1)
 
-pub CanRewind-pop : (s : Snapshot) (records : List (List Change)) (last : List Change) → CanRewind s (records ++ last ∷ [])
-    → CanUndo s last × CanRewind (undone s last) records
-CanRewind-pop s [] last rewinds = (rewinds.1, tt)
-CanRewind-pop s (first ∷ later) last rewinds =
-    let rest = CanRewind-pop s later last rewinds.0 in
+-- back by some records: first by those after them
+rewound-append : (s : Snapshot) (records later : List (List Change)) → rewound s (records ++ later) ≡ rewound (rewound s later) records
+rewound-append s [] later = refl
+rewound-append s (first ∷ rest) later = ap (λ (t : Snapshot). undone t first) (rewound-append s rest later)
+
+pub CanRewind-later : (s : Snapshot) (records : List (List Change)) (m : ℕ) → CanRewind s records → CanRewind s (drop m records)
+CanRewind-later s records zero can = can
+CanRewind-later s [] (suc m) can = tt
+CanRewind-later s (first ∷ rest) (suc m) can = CanRewind-later s rest m can.0
+
+CanRewind-append : (s : Snapshot) (records later : List (List Change)) → CanRewind s (records ++ later) → CanRewind (rewound s later) records
+CanRewind-append s [] later can = tt
+CanRewind-append s (first ∷ rest) later can =
     let P : Snapshot → Type 0 = λ t. CanUndo t first in
-    (rest.0, (rest.1, subst P (rewound-push s later last) rewinds.1))
+    (CanRewind-append s rest later can.0, subst P (rewound-append s rest later) can.1)
+
+-- Back by the records after the first m, those can still be undone.
+pub CanRewind-back : (s : Snapshot) (records : List (List Change)) (m : ℕ) → CanRewind s records → CanRewind (rewound s (drop m records)) (take m records)
+CanRewind-back s records m can =
+    CanRewind-append s (take m records) (drop m records) (subst (CanRewind s) (sym (take-append-drop m records)) can)
+
+rewound-back : (s : Snapshot) (records : List (List Change)) (m count : ℕ) → count ≤ m → m ≤ length records
+    → rewound (rewound s (drop m records)) (drop count (take m records)) ≡ rewound s (drop count records)
+rewound-back s records m count few within =
+    let whole : drop count records ≡ drop count (take m records) ++ drop m records =
+    ap (drop count) (sym (take-append-drop m records))
+    ∙ drop-append-le count (take m records) (drop m records) (omega (arith, few, length-take-le m records within)) in
+    sym (ap (rewound s) whole ∙ rewound-append s (drop count (take m records)) (drop m records))
 
 -- at boot there is nothing to go back
 pub Retraces-boot : (app : Application) (s : Snapshot) → s ≡ boot_of app → IsValid app s → IsSettled (priorities_of app) s → Retraces app [] [] s
@@ -82,33 +103,11 @@ Retraces-push app moves records move last s s' same h steps back valid settled c
           (record { state = state_after-push app moves move s (Retraces-now app moves records s same h).state ∙ steps; valid = valid; settled = settled }))
     ]
 
-pub Retraces-pop : (app : Application) (moves : List Move) (records : List (List Change)) (move : Move) (last : List Change)
-    (s : Snapshot) → length records ≡ length moves
-    → Retraces app (moves ++ move ∷ []) (records ++ last ∷ []) s → Retraces app moves records (undone s last)
-Retraces-pop app moves records move last s same h count within =
-    subst (λ (t : Snapshot). IsStateAfter app (take count moves) t) (rewound-before count records last s (omega (arith, within, same)))
-    (subst (λ (ms : List Move). IsStateAfter app ms (rewound s (drop count (records ++ last ∷ [])))) (before_last count moves move within)
-    (h count (omega (arith, within, length_push moves move))))
-
--- one member of a list, moved from a front's end to before the rest
-one_moved : {X : Type 0} (xs : List X) (k : ℕ) → drop k (take (k + 1) xs) ++ drop (k + 1) xs ≡ drop k xs
-one_moved xs k =
-    ap (λ ys. ys ++ drop (k + 1) xs) (drop-take k 1 xs) ∙ ap (λ ys. take 1 (drop k xs) ++ ys) (sym (drop-drop 1 k xs)) ∙ take-append-drop 1 (drop k xs)
-
--- with i of the last moves undone, one more
-pub back_more : (done undone_ done₁ undone₁ done₂ undone₂ : List Move) (i : ℕ) → i < length done
-    → done₁ ≡ take (length done - i) done → undone₁ ≡ drop (length done - i) done ++ undone_
-    → done₂ ≡ take (length done₁ - 1) done₁ → undone₂ ≡ drop (length done₁ - 1) done₁ ++ undone₁
-    → (done₂ ≡ take (length done - (i + 1)) done) × (undone₂ ≡ drop (length done - (i + 1)) done ++ undone_)
-back_more done undone_ done₁ undone₁ done₂ undone₂ i more d u dd uu =
-    let k = length done - (i + 1) in
-    let next : length done - i ≡ k + 1 = omega (arith, more) in
-    let front : done₁ ≡ take (k + 1) done = d ∙ ap (λ n. take n done) next in
-    let count : length done₁ - 1 ≡ k = omega (arith, ap length front, length-take-le (k + 1) done (omega (arith, more)), more) in
-    let last : done₂ ≡ take k (take (k + 1) done) = dd ∙ ap (λ n. take n done₁) count ∙ ap (take k) front in
-    let moved : undone₂ ≡ drop k (take (k + 1) done) ++ (drop (k + 1) done ++ undone_) =
-    uu ∙ ap (λ n. drop n done₁ ++ undone₁) count ∙ ap (λ xs. drop k xs ++ undone₁) front
-    ∙ ap (λ ys. drop k (take (k + 1) done) ++ ys) (u ∙ ap (λ n. drop n done ++ undone_) next) in (
-      last ∙ take-take k (k + 1) done (omega arith),
-      moved ∙ sym (append_assoc (drop k (take (k + 1) done)) (drop (k + 1) done) undone_) ∙ ap (λ ys. ys ++ undone_) (one_moved done k),
-    )
+-- Back by the records after the first m, the first m moves are retraced.
+pub Retraces-back : (app : Application) (moves : List Move) (records : List (List Change)) (s : Snapshot) (m : ℕ)
+    → length records ≡ length moves → m ≤ length moves → Retraces app moves records s
+    → Retraces app (take m moves) (take m records) (rewound s (drop m records))
+Retraces-back app moves records s m same within h count few =
+    let fewer : count ≤ m = omega (arith, few, length-take-le m moves within) in
+    subst (λ (t : Snapshot). IsStateAfter app (take count (take m moves)) t) (sym (rewound-back s records m count fewer (omega (arith, within, same))))
+    (subst (λ (ms : List Move). IsStateAfter app ms (rewound s (drop count records))) (sym (take-take count m moves fewer)) (h count (omega (arith, fewer, within))))

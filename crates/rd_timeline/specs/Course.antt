@@ -1,5 +1,5 @@
 -- What a contract sees of a timeline.
-use Rattle.std.specs.Prelude.{ℕ, ◌≡◌, ◌≢◌, ◌≤◌, ◌⊎◌, List, length, Err, IsOk}
+use Rattle.std.specs.Prelude.{ℕ, ◌≡◌, ◌≢◌, ◌<◌, ◌≤◌, ◌⊎◌, List, length, Err, IsOk}
 use Rattle.rd_text.specs.declared.refusal.Refusal.{Refusal}
 use Rattle.rd_text.specs.declared.refusal.Refusal.TheVariants.{MovesFull, NoMemory}
 use Rattle.rd_app.specs.Application.{Application}
@@ -8,9 +8,11 @@ use Rattle.rd_state.specs.Snapshot.{Snapshot}
 use Rattle.rd_calls.specs.declared.moves.Move.{Move}
 use Rattle.rd_calls.specs.Step.{step}
 use Rattle.rd_timeline.specs.History.{Retraces, CanRewind}
+use Rattle.rd_timeline.specs.LogView.{bytes_of}
 
 -- the application, how many moves may be done, the target as it is now, the moves done from boot in
--- order, the record of each, and the moves undone, the one to be redone next first
+-- order, the record of each, and the moves undone, the one to be redone next first; how many moves
+-- were done at the most so far, and from how many bytes of records a move was made at the most
 pub record Course : Type 0 where
   pub app : Application
   pub limit : ℕ
@@ -18,6 +20,8 @@ pub record Course : Type 0 where
   pub done : List Move
   pub log : List (List Change)
   pub undone : List Move
+  pub most_done : ℕ
+  pub most_bytes : ℕ
 
 -- There is a record for each move done. Going back by them retraces the moves, and can be done.
 pub record IsKept (course : Course) : Type 0 where
@@ -38,6 +42,11 @@ IsRefusedBy course move refusal =
 -- There is room for a move more, and the kernel's rules give the state after this one.
 abbrev pub CanGo : Course → Move → Type 0
 CanGo course move = (length course.done ≢ course.limit) × IsOk (step course.app course.target move)
+
+-- As many moves were never done, or no move was made from as many bytes of records.
+abbrev pub IsMoreThanEver : Course → Type 0
+IsMoreThanEver course =
+    (course.most_done ≤ length course.done) ⊎ (course.most_bytes < bytes_of course.log)
 
 -- Why a move isn't made: the moves done are at their limit, or else the kernel's rules refuse it,
 -- or else there is no memory for it.

@@ -1,7 +1,10 @@
 -- The course that the fields of a `Timeline` stand for.
+use Rattle.std.specs.Prelude.{◌≡◌, ◌⊎◌, ◌+◌, ◌≤◌}
 use Rattle.rd_app.specs.Application.{IsApplication}
+use Rattle.rd_calls.specs.declared.play.TheConstants.{MAX_RECORD_BYTES}
 use Rattle.rd_timeline.specs.declared.timeline.Timeline.TheInside.{Inside}
 use Rattle.rd_timeline.specs.Course.{Course, IsKept}
+use Rattle.rd_timeline.specs.LogView.{memory_of}
 
 abbrev pub course_of : Inside → Course
 course_of t = record {
@@ -11,9 +14,18 @@ course_of t = record {
   done = t.journal.done;
   log = t.journal.records;
   undone = t.journal.undone;
+  most_done = t.most_done;
+  most_bytes = t.most_bytes;
 }
 
--- The way back is kept.
+-- No move was made yet.
+abbrev pub IsFresh : Inside → Type 0
+IsFresh t = (t.most_done ≡ 0) × (t.most_bytes ≡ 0)
+
+-- The way back is kept, and the room for as much as there was once.
 pub record IsWhole (t : Inside) : Type 0 where
   pub kept : IsKept (course_of t)
   pub limits : IsApplication t.app
+  pub capacity : t.most_done ≤ t.journal.capacity
+  pub memory : IsFresh t
+      ⊎ (t.most_bytes + MAX_RECORD_BYTES ≤ memory_of t.journal.records t.journal.room)

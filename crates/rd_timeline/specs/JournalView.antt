@@ -1,5 +1,5 @@
 -- What a contract sees of a journal.
-use Rattle.std.specs.Prelude.{ℕ, ◌≡◌, ◌∷◌, ◌++◌, [], List}
+use Rattle.std.specs.Prelude.{ℕ, ◌≡◌, List}
 use Rattle.rd_state.specs.Change.{Change}
 use Rattle.rd_state.specs.Snapshot.{Snapshot}
 use Rattle.rd_calls.specs.declared.moves.Move.{Move}
@@ -21,8 +21,3 @@ pub record IsAsBefore (old new : JournalView) : Type 0 where
   pub done : new.done ≡ old.done
   pub records : new.records ≡ old.records
   pub undone : new.undone ≡ old.undone
-
--- The last move done is now the first one undone.
-abbrev pub TakesBack : JournalView → JournalView → Type 0
-TakesBack old new =
-    (last : Move) × (old.done ≡ new.done ++ last ∷ []) × (new.undone ≡ last ∷ old.undone)

@@ -1,14 +1,14 @@
 //! The moves done and undone, with the target, and the records that lead back through those done.
 
-ghost use Rattle.std.specs.Prelude.{◌≡◌, ◌↔◌, ◌-◌, ◌∷◌, ◌++◌, ◌<◌, ◌≤◌, ◌⊎◌, [], length, take};
-ghost use Rattle.std.specs.Prelude.{Err, IfErr, IsErrOf, IsOk, OnErr, OnOk};
-ghost use Rattle.rd_calls.specs.Step.{record_limit, step, IsMoveOf};
-ghost use Rattle.rd_state.specs.Edit.{room_for};
-ghost use Rattle.rd_state.specs.Undoing.{undone, CanUndo};
+ghost use Rattle.std.specs.Prelude.{◌≡◌, ◌-◌, ◌∷◌, ◌++◌, ◌<◌, ◌≤◌, [], drop, length, take};
+ghost use Rattle.std.specs.Prelude.{Err, IfErr, IsOk, OnErr, OnOk};
+ghost use Rattle.rd_calls.specs.declared.play.TheConstants.{MAX_RECORD_BYTES};
+ghost use Rattle.rd_calls.specs.Step.{step, IsMoveOf};
 ghost use Rattle.rd_state.specs.Valid.{IsValid};
+ghost use Rattle.rd_timeline.specs.History.{rewound, CanRewind};
 ghost use Rattle.rd_timeline.specs.JournalInside.{move_of_byte, HasByte};
-ghost use Rattle.rd_timeline.specs.JournalView.{IsAsBefore, TakesBack};
-ghost use Rattle.rd_timeline.specs.LogView.{last_record, RecordsMove};
+ghost use Rattle.rd_timeline.specs.JournalView.{IsAsBefore};
+ghost use Rattle.rd_timeline.specs.LogView.{bytes_of, memory_of, RecordsMove};
 
 use crate::trail::Trail;
 use rd_app::app::App;
@@ -90,15 +90,24 @@ impl Journal {
         self.moves.len() - self.done
     }
 
-    /// Makes room for one move more done, with its record. Where there is no memory for that,
-    /// nothing else has changed. It needs none where there is room for more moves done, as there is
-    /// after going back.
+    /// How many bytes the changes of all records take.
+    pub fn bytes(&self) -> usize
+        ensures { result ≡ bytes_of self.now.records }
+    {
+        self.trail.bytes()
+    }
+
+    /// Makes room for one move more done, whichever it is, with its record. Where there is no memory
+    /// for that, nothing else has changed. It needs none where there is such room, as there is after
+    /// going back.
     pub fn reserve(&mut self) -> Result<(), NoMemory>
         ensures same { IsAsBefore self.old self.new }
         ensures ok { OnOk result (length self.new.done < self.new.capacity) }
-        ensures enough { length self.old.done < self.old.capacity → IsOk result }
-        ensures room { self.old.capacity ≤ self.new.capacity }
-        ensures kept_room { self.new.room ≡ self.old.room }
+        ensures ok_bytes { OnOk result (MAX_RECORD_BYTES ≤ self.new.room) }
+        ensures enough { length self.old.done < self.old.capacity
+            → MAX_RECORD_BYTES ≤ self.old.room → IsOk result }
+        ensures grows { self.old.capacity ≤ self.new.capacity }
+        ensures more_room { self.old.room ≤ self.new.room }
     {
         let missing = (self.done + 1).saturating_sub(self.moves.len());
         self.moves.reserve(missing)?;
@@ -106,28 +115,24 @@ impl Journal {
     }
 
     /// Makes a move: it is laid on the moves done, with its record, and the moves undone are
-    /// forgotten. A refusal is one of `move_on`, and leaves the target, the moves and their records
-    /// as they were. Where there is room for the bytes that a record takes at the most, no memory is
-    /// asked for.
+    /// forgotten. It takes no memory. A refusal is one of the kernel's rules, and leaves the target,
+    /// the moves and their records as they were.
     pub fn play(&mut self, app: &App, action: Move) -> Result<(), Refusal>
         requires valid { IsValid app.now self.old.target }
         requires named { IsMoveOf app.now action }
-        requires room { length self.old.done < self.old.capacity }
+        requires capacity { length self.old.done < self.old.capacity }
+        requires room { MAX_RECORD_BYTES ≤ self.old.room }
         ensures lays { OnOk result
             (RecordsMove app.now self.old.target action self.new.target
             self.old.records self.new.records) }
         ensures done { OnOk result (self.new.done ≡ self.old.done ++ action ∷ []) }
         ensures undone { OnOk result (self.new.undone ≡ []) }
-        ensures no_task { IsErrOf result Refusal.NoTask
-            ↔ (step app.now self.old.target action ≡ Err Refusal.NoTask) }
-        ensures tick_limit { IsErrOf result Refusal.TickLimit
-            ↔ (step app.now self.old.target action ≡ Err Refusal.TickLimit) }
         ensures refusals { IfErr result (λ refusal.
-            (step app.now self.old.target action ≡ Err refusal) ⊎ (refusal ≡ Refusal.NoMemory)) }
-        ensures short { IsErrOf result Refusal.NoMemory
-            → self.old.room < room_for (record_limit app.now self.old.target action) }
+            step app.now self.old.target action ≡ Err refusal) }
         ensures err { OnErr result (IsAsBefore self.old self.new) }
         ensures kept_capacity { self.new.capacity ≡ self.old.capacity }
+        ensures memory { memory_of self.old.records self.old.room
+            ≤ memory_of self.new.records self.new.room }
     {
         app.limits();
         let byte = byte_of_move(&action);
@@ -138,20 +143,25 @@ impl Journal {
         Ok(())
     }
 
-    /// Takes the last move done back: the target goes back by its record, and it becomes the first
-    /// of the moves undone. It takes no memory, and the room stays.
-    pub fn take_back(&mut self)
-        requires some { 0 < length self.old.done }
-        requires can_undo { CanUndo self.old.target (last_record self.old.records) }
-        ensures target { self.new.target ≡ undone self.old.target (last_record self.old.records) }
-        ensures moves { TakesBack self.old self.new }
-        ensures records { self.new.records
-            ≡ take (length self.old.records - 1) self.old.records }
-        ensures room { self.new.capacity ≡ self.old.capacity }
-        ensures more_room { self.old.room ≤ self.new.room }
+    /// Takes the last `n` moves done back: the target goes back by their records, and they become the
+    /// first of the moves undone. It takes no memory, and the room stays.
+    pub fn take_back(&mut self, n: usize)
+        requires within { n ≤ length self.old.done }
+        requires records { length self.old.records ≡ length self.old.done }
+        requires can_rewind { CanRewind self.old.target
+            (drop (length self.old.done - n) self.old.records) }
+        ensures target { self.new.target ≡ rewound self.old.target
+            (drop (length self.old.done - n) self.old.records) }
+        ensures done { self.new.done ≡ take (length self.old.done - n) self.old.done }
+        ensures undone { self.new.undone
+            ≡ drop (length self.old.done - n) self.old.done ++ self.old.undone }
+        ensures records { self.new.records ≡ take (length self.old.done - n) self.old.records }
+        ensures kept_capacity { self.new.capacity ≡ self.old.capacity }
+        ensures memory { memory_of self.new.records self.new.room
+            ≡ memory_of self.old.records self.old.room }
     {
-        self.done -= 1;
-        self.trail.take_back();
+        self.done -= n;
+        self.trail.take_back(n);
     }
 
     /// Ends the journal: nobody will go back any more.

@@ -1,7 +1,7 @@
 //! The target with the moves that led to it: going on, going back.
 
 ghost use Rattle.std.specs.Prelude.{◌≡◌, ◌↔◌, ◌-◌, ◌<◌, ◌≤◌, ◌∷◌, ◌++◌, [], length, take, drop};
-ghost use Rattle.std.specs.Prelude.{Ok, IfOk, IfErr, OnOk, OnErr, IsOk, IsErrOf};
+ghost use Rattle.std.specs.Prelude.{max, Ok, IfOk, IfErr, OnOk, OnErr, IsOk, IsErrOf};
 ghost use Rattle.rd_state.specs.Boot.{boot_of};
 ghost use Rattle.rd_app.specs.Application.{priorities_of};
 ghost use Rattle.rd_state.specs.PackedChanges.{IsPackable};
@@ -9,8 +9,9 @@ ghost use Rattle.rd_state.specs.Settled.{IsSettled};
 ghost use Rattle.rd_state.specs.Valid.{IsValid};
 ghost use Rattle.rd_calls.specs.Step.{step, IsMoveOf};
 ghost use Rattle.rd_timeline.specs.Course.{IsKept, IsFull, IsRefusedBy, CanGo};
-ghost use Rattle.rd_timeline.specs.Course.{IsWhyNot};
+ghost use Rattle.rd_timeline.specs.Course.{IsMoreThanEver, IsWhyNot};
 ghost use Rattle.rd_timeline.specs.History.{state_after};
+ghost use Rattle.rd_timeline.specs.LogView.{bytes_of};
 
 use crate::journal::Journal;
 use crate::log::Log;
@@ -30,6 +31,10 @@ pub struct Timeline {
     app: App,
     limit: usize,
     journal: Journal,
+    // How many moves were done at the most so far, and from how many bytes of records a move was
+    // made at the most. There is room for as much.
+    most_done: usize,
+    most_bytes: usize,
 }
 
 impl Model for Timeline {
@@ -54,6 +59,8 @@ impl Timeline {
           done = [];
           log = [];
           undone = [];
+          most_done = 0;
+          most_bytes = 0;
         }) }
     {
         app.limits();
@@ -62,6 +69,8 @@ impl Timeline {
             app,
             limit,
             journal: Journal::new(alloc, target),
+            most_done: 0,
+            most_bytes: 0,
         })
     }
 
@@ -108,7 +117,7 @@ impl Timeline {
     /// many moves are done. A refusal leaves the timeline as it was: `MovesFull` where the moves
     /// done are at their limit, else `NoTask` where the core is idle and `TickLimit` where there is
     /// no further tick, whatever memory is left, else `NoMemory` where a growth was refused. There
-    /// is no other.
+    /// is no other. No memory is needed for as much as there was once.
     pub fn go(&mut self, action: Move) -> Result<usize, Refusal>
         requires named { IsMoveOf self.old.app action }
         ensures at { IfOk result (λ at. at ≡ length self.new.done) }
@@ -118,6 +127,10 @@ impl Timeline {
         ensures app { OnOk result (self.new.app ≡ self.old.app) }
         ensures limit { OnOk result (self.new.limit ≡ self.old.limit) }
         ensures leads { OnOk result (state_after self.new.app self.new.done ≡ Ok self.new.target) }
+        ensures most_done { OnOk result
+            (self.new.most_done ≡ max self.old.most_done (length self.new.done)) }
+        ensures most_bytes { OnOk result
+            (self.new.most_bytes ≡ max self.old.most_bytes (bytes_of self.old.log)) }
 
         // When it is refused, and that nothing has changed then.
         ensures moves_full { IsErrOf result Refusal.MovesFull ↔ IsFull self.old }
@@ -126,6 +139,7 @@ impl Timeline {
         ensures tick_limit { IsErrOf result Refusal.TickLimit
             ↔ IsRefusedBy self.old action Refusal.TickLimit }
         ensures no_memory { IsErrOf result Refusal.NoMemory → CanGo self.old action }
+        ensures short { IsErrOf result Refusal.NoMemory → IsMoreThanEver self.old }
         ensures refusals { IfErr result (IsWhyNot self.old action) }
         ensures err { OnErr result (self.new ≡ self.old) }
     {
@@ -137,20 +151,12 @@ impl Timeline {
             let cause = why_not(&self.app, self.journal.target(), &action);
             return Err(cause.unwrap_or(Refusal::NoMemory));
         }
+        let bytes = self.journal.bytes();
         self.journal.play(&self.app, action)?;
-        Ok(self.at())
-    }
-
-    // Takes the last move back.
-    fn back_one(&mut self)
-        requires { 0 < length self.old.done }
-        ensures done { self.new.done ≡ take (length self.old.done - 1) self.old.done }
-        ensures undone { self.new.undone
-            ≡ drop (length self.old.done - 1) self.old.done ++ self.old.undone }
-        ensures app { self.new.app ≡ self.old.app }
-        ensures limit { self.new.limit ≡ self.old.limit }
-    {
-        self.journal.take_back();
+        let at = self.journal.done();
+        self.most_done = self.most_done.max(at);
+        self.most_bytes = self.most_bytes.max(bytes);
+        Ok(at)
     }
 
     /// Goes back by `n` moves, which can be redone, the last one undone first. Answers how many
@@ -164,6 +170,8 @@ impl Timeline {
             ≡ drop (length self.old.done - n) self.old.done ++ self.old.undone) }
         ensures app { OnOk result (self.new.app ≡ self.old.app) }
         ensures limit { OnOk result (self.new.limit ≡ self.old.limit) }
+        ensures most_done { OnOk result (self.new.most_done ≡ self.old.most_done) }
+        ensures most_bytes { OnOk result (self.new.most_bytes ≡ self.old.most_bytes) }
         ensures leads { OnOk result (state_after self.new.app self.new.done ≡ Ok self.new.target) }
         ensures too_far { IfErr result (λ refusal.
             refusal ≡ Refusal.TooFar (length self.old.done)) }
@@ -173,9 +181,7 @@ impl Timeline {
         if n > done {
             return Err(Refusal::TooFar { done });
         }
-        for _ in 0..n {
-            self.back_one();
-        }
+        self.journal.take_back(n);
         self.keeps();
         Ok(self.at())
     }
@@ -197,6 +203,8 @@ impl Timeline {
             app: _,
             limit: _,
             journal,
+            most_done: _,
+            most_bytes: _,
         } = self;
         journal.retire();
     }

@@ -1,17 +1,17 @@
 //! The target, and the records that lead back from it.
 
-ghost use Rattle.std.specs.Prelude.{◌≡◌, ◌↔◌, ◌-◌, ◌∷◌, ◌++◌, ◌<◌, ◌≤◌, ◌⊎◌, [], length, take};
-ghost use Rattle.std.specs.Prelude.{Err, IfErr, IsErrOf, IsOk, OnErr, OnOk};
-ghost use Rattle.rd_calls.specs.Step.{record_limit, step, IsMoveOf};
-ghost use Rattle.rd_state.specs.Edit.{room_for};
-ghost use Rattle.rd_state.specs.Undoing.{undone, CanUndo};
+ghost use Rattle.std.specs.Prelude.{◌≡◌, ◌-◌, ◌<◌, ◌≤◌, ◌^◌, [], drop, length, sum, take};
+ghost use Rattle.std.specs.Prelude.{Err, IfErr, IsOk, OnErr, OnOk};
+ghost use Rattle.rd_calls.specs.declared.play.TheConstants.{MAX_RECORD_BYTES};
+ghost use Rattle.rd_calls.specs.Step.{step, IsMoveOf};
 ghost use Rattle.rd_state.specs.Valid.{IsValid};
-ghost use Rattle.rd_timeline.specs.LogView.{last_record, RecordsMove};
+ghost use Rattle.rd_timeline.specs.LogView.{bytes_of, memory_of, RecordsMove};
+ghost use Rattle.rd_timeline.specs.History.{rewound, CanRewind};
 
 use rd_app::app::App;
 use rd_bytes::no_memory::NoMemory;
 use rd_calls::moves::Move;
-use rd_calls::play::move_on;
+use rd_calls::play::{MAX_RECORD_BYTES, move_on};
 use rd_state::editing::Editing;
 use rd_state::state::State;
 use rd_state::undo::Undo;
@@ -46,6 +46,14 @@ impl Model for Trail {
     ghost invariant = { λ t. sum t.counts.items ≡ length t.editing.changes };
 }
 
+// The sum of these numbers.
+fn sum_of(counts: &[u16]) -> usize
+    requires { sum counts.now < 2 ^ 64 }
+    ensures { result ≡ sum counts.now }
+{
+    counts.iter().map(|count| usize::from(*count)).sum()
+}
+
 impl Trail {
     /// A target from which nothing leads back.
     pub fn new(alloc: Global, target: State) -> Trail
@@ -65,40 +73,45 @@ impl Trail {
         self.editing.state()
     }
 
-    /// Makes room for one record more. Where there is no memory for that, nothing has changed. It
-    /// needs none while there are fewer records than there is room for.
+    /// How many bytes the changes of all records take.
+    pub fn bytes(&self) -> usize
+        ensures { result ≡ bytes_of self.now.records }
+    {
+        self.editing.bytes()
+    }
+
+    /// Makes room for one record more, of whichever move. Where there is no memory for that, nothing
+    /// else has changed. It needs none where there is such room.
     pub fn reserve(&mut self) -> Result<(), NoMemory>
         ensures target { self.new.target ≡ self.old.target }
         ensures records { self.new.records ≡ self.old.records }
         ensures ok { OnOk result (length self.new.records < self.new.capacity) }
-        ensures enough { length self.old.records < self.old.capacity → IsOk result }
-        ensures room { self.old.capacity ≤ self.new.capacity }
-        ensures kept_room { self.new.room ≡ self.old.room }
+        ensures ok_bytes { OnOk result (MAX_RECORD_BYTES ≤ self.new.room) }
+        ensures enough { length self.old.records < self.old.capacity
+            → MAX_RECORD_BYTES ≤ self.old.room → IsOk result }
+        ensures grows { self.old.capacity ≤ self.new.capacity }
+        ensures more_room { self.old.room ≤ self.new.room }
     {
         self.counts.reserve(1)?;
-        Ok(())
+        self.editing.reserve(MAX_RECORD_BYTES)
     }
 
-    /// Makes a move, and its record is the last one then. A refusal is one of `move_on`, and leaves
-    /// the target and the records as they were. Where there is room for the bytes that a record takes
-    /// at the most, no memory is asked for.
+    /// Makes a move, and its record is the last one then. It takes no memory. A refusal is one of
+    /// the kernel's rules, and leaves the target and the records as they were.
     pub fn play(&mut self, app: &App, action: Move) -> Result<(), Refusal>
         requires valid { IsValid app.now self.old.target }
         requires named { IsMoveOf app.now action }
-        requires room { length self.old.records < self.old.capacity }
+        requires capacity { length self.old.records < self.old.capacity }
+        requires room { MAX_RECORD_BYTES ≤ self.old.room }
         ensures lays { OnOk result (RecordsMove app.now self.old.target action self.new.target
             self.old.records self.new.records) }
-        ensures no_task { IsErrOf result Refusal.NoTask
-            ↔ (step app.now self.old.target action ≡ Err Refusal.NoTask) }
-        ensures tick_limit { IsErrOf result Refusal.TickLimit
-            ↔ (step app.now self.old.target action ≡ Err Refusal.TickLimit) }
         ensures refusals { IfErr result (λ refusal.
-            (step app.now self.old.target action ≡ Err refusal) ⊎ (refusal ≡ Refusal.NoMemory)) }
-        ensures short { IsErrOf result Refusal.NoMemory
-            → self.old.room < room_for (record_limit app.now self.old.target action) }
+            step app.now self.old.target action ≡ Err refusal) }
         ensures err { OnErr result (self.new.records ≡ self.old.records) }
         ensures err_target { OnErr result (self.new.target ≡ self.old.target) }
         ensures kept_capacity { self.new.capacity ≡ self.old.capacity }
+        ensures memory { memory_of self.old.records self.old.room
+            ≤ memory_of self.new.records self.new.room }
     {
         let before = self.editing.len();
         move_on(&mut self.editing, app, action)?;
@@ -107,19 +120,24 @@ impl Trail {
         Ok(())
     }
 
-    /// Goes back by the last record, which is gone then. It takes no memory, and the room stays.
-    pub fn take_back(&mut self)
-        requires some { 0 < length self.old.records }
-        requires can_undo { CanUndo self.old.target (last_record self.old.records) }
-        ensures target { self.new.target ≡ undone self.old.target (last_record self.old.records) }
+    /// Goes back by the last `n` records, which are gone then. It takes no memory, and the room stays.
+    pub fn take_back(&mut self, n: usize)
+        requires within { n ≤ length self.old.records }
+        requires can_rewind { CanRewind self.old.target
+            (drop (length self.old.records - n) self.old.records) }
+        ensures target { self.new.target ≡ rewound self.old.target
+            (drop (length self.old.records - n) self.old.records) }
         ensures records { self.new.records
-            ≡ take (length self.old.records - 1) self.old.records }
-        ensures room { self.new.capacity ≡ self.old.capacity }
-        ensures more_room { self.old.room ≤ self.new.room }
+            ≡ take (length self.old.records - n) self.old.records }
+        ensures kept_capacity { self.new.capacity ≡ self.old.capacity }
+        ensures memory { memory_of self.new.records self.new.room
+            ≡ memory_of self.old.records self.old.room }
     {
-        let count = usize::from(self.counts.pop().unwrap());
-        let before = self.editing.len() - count;
-        self.editing.back_to(before);
+        let len = self.editing.len();
+        let kept = self.counts.len() - n;
+        let count = sum_of(&self.counts[kept..]);
+        self.counts.truncate(kept);
+        self.editing.back_to(len - count);
     }
 
     /// Ends the trail: nobody will go back any more.

@@ -1,7 +1,7 @@
 -- The goals of `play_core` that the check left open.
 use Rattle.std.proofs.Common.{refl, rules}
 use Rattle.rd_state.specs.Edit.{begun_at}
-use Rattle.rd_calls.proofs.PlayLaws.{short-from, IsPlayed-from, Leads-core}
+use Rattle.rd_calls.proofs.PlayLaws.{grows-from, short-from, IsPlayed-from, Leads-core}
 use Rattle.rd_calls.proofs.play.play_core.Goals as goal
 
 pub returns-clause-played : goal.returns-clause-played
@@ -19,3 +19,10 @@ returns-clause-short c =
     (short-from c.move_core-made.result c.args.app.now old.now _ _ _ old.room (begun_at old.now old.changes old.room) c.move_core-made.new.editing refl
     (Leads-core c.args.app.now c.args.editing.now.now c.args.core c.args.task c.limits.ensures c.requires.caller.valid c.requires.core c.requires.task)
     (rw c.begin.ensures at c.move_core-made.ensures.err))
+
+pub returns-clause-grows : goal.returns-clause-grows
+returns-clause-grows c =
+    let old = c.args.editing.now in
+    let begun = begun_at old.now old.changes old.room in
+    rw c.finish.ensures.capacity
+    (grows-from c.move_core-made.result _ _ begun c.move_core-made.new.editing (rw c.begin.ensures at c.move_core-made.ensures.ok) (rw c.begin.ensures at c.move_core-made.ensures.err))

@@ -1,7 +1,7 @@
 -- The goals of `play_tick` that the check left open.
 use Rattle.std.proofs.Common.{refl, rules}
 use Rattle.rd_state.specs.Edit.{begun_at}
-use Rattle.rd_calls.proofs.PlayLaws.{short-from, IsPlayed-from, Leads-tick}
+use Rattle.rd_calls.proofs.PlayLaws.{grows-from, short-from, IsPlayed-from, Leads-tick}
 use Rattle.rd_calls.proofs.play.play_tick.Goals as goal
 
 pub returns-clause-played : goal.returns-clause-played
@@ -18,3 +18,10 @@ returns-clause-short c =
     (short-from c.move_tick-made.result c.args.app.now old.now _ _ _ old.room (begun_at old.now old.changes old.room) c.move_tick-made.new.editing refl
     (Leads-tick c.args.app.now c.args.editing.now.now c.limits.ensures c.requires.valid c.requires.later)
     (rw c.begin.ensures at c.move_tick-made.ensures.err))
+
+pub returns-clause-grows : goal.returns-clause-grows
+returns-clause-grows c =
+    let old = c.args.editing.now in
+    let begun = begun_at old.now old.changes old.room in
+    rw c.finish.ensures.capacity
+    (grows-from c.move_tick-made.result _ _ begun c.move_tick-made.new.editing (rw c.begin.ensures at c.move_tick-made.ensures.ok) (rw c.begin.ensures at c.move_tick-made.ensures.err))

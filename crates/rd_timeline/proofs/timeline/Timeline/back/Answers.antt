@@ -1,17 +1,16 @@
 -- The goals of `back` that the check left open.
-use Rattle.std.proofs.Common.{◌∙◌, arith}
-use Rattle.rd_timeline.proofs.HistoryLaws.{back_more}
+use Rattle.std.proofs.Common.{◌-◌, arith, length}
+use Rattle.rd_timeline.proofs.HistoryLaws.{CanRewind-later}
+use Rattle.rd_timeline.proofs.TimelineLaws.{IsWhole-back}
 use Rattle.rd_timeline.proofs.timeline.Timeline.back.Goals as goal
 
-pub loop-preserved : goal.loop-preserved
-loop-preserved c =
-    let was = c.args.self.now in
-    let held = c.loop.invariant in
-    let moved = back_more was.done was.undone c.loop.self.done c.loop.self.undone _ _ c.loop.counter (omega arith) held.done held.undone
-    c.back_one.ensures.done c.back_one.ensures.undone in
-    record {
-      done = moved.0;
-      undone = moved.1;
-      app = c.back_one.ensures.app ∙ c.loop.invariant.app;
-      limit = c.back_one.ensures.limit ∙ c.loop.invariant.limit;
-    }
+pub take_back-requires-clause-can_rewind : goal.take_back-requires-clause-can_rewind
+take_back-requires-clause-can_rewind c =
+    CanRewind-later c.self.inside.journal.target c.self.inside.journal.records (length c.self.inside.journal.done - c.args.n) c.self.invariant.kept.rewinds
+
+pub invariant_of-self : goal.invariant_of-self
+invariant_of-self c =
+    let t = c.self.inside in
+    let taken = c.take_back.ensures in
+    IsWhole-back t c.take_back.new.self (length t.journal.done - c.args.n) (omega arith) c.self.invariant taken.target taken.done taken.records
+    taken.kept_capacity taken.memory

@@ -1,5 +1,5 @@
 -- The goals of `go` that the check left open.
-use Rattle.std.proofs.Common.{◌≡◌, ◌∙◌, ◌++◌, ◌∷◌, [], List, ap, rules, subst, sym}
+use Rattle.std.proofs.Common.{◌≡◌, ◌≤◌, ◌<◌, ◌+◌, ◌∙◌, arith, length, ◌++◌, ◌∷◌, [], List, ap, refl, rules, subst, sym}
 use Rattle.std.specs.Prelude.{Ok}
 use Rattle.rd_calls.specs.declared.moves.Move.{Move}
 use Rattle.rd_state.specs.Change.{Change}
@@ -8,7 +8,9 @@ use Rattle.rd_state.specs.Valid.{IsValid}
 use Rattle.rd_calls.specs.Step.{step}
 use Rattle.rd_timeline.specs.History.{state_after}
 use Rattle.rd_timeline.proofs.HistoryLaws.{state_after-push}
-use Rattle.rd_timeline.proofs.TimelineLaws.{IsWhole-push, state_now}
+use Rattle.rd_timeline.proofs.TimelineLaws.{IsWhole-push, grown, state_now}
+use Rattle.rd_calls.specs.declared.play.TheConstants.{MAX_RECORD_BYTES}
+use Rattle.std.proofs.lemmas.List.{length_push}
 use Rattle.rd_timeline.proofs.timeline.Timeline.go.Goals as goal
 
 -- the target is valid, and so it is once there is room for a move more
@@ -29,9 +31,18 @@ invariant_of-self-2 c =
     let played = made.lays.played in
     let from_target : step t.app t.journal.target c.args.action ≡ Ok c.play.new.self.target =
     ap (λ (s : Snapshot). step t.app s c.args.action) (sym same.target) ∙ played.step in
-    IsWhole-push t _ c.args.action made.lays.undo c.self.invariant (search rules) from_target (played.leads_back ∙ same.target) played.can_undo
+    let capacity : length c.reserve.new.self.done < c.reserve.new.self.capacity = search rules in
+    let room : MAX_RECORD_BYTES ≤ c.reserve.new.self.room = search rules in
+    let one_more : length c.play.new.self.done ≡ length c.reserve.new.self.done + 1 =
+    omega (arith, ap length made.done, length_push c.reserve.new.self.done c.args.action) in
+    IsWhole-push t
+    (record { app = t.app; limit = t.limit; journal = c.play.new.self; most_done = c.max-self-inside.result; most_bytes = c.max-self-inside-2.result })
+    c.args.action made.lays.undo c.self.invariant refl refl (search rules) from_target (played.leads_back ∙ same.target) played.can_undo
     played.valid played.settled (made.done ∙ ap (λ (moves : List Move). moves ++ c.args.action ∷ []) same.done)
     (made.lays.records ∙ ap (λ (records : List (List Change)). records ++ made.lays.undo ∷ []) same.records)
+    (omega (arith, c.max-self-inside.ensures, c.done-at.ensures, one_more, capacity, made.kept_capacity, c.reserve.ensures.grows, c.self.invariant.capacity))
+    (grown t c.bytes-bytes.result c.max-self-inside-2.result c.reserve.new.self c.play.new.self c.self.invariant.memory same c.bytes-bytes.ensures c.max-self-inside-2.ensures
+    room c.reserve.ensures.more_room made.memory)
 
 pub returns-clause-leads : goal.returns-clause-leads
 returns-clause-leads c =

@@ -1,5 +1,6 @@
 -- The goals of `Trail::reserve` that the check left open.
 use Rattle.std.proofs.Common.{ap, arith, length}
+use Rattle.std.specs.Prelude.{Result, Ok, Err, OnOk}
 use Rattle.std.proofs.lemmas.Bool.{false≢true}
 use Rattle.rd_timeline.specs.TrailView.{TrailView}
 use Rattle.rd_timeline.proofs.CutLaws.{length-cut}
@@ -18,5 +19,9 @@ returns-in_err-reserve-clause-enough c more =
       ap (λ (v : TrailView). v.capacity) c.self.view_is,
     ))))
 
+done_or_not : {T E P : Type 0} (r : Result T E) → P → OnOk r P
+done_or_not {P} r holds = elim r as (λ q. OnOk q P) [ Ok x ↦ holds | Err y ↦ tt ]
+
 pub returns-clause-ok : goal.returns-clause-ok
-returns-clause-ok c = omega (arith, length-cut c.reserve.new.self.items c.self.inside.editing.changes, c.in_ok-reserve.ensures.ok)
+returns-clause-ok c =
+    done_or_not c.reserve-2.result (omega (arith, length-cut c.reserve.new.self.items c.reserve-2.new.self.changes, c.in_ok-reserve.ensures.ok))
