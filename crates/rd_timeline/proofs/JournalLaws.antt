@@ -11,7 +11,6 @@ use Rattle.rd_timeline.specs.JournalView.{JournalView}
 pub record IsEarlier (j : Inside) (old : JournalView) (n : ℕ) : Type 0 where
   pub done : take (j.done - n) (moves_of_bytes j.moves.items) ≡ take (length old.done - n) old.done
   pub undone : drop (j.done - n) (moves_of_bytes j.moves.items) ≡ drop (length old.done - n) old.done ++ old.undone
-  pub within : n ≤ length old.done → n ≤ j.done
 
 pub border_back : (j : Inside) (old : JournalView) (n : ℕ) → journal_of j ≡ old → j.done ≤ length j.moves.items → IsEarlier j old n
 border_back j old n is within =
@@ -24,7 +23,6 @@ border_back j old n is within =
     subst (λ (v : JournalView). IsEarlier j v n) is (record {
       done = sym (ap (λ k. take k before) border ∙ take-take (j.done - n) j.done moves (omega arith));
       undone = both ∙ ap (λ k. drop k before ++ drop j.done moves) (sym border);
-      within = λ few. omega (arith, few, count);
     })
 
 -- The moves before the border, and one more.
