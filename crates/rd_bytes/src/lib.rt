@@ -1,5 +1,5 @@
-//! Bytes that lie in the value itself, bytes that are read and changed at their end, and the refusal
-//! of a growth.
+//! Bytes that lie in the value itself, bytes that are read and changed at their end, and the
+//! refusal of a growth.
 #![tactic(auto)]
 
 pub mod byte_stack;

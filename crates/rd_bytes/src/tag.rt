@@ -1,5 +1,5 @@
-//! The numbers that stand for changes and for the lists of places in packed bytes. Those of kinds of
-//! objects that are still to come are left free.
+//! The numbers that stand for changes and for the lists of places in packed bytes. Those of kinds
+//! of objects that are still to come are left free.
 
 ghost use Rattle.std.specs.Prelude.{◌≡◌, ◌≤◌, length};
 ghost use Rattle.rd_bytes.specs.Ends.{end_byte};

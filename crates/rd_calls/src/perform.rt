@@ -60,7 +60,8 @@ pub fn move_core(app: &App, editing: &mut Editing, core: usize, task: usize) -> 
         (instr_cost editing.old.now (next_instr app.now editing.old.now task)
         + 1 + 3 * length editing.old.now.cores)) }
     ensures err { OnErr result (GivesUp editing.old editing.new
-        (instr_cost editing.old.now (next_instr app.now editing.old.now task) + 1 + 3 * length editing.old.now.cores)) }
+        (instr_cost editing.old.now (next_instr app.now editing.old.now task)
+        + 1 + 3 * length editing.old.now.cores)) }
 {
     app.limits();
     let pc = editing.state().task(task).pc();

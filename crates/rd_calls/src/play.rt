@@ -108,7 +108,7 @@ pub fn why_not(app: &App, state: &State, action: &Move) -> Option<Refusal>
 
 /// Makes a move where the state and the record are, and adds what undoes it to the record. A
 /// refusal leaves the state and the record as they were: `NoTask` where the core is idle,
-/// `TickLimit` where the tick is 4,294,967,295, `NoMemory` where a growth was refused, which none is
+/// `TickLimit` where the tick is 4,294,967,295, `NoMemory` where a growth was refused, as none is
 /// where the record has room for the move. There is no other. The record keeps the memory that it
 /// has.
 pub fn move_on(editing: &mut Editing, app: &App, action: Move) -> Result<(), Refusal>

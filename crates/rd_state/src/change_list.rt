@@ -142,7 +142,8 @@ impl ChangeList {
         Ok(())
     }
 
-    /// Makes room for `more` bytes of changes. Where there is no memory for it, nothing has changed.
+    /// Makes room for `more` bytes of changes. Where there is no memory for it, nothing has
+    /// changed.
     #[inline(always)]
     pub fn reserve(&mut self, more: usize) -> Result<(), NoMemory>
         ensures changes { self.new.changes ≡ self.old.changes }

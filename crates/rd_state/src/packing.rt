@@ -108,8 +108,8 @@ fn last_object_change(bytes: &[u8]) -> (ObjectChange<'_>, &[u8])
     }
 }
 
-// The change, behind the rest. It is a macro, so that the change is made where it stays: one that is
-// handed on is copied, at each step back.
+// The change, behind the rest. It is a macro, so that the change is made where it stays: one that
+// is handed on is copied, at each step back.
 macro_rules! last {
     ($change:expr, $rest:expr) => {
         LastChange {

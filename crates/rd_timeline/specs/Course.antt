@@ -43,7 +43,7 @@ IsRefusedBy course move refusal =
 abbrev pub CanGo : Course → Move → Type 0
 CanGo course move = (length course.done ≢ course.limit) × IsOk (step course.app course.target move)
 
--- As many moves were never done, or no move was made from as many bytes of records.
+-- Never were more moves done, or never was a move made from as many bytes of records.
 abbrev pub IsMoreThanEver : Course → Type 0
 IsMoreThanEver course =
     (course.most_done ≤ length course.done) ⊎ (course.most_bytes < bytes_of course.log)

@@ -97,9 +97,9 @@ impl Journal {
         self.trail.bytes()
     }
 
-    /// Makes room for one move more done, whichever it is, with its record. Where there is no memory
-    /// for that, nothing else has changed. It needs none where there is such room, as there is after
-    /// going back.
+    /// Makes room for one move more done, whichever it is, with its record. Where there is no
+    /// memory for that, nothing else has changed. It needs none where there is such room, as there
+    /// is after going back.
     pub fn reserve(&mut self) -> Result<(), NoMemory>
         ensures same { IsAsBefore self.old self.new }
         ensures ok { OnOk result (length self.new.done < self.new.capacity) }
@@ -115,8 +115,8 @@ impl Journal {
     }
 
     /// Makes a move: it is laid on the moves done, with its record, and the moves undone are
-    /// forgotten. It takes no memory. A refusal is one of the kernel's rules, and leaves the target,
-    /// the moves and their records as they were.
+    /// forgotten. It takes no memory. A refusal is one of the kernel's rules, and leaves the
+    /// target, the moves and their records as they were.
     pub fn play(&mut self, app: &App, action: Move) -> Result<(), Refusal>
         requires valid { IsValid app.now self.old.target }
         requires named { IsMoveOf app.now action }
@@ -143,8 +143,8 @@ impl Journal {
         Ok(())
     }
 
-    /// Takes the last `n` moves done back: the target goes back by their records, and they become the
-    /// first of the moves undone. It takes no memory, and the room stays.
+    /// Takes the last `n` moves done back: the target goes back by their records, and they become
+    /// the first of the moves undone. It takes no memory, and the room stays.
     pub fn take_back(&mut self, n: usize)
         requires within { n ≤ length self.old.done }
         requires records { length self.old.records ≡ length self.old.done }

@@ -80,8 +80,8 @@ impl Trail {
         self.editing.bytes()
     }
 
-    /// Makes room for one record more, of whichever move. Where there is no memory for that, nothing
-    /// else has changed. It needs none where there is such room.
+    /// Makes room for one record more, of whichever move. Where there is no memory for that,
+    /// nothing else has changed. It needs none where there is such room.
     pub fn reserve(&mut self) -> Result<(), NoMemory>
         ensures target { self.new.target ≡ self.old.target }
         ensures records { self.new.records ≡ self.old.records }
@@ -120,7 +120,8 @@ impl Trail {
         Ok(())
     }
 
-    /// Goes back by the last `n` records, which are gone then. It takes no memory, and the room stays.
+    /// Goes back by the last `n` records, which are gone then. It takes no memory, and the room
+    /// stays.
     pub fn take_back(&mut self, n: usize)
         requires within { n ≤ length self.old.records }
         requires can_rewind { CanRewind self.old.target
