@@ -106,12 +106,12 @@ pub fn why_not(app: &App, state: &State, action: &Move) -> Option<Refusal>
     }
 }
 
-/// Makes a move where the state and the record are, and adds what undoes it to the record. A
-/// refusal leaves the state and the record as they were: `NoTask` where the core is idle,
-/// `TickLimit` where the tick is 4,294,967,295, `NoMemory` where a growth was refused, as none is
-/// where the record has room for the move. There is no other. The record keeps the memory that it
-/// has.
-pub fn move_on(editing: &mut Editing, app: &App, action: Move) -> Result<(), Refusal>
+/// Makes a move where the state and the record are, and adds its record, which undoes it exactly, to
+/// those of the moves before. A refusal leaves the state and the record as they were: `NoTask` where
+/// the core is idle, `TickLimit` where the tick is 4,294,967,295, `NoMemory` where a growth was
+/// refused, as none is where the record has room for the move. There is no other. The record keeps
+/// the memory that it has.
+pub fn play_on(editing: &mut Editing, app: &App, action: Move) -> Result<(), Refusal>
     requires valid { IsValid app.now editing.old.now }
     requires named { IsMoveOf app.now action }
     ensures before { OnOk result
@@ -142,38 +142,6 @@ pub fn move_on(editing: &mut Editing, app: &App, action: Move) -> Result<(), Ref
     }
 }
 
-/// Makes a move and adds its record, which undoes it exactly, to those of the moves before. A
-/// refusal leaves the state and the record as they were: `NoTask` where the core is idle,
-/// `TickLimit` where the tick is 4,294,967,295, `NoMemory` where a growth was refused. There is no
-/// other.
-pub fn play_on(
-    alloc: Global,
-    state: &mut State,
-    undo: &mut Undo,
-    app: &App,
-    action: Move,
-) -> Result<(), Refusal>
-    requires valid { IsValid app.now state.old }
-    requires named { IsMoveOf app.now action }
-    ensures before { OnOk result (take (length undo.old) undo.new ≡ undo.old) }
-    ensures played { OnOk result
-        (IsPlayed app.now state.old action state.new (added undo.old undo.new)) }
-    ensures no_task { IsErrOf result Refusal.NoTask
-        ↔ (step app.now state.old action ≡ Err Refusal.NoTask) }
-    ensures tick_limit { IsErrOf result Refusal.TickLimit
-        ↔ (step app.now state.old action ≡ Err Refusal.TickLimit) }
-    ensures refusals { IfErr result (λ refusal.
-        (step app.now state.old action ≡ Err refusal) ⊎ (refusal ≡ Refusal.NoMemory)) }
-    ensures err { OnErr result (state.new ≡ state.old) }
-    ensures err_record { OnErr result (undo.new ≡ undo.old) }
-{
-    let before = mem::replace(undo, Undo::new(alloc));
-    let mut editing = Editing::new(mem::replace(state, State::hollow(alloc)), before);
-    let made = move_on(&mut editing, app, action);
-    mem::replace(undo, editing.end(state)).retire();
-    made
-}
-
 /// Makes a move and returns its record, which undoes it exactly. A refusal leaves the state as it
 /// was: `NoTask` where the core is idle, `TickLimit` where the tick is 4,294,967,295, `NoMemory`
 /// where a growth was refused. There is no other.
@@ -199,8 +167,11 @@ pub fn play(alloc: Global, state: &mut State, app: &App, action: Move) -> Result
     ensures valid { OnOk result (IsValid app.now state.new) }
     ensures settled { OnOk result (IsSettled (priorities_of app.now) state.new) }
 {
-    let mut undo = Undo::new(alloc);
-    match play_on(alloc, state, &mut undo, app, action) {
+    let before = mem::replace(state, State::hollow(alloc));
+    let mut editing = Editing::new(before, Undo::new(alloc));
+    let made = play_on(&mut editing, app, action);
+    let undo = editing.end(state);
+    match made {
         Ok(()) => Ok(undo),
         Err(refusal) => {
             undo.retire();

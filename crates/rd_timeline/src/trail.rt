@@ -11,7 +11,7 @@ ghost use Rattle.rd_timeline.specs.History.{rewound, CanRewind};
 use rd_app::app::App;
 use rd_bytes::no_memory::NoMemory;
 use rd_calls::moves::Move;
-use rd_calls::play::{MAX_RECORD_BYTES, move_on};
+use rd_calls::play::{MAX_RECORD_BYTES, play_on};
 use rd_state::editing::Editing;
 use rd_state::state::State;
 use rd_state::undo::Undo;
@@ -114,7 +114,7 @@ impl Trail {
             ≤ memory_of self.new.records self.new.room }
     {
         let before = self.editing.len();
-        move_on(&mut self.editing, app, action)?;
+        play_on(&mut self.editing, app, action)?;
         let count = self.editing.len() - before;
         self.counts.push_reserved(count as u16);
         Ok(())
