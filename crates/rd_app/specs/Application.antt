@@ -10,7 +10,7 @@ use Rattle.rd_text.specs.declared.kind.Kind.{Kind}
 use Rattle.rd_app.specs.declared.instr.Operand.{Operand}
 use Rattle.rd_app.specs.declared.instr.Operand.TheVariants.{Number, Register}
 use Rattle.rd_app.specs.declared.instr.Instr.{Instr}
-use Rattle.rd_app.specs.declared.instr.Instr.TheVariants.{Local, Queue, QueueSet}
+use Rattle.rd_app.specs.declared.instr.Instr.TheVariants.{Local, Queue, QueueSet, Notify}
 use Rattle.rd_app.specs.declared.instr.LocalInstr.{LocalInstr}
 use Rattle.rd_app.specs.declared.instr.LocalInstr.TheVariants as local
 use Rattle.rd_app.specs.declared.instr.QueueCall.{QueueCall}
@@ -19,6 +19,8 @@ use Rattle.rd_app.specs.declared.instr.QueueCall.TheVariants.{Overwrite, Reset, 
 use Rattle.rd_app.specs.declared.instr.QueueCall.TheVariants.{AddToSet, RemoveFromSet}
 use Rattle.rd_app.specs.declared.instr.QueueSetCall.{QueueSetCall}
 use Rattle.rd_app.specs.declared.instr.QueueSetCall.TheVariants.{Select}
+use Rattle.rd_app.specs.declared.instr.NotifyCall.{NotifyCall}
+use Rattle.rd_app.specs.declared.instr.NotifyCall.TheVariants as notify
 use Rattle.rd_queue.specs.declared.waiting_list.WaitingList.{WaitingList}
 use Rattle.rd_queue.specs.declared.waiting_list.WaitingList.TheVariants.{Receiving, Sending}
 use Rattle.rd_app.specs.TaskScript.{TaskScript}
@@ -89,6 +91,29 @@ IsQueueCall queue_set_count (RemoveFromSet queue_set) = queue_set < queue_set_co
 abbrev pub IsQueueSetCall : QueueSetCall → Type 0
 IsQueueSetCall (Select wait) = IsOperand wait
 
+-- The registers that a call names are there, and of so many tasks, each with so many entries, the one
+-- that it names.
+abbrev pub IsNotifyCall : ℕ → ℕ → NotifyCall → Type 0
+IsNotifyCall tasks entries (notify.Notify task index value action) =
+    (task < tasks) × (index < entries) × IsOperand value
+IsNotifyCall tasks entries (notify.Query task index value action) =
+    (task < tasks) × (index < entries) × IsOperand value
+IsNotifyCall tasks entries (notify.Take index exit wait) = (index < entries) × IsOperand wait
+IsNotifyCall tasks entries (notify.Wait index entry_bits exit_bits wait) =
+    (index < entries) × IsOperand entry_bits × IsOperand exit_bits × IsOperand wait
+IsNotifyCall tasks entries (notify.ClearState task index) = (task < tasks) × (index < entries)
+IsNotifyCall tasks entries (notify.ClearValue task index bits) =
+    (task < tasks) × (index < entries) × IsOperand bits
+
+-- the entry of its own through which a task waits for a call, if that has a block time
+abbrev pub index_of_call : NotifyCall → Option ℕ
+index_of_call (notify.Notify task index value action) = None
+index_of_call (notify.Query task index value action) = None
+index_of_call (notify.Take index exit wait) = Some index
+index_of_call (notify.Wait index entry_bits exit_bits wait) = Some index
+index_of_call (notify.ClearState task index) = None
+index_of_call (notify.ClearValue task index bits) = None
+
 -- The call is one for a queue of that shape: only a queue for one item is overwritten.
 abbrev pub IsCallFor : QueueShape → QueueCall → Type 0
 IsCallFor shape (Send end wait) = Unit {0}
@@ -113,7 +138,7 @@ list_of_call Spaces = None
 list_of_call (AddToSet queue_set) = None
 list_of_call (RemoveFromSet queue_set) = None
 
--- Registers, instructions of the script and objects are there.
+-- Registers, instructions of the script, objects, tasks and their entries are there.
 abbrev pub IsWithin : Application → ℕ → Instr → Type 0
 IsWithin app len (Local instr) = IsLocalWithin len instr
 IsWithin app len (Queue queue call) =
@@ -122,6 +147,7 @@ IsWithin app len (Queue queue call) =
     × IsCallFor (shape_at app.objects queue) call
 IsWithin app len (QueueSet queue_set call) =
     (queue_set < length app.objects.queue_sets.things) × IsQueueSetCall call
+IsWithin app len (Notify call) = IsNotifyCall (length app.tasks.things) app.entries call
 
 -- does the script never go on at the next instruction?
 abbrev pub is_local_final : LocalInstr → Bool
@@ -139,12 +165,14 @@ abbrev pub is_final : Instr → Bool
 is_final (Local instr) = is_local_final instr
 is_final (Queue queue call) = false
 is_final (QueueSet queue_set call) = false
+is_final (Notify call) = false
 
 -- the queue and the call, where the instruction is a call of a queue
 abbrev pub queue_call_of : Instr → Option (ℕ × QueueCall)
 queue_call_of (Local instr) = None
 queue_call_of (Queue queue call) = Some (queue, call)
 queue_call_of (QueueSet queue_set call) = None
+queue_call_of (Notify call) = None
 
 pub record IsScript (app : Application) (script : TaskScript) : Type 0 where
   pub priority : script.priority ≤ MAX_PRIORITY

@@ -4,6 +4,7 @@ ghost use Rattle.std.specs.Prelude.{◌≡◌};
 ghost use Rattle.rd_app.specs.Application.{is_final, is_local_final, queue_call_of};
 
 use rd_bytes::bytes::Bytes;
+use rd_notify::action::{Action, OnExit};
 use rd_queue::end::End;
 
 /// How many registers a task has.
@@ -80,6 +81,53 @@ pub enum QueueSetCall {
     Select { wait: Operand },
 }
 
+/// A call that notifies a task, or looks at an entry of a task. Tasks and the entries of each are
+/// counted from 0.
+#[derive(Clone, Copy, Debug, PartialEq, Eq)]
+pub enum NotifyCall {
+    /// `notify K I V ACTION`: notifies the task through that entry (`xTaskNotifyIndexed`).
+    Notify {
+        task: usize,
+        index: usize,
+        value: Operand,
+        action: Action,
+    },
+    /// `query K I V ACTION`: the same, and r1 becomes the entry's value before
+    /// (`xTaskNotifyAndQueryIndexed`).
+    Query {
+        task: usize,
+        index: usize,
+        value: Operand,
+        action: Action,
+    },
+    /// `take I clear T`, `take I dec T`: takes the value of an entry of its own, and waits for one
+    /// that isn't 0 up to the block time (`ulTaskNotifyTakeIndexed`).
+    Take {
+        index: usize,
+        exit: OnExit,
+        wait: Operand,
+    },
+    /// `nwait I V V T`: waits for a notification of an entry of its own up to the block time, clears
+    /// bits of the value before and after, and r1 becomes the value (`xTaskNotifyWaitIndexed`).
+    Wait {
+        index: usize,
+        entry_bits: Operand,
+        exit_bits: Operand,
+        wait: Operand,
+    },
+    /// `nclear K I`: an entry of the task that has received is idle (`xTaskNotifyStateClearIndexed`).
+    ClearState {
+        task: usize,
+        index: usize,
+    },
+    /// `vclear K I V`: clears bits of an entry's value (`ulTaskNotifyValueClearIndexed`).
+    ClearValue {
+        task: usize,
+        index: usize,
+        bits: Operand,
+    },
+}
+
 /// One instruction of a task's script. Objects are counted from 0.
 #[derive(Debug, Drop)]
 pub enum Instr {
@@ -96,6 +144,10 @@ pub enum Instr {
     QueueSet {
         queue_set: usize,
         call: QueueSetCall,
+    },
+    /// A call that notifies a task, or looks at an entry.
+    Notify {
+        call: NotifyCall,
     },
 }
 
@@ -124,7 +176,7 @@ impl Instr {
     {
         match self {
             Instr::Local { instr } => instr.is_final(),
-            Instr::Queue { .. } | Instr::QueueSet { .. } => false,
+            Instr::Queue { .. } | Instr::QueueSet { .. } | Instr::Notify { .. } => false,
         }
     }
 
@@ -134,7 +186,7 @@ impl Instr {
     {
         match self {
             Instr::Queue { queue, call } => Some((*queue, *call)),
-            Instr::Local { .. } | Instr::QueueSet { .. } => None,
+            Instr::Local { .. } | Instr::QueueSet { .. } | Instr::Notify { .. } => None,
         }
     }
 }

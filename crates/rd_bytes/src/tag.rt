@@ -1,4 +1,4 @@
-//! The numbers that stand for changes and for the lists of places in packed bytes. Those of kinds
+//! The numbers that stand for changes and for the places where tasks wait in packed bytes. Those of kinds
 //! of objects that are still to come are left free.
 
 ghost use Rattle.std.specs.Prelude.{◌≡◌, ◌≤◌, length};
@@ -25,7 +25,8 @@ pub const SET_REG: u8 = 5;
 /// `SetPhase`: a task is in another phase.
 pub const SET_PHASE: u8 = 6;
 
-// 7 is for the notification entries of a task.
+/// `SetEntry`: a notification entry of a task is another.
+pub const SET_ENTRY: u8 = 7;
 
 /// `SetData`: a task has other data.
 pub const SET_DATA: u8 = 8;
@@ -91,7 +92,10 @@ pub const SENDING_LIST: u8 = 1;
 /// The list of those that wait to select from a queue set.
 pub const SELECTING_LIST: u8 = 2;
 
-// 3 to 8 are for buffers, notification entries and event groups.
+// 3 to 6 are for buffers, and 8 for event groups.
+
+/// No list: a notification entry of the task itself.
+pub const OWN_ENTRY: u8 = 7;
 
 /// The kinds of objects, as `last_kind` tells them apart: a queue.
 pub const OF_QUEUE: u8 = 0;

@@ -1,28 +1,17 @@
 -- Handles change by calls alone.
-use Rattle.std.proofs.Common.{◌≡◌, ◌∙◌, ℕ, zero, suc, true, false, cond, List, length, refl, ap}
+use Rattle.std.proofs.Common.{◌≡◌, ◌∙◌, ℕ, true, false, cond, length, ap}
 use Rattle.std.specs.Prelude.{◌+◌, Option, None, Some, Ok, Err, nat_lt}
 use Rattle.rd_app.specs.Application.{Application, priorities_of}
 use Rattle.rd_text.specs.declared.refusal.Refusal.TheVariants.{TickLimit}
-use Rattle.rd_state.specs.Phases.{kept_deadline, waits_at}
-use Rattle.rd_state.specs.Snapshot.{Snapshot, core_at, task_at}
-use Rattle.rd_kernel.specs.Waking.{is_due, timed_out, woken}
+use Rattle.rd_state.specs.Snapshot.{Snapshot, core_at}
+use Rattle.rd_kernel.specs.declared.waking.Waking.TheVariants.{TriesAgain}
+use Rattle.rd_kernel.specs.Waking.{due_below}
 use Rattle.rd_queue_calls.specs.QueueSetLaws.{handles_in}
-use Rattle.rd_queue_calls.proofs.Offered.{handles_woken_at}
+use Rattle.rd_queue_calls.proofs.Offered.{handles_woken_all}
 use Rattle.rd_calls.specs.declared.moves.Move.TheVariants as move
 use Rattle.rd_calls.specs.HandleMoves.{HandlesGoByMoves, handles_run}
 use Rattle.rd_calls.proofs.InstrLaws.{handles_performed-is}
 use Rattle.rd_calls.specs.Step.{core_step, last_tick, next_instr, step_of_core, tick_step}
-
--- those whose time is up
-of_timed_out : (priorities : List ℕ) (n : ℕ) (s : Snapshot) → handles_in (timed_out priorities n s) ≡ handles_in s
-of_timed_out priorities zero s = refl
-of_timed_out priorities (suc n) s =
-    let before = timed_out priorities n s in
-    let phase = (task_at before n).phase in
-    elim (is_due before.tick phase) as (λ b. handles_in (cond b (woken priorities before n) before) ≡ handles_in s) [
-      | true ↦ handles_woken_at priorities before n (waits_at phase) (kept_deadline phase) ∙ of_timed_out priorities n s
-      | false ↦ of_timed_out priorities n s
-    ]
 
 of_task : (app : Application) (s s' : Snapshot) (core : ℕ) (o : Option ℕ) → step_of_core app s core o ≡ Ok s' → handles_in s' ≡ handles_run app s o
 of_task app s s' core None e = cc
@@ -35,6 +24,7 @@ handles_go_by_moves app s s' (move.Core core) e = of_task app s s' core (core_at
 handles_go_by_moves app s s' move.Tick e =
     elim (nat_lt s.tick last_tick) as (λ b. cond b (Ok (tick_step app s)) (Err TickLimit) ≡ Ok s' → handles_in s' ≡ handles_in s) [
       | true ↦ λ made. let same : s' ≡ tick_step app s = cc in
-          ap handles_in same ∙ of_timed_out (priorities_of app) (length s.tasks) (record s { tick = s.tick + 1 })
+          let now = record s { tick = s.tick + 1 } in
+          ap handles_in same ∙ handles_woken_all (priorities_of app) TriesAgain now (due_below now (length s.tasks))
       | false ↦ λ none. cc
     ] e

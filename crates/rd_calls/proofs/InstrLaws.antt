@@ -1,16 +1,17 @@
 -- What each instruction leaves as it is.
 use Rattle.std.proofs.Common.{◌≡◌, ◌∙◌, ℕ, ◌+◌, ◌%◌, ◌<◌, ◌≤◌, true, false, cond, List, length}
-use Rattle.std.proofs.Common.{set, Some, None, refl, subst, arith}
+use Rattle.std.proofs.Common.{set, map, Some, None, refl, ap, sym, subst, arith}
 use Rattle.std.specs.Prelude.{◌^◌, nat_eq}
 use Rattle.std.specs.Int.{w32, to_le_bytes}
 use Rattle.rd_app.specs.declared.instr.Instr.{Instr}
-use Rattle.rd_app.specs.declared.instr.Instr.TheVariants.{Local, Queue, QueueSet}
+use Rattle.rd_app.specs.declared.instr.Instr.TheVariants.{Local, Queue, QueueSet, Notify}
 use Rattle.rd_app.specs.declared.instr.LocalInstr.TheVariants.{Add, Move, Data, Pack, Unpack, Jump, JumpZero, End}
 use Rattle.rd_app.specs.declared.instr.LocalInstr.TheVariants as local
 use Rattle.rd_state.specs.declared.phase.Phase.TheVariants.{Run, Ended}
-use Rattle.rd_app.specs.Application.{Application, IsWithin, code_of, instr_at, is_final, priorities_of}
+use Rattle.rd_app.specs.Application.{Application, IsNotifyCall, IsWithin, code_of, instr_at, is_final, priorities_of}
 use Rattle.rd_state.specs.Snapshot.{Snapshot, task_at, core_at, with_task}
-use Rattle.rd_state.specs.Valid.{IsValid, PhaseFitsCall, place_of_call, seats_to_run}
+use Rattle.rd_kernel.proofs.Offered.{IsFree, free_in_run}
+use Rattle.rd_state.specs.Valid.{EntriesFitCall, IsValid, PhaseFitsCall, place_of_call, seats_to_run}
 use Rattle.rd_state.specs.Objects.{AreShaped}
 use Rattle.rd_state.proofs.Offered.{queue_count_shaped, queue_set_count_shaped}
 use Rattle.rd_calls.specs.Local.{unpacked}
@@ -22,12 +23,16 @@ use Rattle.rd_kernel.proofs.Offered.{runs_outside_calls}
 use Rattle.rd_queue_calls.proofs.Offered.{IsConsistent-queue_call, IsConsistent-queue_set_call, queue_call-tick, queue_set_call-tick}
 use Rattle.rd_app.specs.declared.instr.LocalInstr.{LocalInstr}
 use Rattle.rd_kernel.specs.declared.outcome.Outcome.{Outcome}
-use Rattle.rd_kernel.specs.declared.outcome.Outcome.TheVariants.{Returns, Waits, Fails}
+use Rattle.rd_kernel.specs.declared.outcome.Outcome.TheVariants.{Returns, ReturnsBoth, Waits, Fails}
 use Rattle.rd_kernel.specs.Outcomes.{concluded}
 use Rattle.rd_queue_calls.specs.QueueCalls.{queue_outcome}
 use Rattle.rd_queue_calls.specs.QueueSetCalls.{queue_set_outcome}
 use Rattle.rd_queue_calls.specs.QueueSetLaws.{handles_in}
-use Rattle.rd_queue_calls.proofs.Offered.{handles_go_by_calls}
+use Rattle.rd_queue_calls.proofs.Offered.{handles_go_by_calls, handles_woken_all}
+use Rattle.rd_notify_calls.proofs.Offered.{IsConsistent-notify_call, by_waking}
+use Rattle.rd_kernel.specs.declared.waking.Waking.TheVariants.{TriesAgain}
+use Rattle.rd_queue.specs.QueueSetSnapshot.{QueueSetSnapshot}
+use Rattle.rd_state.specs.Objects.{ObjectsSnapshot}
 use Rattle.rd_calls.specs.Local.{local_step}
 use Rattle.rd_calls.specs.Step.{handles_performed}
 
@@ -48,9 +53,12 @@ IsConsistent-performed app s core task instr valid there runs has_core e is with
     λ registers bytes none goes. IsConsistent-advanced app D s task registers bytes there (run none) (next goes) at in
     let jumps : (target : ℕ) → place_of_call instr ≡ None → target < length (code_of app task) → IsConsistent app D (with_pc s task target) =
     λ target none inside. IsConsistent-with_pc app D s task target there (run none) inside at in
+    let free : place_of_call instr ≡ None → IsFree x.entries =
+    λ none. free_in_run instr x.entries
+    (subst (λ phase. EntriesFitCall phase instr x.entries) (run none) (subst (λ i. EntriesFitCall x.phase i x.entries) is (at.each task there).entries)) in
     let calls : is_final instr ≡ false → RunsInstr app s core task instr =
     λ goes. record { valid = valid; there = there; runs = runs; has_core = has_core; on_core = e; at_instr = is; within = next goes } in
-    by_instr instr valid.in_limits.objects within next calls further jumps
+    by_instr instr valid.in_limits.objects within next calls further jumps free
   where
     -- the same by cases, with what each needs of the above
     by_instr : (instr : Instr) → AreShaped app s.objects → IsWithin app (length (code_of app task)) instr → (is_final instr ≡ false → (task_at s task).pc + 1 < length (code_of app task))
@@ -60,33 +68,37 @@ IsConsistent-performed app s core task instr valid there runs has_core e is with
         → IsConsistent app (all_have_time_left s.tick) (advanced (with_task s task (record (task_at s task) { registers = registers; bytes = bytes })) task))
         → ((target : ℕ) → place_of_call instr
         ≡ None → target < length (code_of app task) → IsConsistent app (all_have_time_left s.tick) (with_pc s task target))
+        → (place_of_call instr ≡ None → IsFree (task_at s task).entries)
         → IsConsistent app (all_have_time_left s.tick) (performed (priorities_of app) s core task instr)
-    by_instr (Local (local.Set register value)) shaped within next calls further jumps =
+    by_instr (Local (local.Set register value)) shaped within next calls further jumps free =
         further (set (task_at s task).registers register value) (task_at s task).bytes refl refl
-    by_instr (Local (Add register value)) shaped within next calls further jumps =
+    by_instr (Local (Add register value)) shaped within next calls further jumps free =
         further (set (task_at s task).registers register ((register_at s task register + value) % 2 ^ 32)) (task_at s task).bytes refl refl
-    by_instr (Local (Move into from)) shaped within next calls further jumps =
+    by_instr (Local (Move into from)) shaped within next calls further jumps free =
         further (set (task_at s task).registers into (register_at s task from)) (task_at s task).bytes refl refl
-    by_instr (Local (Data bytes)) shaped within next calls further jumps = further (task_at s task).registers bytes refl refl
-    by_instr (Local (Pack register)) shaped within next calls further jumps =
+    by_instr (Local (Data bytes)) shaped within next calls further jumps free = further (task_at s task).registers bytes refl refl
+    by_instr (Local (Pack register)) shaped within next calls further jumps free =
         further (task_at s task).registers (to_le_bytes w32 (register_at s task register)) refl refl
-    by_instr (Local (Unpack register)) shaped within next calls further jumps =
+    by_instr (Local (Unpack register)) shaped within next calls further jumps free =
         further (set (task_at s task).registers register (unpacked s task)) (task_at s task).bytes refl refl
-    by_instr (Local (Jump target)) shaped within next calls further jumps = jumps target refl within
-    by_instr (Local (JumpZero register target)) shaped within next calls further jumps =
+    by_instr (Local (Jump target)) shaped within next calls further jumps free = jumps target refl within
+    by_instr (Local (JumpZero register target)) shaped within next calls further jumps free =
         jumps _ refl
         (elim
         (nat_eq (register_at s task register) 0) as (λ b. cond b target ((task_at s task).pc + 1) < length (code_of app task))
         [ true ↦ within.1 | false ↦ next refl ])
-    by_instr (Local End) shaped within next calls further jumps =
-        IsConsistent-stopped app (all_have_time_left s.tick) s core task Ended there runs has_core e refl (λ place. refl) tt tt
+    by_instr (Local End) shaped within next calls further jumps free =
+        IsConsistent-stopped app (all_have_time_left s.tick) s core task Ended there runs has_core e refl refl (free refl) tt tt
         (IsConsistent-valid app s valid)
-    by_instr (Queue queue call) shaped within next calls further jumps =
+    by_instr (Queue queue call) shaped within next calls further jumps free =
         IsConsistent-queue_call app s core task queue call (calls refl)
         (omega (arith, within.0, queue_count_shaped app s.objects shaped))
-    by_instr (QueueSet queue_set call) shaped within next calls further jumps =
+    by_instr (QueueSet queue_set call) shaped within next calls further jumps free =
         IsConsistent-queue_set_call app s core task queue_set call (calls refl)
         (omega (arith, within.0, queue_set_count_shaped app s.objects shaped))
+    by_instr (Notify call) shaped within next calls further jumps free =
+        IsConsistent-notify_call app s core task call (calls refl)
+        (subst (λ n. IsNotifyCall n app.entries call) (sym valid.in_limits.tasks) within)
 
 -- the tick count
 pub performed-tick : (priorities : List ℕ) (s : Snapshot) (core task : ℕ) (instr : Instr) → (performed priorities s core task instr).tick ≡ s.tick
@@ -101,6 +113,7 @@ performed-tick priorities s core task (Local (JumpZero register target)) = refl
 performed-tick priorities s core task (Local End) = refl
 performed-tick priorities s core task (Queue queue call) = queue_call-tick priorities s core task queue call
 performed-tick priorities s core task (QueueSet queue_set call) = queue_set_call-tick priorities s core task queue_set call
+performed-tick priorities s core task (Notify call) = (by_waking priorities s core task call).tick
 
 -- and the handles of queue sets, but for those that a call adds or takes.
 handles_local : (s : Snapshot) (core task : ℕ) (instr : LocalInstr) → handles_in (local_step s core task instr) ≡ handles_in s
@@ -118,6 +131,7 @@ handles_local s core task End = refl
 handles_concluded : (s : Snapshot) (outcome : Outcome) (core task : ℕ) → handles_in (concluded (record { state = s; outcome = outcome }) core task) ≡ handles_in s
 handles_concluded s (Returns value) core task = refl
 handles_concluded s (Waits place deadline) core task = refl
+handles_concluded s (ReturnsBoth value second) core task = refl
 handles_concluded s (Fails cause) core task = refl
 
 pub handles_performed-is : (priorities : List ℕ) (s : Snapshot) (core task : ℕ) (instr : Instr) → handles_in (performed priorities s core task instr) ≡ handles_performed s instr
@@ -128,3 +142,6 @@ handles_performed-is priorities s core task (Queue queue call) =
 handles_performed-is priorities s core task (QueueSet number call) =
     let called = queue_set_outcome priorities s task number call in
     handles_concluded called.state called.outcome core task ∙ handles_go_by_calls.of_queue_sets priorities s task number call
+handles_performed-is priorities s core task (Notify call) =
+    let by = by_waking priorities s core task call in
+    ap (λ (o : ObjectsSnapshot). map (λ (q : QueueSetSnapshot). q.handles) o.queue_sets) by.objects ∙ handles_woken_all priorities TriesAgain s by.tasks

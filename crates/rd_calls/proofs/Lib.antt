@@ -1,6 +1,7 @@
 -- The files of lemmas of rd_calls.
 pub mod InstrLaws
 pub mod HandleMoveLaws
+pub mod ReceivedLaws
 pub mod StepLaws
 pub mod PlayLaws
 pub mod Offered

@@ -8,12 +8,16 @@ use Rattle.std.proofs.lemmas.List.{get_or_past}
 use Rattle.std.specs.List.{concat}
 use Rattle.rd_app.specs.Application.{Application, IsApplication, priorities_of}
 use Rattle.rd_app.specs.declared.instr.Instr.{Instr}
-use Rattle.rd_app.specs.declared.instr.Instr.TheVariants.{Local, Queue, QueueSet}
+use Rattle.rd_app.specs.declared.instr.Instr.TheVariants.{Local, Queue, QueueSet, Notify}
+use Rattle.rd_app.specs.declared.instr.NotifyCall.{NotifyCall}
+use Rattle.rd_app.specs.declared.instr.NotifyCall.TheVariants as notify
+use Rattle.rd_app.specs.declared.instr.NotifyCall.TheVariants.{Query, Take, ClearState, ClearValue}
+use Rattle.rd_notify_calls.specs.NotifyCalls.{notify_call_cost}
 use Rattle.rd_app.specs.declared.instr.QueueCall.{QueueCall}
 use Rattle.rd_app.specs.declared.instr.QueueCall.TheVariants.{Send, Receive, Peek, Overwrite, Reset, Count, Spaces, AddToSet, RemoveFromSet}
 use Rattle.rd_queue.proofs.Offered.{items_short}
 use Rattle.rd_queue.specs.QueueSnapshot.{QueueSnapshot}
-use Rattle.rd_queue_calls.specs.QueueCalls.{dropped_by}
+use Rattle.rd_queue_calls.specs.QueueCalls.{dropped_by, queue_call_cost}
 use Rattle.rd_state.proofs.Offered.{length-weight-le, queue_sized, weight_bounds_bytes}
 use Rattle.rd_state.specs.Objects.{no_queue}
 use Rattle.rd_state.specs.PackedChanges.{all_packed}
@@ -51,6 +55,7 @@ dropped_by_instr_few : (s : Snapshot) (instr : Instr) → IsSized s → dropped_
 dropped_by_instr_few s (Local instr) sized = omega arith
 dropped_by_instr_few s (Queue queue call) sized = dropped_by_few s queue call sized
 dropped_by_instr_few s (QueueSet queue_set call) sized = omega arith
+dropped_by_instr_few s (Notify call) sized = omega arith
 
 dropped_by_task_few : (app : Application) (s : Snapshot) (running : Option ℕ) → IsSized s → dropped_by_task app s running ≤ 4096
 dropped_by_task_few app s None sized = omega arith
@@ -120,6 +125,32 @@ IsPlayed-from r app s s' move target cost begun made before changes room is lead
     → OnOk q (IsPlayed app s move s' (added before changes)))
     [ Ok x ↦ λ f g h. goes_on app s s' move target cost begun made before changes room is leads sized f g h | Err y ↦ λ f g h. tt ]
 
+-- What a call costs is little, but for what a reset drops.
+queue_call_cost_few : (s : Snapshot) (queue : ℕ) (call : QueueCall) → queue_call_cost s queue call ≤ 330 + dropped_by s queue call
+queue_call_cost_few s queue (Send end wait) = omega arith
+queue_call_cost_few s queue (Receive wait) = omega arith
+queue_call_cost_few s queue (Peek wait) = omega arith
+queue_call_cost_few s queue Overwrite = omega arith
+queue_call_cost_few s queue Reset = omega arith
+queue_call_cost_few s queue Count = omega arith
+queue_call_cost_few s queue Spaces = omega arith
+queue_call_cost_few s queue (AddToSet queue_set) = omega arith
+queue_call_cost_few s queue (RemoveFromSet queue_set) = omega arith
+
+notify_call_cost_few : (call : NotifyCall) → notify_call_cost call ≤ 4
+notify_call_cost_few (notify.Notify target index value action) = omega arith
+notify_call_cost_few (Query target index value action) = omega arith
+notify_call_cost_few (Take index exit wait) = omega arith
+notify_call_cost_few (notify.Wait index entry_bits exit_bits wait) = omega arith
+notify_call_cost_few (ClearState target index) = omega arith
+notify_call_cost_few (ClearValue target index bits) = omega arith
+
+instr_cost_few : (s : Snapshot) (instr : Instr) → instr_cost s instr ≤ 334 + dropped_by_instr s instr
+instr_cost_few s (Local instr) = omega arith
+instr_cost_few s (Queue queue call) = omega (arith, queue_call_cost_few s queue call)
+instr_cost_few s (QueueSet queue_set call) = omega arith
+instr_cost_few s (Notify call) = omega (arith, notify_call_cost_few call)
+
 pub Leads-core : (app : Application) (s : Snapshot) (core task : ℕ) → IsApplication app → IsValid app s → core < length s.cores → core_at s core ≡ Some task
     → Leads app s (Core core) (core_step app s core task) (instr_cost s (next_instr app s task) + 1 + 3 * length s.cores)
 Leads-core app s core task limits valid there e = record {
@@ -127,7 +158,7 @@ Leads-core app s core task limits valid there e = record {
   few =
       let P : Option ℕ → Type 0 = λ running. instr_cost s (next_instr app s task) + 1 + 3 * length s.cores
       ≤ 4 * length s.tasks + 6 * length s.cores + 16 + 512 + dropped_by_task app s running in
-      let here : P (Some task) = omega arith in
+      let here : P (Some task) = omega (arith, instr_cost_few s (next_instr app s task)) in
       subst P (sym e) here;
   most_few = most_is_few app s (Core core) valid.in_limits.sized;
   valid = λ s' is sized. IsValid-step app s s' core task limits valid there e is sized;

@@ -18,7 +18,7 @@ use Rattle.rd_kernel.specs.Waking.{is_due, timed_out}
 use Rattle.rd_kernel.proofs.Offered.{IsValid-consistent, IsConsistent, IsConsistent-deadlines, IsConsistent-seats, IsConsistent-valid}
 use Rattle.rd_kernel.proofs.Offered.{all_have_time_left, due_idle}
 use Rattle.rd_kernel.proofs.Offered.{is_task_on_core, room_in_ready, runs_on_core, TimedOut, TimedOut-so_far}
-use Rattle.rd_kernel.proofs.Offered.{have_time_left_below}
+use Rattle.rd_kernel.proofs.Offered.{all_looked_at, any_deadline}
 use Rattle.rd_calls.proofs.InstrLaws.{IsConsistent-performed, performed-tick}
 
 -- ---- a move of a core
@@ -79,18 +79,14 @@ pub TimedOut-of_valid : (app : Application) (s : Snapshot) (n : ℕ) → IsValid
     → TimedOut app n (record s { tick = s.tick + 1 }) (timed_out (priorities_of app) n (record s { tick = s.tick + 1 }))
 TimedOut-of_valid app s n valid few =
     let now : Snapshot = record s { tick = s.tick + 1 } in
-    let none : IsConsistent app (have_time_left_below now.tick 0) s =
-    IsConsistent-deadlines app (all_have_time_left s.tick) (have_time_left_below now.tick 0) s (λ t h was below. absurd (omega (arith, below)))
-    (IsConsistent-valid app s valid) in
     TimedOut-so_far app n now few
-    (IsConsistent-seats app (have_time_left_below now.tick 0) s now (record { cores = refl; seats = λ task. refl; order = λ h. h }) refl refl none)
+    (IsConsistent-seats app any_deadline s now (record { cores = refl; seats = λ task. refl; order = λ h. h }) refl refl
+    (IsConsistent-deadlines app (all_have_time_left s.tick) any_deadline s (λ t h was. tt) (IsConsistent-valid app s valid)))
 
 IsConsistent-ticked : (app : Application) (s : Snapshot) → IsValid app s → IsConsistent app (all_have_time_left (s.tick + 1)) (ticked (priorities_of app) s)
 IsConsistent-ticked app s valid =
-    let done = TimedOut-of_valid app s (length s.tasks) valid (omega arith) in
-    let p = ticked (priorities_of app) s in
-    IsConsistent-deadlines app (have_time_left_below (s.tick + 1) (length s.tasks)) (all_have_time_left (s.tick + 1)) p
-    (λ t h below. below (omega (arith, h, done.consistent.tasks, valid.in_limits.tasks))) done.consistent
+    all_looked_at app (record s { tick = s.tick + 1 }) (ticked (priorities_of app) s) valid.in_limits.tasks
+    (TimedOut-of_valid app s (length s.tasks) valid (omega arith))
 
 pub IsValid-tick : (app : Application) (s s' : Snapshot) → IsApplication app → IsValid app s → s' ≡ tick_step app s → IsSized s' → IsValid app s'
 IsValid-tick app s s' limits valid same sized =
@@ -106,7 +102,7 @@ IsValid-tick app s s' limits valid same sized =
     let by_turns : SeatsKept priorities (seating_of (settled priorities p)) (seating_of z) = SeatsKept-rotated priorities core (settled priorities p) there in
     let kept = SeatsKept-then priorities (seating_of p) (seating_of (settled priorities p)) (seating_of z) by_settling by_turns in
     let consistent_z = IsConsistent-seats app (all_have_time_left (s.tick + 1)) p z kept refl refl at in
-    let tick : s.tick + 1 ≡ z.tick = sym (TimedOut-of_valid app s (length s.tasks) valid (omega arith)).tick in
+    let tick : s.tick + 1 ≡ z.tick = sym (TimedOut-of_valid app s (length s.tasks) valid (omega arith)).after.tick in
     subst (λ (t : Snapshot). IsSized t → IsValid app t) (sym same)
     (IsValid-consistent app z (subst (λ t. IsConsistent app (all_have_time_left t) z) tick consistent_z)) sized
 
@@ -129,6 +125,6 @@ pub room_when_due : (app : Application) (s now : Snapshot) (task : ℕ) → IsVa
     → is_due now.tick (task_at now task).phase ≡ true → length now.ready < length now.tasks
 room_when_due app s now task valid there e sized due =
     let so_far = TimedOut-of_valid app s task valid (omega (arith, there)) in
-    let at = subst (IsConsistent app (have_time_left_below (s.tick + 1) task)) (sym e) so_far.consistent in
-    room_in_ready app (have_time_left_below (s.tick + 1) task) now task at sized (omega (arith, there, at.tasks, valid.in_limits.tasks))
+    let at = subst (IsConsistent app any_deadline) (sym e) so_far.consistent in
+    room_in_ready app any_deadline now task at sized (omega (arith, there, at.tasks, valid.in_limits.tasks))
     (due_idle now.tick (task_at now task).phase due)

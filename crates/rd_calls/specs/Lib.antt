@@ -1,6 +1,7 @@
 -- The files of definitions of rd_calls.
 pub mod HandleMoves
 pub mod Local
+pub mod Received
 pub mod Step
 pub use Rattle.rd_state.specs.Snapshot
 pub use Rattle.rd_state.specs.Waiting

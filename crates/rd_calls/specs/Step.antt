@@ -3,8 +3,9 @@ use Rattle.std.specs.Prelude.{ℕ, ◌≡◌, ◌+◌, ◌*◌, ◌%◌, ◌<◌
 use Rattle.std.specs.Prelude.{if◌then◌else◌, Option, None, Some, is_some, Result, Ok, Err}
 use Rattle.std.specs.Option.{option_map_or}
 use Rattle.rd_app.specs.declared.instr.Instr.{Instr}
-use Rattle.rd_app.specs.declared.instr.Instr.TheVariants.{Local, Queue, QueueSet}
-use Rattle.rd_app.specs.Application.{Application, IsQueueCall, IsQueueSetCall, instr_at}
+use Rattle.rd_app.specs.declared.instr.Instr.TheVariants.{Local, Queue, QueueSet, Notify}
+use Rattle.rd_app.specs.Application.{Application, IsNotifyCall, IsQueueCall, IsQueueSetCall}
+use Rattle.rd_app.specs.Application.{instr_at}
 use Rattle.rd_app.specs.Application.{priorities_of, queue_call_of}
 use Rattle.rd_text.specs.declared.refusal.Refusal.{Refusal}
 use Rattle.rd_text.specs.declared.refusal.Refusal.TheVariants.{NoTask, TickLimit}
@@ -13,16 +14,16 @@ use Rattle.rd_state.specs.Change.{weight_of}
 use Rattle.rd_state.specs.Settled.{settled, rotated, IsSettled}
 use Rattle.rd_state.specs.PackedChanges.{IsPackable}
 use Rattle.rd_state.specs.Snapshot.{Snapshot, task_at, core_at}
-use Rattle.rd_state.specs.Objects.{Numbers}
 use Rattle.rd_state.specs.Undoing.{undone, CanUndo}
 use Rattle.rd_state.specs.Valid.{IsValid}
-use Rattle.rd_calls.specs.Local.{local_step, NamesLocalParts}
+use Rattle.rd_calls.specs.Local.{local_cost, local_step, NamesLocalParts}
 use Rattle.rd_kernel.specs.Costs.{ending_cost}
 use Rattle.rd_kernel.specs.Outcomes.{concluded}
 use Rattle.rd_kernel.specs.Waking.{timed_out}
 use Rattle.rd_queue_calls.specs.QueueCalls.{dropped_by, queue_call_cost, queue_outcome}
-use Rattle.rd_queue_calls.specs.QueueSetCalls.{queue_set_outcome}
+use Rattle.rd_queue_calls.specs.QueueSetCalls.{queue_set_call_cost, queue_set_outcome}
 use Rattle.rd_queue_calls.specs.QueueSetLaws.{handles_after, handles_in, handles_selected}
+use Rattle.rd_notify_calls.specs.NotifyCalls.{notify_call_cost, notify_call_outcome}
 use Rattle.rd_calls.specs.declared.moves.Move.{Move}
 use Rattle.rd_calls.specs.declared.moves.Move.TheVariants.{Core, Tick}
 
@@ -33,6 +34,8 @@ performed priorities s core task (Queue queue call) =
     concluded (queue_outcome priorities s task queue call) core task
 performed priorities s core task (QueueSet queue_set call) =
     concluded (queue_set_outcome priorities s task queue_set call) core task
+performed priorities s core task (Notify call) =
+    concluded (notify_call_outcome priorities s task call) core task
 
 -- the handles of queue sets after an instruction: a call of a queue adds one at the most, one of a
 -- set takes one at the most, and any other changes none
@@ -40,6 +43,7 @@ abbrev pub handles_performed : Snapshot → Instr → List (List ℕ)
 handles_performed s (Local instr) = handles_in s
 handles_performed s (Queue queue call) = handles_after s queue call
 handles_performed s (QueueSet queue_set call) = handles_selected s queue_set call
+handles_performed s (Notify call) = handles_in s
 
 -- the instruction that a task stands at
 abbrev pub next_instr : Application → Snapshot → ℕ → Instr
@@ -129,15 +133,19 @@ pub record IsPlayed (app : Application) (s : Snapshot) (move : Move) (s' : Snaps
   pub valid : IsValid app s'
   pub settled : IsSettled (priorities_of app) s'
 
--- The registers and objects that an instruction names are there.
-abbrev pub NamesParts : Numbers → Instr → Type 0
-NamesParts numbers (Local instr) = NamesLocalParts instr
-NamesParts numbers (Queue queue call) =
-    (queue < numbers.queue_count) × IsQueueCall numbers.queue_set_count call
-NamesParts numbers (QueueSet queue_set call) =
-    (queue_set < numbers.queue_set_count) × IsQueueSetCall call
+-- The registers, objects, tasks and entries that an instruction names are there, where there are so
+-- many entries.
+abbrev pub NamesParts : ℕ → Snapshot → Instr → Type 0
+NamesParts entries s (Local instr) = NamesLocalParts instr
+NamesParts entries s (Queue queue call) =
+    (queue < length s.objects.queues) × IsQueueCall (length s.objects.queue_sets) call
+NamesParts entries s (QueueSet queue_set call) =
+    (queue_set < length s.objects.queue_sets) × IsQueueSetCall call
+NamesParts entries s (Notify call) = IsNotifyCall (length s.tasks) entries call
 
--- What an instruction takes in a record at the most: a call, what becomes of its caller, and the
--- bytes that it drops.
+-- What an instruction takes in a record at the most: a call, and what becomes of its caller.
 abbrev pub instr_cost : Snapshot → Instr → ℕ
-instr_cost s instr = queue_call_cost + ending_cost + dropped_by_instr s instr
+instr_cost s (Local instr) = local_cost
+instr_cost s (Queue queue call) = queue_call_cost s queue call + ending_cost
+instr_cost s (QueueSet queue_set call) = queue_set_call_cost + ending_cost
+instr_cost s (Notify call) = notify_call_cost call + ending_cost

@@ -1,10 +1,17 @@
 //! Laws of moves, in their own words.
 
 ghost use Rattle.rd_calls.specs.HandleMoves.{HandlesGoByMoves};
+ghost use Rattle.rd_calls.specs.Received.{ReceivedStays};
 
 /// Handles of queue sets come by sends into members and go by selects, and by nothing else: a move
 /// changes them as the call that it makes is written to, and no other move changes any. Ticks,
 /// local instructions, and what becomes of callers and of those who are woken change none.
 pub fn handles_go_by_moves()
     ensures { HandlesGoByMoves }
+{}
+
+/// A notification that has come stays until its own task takes or waits for it, or somebody clears
+/// its state: whatever other move is made, its entry still has received after it.
+pub fn received_stays()
+    ensures { ReceivedStays }
 {}

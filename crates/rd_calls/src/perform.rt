@@ -4,7 +4,7 @@ ghost use Rattle.std.specs.Prelude.{◌≡◌, ◌+◌, ◌*◌, ◌<◌, length
 ghost use Rattle.rd_app.specs.declared.app.TheConstants.{MAX_CODE};
 ghost use Rattle.rd_app.specs.Application.{priorities_of};
 ghost use Rattle.rd_state.specs.Edit.{Reaches, GivesUp};
-ghost use Rattle.rd_state.specs.Snapshot.{core_at, numbers_of, task_at};
+ghost use Rattle.rd_state.specs.Snapshot.{core_at, task_at};
 ghost use Rattle.rd_state.specs.Valid.{IsValid};
 ghost use Rattle.rd_kernel.specs.Outcomes.{IsCalling};
 ghost use Rattle.rd_calls.specs.Step.{performed, core_step, instr_cost};
@@ -16,6 +16,7 @@ use rd_app::instr::Instr;
 use rd_bytes::no_memory::NoMemory;
 use rd_kernel::changes::set_turn;
 use rd_kernel::conclude::conclude;
+use rd_notify_calls::calls::call_notify;
 use rd_queue_calls::calls::call_queue;
 use rd_queue_calls::selecting::call_queue_set;
 use rd_state::editing::Editing;
@@ -31,7 +32,7 @@ fn perform(
     requires caller { IsCalling app.now editing.old.now task }
     requires core { core < length editing.old.now.cores }
     requires pc { (task_at editing.old.now task).pc < MAX_CODE }
-    requires names { NamesParts (numbers_of editing.old.now) instr.now }
+    requires names { NamesParts app.now.entries editing.old.now instr.now }
     ensures ok { OnOk result (Reaches editing.old editing.new
         (performed (priorities_of app.now) editing.old.now core task instr.now)
         (instr_cost editing.old.now instr.now)) }
@@ -46,6 +47,10 @@ fn perform(
         }
         Instr::QueueSet { queue_set, call } => {
             let outcome = call_queue_set(app, editing, task, *queue_set, *call)?;
+            conclude(editing, core, task, outcome)
+        }
+        Instr::Notify { call } => {
+            let outcome = call_notify(app, editing, task, *call)?;
             conclude(editing, core, task, outcome)
         }
     }

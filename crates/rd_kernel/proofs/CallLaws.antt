@@ -1,38 +1,42 @@
 -- What calls keep of what makes a state valid: those that return, those that wait, and those that wake somebody.
-use Rattle.std.proofs.Common.{◌≡◌, ◌∙◌, ◌≢◌, ℕ, ◌+◌, ◌<◌, ◌≤◌, Bool, true, false, cond, List, [], ◌∷◌, length}
-use Rattle.std.proofs.Common.{set, Option, Some, None, refl, ap, subst, sym, arith}
-use Rattle.std.specs.Prelude.{is_some, nat_eq, not, ◌&&◌, slice_get, IfSome}
+use Rattle.rd_state.specs.declared.phase.Place.TheVariants as sort
+use Rattle.std.proofs.Common.{◌+◌, ◌<◌, ◌∙◌, ◌≡◌, ◌≤◌, Bool, IsSome, List, None, Option, Some, ap, arith, cond, false, length, refl, set, subst, sym}
+use Rattle.std.proofs.Common.{true, ℕ}
+use Rattle.std.specs.Prelude.{◌&&◌, IfSome, is_some, nat_eq, not, slice_get}
 use Rattle.std.proofs.lemmas.Bool.{false≢true}
 use Rattle.std.proofs.lemmas.Bool.Decides.{nat_tests}
 use Rattle.std.proofs.lemmas.List.{length-set}
 use Rattle.std.proofs.lemmas.List.Elements.{All-get_or}
-use Rattle.std.proofs.lemmas.List.Sums.{get_or-le-sum_by}
-use Rattle.rd_app.specs.declared.instr.Instr.{Instr}
-use Rattle.rd_app.specs.declared.instr.Operand.{Operand}
-use Rattle.rd_state.specs.declared.phase.Cause.{Cause}
 use Rattle.rd_state.specs.declared.phase.Phase.{Phase}
-use Rattle.rd_state.specs.declared.phase.Phase.TheVariants.{Run, Again, Wait, Failed, Ended}
-use Rattle.rd_state.specs.declared.phase.Place.{Place}
+use Rattle.rd_state.specs.declared.phase.Listed.{Listed}
 use Rattle.rd_app.specs.Application.{Application, code_of, instr_at, priorities_of}
 use Rattle.rd_wait.specs.Joined.{joined}
-use Rattle.rd_wait.proofs.Offered.{IsInOrder-joined}
 use Rattle.rd_state.specs.Sizes.{IsSized, IsTaskOrIdle}
+use Rattle.rd_state.specs.Snapshot.{Snapshot, TaskSnapshot, core_at, task_at, with_task}
+use Rattle.rd_state.specs.Valid.{EntriesFitCall, IsValid, PhaseFitsCall, entry_of_call, is_ahead, is_in_list, is_on, place_of_call, seats_to_run}
+use Rattle.rd_state.specs.Valid.{times_in_list, times_on_cores}
+use Rattle.rd_state.specs.Waiting.{HasList, entry_of, listed_at, waiting_at}
+use Rattle.rd_state.proofs.Offered.{IsSizedList-waiting_at, one_if}
+use Rattle.rd_state.specs.declared.phase.Place.{Place}
+use Rattle.std.proofs.lemmas.List.Sums.{get_or-le-sum_by}
+use Rattle.rd_state.specs.declared.phase.Phase.TheVariants.{Again, Ended, Failed, Run, Wait}
 use Rattle.rd_state.specs.Phases.{can_run, kept_deadline, waits_at}
-use Rattle.rd_state.specs.Snapshot.{Snapshot, TaskSnapshot, task_at, core_at, with_task}
-use Rattle.rd_state.specs.Valid.{IsValid, PhaseFitsCall, is_ahead, is_at_place, is_on, place_of_call, seats_to_run}
-use Rattle.rd_state.specs.Valid.{times_in_list, times_on_cores, times_waiting_at}
-use Rattle.rd_state.specs.Waiting.{HasPlace, waiting_at}
-use Rattle.rd_state.proofs.Offered.{one_if, times_in_list-cons, times_in_list-joined, times_on_cores-set, IsSizedList-waiting_at}
+use Rattle.rd_kernel.proofs.ConsistentLaws.{IsConsistent, IsConsistent-valid, all_have_time_left, task_now}
+use Rattle.rd_kernel.proofs.TaskListLaws.{first_waits, member_has, room_for}
+use Rattle.std.specs.Option.{option_and_then, option_to_list}
+use Rattle.rd_app.specs.declared.instr.Instr.{Instr}
+use Rattle.rd_kernel.specs.Waking.{deadline_of, is_due, may_wait, with_waiter, woken_first}
+use Rattle.rd_kernel.proofs.MovingLaws.{EntriesFitCall-free, IsConsistent-moves, IsConsistent-task_replaced, IsFree, ListGoes-joined, ObjectsGo-list}
+use Rattle.rd_kernel.proofs.MovingLaws.{ObjectsGo-stay, SeatsGo-off_core, free_in_call, free_in_run, has_seat, runner_waits_nowhere}
+use Rattle.rd_kernel.proofs.MovingLaws.{seats_to_run-at_most_one, seats_to_run-one, times_waiting_in-at_most_one, waiter_is_idle, waits_idle}
+use Rattle.rd_kernel.proofs.MovingLaws.{waits_nowhere}
+use Rattle.rd_kernel.specs.declared.waking.Waking.TheVariants.{TriesAgain}
+use Rattle.rd_kernel.specs.Outcomes.{Called, IsCalling, blocked, call_fails, call_returns, concluded, passed, returned, stopped}
+use Rattle.rd_kernel.specs.Tasks.{advanced, with_idle_core, with_pc, with_phase}
+use Rattle.rd_kernel.proofs.WakingLaws.{AfterWaking, AfterWaking-woken_all, IsConsistent-woken_all, MayWakeAll-first}
+use Rattle.rd_app.specs.declared.instr.Operand.{Operand}
+use Rattle.rd_state.specs.declared.phase.Cause.{Cause}
 use Rattle.rd_kernel.specs.declared.outcome.Outcome.TheVariants.{Waits}
-use Rattle.rd_kernel.specs.Outcomes.{Called, IsCalling, blocked, call_returns, call_fails, concluded, passed, returned, stopped}
-use Rattle.rd_kernel.specs.Tasks.{with_idle_core, with_pc, with_phase, advanced}
-use Rattle.rd_kernel.specs.Waking.{deadline_of, is_due, may_wait, with_waiter, woken_first, woken_one}
-use Rattle.rd_kernel.proofs.ConsistentLaws.{TaskMoves, IsConsistent, IsConsistent-moved}
-use Rattle.rd_kernel.proofs.ConsistentLaws.{IsConsistent-task_replaced, IsConsistent-valid}
-use Rattle.rd_kernel.proofs.ConsistentLaws.{IsConsistentTask, all_have_time_left, same_place-self}
-use Rattle.rd_kernel.proofs.ConsistentLaws.{task_now, task_or_other}
-use Rattle.rd_kernel.proofs.WakingLaws.{AfterWaking, AfterWaking-woken_first}
-use Rattle.rd_kernel.proofs.WakingLaws.{has_seat, member_has, room_for, waiter_is_idle, waits_nowhere, times_waiting_at-at_most_one, woken_from-tick}
 
 -- ---- who can run
 
@@ -61,9 +65,6 @@ runs_outside_calls (Wait place deadline) instr runs none at = absurd (omega (ari
 runs_outside_calls Ended instr runs none at = absurd (omega (arith, runs))
 runs_outside_calls (Failed cause) instr runs none at = absurd (omega (arith, runs))
 
-pub seats_to_run-one : (phase : Phase) → 1 ≤ seats_to_run phase → seats_to_run phase ≡ 1
-seats_to_run-one phase h = ap one_if (has_seat (can_run phase) h)
-
 -- ---- what a task does by itself
 
 -- Its registers or data change.
@@ -86,16 +87,25 @@ IsConsistent-with_pc app D s task pc there runs within at =
       entry_count = was.entry_count;
       call = subst (λ phase. PhaseFitsCall phase (instr_at app task pc)) (sym runs) tt;
       deadline = was.deadline;
-      entries = was.entries;
+      entries = subst (λ phase. EntriesFitCall phase (instr_at app task pc) (task_at s task).entries) (sym runs)
+          (EntriesFitCall-free Run (instr_at app task pc) (task_at s task).entries refl
+          (free_in_run (instr_at app task (task_at s task).pc) (task_at s task).entries
+          (subst (λ phase. EntriesFitCall phase (instr_at app task (task_at s task).pc) (task_at s task).entries) runs was.entries)));
     }) refl (λ place. refl) at
 
 -- It is in Run, whichever of the phases that can run it was in.
 pub IsConsistent-with_run : (app : Application) (D : ℕ → Phase → Type 0) (s : Snapshot) (task : ℕ) → task < length s.tasks
-    → 1 ≤ seats_to_run (task_at s task).phase → D task Run → IsConsistent app D s → IsConsistent app D (with_phase s task Run)
-IsConsistent-with_run app D s task there runs asked at =
+    → 1 ≤ seats_to_run (task_at s task).phase → IsFree (task_at s task).entries → D task Run → IsConsistent app D s → IsConsistent app D (with_phase s task Run)
+IsConsistent-with_run app D s task there runs free asked at =
     let was = at.each task there in
     IsConsistent-task_replaced app D s task (record (task_at s task) { phase = Run }) there
-    (record { pc = was.pc; entry_count = was.entry_count; call = tt; deadline = asked; entries = was.entries }) (sym (seats_to_run-one (task_at s task).phase runs))
+    (record {
+      pc = was.pc;
+      entry_count = was.entry_count;
+      call = tt;
+      deadline = asked;
+      entries = EntriesFitCall-free Run (instr_at app task (task_at s task).pc) (task_at s task).entries refl free;
+    }) (sym (seats_to_run-one (task_at s task).phase runs))
     (λ place. sym (waits_nowhere place (task_at s task).phase runs)) at
 
 -- It gets other registers or data, and goes on at an instruction of its script.
@@ -121,9 +131,9 @@ IsConsistent-advanced app D s task registers bytes there runs within at =
 
 -- A call returns.
 pub IsConsistent-returned : (app : Application) (D : ℕ → Phase → Type 0) (s : Snapshot) (task value : ℕ) → task < length s.tasks
-    → 1 ≤ seats_to_run (task_at s task).phase → (task_at s task).pc + 1 < length (code_of app task) → D task Run → IsConsistent app D s
-    → IsConsistent app D (returned s task value)
-IsConsistent-returned app D s task value there runs within asked at =
+    → 1 ≤ seats_to_run (task_at s task).phase → IsFree (task_at s task).entries → (task_at s task).pc + 1 < length (code_of app task) → D task Run
+    → IsConsistent app D s → IsConsistent app D (returned s task value)
+IsConsistent-returned app D s task value there runs free within asked at =
     let x = record (task_at s task) { registers = set (task_at s task).registers 0 value } in
     let one = with_task s task x in
     let there_one : task < length one.tasks = omega (arith, there, length-set s.tasks task x) in
@@ -132,119 +142,88 @@ IsConsistent-returned app D s task value there runs within asked at =
     let two = with_task one task y in
     let there_two : task < length two.tasks = omega (arith, there_one, length-set one.tasks task y) in
     IsConsistent-with_pc app D two task ((task_at s task).pc + 1) there_two (ap (λ (t : TaskSnapshot). t.phase) (task_now one task y there_one)) within
-    (IsConsistent-with_run app D one task there_one runs_still asked
+    (IsConsistent-with_run app D one task there_one runs_still (subst (λ (t : TaskSnapshot). IsFree t.entries) (sym (task_now s task x there)) free) asked
     (IsConsistent-with_values app D s task (set (task_at s task).registers 0 value) (task_at s task).bytes there at))
 
 -- ---- a task that leaves its core
 
--- how often each task is on a core, once one was emptied
-pub times_on_cores-with_idle_core : (s : Snapshot) (core task t : ℕ) → core < length s.cores → core_at s core ≡ Some task
-    → times_on_cores t (set s.cores core None) + one_if (nat_eq t task) ≡ times_on_cores t s.cores
-times_on_cores-with_idle_core s core task t there e = omega (arith, times_on_cores-set t core s.cores None there, ap (λ r. one_if (is_on t r)) e)
-
-pub same_one : (task : ℕ) → one_if (nat_eq task task) ≡ 1
-same_one task = let e : nat_eq task task ≡ true = grind (arith, nat_tests) in ap one_if e
-
-pub other_none : (t task : ℕ) → t ≢ task → one_if (nat_eq t task) ≡ 0
-other_none t task differs = let e : nat_eq t task ≡ false = grind (arith, nat_tests, differs) in ap one_if e
-
 -- It is in a phase in which it can't run and waits nowhere.
 pub IsConsistent-stopped : (app : Application) (D : ℕ → Phase → Type 0) (s : Snapshot) (core task : ℕ) (phase : Phase) → task < length s.tasks
     → 1 ≤ seats_to_run (task_at s task).phase → core < length s.cores → core_at s core ≡ Some task
-    → seats_to_run phase ≡ 0 → ((place : Place) → times_waiting_at place phase ≡ 0) → PhaseFitsCall phase (instr_at app task (task_at s task).pc) → D task phase
+    → seats_to_run phase ≡ 0 → waits_at phase ≡ None → IsFree (task_at s task).entries → PhaseFitsCall phase (instr_at app task (task_at s task).pc) → D task phase
     → IsConsistent app D s → IsConsistent app D (stopped s core task phase)
-IsConsistent-stopped app D s core task phase there runs has_core e idle nowhere call asked at =
+IsConsistent-stopped app D s core task phase there runs has_core e idle nowhere free call asked at =
     let was = at.each task there in
-    let now : TaskSnapshot = record (task_at s task) { phase = phase } in
-    let p = stopped s core task phase in
-    let times_off_core : (t : ℕ) → times_on_cores t (set s.cores core None) + one_if (nat_eq t task) ≡ times_on_cores t s.cores =
-    λ t. times_on_cores-with_idle_core s core task t has_core e in
-    let one = seats_to_run-one (task_at s task).phase runs in
-    record {
-      cores = length-set s.cores core None ∙ at.cores;
-      tasks = length-set s.tasks task now ∙ at.tasks;
-      each =
-          task_or_other s p task now (IsConsistentTask app D) there refl
-          (record { pc = was.pc; entry_count = was.entry_count; call = call; deadline = asked; entries = was.entries }) (λ t differs h. at.each t h);
-      shapes = at.shapes;
-      seated_once = task_or_other s p task now (λ t x. times_in_list t s.ready + times_on_cores t (set s.cores core None) ≡ seats_to_run x.phase) there refl
-          (omega (arith, times_off_core task, same_one task, at.seated_once task there, one, idle))
-          (λ t differs h. omega (arith, times_off_core t, other_none t task differs, at.seated_once t h));
-      waiting_lists = record {
-        ready = at.waiting_lists.ready;
-        waiting =
-            at.waiting_lists.waiting;
-      };
-      places = λ place. task_or_other s p task now (λ t x. times_in_list t (waiting_at p place) ≡ times_waiting_at place x.phase) there refl
-          (at.places place task there
-          ∙ waits_nowhere place (task_at s task).phase runs ∙ sym (nowhere place))
-          (λ t differs h. at.places place t h);
-    }
+    IsConsistent-moves app D s (stopped s core task phase) task (record (task_at s task) { phase = phase }) there refl
+    (record {
+      pc = was.pc;
+      entry_count = was.entry_count;
+      call = call;
+      deadline = asked;
+      entries = EntriesFitCall-free phase (instr_at app task (task_at s task).pc) (task_at s task).entries (ap (option_and_then entry_of) nowhere) free;
+    })
+    (SeatsGo-off_core app D s core task phase there runs has_core e idle at)
+    (ObjectsGo-stay app D s task phase there
+    (λ place. ap (λ o. one_if (is_in_list place (option_and_then listed_at o))) nowhere ∙ sym (waits_nowhere place (task_at s task).phase runs)) at) at
 
 -- It waits.
-pub IsConsistent-waiting : (app : Application) (D : ℕ → Phase → Type 0) (s : Snapshot) (core task : ℕ) (place : Place) (deadline : Option ℕ)
+pub IsConsistent-waiting : (app : Application) (D : ℕ → Phase → Type 0) (s : Snapshot) (core task : ℕ) (place : Listed) (deadline : Option ℕ)
     → task < length s.tasks → 1 ≤ seats_to_run (task_at s task).phase → core < length s.cores → core_at s core ≡ Some task
-    → HasPlace s place → place_of_call (instr_at app task (task_at s task).pc) ≡ Some place → D task (Wait place deadline) → IsConsistent app D s
-    → IsConsistent app D (with_idle_core (with_phase (with_waiter (priorities_of app) s place task) task (Wait place deadline)) core)
-IsConsistent-waiting app D s core task place deadline there runs has_core e has_place call asked at =
+    → HasList s place → place_of_call (instr_at app task (task_at s task).pc) ≡ Some (sort.Listed place) → IsFree (task_at s task).entries
+    → D task (Wait (sort.Listed place) deadline) → IsConsistent app D s
+    → IsConsistent app D (with_idle_core (with_phase (with_waiter (priorities_of app) s place task) task (Wait (sort.Listed place) deadline)) core)
+IsConsistent-waiting app D s core task place deadline there runs has_core e has_place call free asked at =
     let was = at.each task there in
-    let priorities = priorities_of app in
-    let now : TaskSnapshot = record (task_at s task) { phase = Wait place deadline } in
-    let list = waiting_at s place in
-    let times_off_core : (t : ℕ) → times_on_cores t (set s.cores core None) + one_if (nat_eq t task) ≡ times_on_cores t s.cores =
-    λ t. times_on_cores-with_idle_core s core task t has_core e in
-    let one = seats_to_run-one (task_at s task).phase runs in
-    let none : times_in_list task list ≡ 0 = at.places place task there ∙ waits_nowhere place (task_at s task).phase runs in
-    let goes : TaskMoves app D s task now place (set s.cores core None) s.ready (joined priorities list task) = record {
-      there = there;
-      consistent = record { pc = was.pc; entry_count = was.entry_count; call = call; deadline = asked; entries = was.entries };
-      same_cores = length-set s.cores core None;
-      seats = omega (arith, times_off_core task, same_one task, at.seated_once task there, one);
-      others_seats = λ t differs. omega (arith, times_off_core t, other_none t task differs);
-      ready_order = at.waiting_lists.ready;
-      has_place = has_place;
-      waits = times_in_list-joined priorities list task task ∙ omega (arith, none, same_one task) ∙ sym (ap one_if (same_place-self place));
-      waits_elsewhere = λ other differs. ap one_if differs ∙ sym (waits_nowhere other (task_at s task).phase runs);
-      others_wait = λ t differs. omega (arith, times_in_list-joined priorities list t task, other_none t task differs);
-      waiting_order = IsInOrder-joined priorities list task (at.waiting_lists.waiting place);
-    } in
-    IsConsistent-moved app D s task now place (set s.cores core None) s.ready (joined priorities list task) goes at
+    let phase = Wait (sort.Listed place) deadline in
+    let p = with_idle_core (with_phase (with_waiter (priorities_of app) s place task) task phase) core in
+    IsConsistent-moves app D s p task (record (task_at s task) { phase = phase }) there refl
+    (record {
+      pc = was.pc;
+      entry_count = was.entry_count;
+      call = call;
+      deadline = asked;
+      entries = EntriesFitCall-free phase (instr_at app task (task_at s task).pc) (task_at s task).entries refl free;
+    })
+    (SeatsGo-off_core app D s core task phase there runs has_core e refl at)
+    (ObjectsGo-list app D s place (joined (priorities_of app) (waiting_at s place) task) task phase there
+    (ListGoes-joined app D s place task phase there has_place runs refl at) at) at
 
 -- ---- calls
 
 -- A call that can't be done.
-pub IsConsistent-blocked : (app : Application) (s : Snapshot) (core task : ℕ) (place : Place) (wait : Operand) → task < length s.tasks
+pub IsConsistent-blocked : (app : Application) (s : Snapshot) (core task : ℕ) (place : Listed) (wait : Operand) → task < length s.tasks
     → 1 ≤ seats_to_run (task_at s task).phase → core < length s.cores → core_at s core ≡ Some task
-    → HasPlace s place → place_of_call (instr_at app task (task_at s task).pc) ≡ Some place → (task_at s task).pc + 1 < length (code_of app task)
+    → HasList s place → place_of_call (instr_at app task (task_at s task).pc) ≡ Some (sort.Listed place) → IsFree (task_at s task).entries
+    → (task_at s task).pc + 1 < length (code_of app task)
     → IsConsistent app (all_have_time_left s.tick) s
     → IsConsistent app (all_have_time_left s.tick) (concluded (blocked (priorities_of app) s task place wait) core task)
-IsConsistent-blocked app s core task place wait there runs has_core e has_place call within at =
+IsConsistent-blocked app s core task place wait there runs has_core e has_place call free within at =
     let deadline = deadline_of s task wait in
     let priorities = priorities_of app in
     let D = all_have_time_left s.tick in
     let by_time : (b : Bool) → is_ahead s.tick deadline ≡ b
     → IsConsistent app D
-    (concluded (cond b (record { state = with_waiter priorities s place task; outcome = Waits place deadline }) (call_fails s)) core task) =
+    (concluded (cond b (record { state = with_waiter priorities s place task; outcome = Waits (sort.Listed place) deadline }) (call_fails s)) core task) =
     λ b. elim b as (λ b. is_ahead s.tick deadline
     ≡ b → IsConsistent app D
-    (concluded (cond b (record { state = with_waiter priorities s place task; outcome = Waits place deadline }) (call_fails s)) core task)) [
-      | true ↦ λ ahead. IsConsistent-waiting app D s core task place deadline there runs has_core e has_place call ahead at
-      | false ↦ λ past. IsConsistent-returned app D s task 0 there runs within tt at
+    (concluded (cond b (record { state = with_waiter priorities s place task; outcome = Waits (sort.Listed place) deadline }) (call_fails s)) core task)) [
+      | true ↦ λ ahead. IsConsistent-waiting app D s core task place deadline there runs has_core e has_place call free ahead at
+      | false ↦ λ past. IsConsistent-returned app D s task 0 there runs free within tt at
     ] in
     by_time (is_ahead s.tick deadline) refl
 
--- The call is done, somebody else may have been woken, and it returns.
-pub IsConsistent-passed : (app : Application) (tick : ℕ) (s p : Snapshot) (task value : ℕ) → task < length s.tasks → 1 ≤ seats_to_run (task_at s task).phase
-    → (task_at s task).pc + 1 < length (code_of app task) → length s.tasks ≡ length app.tasks.things
-    → AfterWaking app (all_have_time_left tick) s p task → IsConsistent app (all_have_time_left tick) (returned p task value)
-IsConsistent-passed app tick s p task value there runs within tasks wakes =
-    let same = wakes.same_caller in
-    IsConsistent-returned app (all_have_time_left tick) p task value (omega (arith, there, tasks, wakes.consistent.tasks))
-    (subst (λ (t : TaskSnapshot). 1 ≤ seats_to_run t.phase) (sym same) runs)
-    (subst (λ (t : TaskSnapshot). t.pc + 1 < length (code_of app task)) (sym same) within) tt wakes.consistent
+-- The call is done, others may have been woken, and it returns.
+pub IsConsistent-passed : (app : Application) (tick : ℕ) (s p : Snapshot) (task value : ℕ) (tasks : List ℕ) → task < length s.tasks
+    → 1 ≤ seats_to_run (task_at s task).phase → IsFree (task_at s task).entries → (task_at s task).pc + 1 < length (code_of app task) → AfterWaking s p tasks
+    → IsConsistent app (all_have_time_left tick) p → IsConsistent app (all_have_time_left tick) (returned p task value)
+IsConsistent-passed app tick s p task value tasks there runs free within after at =
+    let same = after.idle task (runner_waits_nowhere (task_at s task).phase (has_seat (can_run (task_at s task).phase) runs)) in
+    IsConsistent-returned app (all_have_time_left tick) p task value (omega (arith, there, after.same_length))
+    (subst (λ (t : TaskSnapshot). 1 ≤ seats_to_run t.phase) (sym same) runs) (subst (λ (t : TaskSnapshot). IsFree t.entries) (sym same) free)
+    (subst (λ (t : TaskSnapshot). t.pc + 1 < length (code_of app task)) (sym same) within) tt at
 
 -- Who waits at a place is a task.
-pub waits_is_task : (s : Snapshot) (place : Place) (t : ℕ) → IsSized s → HasPlace s place → 1 ≤ times_in_list t (waiting_at s place) → t < length s.tasks
+pub waits_is_task : (s : Snapshot) (place : Listed) (t : ℕ) → IsSized s → HasList s place → 1 ≤ times_in_list t (waiting_at s place) → t < length s.tasks
 waits_is_task s place t sized there some = member_has (λ t. t < length s.tasks) (waiting_at s place) t (IsSizedList-waiting_at s place sized there).0 some
 
 -- What a move knows: the state is valid, and this task runs on this core at an instruction that isn't its last.
@@ -257,63 +236,74 @@ pub record RunsInstr (app : Application) (s : Snapshot) (core task : ℕ) (instr
   pub at_instr : instr_at app task (task_at s task).pc ≡ instr
   pub within : (task_at s task).pc + 1 < length (code_of app task)
 
+-- Whoever runs a call that waits through no entry has none that is waiting.
+pub free_at : (app : Application) (s : Snapshot) (core task : ℕ) (instr : Instr) → RunsInstr app s core task instr → entry_of_call instr ≡ None
+    → IsFree (task_at s task).entries
+free_at app s core task instr calls none =
+    free_in_call (task_at s task).phase instr (task_at s task).entries none
+    (subst (λ i. EntriesFitCall (task_at s task).phase i (task_at s task).entries) calls.at_instr
+    ((IsConsistent-valid app s calls.valid).each task calls.there).entries)
+
 -- A call that was done: what stands then, its caller, and who waits for what it left.
-pub record IsDone (app : Application) (s p : Snapshot) (task : ℕ) (waiting : Place) : Type 0 where
+pub record IsDone (app : Application) (s p : Snapshot) (task : ℕ) (waiting : Listed) : Type 0 where
   pub consistent : IsConsistent app (all_have_time_left s.tick) p
   pub there : task < length p.tasks
   pub runs : 1 ≤ seats_to_run (task_at p task).phase
+  pub free : IsFree (task_at p task).entries
   pub within : (task_at p task).pc + 1 < length (code_of app task)
   pub waiters : (t : ℕ) → 1 ≤ times_in_list t (waiting_at p waiting) → t < length p.tasks
 
 -- A call that has failed, and its task with it.
-pub IsConsistent-failed : (app : Application) (s : Snapshot) (core task : ℕ) (cause : Cause) (instr : Instr) → RunsInstr app s core task instr
+pub IsConsistent-failed : (app : Application) (s : Snapshot) (core task : ℕ) (cause : Cause) (instr : Instr) → RunsInstr app s core task instr → entry_of_call instr ≡ None
     → IsConsistent app (all_have_time_left s.tick) (stopped s core task (Failed cause))
-IsConsistent-failed app s core task cause instr calls =
-    IsConsistent-stopped app (all_have_time_left s.tick) s core task (Failed cause) calls.there calls.runs calls.has_core calls.on_core refl (λ place. refl) tt tt
+IsConsistent-failed app s core task cause instr calls none =
+    IsConsistent-stopped app (all_have_time_left s.tick) s core task (Failed cause) calls.there calls.runs calls.has_core calls.on_core refl refl
+    (free_at app s core task instr calls none) tt tt
     (IsConsistent-valid app s calls.valid)
 
 -- It wakes the first who waits for what it left.
-pub IsConsistent-done : (app : Application) (s p : Snapshot) (core task : ℕ) (waiting : Place) → IsDone app s p task waiting
+pub IsConsistent-done : (app : Application) (s p : Snapshot) (core task : ℕ) (waiting : Listed) → IsDone app s p task waiting
     → IsConsistent app (all_have_time_left s.tick) (concluded (passed (priorities_of app) p waiting) core task)
 IsConsistent-done app s p core task waiting done =
-    IsConsistent-passed app s.tick p (woken_first (priorities_of app) p waiting) task 1 done.there done.runs done.within done.consistent.tasks
-    (AfterWaking-woken_first app (all_have_time_left s.tick) p waiting task done.waiters (λ t deadline. tt) done.runs done.consistent)
+    let first = option_to_list (slice_get (waiting_at p waiting) 0) in
+    let D = all_have_time_left s.tick in
+    IsConsistent-passed app s.tick p (woken_first (priorities_of app) p waiting) task 1 first done.there done.runs done.free done.within
+    (AfterWaking-woken_all (priorities_of app) TriesAgain p first)
+    (IsConsistent-woken_all app D TriesAgain p first (MayWakeAll-first app D p waiting done.waiters (λ t deadline. tt) done.consistent) done.consistent)
 
 -- A call that changes nothing but what its caller is given.
-pub IsConsistent-returned_alone : (app : Application) (s : Snapshot) (core task value : ℕ) (instr : Instr) → RunsInstr app s core task instr
+pub IsConsistent-returned_alone : (app : Application) (s : Snapshot) (core task value : ℕ) (instr : Instr) → RunsInstr app s core task instr → entry_of_call instr ≡ None
     → IsConsistent app (all_have_time_left s.tick) (concluded (call_returns s value) core task)
-IsConsistent-returned_alone app s core task value instr calls =
-    IsConsistent-returned app (all_have_time_left s.tick) s task value calls.there calls.runs calls.within tt (IsConsistent-valid app s calls.valid)
+IsConsistent-returned_alone app s core task value instr calls none =
+    IsConsistent-returned app (all_have_time_left s.tick) s task value calls.there calls.runs (free_at app s core task instr calls none) calls.within tt
+    (IsConsistent-valid app s calls.valid)
 
 -- A call either can't be done, or it ends so.
-pub IsConsistent-or_blocked : (app : Application) (s : Snapshot) (core task : ℕ) (instr : Instr) (place : Place) (wait : Operand) (cannot : Bool)
-    (called : Called) → RunsInstr app s core task instr → HasPlace s place → place_of_call instr ≡ Some place
+pub IsConsistent-or_blocked : (app : Application) (s : Snapshot) (core task : ℕ) (instr : Instr) (place : Listed) (wait : Operand) (cannot : Bool)
+    (called : Called) → RunsInstr app s core task instr → HasList s place → place_of_call instr ≡ Some (sort.Listed place)
     → IsConsistent app (all_have_time_left s.tick) (concluded called core task)
     → IsConsistent app (all_have_time_left s.tick) (concluded (cond cannot (blocked (priorities_of app) s task place wait) called) core task)
 IsConsistent-or_blocked app s core task instr place wait cannot called calls there at_place done =
     elim cannot as (λ b. IsConsistent app (all_have_time_left s.tick) (concluded (cond b (blocked (priorities_of app) s task place wait) called) core task)) [
       | true ↦
           IsConsistent-blocked app s core task place wait calls.there calls.runs calls.has_core calls.on_core there
-          (ap place_of_call calls.at_instr ∙ at_place) calls.within (IsConsistent-valid app s calls.valid)
+          (ap place_of_call calls.at_instr ∙ at_place) (free_at app s core task instr calls (ap (option_and_then entry_of) at_place)) calls.within (IsConsistent-valid app s calls.valid)
       | false ↦ done
     ]
 
 -- An instruction leaves the tick.
-pub woken_first-tick : (priorities : List ℕ) (s : Snapshot) (place : Place) → (woken_first priorities s place).tick ≡ s.tick
-woken_first-tick priorities s place = elim (slice_get (waiting_at s place) 0) as (λ o. (woken_one priorities s o).tick ≡ s.tick) [
-  | None ↦ refl
-  | Some t ↦ woken_from-tick priorities s t (task_at s t).phase
-]
+pub woken_first-tick : (priorities : List ℕ) (s : Snapshot) (place : Listed) → (woken_first priorities s place).tick ≡ s.tick
+woken_first-tick priorities s place = (AfterWaking-woken_all priorities TriesAgain s (option_to_list (slice_get (waiting_at s place) 0))).tick
 
-pub blocked-tick : (priorities : List ℕ) (s : Snapshot) (core task : ℕ) (place : Place) (wait : Operand)
+pub blocked-tick : (priorities : List ℕ) (s : Snapshot) (core task : ℕ) (place : Listed) (wait : Operand)
     → (concluded (blocked priorities s task place wait) core task).tick ≡ s.tick
 blocked-tick priorities s core task place wait =
     elim (may_wait s task wait) as (λ b.
-    (concluded (cond b (record { state = with_waiter priorities s place task; outcome = Waits place (deadline_of s task wait) }) (call_fails s)) core task).tick
+    (concluded (cond b (record { state = with_waiter priorities s place task; outcome = Waits (sort.Listed place) (deadline_of s task wait) }) (call_fails s)) core task).tick
     ≡ s.tick) [ true ↦ refl | false ↦ refl ]
 
 -- The tick stays, whether the call waits or ends so.
-pub or_blocked-tick : (priorities : List ℕ) (s : Snapshot) (core task : ℕ) (place : Place) (wait : Operand) (cannot : Bool) (called : Called)
+pub or_blocked-tick : (priorities : List ℕ) (s : Snapshot) (core task : ℕ) (place : Listed) (wait : Operand) (cannot : Bool) (called : Called)
     → (concluded called core task).tick ≡ s.tick → (concluded (cond cannot (blocked priorities s task place wait) called) core task).tick ≡ s.tick
 or_blocked-tick priorities s core task place wait cannot called same =
     elim cannot as (λ b. (concluded (cond b (blocked priorities s task place wait) called) core task).tick ≡ s.tick) [
@@ -323,15 +313,12 @@ or_blocked-tick priorities s core task place wait cannot called same =
 
 -- ---- room
 
-pub room_in_list : (app : Application) (s : Snapshot) (task : ℕ) (place : Place) → IsValid app s → task < length s.tasks
-    → 1 ≤ seats_to_run (task_at s task).phase → HasPlace s place → length (waiting_at s place) < length s.tasks
+pub room_in_list : (app : Application) (s : Snapshot) (task : ℕ) (place : Listed) → IsValid app s → task < length s.tasks
+    → 1 ≤ seats_to_run (task_at s task).phase → HasList s place → length (waiting_at s place) < length s.tasks
 room_in_list app s task place valid there runs has_place =
     room_for (waiting_at s place) (length s.tasks) task (IsSizedList-waiting_at s place valid.in_limits.sized has_place).0
-    (λ t h. omega (arith, valid.places place t h, times_waiting_at-at_most_one place (task_at s t).phase)) there
+    (λ t h. omega (arith, valid.places place t h, times_waiting_in-at_most_one place (task_at s t).phase)) there
     (valid.places place task there ∙ waits_nowhere place (task_at s task).phase runs)
-
-pub seats_to_run-at_most_one : (phase : Phase) → seats_to_run phase ≤ 1
-seats_to_run-at_most_one phase = elim (can_run phase) as (λ b. cond b 1 0 ≤ 1) [ true ↦ omega arith | false ↦ omega arith ]
 
 -- The ready list has room for a task that can't run.
 pub room_in_ready : (app : Application) (D : ℕ → Phase → Type 0) (s : Snapshot) (task : ℕ) → IsConsistent app D s → IsSized s → task < length s.tasks
@@ -340,14 +327,6 @@ room_in_ready app D s task at sized there idle =
     room_for s.ready (length s.tasks) task sized.scheduling.ready (λ t h. omega (arith, at.seated_once t h, seats_to_run-at_most_one (task_at s t).phase)) there
     (omega (arith, at.seated_once task there, idle))
 
--- Who waits somewhere can't run, and so who is due.
-pub waits_idle : (place : Place) (phase : Phase) → 1 ≤ times_waiting_at place phase → seats_to_run phase ≡ 0
-waits_idle place phase = by_place (waits_at phase) refl
-  where
-    by_place : (o : Option Place) → waits_at phase ≡ o → 1 ≤ cond (is_at_place place o) 1 0 → seats_to_run phase ≡ 0
-    by_place None e h = absurd (omega (arith, h))
-    by_place (Some other) e h = waiter_is_idle phase other e
-
 pub due_idle : (tick : ℕ) (phase : Phase) → is_due tick phase ≡ true → seats_to_run phase ≡ 0
 due_idle tick phase = by_place (waits_at phase) refl
   where
@@ -355,17 +334,20 @@ due_idle tick phase = by_place (waits_at phase) refl
     by_place None e due = absurd (false≢true due)
     by_place (Some place) e due = waiter_is_idle phase place e
 
-pub first_waits : (tasks : List ℕ) → 0 < length tasks → (task : ℕ) × (1 ≤ times_in_list task tasks)
-first_waits [] some = absurd (omega (arith, some))
-first_waits (first ∷ rest) some = (first, omega (arith, times_in_list-cons first first rest, same_one first))
-
-pub room_for_first : (app : Application) (s : Snapshot) (place : Place) → IsValid app s → HasPlace s place → 0 < length (waiting_at s place)
+pub room_for_first : (app : Application) (s : Snapshot) (place : Listed) → IsValid app s → HasList s place → 0 < length (waiting_at s place)
     → length s.ready < length s.tasks
 room_for_first app s place valid has_place some =
     let first = first_waits (waiting_at s place) some in
     let there = waits_is_task s place first.0 valid.in_limits.sized has_place first.1 in
     room_in_ready app (all_have_time_left s.tick) s first.0 (IsConsistent-valid app s valid) valid.in_limits.sized there
     (waits_idle place (task_at s first.0).phase (omega (arith, first.1, valid.places place first.0 there)))
+
+pub waits_somewhere : (phase : Phase) → IsSome (waits_at phase) → seats_to_run phase ≡ 0
+waits_somewhere phase = by_place (waits_at phase) refl
+  where
+    by_place : (o : Option Place) → waits_at phase ≡ o → IsSome o → seats_to_run phase ≡ 0
+    by_place None e none = absurd (false≢true none)
+    by_place (Some place) e some = waiter_is_idle phase place e
 
 -- Whoever is on a core can call.
 pub calls_from : (app : Application) (s : Snapshot) (core : ℕ) (running : Option ℕ) → IsValid app s → core < length s.cores → running ≡ core_at s core
@@ -380,4 +362,6 @@ calls_from app s core (Some task) valid has_core e =
       runs = runs;
       room_to_wait = λ place has_place. room_in_list app s task place valid there runs has_place;
       room_to_wake = λ place has_place some. room_for_first app s place valid has_place some;
+      room_to_tell = λ t in_s waits. room_in_ready app (all_have_time_left s.tick) s t (IsConsistent-valid app s valid) valid.in_limits.sized in_s
+          (waits_somewhere (task_at s t).phase waits);
     }

@@ -1,11 +1,11 @@
 -- What makes a state valid, but for its sizes, and what keeps it.
-use Rattle.std.proofs.Common.{◌≡◌, ◌∙◌, ◌≢◌, ℕ, zero, suc, ◌+◌, ◌<◌, ◌≤◌, Bool, true, false, cond, List, [], ◌∷◌}
-use Rattle.std.proofs.Common.{length, get_or, set, map, Option, refl, ap, subst, sym, arith, inl, inr}
-use Rattle.std.specs.Prelude.{◌&&◌, All, nat_eq}
+use Rattle.std.proofs.Common.{◌<◌, ◌∙◌, ◌∷◌, ◌≡◌, ◌≢◌, ◌≤◌, Bool, List, [], ap, arith, cond, false, get_or, inl, inr, length, map, refl, set, subst}
+use Rattle.std.proofs.Common.{suc, sym, true, zero, ℕ}
+use Rattle.std.specs.Prelude.{◌&&◌, nat_eq}
 use Rattle.std.proofs.lemmas.Bool.{cases_eq, cases_lt, false≢true}
 use Rattle.std.proofs.lemmas.Bool.Decides.{nat_tests}
-use Rattle.std.proofs.lemmas.List.{length-set, get_or-set_same, get_or-set_other, get_or_past}
-use Rattle.std.proofs.lemmas.List.Elements.{All-get_or, All-from_get_or}
+use Rattle.std.proofs.lemmas.List.{get_or-set_other, get_or-set_same, get_or_past, length-set}
+use Rattle.std.proofs.lemmas.List.Elements.{All-from_get_or, All-get_or}
 use Rattle.rd_queue.specs.declared.waiting_list.WaitingList.{WaitingList}
 use Rattle.rd_queue.specs.declared.waiting_list.WaitingList.TheVariants.{Receiving, Sending}
 use Rattle.rd_queue.specs.QueueSnapshot.{QueueSnapshot}
@@ -13,19 +13,18 @@ use Rattle.rd_queue.specs.QueueSetSnapshot.{QueueSetSnapshot}
 use Rattle.rd_queue.specs.QueueSets.{with_waiting_tasks}
 use Rattle.rd_queue.specs.Queues.{tasks_in_list, with_waiting}
 use Rattle.rd_state.specs.declared.phase.Phase.{Phase}
-use Rattle.rd_state.specs.declared.phase.Place.{Place}
-use Rattle.rd_state.specs.declared.phase.Place.TheVariants.{Queue, QueueSet}
+use Rattle.rd_state.specs.declared.phase.Listed.{Listed}
+use Rattle.rd_state.specs.declared.phase.Listed.TheVariants.{Queue, QueueSet}
 use Rattle.rd_app.specs.Application.{Application, code_of, instr_at, priorities_of}
 use Rattle.rd_app.specs.declared.objects.QueueShape.{QueueShape}
 use Rattle.rd_wait.specs.Joined.{IsInOrder}
 use Rattle.rd_state.specs.Settled.{seating_of}
 use Rattle.rd_state.specs.Sizes.{IsSized}
 use Rattle.rd_state.specs.Snapshot.{Snapshot, TaskSnapshot, no_task, task_at, with_objects, with_task}
-use Rattle.rd_state.specs.Objects.{ObjectsSnapshot, no_queue, no_queue_set, numbers_in, AreShaped, capacity_of, shape_of, shapes_in}
-use Rattle.rd_state.specs.Valid.{IsNotWaiting, IsValid, ListsInOrder, SeatedOnce, PhaseFitsCall, HasTimeLeft, WaitsAtPlaces}
-use Rattle.rd_state.specs.Valid.{seats_to_run, times_in_list, times_on_cores, times_waiting_at}
-use Rattle.rd_state.specs.Waiting.{HasPlace, IsPlace, list_number, objects_then, place_kind, place_list, place_number, same_place, waiting_at}
-use Rattle.rd_state.specs.Waiting.{waiting_in}
+use Rattle.rd_state.specs.Objects.{AreShaped, ObjectsSnapshot, capacity_of, no_queue, no_queue_set, numbers_in, shape_of, shapes_in}
+use Rattle.rd_state.specs.Valid.{EntriesFitCall, HasTimeLeft, IsValid, ListsInOrder, PhaseFitsCall, SeatedOnce, WaitsInLists, seats_to_run}
+use Rattle.rd_state.specs.Valid.{times_in_list, times_waiting_in}
+use Rattle.rd_state.specs.Waiting.{HasList, IsList, list_kind, list_object, list_part, objects_then, part_number, same_list, waiting_at, waiting_in}
 use Rattle.rd_state.proofs.Offered.{SeatsKept}
 
 -- What holds of a task by itself. What is asked of its deadline is a parameter: in the middle of a tick it holds of
@@ -35,7 +34,7 @@ pub record IsConsistentTask (app : Application) (D : ℕ → Phase → Type 0) (
   pub entry_count : length x.entries ≡ app.entries
   pub call : PhaseFitsCall x.phase (instr_at app task x.pc)
   pub deadline : D task x.phase
-  pub entries : All IsNotWaiting x.entries
+  pub entries : EntriesFitCall x.phase (instr_at app task x.pc) x.entries
 
 pub record IsConsistent (app : Application) (D : ℕ → Phase → Type 0) (s : Snapshot) : Type 0 where
   pub cores : length s.cores ≡ app.cores
@@ -44,7 +43,7 @@ pub record IsConsistent (app : Application) (D : ℕ → Phase → Type 0) (s : 
   pub shapes : AreShaped app s.objects
   pub seated_once : SeatedOnce s
   pub waiting_lists : ListsInOrder (priorities_of app) s
-  pub places : WaitsAtPlaces s
+  pub places : WaitsInLists s
 
 -- The deadlines of all tasks that wait are ahead.
 abbrev pub all_have_time_left : ℕ → ℕ → Phase → Type 0
@@ -59,7 +58,7 @@ IsConsistent-valid app s valid = record {
     entry_count = All-get_or (λ (t : TaskSnapshot). length t.entries ≡ app.entries) s.tasks task no_task h valid.in_limits.entries;
     call = valid.calls task h;
     deadline = valid.deadlines task h;
-    entries = All-get_or (λ (t : TaskSnapshot). All IsNotWaiting t.entries) s.tasks task no_task h valid.entries;
+    entries = valid.entries task h;
   };
   shapes = valid.in_limits.objects;
   seated_once = valid.seated_once;
@@ -82,7 +81,7 @@ IsValid-consistent app s at sized = record {
   places = at.places;
   calls = λ task h. (at.each task h).call;
   deadlines = λ task h. (at.each task h).deadline;
-  entries = All-from_get_or (λ (t : TaskSnapshot). All IsNotWaiting t.entries) s.tasks no_task (λ task h. (at.each task h).entries);
+  entries = λ task h. (at.each task h).entries;
 }
 
 -- Something else is asked of deadlines, which each task's phase gives.
@@ -131,7 +130,7 @@ map_kept f (x ∷ xs) (suc number) now d kept = ap (λ rest. f x ∷ rest) (map_
 
 -- a queue with other tasks in one of its lists
 tasks_in_list-with : (list other : WaitingList) (tasks : List ℕ) (queue : QueueSnapshot)
-    → tasks_in_list other (with_waiting list tasks queue) ≡ cond (nat_eq (list_number other) (list_number list)) tasks (tasks_in_list other queue)
+    → tasks_in_list other (with_waiting list tasks queue) ≡ cond (nat_eq (part_number other) (part_number list)) tasks (tasks_in_list other queue)
 tasks_in_list-with Receiving Receiving tasks queue = refl
 tasks_in_list-with Receiving Sending tasks queue = refl
 tasks_in_list-with Sending Receiving tasks queue = refl
@@ -147,15 +146,15 @@ by_number false false new old other is = refl
 same_number : (a b : ℕ) → nat_eq a b ≡ true → a ≡ b
 same_number a b e = grind (arith, nat_tests, e)
 
--- Who waits at each place, once these wait at one: a row for each kind, and one for places of two kinds.
-waiting_then : (o : ObjectsSnapshot) (place other : Place) (tasks : List ℕ) → IsPlace (numbers_in o) place
-    → waiting_in (objects_then o place tasks) other ≡ cond (same_place other place) tasks (waiting_in o other)
+-- Who waits in each list, once these wait in one: a row for each kind, and one for lists of two kinds.
+pub waiting_then : (o : ObjectsSnapshot) (place other : Listed) (tasks : List ℕ) → IsList (numbers_in o) place
+    → waiting_in (objects_then o place tasks) other ≡ cond (same_list other place) tasks (waiting_in o other)
 waiting_then o (Queue queue list) (Queue number other) tasks there =
     let was = get_or o.queues queue no_queue in
     let old = tasks_in_list other (get_or o.queues number no_queue) in
     read_changed (tasks_in_list other) o.queues queue number (with_waiting list tasks was) no_queue there
     ∙ ap (λ m. cond (nat_eq number queue) m old) (tasks_in_list-with list other tasks was)
-    ∙ by_number (nat_eq (list_number other) (list_number list)) (nat_eq number queue) tasks (tasks_in_list other was) old
+    ∙ by_number (nat_eq (part_number other) (part_number list)) (nat_eq number queue) tasks (tasks_in_list other was) old
     (λ e. ap (λ n. tasks_in_list other (get_or o.queues n no_queue)) (sym (same_number number queue e)))
 waiting_then o (QueueSet queue_set) (QueueSet number) tasks there =
     read_changed (λ (q : QueueSetSnapshot). q.waiting) o.queue_sets queue_set number (with_waiting_tasks (get_or o.queue_sets queue_set no_queue_set) tasks) no_queue_set there
@@ -163,19 +162,19 @@ waiting_then o place other tasks there = refl
 
 -- Objects that have changed in something else than their shapes and who waits where.
 pub record ContentsChange (o n : ObjectsSnapshot) : Type 0 where
-  pub waiting : (place : Place) → waiting_in n place ≡ waiting_in o place
+  pub waiting : (place : Listed) → waiting_in n place ≡ waiting_in o place
   pub shapes : shapes_in n ≡ shapes_in o
 
 -- Who waits where is none of an object's shape.
-shapes_then : (o : ObjectsSnapshot) (place : Place) (tasks : List ℕ) → shapes_in (objects_then o place tasks) ≡ shapes_in o
+pub shapes_then : (o : ObjectsSnapshot) (place : Listed) (tasks : List ℕ) → shapes_in (objects_then o place tasks) ≡ shapes_in o
 shapes_then o (Queue queue list) tasks =
     ap (λ (qs : List QueueShape). record (shapes_in o) { queues = qs }) (map_kept shape_of o.queues queue (with_waiting list tasks (get_or o.queues queue no_queue)) no_queue refl)
 shapes_then o (QueueSet queue_set) tasks =
     ap (λ (rooms : List ℕ). record (shapes_in o) { queue_sets = rooms })
     (map_kept capacity_of o.queue_sets queue_set (with_waiting_tasks (get_or o.queue_sets queue_set no_queue_set) tasks) no_queue_set refl)
 
--- A place where somebody waits is there.
-pub place_there : (s : Snapshot) (place : Place) (task : ℕ) → 1 ≤ times_in_list task (waiting_at s place) → HasPlace s place
+-- A list in which somebody waits is there.
+pub place_there : (s : Snapshot) (place : Listed) (task : ℕ) → 1 ≤ times_in_list task (waiting_at s place) → HasList s place
 place_there s (Queue queue Receiving) task some = elim (cases_lt queue (length s.objects.queues)) [
   | inl lt ↦ lt
   | inr ge ↦ absurd (omega (arith, some, ap (λ (q : QueueSnapshot). times_in_list task q.receiving) (get_or_past s.objects.queues queue no_queue ge)))
@@ -189,42 +188,42 @@ place_there s (QueueSet queue_set) task some = elim (cases_lt queue_set (length 
   | inr ge ↦ absurd (omega (arith, some, ap (λ (q : QueueSetSnapshot). times_in_list task q.waiting) (get_or_past s.objects.queue_sets queue_set no_queue_set ge)))
 ]
 
--- A place is known by its numbers.
-abbrev list_from : ℕ → WaitingList
-list_from zero = Receiving
-list_from (suc list) = Sending
+-- A list is known by its numbers.
+abbrev part_from : ℕ → WaitingList
+part_from zero = Receiving
+part_from (suc list) = Sending
 
-list_again : (list : WaitingList) → list_from (list_number list) ≡ list
-list_again Receiving = refl
-list_again Sending = refl
+part_again : (list : WaitingList) → part_from (part_number list) ≡ list
+part_again Receiving = refl
+part_again Sending = refl
 
-abbrev place_from : ℕ → ℕ → ℕ → Place
-place_from zero list number = Queue number (list_from list)
-place_from (suc kind) list number = QueueSet number
+abbrev list_from : ℕ → ℕ → ℕ → Listed
+list_from zero list number = Queue number (part_from list)
+list_from (suc kind) list number = QueueSet number
 
-place_again : (place : Place) → place_from (place_kind place) (place_list place) (place_number place) ≡ place
-place_again (Queue queue list) = ap (Queue queue) (list_again list)
-place_again (QueueSet queue_set) = refl
+list_again : (place : Listed) → list_from (list_kind place) (list_part place) (list_object place) ≡ place
+list_again (Queue queue list) = ap (Queue queue) (part_again list)
+list_again (QueueSet queue_set) = refl
 
 both : (a b : Bool) → (a && b) ≡ true → (a ≡ true) × (b ≡ true)
 both true b e = (refl, e)
 both false b e = absurd (false≢true e)
 
-same_place-is : (place other : Place) → same_place place other ≡ true → place ≡ other
-same_place-is place other e =
-    let kinds = both (nat_eq (place_kind place) (place_kind other)) _ e in
-    let rest = both (nat_eq (place_list place) (place_list other)) _ kinds.1 in
-    sym (place_again place)
-    ∙ ap (λ k. place_from k (place_list place) (place_number place)) (same_number (place_kind place) (place_kind other) kinds.0)
-    ∙ ap (λ l. place_from (place_kind other) l (place_number place)) (same_number (place_list place) (place_list other) rest.0)
-    ∙ ap (place_from (place_kind other) (place_list other)) (same_number (place_number place) (place_number other) rest.1)
-    ∙ place_again other
+pub same_list-is : (place other : Listed) → same_list place other ≡ true → place ≡ other
+same_list-is place other e =
+    let kinds = both (nat_eq (list_kind place) (list_kind other)) _ e in
+    let rest = both (nat_eq (list_part place) (list_part other)) _ kinds.1 in
+    sym (list_again place)
+    ∙ ap (λ k. list_from k (list_part place) (list_object place)) (same_number (list_kind place) (list_kind other) kinds.0)
+    ∙ ap (λ l. list_from (list_kind other) l (list_object place)) (same_number (list_part place) (list_part other) rest.0)
+    ∙ ap (list_from (list_kind other) (list_part other)) (same_number (list_object place) (list_object other) rest.1)
+    ∙ list_again other
 
-pub same_place-self : (place : Place) → same_place place place ≡ true
-same_place-self place =
+pub same_list-self : (place : Listed) → same_list place place ≡ true
+same_list-self place =
     let self : (n : ℕ) → nat_eq n n ≡ true = λ n. grind (arith, nat_tests) in
-    ap (λ b. b && (nat_eq (place_list place) (place_list place) && nat_eq (place_number place) (place_number place))) (self (place_kind place))
-    ∙ ap (λ b. b && nat_eq (place_number place) (place_number place)) (self (place_list place)) ∙ self (place_number place)
+    ap (λ b. b && (nat_eq (list_part place) (list_part place) && nat_eq (list_object place) (list_object place))) (self (list_kind place))
+    ∙ ap (λ b. b && nat_eq (list_object place) (list_object place)) (self (list_part place)) ∙ self (list_object place)
 
 -- ---- the rules
 
@@ -244,27 +243,6 @@ task_or_other s p task now P there e here other t h =
           subst (λ n. P n (get_or (set s.tasks task now) n no_task)) (sym same) (subst (P task) (sym (get_or-set_same s.tasks task now no_task there)) here)
       | inr differs ↦ subst (P t) (sym (get_or-set_other s.tasks task t now no_task differs)) (other t differs in_s)
     ])
-
--- A task is replaced by one that stands as often on cores and in lists.
-pub IsConsistent-task_replaced : (app : Application) (D : ℕ → Phase → Type 0) (s : Snapshot) (task : ℕ) (x : TaskSnapshot) → task < length s.tasks
-    → IsConsistentTask app D task x
-    → seats_to_run x.phase ≡ seats_to_run (task_at s task).phase
-    → ((place : Place) → times_waiting_at place x.phase ≡ times_waiting_at place (task_at s task).phase)
-    → IsConsistent app D s → IsConsistent app D (with_task s task x)
-IsConsistent-task_replaced app D s task x there consistent runs waits at =
-    let p = with_task s task x in
-    record {
-      cores = at.cores;
-      tasks = length-set s.tasks task x ∙ at.tasks;
-      each = task_or_other s p task x (IsConsistentTask app D) there refl consistent (λ t differs h. at.each t h);
-      shapes = at.shapes;
-      seated_once =
-          task_or_other s p task x (λ t y. times_in_list t s.ready + times_on_cores t s.cores ≡ seats_to_run y.phase) there refl
-          (at.seated_once task there ∙ sym runs) (λ t differs h. at.seated_once t h);
-      waiting_lists = record { ready = at.waiting_lists.ready; waiting = at.waiting_lists.waiting };
-      places = λ place. task_or_other s p task x (λ t y. times_in_list t (waiting_at s place) ≡ times_waiting_at place y.phase) there refl
-          (at.places place task there ∙ sym (waits place)) (λ t differs h. at.places place t h);
-    }
 
 -- Objects change in something else than their shapes and who waits where.
 pub IsConsistent-contents : (app : Application) (D : ℕ → Phase → Type 0) (s : Snapshot) (n : ObjectsSnapshot) → ContentsChange s.objects n
@@ -300,69 +278,5 @@ IsConsistent-seats app D s z kept tasks objects at =
       };
       places =
           λ place t h. ap (λ o. times_in_list t (waiting_in o place)) objects ∙ at.places place t (in_s t h)
-          ∙ ap (λ (x : TaskSnapshot). times_waiting_at place x.phase) (sym (is t));
-    }
-
--- A task goes elsewhere: what it is then, who is seated and ready, and who waits at a place that it leaves or comes to.
-pub record TaskMoves (app : Application) (D : ℕ → Phase → Type 0) (s : Snapshot) (task : ℕ) (x : TaskSnapshot) (place : Place) (cores : List (Option ℕ))
-    (ready waiting : List ℕ) : Type 0 where
-  pub there : task < length s.tasks
-  pub consistent : IsConsistentTask app D task x
-  pub same_cores : length cores ≡ length s.cores
-  pub seats : times_in_list task ready + times_on_cores task cores ≡ seats_to_run x.phase
-  pub others_seats : (t : ℕ) → t ≢ task → times_in_list t ready + times_on_cores t cores ≡ times_in_list t s.ready + times_on_cores t s.cores
-  pub ready_order : IsInOrder (priorities_of app) ready
-  pub has_place : HasPlace s place
-  pub waits : times_in_list task waiting ≡ times_waiting_at place x.phase
-  pub waits_elsewhere : (other : Place) → same_place other place ≡ false → times_waiting_at other x.phase ≡ times_waiting_at other (task_at s task).phase
-  pub others_wait : (t : ℕ) → t ≢ task → times_in_list t waiting ≡ times_in_list t (waiting_at s place)
-  pub waiting_order : IsInOrder (priorities_of app) waiting
-
--- the state after that
-abbrev pub task_moved : Snapshot → ℕ → TaskSnapshot → Place → List (Option ℕ) → List ℕ → List ℕ → Snapshot
-task_moved s task x place cores ready waiting = record s {
-  cores = cores;
-  ready = ready;
-  tasks = set s.tasks task x;
-  objects = objects_then s.objects place waiting;
-}
-
--- what holds where two places are one, and where they aren't
-by_place : (place other : Place) (P : Bool → Type 0) → (other ≡ place → P true) → (same_place other place ≡ false → P false) → P (same_place other place)
-by_place place other P same differs =
-    let cases : (b : Bool) → same_place other place ≡ b → P b = λ b. elim b as (λ b. same_place other place ≡ b → P b) [
-      | true ↦ λ e. same (same_place-is other place e)
-      | false ↦ λ e. differs e
-    ] in
-    cases (same_place other place) refl
-
-pub IsConsistent-moved : (app : Application) (D : ℕ → Phase → Type 0) (s : Snapshot) (task : ℕ) (x : TaskSnapshot) (place : Place) (cores : List (Option ℕ))
-    (ready waiting : List ℕ)
-    → TaskMoves app D s task x place cores ready waiting → IsConsistent app D s → IsConsistent app D (task_moved s task x place cores ready waiting)
-IsConsistent-moved app D s task x place cores ready waiting goes at =
-    let p = task_moved s task x place cores ready waiting in
-    let list : (other : Place) → List ℕ = λ other. cond (same_place other place) waiting (waiting_at s other) in
-    let is_list : (other : Place) → waiting_at p other ≡ list other = λ other. waiting_then s.objects place other waiting goes.has_place in
-    record {
-      cores = goes.same_cores ∙ at.cores;
-      tasks = length-set s.tasks task x ∙ at.tasks;
-      each = task_or_other s p task x (IsConsistentTask app D) goes.there refl goes.consistent (λ t differs h. at.each t h);
-      shapes = shapes_then s.objects place waiting ∙ at.shapes;
-      seated_once = task_or_other s p task x (λ t y. times_in_list t ready + times_on_cores t cores ≡ seats_to_run y.phase) goes.there refl goes.seats
-          (λ t differs h. goes.others_seats t differs ∙ at.seated_once t h);
-      waiting_lists = record {
-        ready = goes.ready_order;
-        waiting = λ other. subst (IsInOrder (priorities_of app)) (sym (is_list other))
-            (by_place place other (λ b. IsInOrder (priorities_of app) (cond b waiting (waiting_at s other))) (λ same. goes.waiting_order)
-            (λ differs. at.waiting_lists.waiting other));
-      };
-      places = λ other. task_or_other s p task x (λ t y. times_in_list t (waiting_at p other) ≡ times_waiting_at other y.phase) goes.there refl
-          (ap (times_in_list task) (is_list other)
-          ∙ by_place place other (λ b. times_in_list task (cond b waiting (waiting_at s other)) ≡ times_waiting_at other x.phase)
-          (λ same. goes.waits ∙ ap (λ q. times_waiting_at q x.phase) (sym same))
-          (λ differs. at.places other task goes.there ∙ sym (goes.waits_elsewhere other differs)))
-          (λ t differs h. ap (times_in_list t) (is_list other)
-          ∙ by_place place other (λ b. times_in_list t (cond b waiting (waiting_at s other)) ≡ times_waiting_at other (task_at s t).phase)
-          (λ same. goes.others_wait t differs ∙ at.places place t h ∙ ap (λ q. times_waiting_at q (task_at s t).phase) (sym same))
-          (λ apart. at.places other t h));
+          ∙ ap (λ (x : TaskSnapshot). times_waiting_in place x.phase) (sym (is t));
     }

@@ -1,8 +1,14 @@
 -- The laws of rd_kernel that crates above stand on. No other of its proofs is used there.
 pub use Rattle.rd_kernel.proofs.ConsistentLaws.{ContentsChange, IsConsistent, IsConsistent-contents, IsConsistent-deadlines, IsConsistent-seats}
 pub use Rattle.rd_kernel.proofs.ConsistentLaws.{IsConsistent-valid, IsValid-consistent, all_have_time_left, map_kept, place_there, read_kept, task_now}
-pub use Rattle.rd_kernel.proofs.WakingLaws.{TimedOut, TimedOut-so_far, first_tries_wait, have_time_left_below}
+pub use Rattle.rd_kernel.proofs.WakingLaws.{AfterWaking-woken_all, TimedOut, TimedOut-so_far, all_looked_at, any_deadline, first_tries_wait, timed_out-next}
 pub use Rattle.rd_kernel.proofs.CallLaws.{IsConsistent-advanced, IsConsistent-returned_alone, IsConsistent-done, IsConsistent-failed}
 pub use Rattle.rd_kernel.proofs.CallLaws.{IsConsistent-or_blocked, IsConsistent-returned, IsConsistent-stopped, IsConsistent-with_pc}
-pub use Rattle.rd_kernel.proofs.CallLaws.{IsConsistent-with_values, IsDone, RunsInstr, due_idle, first_waits, is_task_on_core, or_blocked-tick}
+pub use Rattle.rd_kernel.proofs.CallLaws.{IsConsistent-with_values, IsDone, RunsInstr, due_idle, is_task_on_core, or_blocked-tick}
 pub use Rattle.rd_kernel.proofs.CallLaws.{room_in_ready, runs_on_core, runs_outside_calls, waits_is_task, woken_first-tick}
+pub use Rattle.rd_kernel.proofs.TaskListLaws.{first_waits, same_one}
+pub use Rattle.rd_kernel.proofs.CallLaws.{free_at}
+pub use Rattle.rd_kernel.proofs.MovingLaws.{IsFree, free_in_call, free_in_run, has_seat, none_is_some, runner_waits_nowhere}
+pub use Rattle.rd_kernel.proofs.EntryLaws.{IsConsistent-told, IsConsistent-waiting_for_entry, IsConsistent-with_entry, StaysThere, StaysThere-told}
+pub use Rattle.rd_kernel.proofs.EntryLaws.{StaysThere-with_entry, free_of_entry, told-tick}
+pub use Rattle.rd_kernel.proofs.EntryLaws.{EntriesStay, EntriesStay-concluded, EntriesStay-task, EntriesStay-woken_all, entry_after, not_that}

@@ -1,263 +1,236 @@
 -- Waking keeps what makes a state valid.
-use Rattle.std.proofs.Common.{◌≡◌, ◌∙◌, ◌≢◌, ℕ, zero, suc, ◌+◌, ◌<◌, ◌≤◌, Bool, true, false, cond, List, [], ◌∷◌}
-use Rattle.std.proofs.Common.{length, get_or, set, Option, Some, None, refl, ap, subst, sym, arith, inl, inr}
-use Rattle.std.specs.Prelude.{All, IfSome, is_some, nat_eq, nat_lt, not, ◌&&◌, ◌||◌, position, remove, slice_get}
-use Rattle.std.specs.List.{AllByRecursion, IsDistinct, list_any, position_or_len}
-use Rattle.std.proofs.lemmas.Bool.{cases_eq, false≢true}
+use Rattle.rd_state.specs.declared.phase.Place.TheVariants as sort
+use Rattle.std.proofs.Common.{◌+◌, ◌<◌, ◌∙◌, ◌∷◌, ◌≡◌, ◌≢◌, ◌≤◌, Bool, List, None, Option, Some, [], ap, arith, cond, false, get_or, inl, inr, length}
+use Rattle.std.proofs.Common.{refl, set, subst, suc, sym, true, zero, ℕ}
+use Rattle.std.specs.Prelude.{◌&&◌, IfSome, is_some, nat_eq, nat_lt, not, remove, slice_get}
+use Rattle.std.proofs.lemmas.Bool.{cases_eq, cases_lt}
 use Rattle.std.proofs.lemmas.Bool.Decides.{nat_tests}
-use Rattle.std.proofs.lemmas.List.{get_or-set_same, get_or-set_other}
-use Rattle.std.proofs.lemmas.List.Elements.{All-cons, All-get_or, All-head, All-tail}
-use Rattle.std.proofs.lemmas.List.Sums.{sum_by-remove, passes_at_first}
-use Rattle.std.proofs.lemmas.Map.Steps.{length-le_from_distinct_below}
+use Rattle.std.proofs.lemmas.List.{get_or-set_other, get_or-set_same, length-set}
 use Rattle.rd_state.specs.declared.phase.Phase.{Phase}
-use Rattle.rd_state.specs.declared.phase.Phase.TheVariants.{Run, Again, Wait, Ended, Failed}
-use Rattle.rd_state.specs.declared.phase.Place.{Place}
-use Rattle.rd_app.specs.Application.{Application, instr_at, priorities_of}
+use Rattle.rd_state.specs.declared.phase.Listed.{Listed}
+use Rattle.rd_app.specs.Application.{Application, instr_at, max_delay, priorities_of}
 use Rattle.rd_wait.specs.Joined.{joined}
-use Rattle.rd_wait.proofs.Offered.{IsInOrder-joined, IsInOrder-remove}
-use Rattle.rd_state.specs.Phases.{can_run, is_first, kept_deadline, tries_again, waits_at}
 use Rattle.rd_state.specs.Snapshot.{Snapshot, TaskSnapshot, no_task, task_at}
-use Rattle.rd_state.specs.Valid.{FitsCall, HasTimeLeft, is_ahead, is_at_place, place_of_call, seats_to_run, times_in_list, times_on_cores, times_waiting_at}
-use Rattle.rd_state.specs.Waiting.{waiting_at}
-use Rattle.rd_state.proofs.Offered.{one_if, times_in_list-cons, times_in_list-joined}
-use Rattle.rd_app.specs.Application.{max_delay}
-use Rattle.rd_kernel.specs.Waking.{FirstTriesWait, deadline_after, operand_value, is_due}
-use Rattle.rd_kernel.specs.Waking.{objects_without, timed_out, woken, woken_at, woken_from, woken_first, woken_one}
-use Rattle.rd_kernel.proofs.ConsistentLaws.{TaskMoves, IsConsistent, IsConsistent-deadlines, IsConsistent-moved, place_there, same_place-self}
-
--- ---- where a task stands in a list
-
-abbrev is_same_task : ℕ → ℕ → Bool
-is_same_task task member = nat_eq member task
-
-position-lt : (tasks : List ℕ) (task : ℕ) → 1 ≤ times_in_list task tasks → position_or_len (is_same_task task) tasks < length tasks
-position-lt [] task some = absurd (omega (arith, some))
-position-lt (first ∷ rest) task some = elim (cases_eq first task) [
-  | inl e ↦ let same : nat_eq first task ≡ true = grind (arith, nat_tests, e) in
-      subst (λ b. cond (not b) (1 + position_or_len (is_same_task task) rest) 0 < suc (length rest)) (sym same) (omega arith)
-  | inr ne ↦ let differs : nat_eq first task ≡ false = grind (arith, nat_tests, ne) in
-      let other : nat_eq task first ≡ false = grind (arith, nat_tests, ne) in
-      let later = position-lt rest task (omega (arith, some, times_in_list-cons task first rest, ap one_if other)) in
-      subst (λ b. cond (not b) (1 + position_or_len (is_same_task task) rest) 0 < suc (length rest)) (sym differs) (omega (arith, later))
-]
-
-pub record FoundInList (task : ℕ) (tasks : List ℕ) : Type 0 where
-  pub index : ℕ
-  pub is_at : position (λ member. nat_eq member task) tasks ≡ Some index
-  pub within : index < length tasks
-  pub member : get_or tasks index 0 ≡ task
-
-pub find_in_list : (tasks : List ℕ) (task : ℕ) → 1 ≤ times_in_list task tasks → FoundInList task tasks
-find_in_list tasks task some =
-    let n = position_or_len (is_same_task task) tasks in
-    let within = position-lt tasks task some in
-    let reached : nat_lt n (length tasks) ≡ true = grind (arith, nat_tests, within) in
-    let call_passes = passes_at_first (is_same_task task) tasks 0 within in
-    record {
-      index = n;
-      is_at = ap (λ b. cond b (Some n) None) reached;
-      within = within;
-      member = grind (arith, nat_tests, call_passes);
-    }
-
--- What holds of all members holds of one that is there.
-pub member_has : (P : ℕ → Type 0) (tasks : List ℕ) (task : ℕ) → All P tasks → 1 ≤ times_in_list task tasks → P task
-member_has P tasks task all some =
-    let f = find_in_list tasks task some in
-    subst P f.member (All-get_or P tasks f.index 0 f.within all)
-
--- ---- room
-
-differs_from_all : (tasks : List ℕ) (task : ℕ) → times_in_list task tasks ≡ 0 → AllByRecursion (λ member. nat_eq task member ≡ false) tasks
-differs_from_all [] task none = tt
-differs_from_all (first ∷ rest) task none =
-    let differs : nat_eq task first ≡ false = elim (cases_eq task first) [
-      | inl e ↦
-          absurd (let same : nat_eq task first ≡ true = grind (arith, nat_tests, e) in omega (arith, none, times_in_list-cons task first rest, ap one_if same))
-      | inr ne ↦ grind (arith, nat_tests, ne)
-    ] in
-    (differs, differs_from_all rest task (omega (arith, none, times_in_list-cons task first rest)))
-
-IsDistinct-once : (tasks : List ℕ) → ((task : ℕ) → 1 ≤ times_in_list task tasks → times_in_list task tasks ≤ 1) → IsDistinct nat_eq tasks
-unfolding IsDistinct
-IsDistinct-once [] once = tt
-IsDistinct-once (first ∷ rest) once =
-    let here : nat_eq first first ≡ true = grind (arith, nat_tests) in
-    let one = ap one_if here in
-    let first_once = once first (omega (arith, times_in_list-cons first first rest, one)) in (
-      differs_from_all rest first (omega (arith, first_once, times_in_list-cons first first rest, one)),
-      IsDistinct-once rest
-          (λ task some. omega (arith, once task (omega (arith, some, times_in_list-cons task first rest)), times_in_list-cons task first rest)),
-    )
-
-is_below : (tasks : List ℕ) (n task : ℕ) → All (λ t. t < n) tasks → list_any (nat_eq task) tasks ≡ true → task < n
-is_below [] n task all has = absurd (false≢true has)
-is_below (first ∷ rest) n task all has = elim (cases_eq task first) [
-  | inl e ↦ omega (arith, e, All-head (λ t. t < n) first rest all)
-  | inr ne ↦ let differs : nat_eq task first ≡ false = grind (arith, nat_tests, ne) in
-      is_below rest n task (All-tail (λ t. t < n) first rest all) (subst (λ b. (b || list_any (nat_eq task) rest) ≡ true) differs has)
-]
-
-IsDistinct-cons : (first : ℕ) (rest : List ℕ) → AllByRecursion (λ member. nat_eq first member ≡ false) rest → IsDistinct nat_eq rest
-    → IsDistinct nat_eq (first ∷ rest)
-unfolding IsDistinct
-IsDistinct-cons first rest h k = (h, k)
-
--- A list in which each of n tasks stands once at the most has room for one that doesn't stand there.
-pub room_for : (tasks : List ℕ) (n task : ℕ) → All (λ t. t < n) tasks → ((t : ℕ) → t < n → times_in_list t tasks ≤ 1) → task < n → times_in_list task tasks ≡ 0
-    → length tasks < n
-room_for tasks n task all once there none =
-    let once_at : (t : ℕ) → 1 ≤ times_in_list t tasks → times_in_list t tasks ≤ 1 = λ t some. once t (member_has (λ t. t < n) tasks t all some) in
-    let with_task : IsDistinct nat_eq (task ∷ tasks) = IsDistinct-cons task tasks (differs_from_all tasks task none) (IsDistinct-once tasks once_at) in
-    let few =
-    length-le_from_distinct_below (task ∷ tasks) n with_task (λ q has. is_below (task ∷ tasks) n q (All-cons (λ t. t < n) task tasks there all) has) in
-    omega (arith, few)
+use Rattle.rd_state.specs.Valid.{EntriesFitCall, FitsCall, HasTimeLeft, PhaseFitsCall, is_ahead, is_in_list, place_of_call, seats_to_run}
+use Rattle.rd_state.specs.Valid.{times_in_list}
+use Rattle.rd_state.specs.Waiting.{listed_at, waiting_at}
+use Rattle.rd_state.proofs.Offered.{one_if, times_in_list-cons}
+use Rattle.rd_state.specs.declared.phase.Place.{Place}
+use Rattle.std.proofs.lemmas.List.Sums.{fold-append, sum_by-append}
+use Rattle.rd_state.specs.declared.phase.Phase.TheVariants.{Again}
+use Rattle.rd_state.specs.Phases.{is_first, kept_deadline, tries_again, waits_at}
+use Rattle.rd_kernel.proofs.ConsistentLaws.{IsConsistent, IsConsistent-deadlines, all_have_time_left, same_list-self}
+use Rattle.rd_kernel.proofs.TaskListLaws.{find_in_list, first_is_listed, other_none, same_one}
+use Rattle.std.specs.Option.{option_and_then, option_to_list}
+use Rattle.rd_kernel.specs.Waking.{FirstTriesWait, deadline_after, due_below, if_due, is_due, objects_without, operand_value, phase_woken, timed_out}
+use Rattle.rd_kernel.specs.Waking.{woken, woken_all, woken_at}
+use Rattle.rd_kernel.proofs.MovingLaws.{IsConsistent-moves, ListGoes-left, ObjectsGo-list, ObjectsGo-stay, SeatsGo-ready, none_is_some}
+use Rattle.rd_kernel.proofs.MovingLaws.{waiter_is_idle, waits_nowhere}
+use Rattle.rd_kernel.specs.declared.waking.Waking.{Waking}
+use Rattle.rd_kernel.specs.declared.waking.Waking.TheVariants.{TriesAgain}
+use Rattle.rd_notify.specs.declared.entries.Entry.{Entry}
 
 -- ---- waking
 
-pub none_is_some : {X : Type 0} (x : X) → None ≡ Some x → ⊥
-none_is_some x e = cc
+-- Whoever is woken can run, and waits nowhere.
+woken_runs : (waking : Waking) (phase : Phase) → seats_to_run (phase_woken waking phase) ≡ 1
+woken_runs TriesAgain phase = refl
 
--- A task that can run waits nowhere.
-pub runner_waits_nowhere : (phase : Phase) → can_run phase ≡ true → waits_at phase ≡ None
-runner_waits_nowhere Run e = refl
-runner_waits_nowhere (Again deadline) e = refl
-runner_waits_nowhere (Wait place deadline) e = absurd (false≢true e)
-runner_waits_nowhere Ended e = refl
-runner_waits_nowhere (Failed cause) e = refl
+woken_nowhere : (waking : Waking) (phase : Phase) → waits_at (phase_woken waking phase) ≡ None
+woken_nowhere TriesAgain phase = refl
 
--- It is one that has a seat.
-pub has_seat : (runs : Bool) → 1 ≤ cond runs 1 0 → runs ≡ true
-has_seat true h = refl
-has_seat false h = absurd (omega (arith, h))
+-- What a waking asks of a task that waits: its phase fits its call then, and has its deadline.
+pub record MayWake (app : Application) (D : ℕ → Phase → Type 0) (waking : Waking) (task : ℕ) (x : TaskSnapshot) : Type 0 where
+  pub call : PhaseFitsCall (phase_woken waking x.phase) (instr_at app task x.pc)
+  pub deadline : D task (phase_woken waking x.phase)
+  pub entries : EntriesFitCall (phase_woken waking x.phase) (instr_at app task x.pc) x.entries
 
-pub waits_nowhere : (place : Place) (phase : Phase) → 1 ≤ seats_to_run phase → times_waiting_at place phase ≡ 0
-waits_nowhere place phase h = ap (λ o. one_if (is_at_place place o)) (runner_waits_nowhere phase (has_seat (can_run phase) h))
+abbrev pub MayWakeIfWaiting : Application → (ℕ → Phase → Type 0) → Waking → Snapshot → ℕ → Type 0
+MayWakeIfWaiting app D waking s task = (place : Place) → waits_at (task_at s task).phase ≡ Some place → MayWake app D waking task (task_at s task)
 
-pub times_waiting_at-at_most_one : (place : Place) (phase : Phase) → times_waiting_at place phase ≤ 1
-times_waiting_at-at_most_one place phase = elim (is_at_place place (waits_at phase)) as (λ b. cond b 1 0 ≤ 1) [ true ↦ omega arith | false ↦ omega arith ]
+-- of each of these tasks
+pub record MayWakeAll (app : Application) (D : ℕ → Phase → Type 0) (waking : Waking) (s : Snapshot) (tasks : List ℕ) : Type 0 where
+  pub there : (t : ℕ) → 1 ≤ times_in_list t tasks → t < length s.tasks
+  pub each : (t : ℕ) → 1 ≤ times_in_list t tasks → MayWakeIfWaiting app D waking s t
 
--- what a task is that waited and is woken
-abbrev with_phase_again : TaskSnapshot → Option ℕ → TaskSnapshot
-with_phase_again x deadline = record x { phase = Again deadline }
-
--- One that waits has no seat.
-pub waiter_is_idle : (phase : Phase) (place : Place) → waits_at phase ≡ Some place → seats_to_run phase ≡ 0
-waiter_is_idle phase place waits = by_seat (can_run phase) refl
-  where
-    by_seat : (b : Bool) → can_run phase ≡ b → one_if b ≡ 0
-    by_seat true e = absurd (none_is_some place (sym (runner_waits_nowhere phase e) ∙ waits))
-    by_seat false e = refl
-
--- How a task that waits goes, when it is woken.
-TaskMoves-again : (app : Application) (D : ℕ → Phase → Type 0) (s : Snapshot) (task : ℕ) (place : Place) (deadline : Option ℕ)
-    (f : FoundInList task (waiting_at s place)) → task < length s.tasks → waits_at (task_at s task).phase ≡ Some place
-    → 1 ≤ times_in_list task (waiting_at s place) → D task (Again deadline) → IsConsistent app D s
-    → TaskMoves app D s task (with_phase_again (task_at s task) deadline) place s.cores (joined (priorities_of app) s.ready task)
-    (remove (waiting_at s place) f.index)
-TaskMoves-again app D s task place deadline f there waits some asked at =
+-- Whoever waits may try its call again.
+pub may_try_again : (app : Application) (D : ℕ → Phase → Type 0) (s : Snapshot) (task : ℕ) → task < length s.tasks
+    → ((deadline : Option ℕ) → D task (Again deadline)) → IsConsistent app D s → MayWakeIfWaiting app D TriesAgain s task
+may_try_again app D s task there asked at place waits =
     let was = at.each task there in
     let instr = instr_at app task (task_at s task).pc in
-    let list = waiting_at s place in
-    let times_without : (t : ℕ) → times_in_list t (remove list f.index) + one_if (nat_eq t task) ≡ times_in_list t list =
-    λ t. subst (λ m. times_in_list t (remove list f.index) + one_if (nat_eq t m) ≡ times_in_list t list) f.member
-    (sum_by-remove (λ m. one_if (nat_eq t m)) list f.index 0 f.within) in
-    let self : one_if (nat_eq task task) ≡ 1 = let e : nat_eq task task ≡ true = grind (arith, nat_tests) in ap one_if e in
-    let other : (t : ℕ) → t ≢ task → one_if (nat_eq t task) ≡ 0 =
-    λ t differs. let e : nat_eq t task ≡ false = grind (arith, nat_tests, differs) in ap one_if e in
-    let once : times_in_list task list ≤ 1 = omega (arith, at.places place task there, times_waiting_at-at_most_one place (task_at s task).phase) in
-    let idle : times_in_list task s.ready + times_on_cores task s.cores ≡ 0 = at.seated_once task there ∙ waiter_is_idle (task_at s task).phase place waits in
     let call : place_of_call instr ≡ Some place = subst (λ o. FitsCall instr o (tries_again (task_at s task).phase)) waits was.call in
     record {
-      there = there;
-      consistent = record { pc = was.pc; entry_count = was.entry_count; call = ap is_some call; deadline = asked; entries = was.entries };
-      same_cores = refl;
-      seats = omega (arith, times_in_list-joined (priorities_of app) s.ready task task, self, idle);
-      others_seats = λ t differs. omega (arith, times_in_list-joined (priorities_of app) s.ready t task, other t differs);
-      ready_order = IsInOrder-joined (priorities_of app) s.ready task at.waiting_lists.ready;
-      has_place = place_there s place task some;
-      waits = omega (arith, times_without task, self, once);
-      waits_elsewhere = λ q differs. sym (ap (λ o. one_if (is_at_place q o)) waits ∙ ap one_if differs);
-      others_wait = λ t differs. omega (arith, times_without t, other t differs);
-      waiting_order = IsInOrder-remove (priorities_of app) list f.index (at.waiting_lists.waiting place);
+      call = ap is_some call;
+      deadline = asked (kept_deadline (task_at s task).phase);
+      entries = record {
+        in_call = λ index waiting. ((was.entries.in_call index waiting).0, refl);
+        while_waiting = λ index nowhere. absurd (none_is_some index nowhere);
+      };
     }
 
 -- How often a task that waits stands in its list.
-waits_there : (app : Application) (D : ℕ → Phase → Type 0) (s : Snapshot) (task : ℕ) (place : Place) → task < length s.tasks
-    → waits_at (task_at s task).phase ≡ Some place → IsConsistent app D s → 1 ≤ times_in_list task (waiting_at s place)
+waits_there : (app : Application) (D : ℕ → Phase → Type 0) (s : Snapshot) (task : ℕ) (place : Listed) → task < length s.tasks
+    → waits_at (task_at s task).phase ≡ Some (sort.Listed place) → IsConsistent app D s → 1 ≤ times_in_list task (waiting_at s place)
 waits_there app D s task place there waits at =
-    omega (arith, at.places place task there, ap (λ o. one_if (is_at_place place o)) waits, ap one_if (same_place-self place))
+    omega (arith, at.places place task there, ap (λ o. one_if (is_in_list place (option_and_then listed_at o))) waits, ap one_if (same_list-self place))
 
-IsConsistent-woken_at : (app : Application) (D : ℕ → Phase → Type 0) (s : Snapshot) (task : ℕ) (o : Option Place) (deadline : Option ℕ) → task < length s.tasks
-    → waits_at (task_at s task).phase ≡ o → D task (Again deadline) → IsConsistent app D s
-    → IsConsistent app D (woken_at (priorities_of app) s task o deadline)
-IsConsistent-woken_at app D s task None deadline there e asked at = at
-IsConsistent-woken_at app D s task (Some place) deadline there e asked at =
+-- what a task is that waited and is woken
+abbrev task_woken : Waking → TaskSnapshot → TaskSnapshot
+task_woken waking x = record x { phase = phase_woken waking x.phase }
+
+IsConsistent-woken_at : (app : Application) (D : ℕ → Phase → Type 0) (waking : Waking) (s : Snapshot) (task : ℕ) (o : Option Place) → task < length s.tasks
+    → waits_at (task_at s task).phase ≡ o → MayWakeIfWaiting app D waking s task → IsConsistent app D s
+    → IsConsistent app D (woken_at (priorities_of app) waking s task o)
+IsConsistent-woken_at app D waking s task None there e may at = at
+IsConsistent-woken_at app D waking s task (Some (sort.Listed place)) there e may at =
+    let was = at.each task there in
+    let wakes = may (sort.Listed place) e in
     let some = waits_there app D s task place there e at in
     let f = find_in_list (waiting_at s place) task some in
     let ready = joined (priorities_of app) s.ready task in
-    let x = with_phase_again (task_at s task) deadline in
-    subst (λ (o : Option ℕ).
-    IsConsistent app D (record s { ready = ready; tasks = set s.tasks task x; objects = objects_without s.objects place o }))
-    (sym f.is_at)
-    (IsConsistent-moved app D s task x place s.cores ready (remove (waiting_at s place) f.index)
-    (TaskMoves-again app D s task place deadline f there e some asked at) at)
+    let phase = phase_woken waking (task_at s task).phase in
+    let x = task_woken waking (task_at s task) in
+    let after : Option ℕ → Snapshot = λ index. record s { ready = ready; tasks = set s.tasks task x; objects = objects_without s.objects place index } in
+    subst (λ (index : Option ℕ). IsConsistent app D (after index)) (sym f.is_at)
+    (IsConsistent-moves app D s (after (Some f.index)) task x there refl
+    (record { pc = was.pc; entry_count = was.entry_count; call = wakes.call; deadline = wakes.deadline; entries = wakes.entries })
+    (SeatsGo-ready app D s task phase there (waiter_is_idle (task_at s task).phase (sort.Listed place) e) (woken_runs waking (task_at s task).phase) at)
+    (ObjectsGo-list app D s place (remove (waiting_at s place) f.index) task phase there
+    (ListGoes-left app D s place task phase f there e some (omega (arith, woken_runs waking (task_at s task).phase)) at) at) at)
+IsConsistent-woken_at app D waking s task (Some (sort.Entry index)) there e may at =
+    let was = at.each task there in
+    let wakes = may (sort.Entry index) e in
+    let phase = phase_woken waking (task_at s task).phase in
+    let x = task_woken waking (task_at s task) in
+    let p = record s { ready = joined (priorities_of app) s.ready task; tasks = set s.tasks task x } in
+    IsConsistent-moves app D s p task x there refl
+    (record { pc = was.pc; entry_count = was.entry_count; call = wakes.call; deadline = wakes.deadline; entries = wakes.entries })
+    (SeatsGo-ready app D s task phase there (waiter_is_idle (task_at s task).phase (sort.Entry index) e) (woken_runs waking (task_at s task).phase) at)
+    (ObjectsGo-stay app D s task phase there
+    (λ list. waits_nowhere list phase (omega (arith, woken_runs waking (task_at s task).phase))
+    ∙ sym (ap (λ o. one_if (is_in_list list (option_and_then listed_at o))) e)) at) at
 
-pub IsConsistent-woken : (app : Application) (D : ℕ → Phase → Type 0) (s : Snapshot) (task : ℕ) → task < length s.tasks
-    → ((deadline : Option ℕ) → D task (Again deadline)) → IsConsistent app D s → IsConsistent app D (woken (priorities_of app) s task)
-IsConsistent-woken app D s task there asked at =
-    let phase = (task_at s task).phase in
-    IsConsistent-woken_at app D s task (waits_at phase) (kept_deadline phase) there refl (asked (kept_deadline phase)) at
+IsConsistent-woken : (app : Application) (D : ℕ → Phase → Type 0) (waking : Waking) (s : Snapshot) (task : ℕ) → task < length s.tasks
+    → MayWakeIfWaiting app D waking s task → IsConsistent app D s → IsConsistent app D (woken (priorities_of app) waking s task)
+IsConsistent-woken app D waking s task there = IsConsistent-woken_at app D waking s task (waits_at (task_at s task).phase) there refl
 
--- A task that can run is as it was when another one is woken.
-woken_at-keeps : (priorities : List ℕ) (s : Snapshot) (task other : ℕ) (o : Option Place) (deadline : Option ℕ) → waits_at (task_at s task).phase ≡ o
-    → 1 ≤ seats_to_run (task_at s other).phase → task_at (woken_at priorities s task o deadline) other ≡ task_at s other
-woken_at-keeps priorities s task other None deadline e runs = refl
-woken_at-keeps priorities s task other (Some place) deadline e runs = elim (cases_eq other task) [
-  | inl same ↦ absurd (omega (arith, runs, ap (λ t. seats_to_run (task_at s t).phase) same, waiter_is_idle (task_at s task).phase place e))
-  | inr differs ↦ get_or-set_other s.tasks task other (with_phase_again (task_at s task) deadline) no_task differs
+-- What stays when tasks are woken: each other one, and whoever waits nowhere. They wait nowhere then.
+pub record AfterWaking (s p : Snapshot) (tasks : List ℕ) : Type 0 where
+  pub tick : p.tick ≡ s.tick
+  pub same_length : length p.tasks ≡ length s.tasks
+  pub others : (t : ℕ) → times_in_list t tasks ≡ 0 → task_at p t ≡ task_at s t
+  pub idle : (t : ℕ) → waits_at (task_at s t).phase ≡ None → task_at p t ≡ task_at s t
+  pub woken : (t : ℕ) → 1 ≤ times_in_list t tasks → t < length s.tasks → waits_at (task_at p t).phase ≡ None
+
+-- the one of a list of one
+pub only_one : (task t : ℕ) → 1 ≤ times_in_list t (task ∷ []) → t ≡ task
+only_one task t some = elim (cases_eq t task) [
+  | inl same ↦ same
+  | inr differs ↦ absurd (omega (arith, some, times_in_list-cons t task [], other_none t task differs))
 ]
 
-woken-keeps : (priorities : List ℕ) (s : Snapshot) (task other : ℕ) → 1 ≤ seats_to_run (task_at s other).phase
-    → task_at (woken priorities s task) other ≡ task_at s other
-woken-keeps priorities s task other =
-    woken_at-keeps priorities s task other (waits_at (task_at s task).phase) (kept_deadline (task_at s task).phase) refl
+AfterWaking-woken_at : (priorities : List ℕ) (waking : Waking) (s : Snapshot) (task : ℕ) (o : Option Place) → waits_at (task_at s task).phase ≡ o
+    → AfterWaking s (woken_at priorities waking s task o) (task ∷ [])
+AfterWaking-woken_at priorities waking s task None e = record {
+  tick = refl;
+  same_length = refl;
+  others = λ t none. refl;
+  idle = λ t nowhere. refl;
+  woken = λ t some there. ap (λ n. waits_at (task_at s n).phase) (only_one task t some) ∙ e;
+}
+AfterWaking-woken_at priorities waking s task (Some place) e =
+    let x = task_woken waking (task_at s task) in
+    let other : (t : ℕ) → t ≢ task → get_or (set s.tasks task x) t no_task ≡ task_at s t = λ t differs. get_or-set_other s.tasks task t x no_task differs in
+    record {
+      tick = refl;
+      same_length = length-set s.tasks task x;
+      others = λ t none. elim (cases_eq t task) [
+        | inl same ↦ absurd (omega (arith, none, times_in_list-cons t task [], ap (λ n. one_if (nat_eq n task)) same, same_one task))
+        | inr differs ↦ other t differs
+      ];
+      idle = λ t nowhere. elim (cases_eq t task) [
+        | inl same ↦ absurd (none_is_some place (sym nowhere ∙ ap (λ n. waits_at (task_at s n).phase) same ∙ e))
+        | inr differs ↦ other t differs
+      ];
+      woken = λ t some there.
+          subst (λ n. n < length s.tasks → waits_at (get_or (set s.tasks task x) n no_task).phase ≡ None) (sym (only_one task t some))
+          (λ here. ap (λ (y : TaskSnapshot). waits_at y.phase) (get_or-set_same s.tasks task x no_task here) ∙ woken_nowhere waking (task_at s task).phase) there;
+    }
 
--- The first at a place is woken, if anyone waits there.
-pub record AfterWaking (app : Application) (D : ℕ → Phase → Type 0) (s p : Snapshot) (caller : ℕ) : Type 0 where
-  pub consistent : IsConsistent app D p
-  pub same_caller : task_at p caller ≡ task_at s caller
+AfterWaking-woken : (priorities : List ℕ) (waking : Waking) (s : Snapshot) (task : ℕ) → AfterWaking s (woken priorities waking s task) (task ∷ [])
+AfterWaking-woken priorities waking s task = AfterWaking-woken_at priorities waking s task (waits_at (task_at s task).phase) refl
 
-first_is_listed : (tasks : List ℕ) (task : ℕ) → slice_get tasks 0 ≡ Some task → 1 ≤ times_in_list task tasks
-first_is_listed [] task e = cc
-first_is_listed (first ∷ rest) task e =
-    let same : first ≡ task = cc in
-    let here : nat_eq task first ≡ true = grind (arith, nat_tests, same) in
-    omega (arith, times_in_list-cons task first rest, ap one_if here)
+-- Whoever may be woken still may, once another was.
+may_wake_later : (app : Application) (D : ℕ → Phase → Type 0) (waking : Waking) (s p : Snapshot) (task t : ℕ) → AfterWaking s p (task ∷ [])
+    → task < length s.tasks → MayWakeIfWaiting app D waking s t → MayWakeIfWaiting app D waking p t
+may_wake_later app D waking s p task t after there may = elim (cases_eq t task) [
+  | inl same ↦ λ place waits. absurd (none_is_some place
+      (sym (after.woken task (omega (arith, times_in_list-cons task task [], same_one task)) there) ∙ ap (λ n. waits_at (task_at p n).phase) (sym same) ∙ waits))
+  | inr differs ↦
+      subst (λ (x : TaskSnapshot). (place : Place) → waits_at x.phase ≡ Some place → MayWake app D waking t x)
+      (sym (after.others t (omega (arith, times_in_list-cons t task [], other_none t task differs)))) may
+]
 
-pub AfterWaking-woken_first : (app : Application) (D : ℕ → Phase → Type 0) (s : Snapshot) (place : Place) (caller : ℕ)
-    → ((t : ℕ) → 1 ≤ times_in_list t (waiting_at s place) → t < length s.tasks) → ((t : ℕ) (deadline : Option ℕ) → D t (Again deadline))
-    → 1 ≤ seats_to_run (task_at s caller).phase → IsConsistent app D s → AfterWaking app D s (woken_first (priorities_of app) s place) caller
-AfterWaking-woken_first app D s place caller members asked runs at =
-    let by_head : (o : Option ℕ) → slice_get (waiting_at s place) 0 ≡ o → AfterWaking app D s (woken_one (priorities_of app) s o) caller =
-    λ o. elim o as (λ o. slice_get (waiting_at s place) 0 ≡ o → AfterWaking app D s (woken_one (priorities_of app) s o) caller) [
-      | None ↦ λ e. record { consistent = at; same_caller = refl }
-      | Some t ↦ λ e. record {
-        consistent = IsConsistent-woken app D s t (members t (first_is_listed (waiting_at s place) t e)) (asked t) at;
-        same_caller = woken-keeps (priorities_of app) s t caller runs;
-      }
-    ] in
-    by_head (slice_get (waiting_at s place) 0) refl
+MayWakeAll-rest : (app : Application) (D : ℕ → Phase → Type 0) (waking : Waking) (s : Snapshot) (first : ℕ) (rest : List ℕ)
+    → MayWakeAll app D waking s (first ∷ rest) → MayWakeAll app D waking (woken (priorities_of app) waking s first) rest
+MayWakeAll-rest app D waking s first rest may =
+    let in_all : (t : ℕ) → 1 ≤ times_in_list t rest → 1 ≤ times_in_list t (first ∷ rest) = λ t some. omega (arith, some, times_in_list-cons t first rest) in
+    let here : 1 ≤ times_in_list first (first ∷ rest) = omega (arith, times_in_list-cons first first rest, same_one first) in
+    let after = AfterWaking-woken (priorities_of app) waking s first in
+    record {
+      there = λ t some. omega (arith, may.there t (in_all t some), after.same_length);
+      each = λ t some. may_wake_later app D waking s (woken (priorities_of app) waking s first) first t after (may.there first here) (may.each t (in_all t some));
+    }
+
+-- The law of all waking.
+pub IsConsistent-woken_all : (app : Application) (D : ℕ → Phase → Type 0) (waking : Waking) (s : Snapshot) (tasks : List ℕ) → MayWakeAll app D waking s tasks
+    → IsConsistent app D s → IsConsistent app D (woken_all (priorities_of app) waking s tasks)
+IsConsistent-woken_all app D waking s [] may at = at
+IsConsistent-woken_all app D waking s (first ∷ rest) may at =
+    let here : 1 ≤ times_in_list first (first ∷ rest) = omega (arith, times_in_list-cons first first rest, same_one first) in
+    IsConsistent-woken_all app D waking (woken (priorities_of app) waking s first) rest (MayWakeAll-rest app D waking s first rest may)
+    (IsConsistent-woken app D waking s first (may.there first here) (may.each first here) at)
+
+pub AfterWaking-woken_all : (priorities : List ℕ) (waking : Waking) (s : Snapshot) (tasks : List ℕ) → AfterWaking s (woken_all priorities waking s tasks) tasks
+AfterWaking-woken_all priorities waking s [] = record {
+  tick = refl;
+  same_length = refl;
+  others = λ t none. refl;
+  idle = λ t nowhere. refl;
+  woken = λ t some there. absurd (omega (arith, some));
+}
+AfterWaking-woken_all priorities waking s (first ∷ rest) =
+    let p = woken priorities waking s first in
+    let one = AfterWaking-woken priorities waking s first in
+    let all = AfterWaking-woken_all priorities waking p rest in
+    let in_one : (t : ℕ) → times_in_list t (first ∷ []) ≡ one_if (nat_eq t first) + 0 = λ t. times_in_list-cons t first [] in
+    record {
+      tick = all.tick ∙ one.tick;
+      same_length = all.same_length ∙ one.same_length;
+      others = λ t none. let counts = times_in_list-cons t first rest in
+          all.others t (omega (arith, none, counts)) ∙ one.others t (omega (arith, none, counts, in_one t));
+      idle = λ t nowhere. let same = one.idle t nowhere in
+          all.idle t (ap (λ (x : TaskSnapshot). waits_at x.phase) same ∙ nowhere) ∙ same;
+      woken = λ t some there. elim (cases_lt 0 (times_in_list t rest)) [
+        | inl later ↦ all.woken t later (omega (arith, there, one.same_length))
+        | inr none ↦
+            let nowhere = one.woken t (omega (arith, some, none, times_in_list-cons t first rest, in_one t)) there in
+            ap (λ (x : TaskSnapshot). waits_at x.phase) (all.idle t nowhere) ∙ nowhere
+      ];
+    }
+
+-- The first at a place tries its call again, if anyone waits there.
+pub MayWakeAll-first : (app : Application) (D : ℕ → Phase → Type 0) (s : Snapshot) (place : Listed)
+    → ((t : ℕ) → 1 ≤ times_in_list t (waiting_at s place) → t < length s.tasks) → ((t : ℕ) (deadline : Option ℕ) → D t (Again deadline)) → IsConsistent app D s
+    → MayWakeAll app D TriesAgain s (option_to_list (slice_get (waiting_at s place) 0))
+MayWakeAll-first app D s place members asked at =
+    record {
+      there = λ t some. members t (first_is_listed (waiting_at s place) t some);
+      each = λ t some. may_try_again app D s t (members t (first_is_listed (waiting_at s place) t some)) (asked t) at;
+    }
 
 -- ---- those whose time is up
-
--- The deadlines of the tasks below a number are ahead.
-abbrev pub have_time_left_below : ℕ → ℕ → ℕ → Phase → Type 0
-have_time_left_below tick n task phase = task < n → HasTimeLeft tick phase
-
-pub woken_from-tick : (priorities : List ℕ) (s : Snapshot) (task : ℕ) (phase : Phase) → (woken_from priorities s task phase).tick ≡ s.tick
-woken_from-tick priorities s task phase =
-    elim (waits_at phase) as (λ o. (woken_at priorities s task o (kept_deadline phase)).tick ≡ s.tick) [ None ↦ refl | Some place ↦ refl ]
 
 -- A task that isn't due waits for a deadline ahead.
 not_due : (tick : ℕ) (phase : Phase) → is_due tick phase ≡ false → HasTimeLeft tick phase
@@ -272,62 +245,93 @@ not_due tick phase = by_place (waits_at phase)
     by_place None e = tt
     by_place (Some place) e = not_false (is_ahead tick (kept_deadline phase)) e
 
--- One that is due doesn't wait once it is woken.
-due_again : (priorities : List ℕ) (s : Snapshot) (tick task : ℕ) (phase : Phase) → task < length s.tasks → is_due tick phase ≡ true
-    → HasTimeLeft tick (task_at (woken_from priorities s task phase) task).phase
-due_again priorities s tick task phase there = by_place (waits_at phase)
-  where
-    by_place : (o : Option Place) → (is_some o && not (is_ahead tick (kept_deadline phase))) ≡ true
-        → HasTimeLeft tick (task_at (woken_at priorities s task o (kept_deadline phase)) task).phase
-    by_place None e = absurd (false≢true e)
-    by_place (Some place) e =
-        subst (λ (x : TaskSnapshot). HasTimeLeft tick x.phase)
-        (sym (get_or-set_same s.tasks task (with_phase_again (task_at s task) (kept_deadline phase)) no_task there)) tt
+-- Nothing is asked of deadlines, as in the middle of a tick.
+abbrev pub any_deadline : ℕ → Phase → Type 0
+any_deadline task phase = Unit {0}
 
-pub record TimedOut (app : Application) (n : ℕ) (s p : Snapshot) : Type 0 where
-  pub tick : p.tick ≡ s.tick
-  pub consistent : IsConsistent app (have_time_left_below s.tick n) p
+none_either_way : (b : Bool) (n : ℕ) → n ≡ 0 → cond b n 0 ≡ 0
+none_either_way true n e = e
+none_either_way false n e = refl
 
--- one task more
-more_below : (tick n task : ℕ) (phase : Phase) → (task ≡ n → HasTimeLeft tick phase) → have_time_left_below tick n task phase
-    → have_time_left_below tick (suc n) task phase
-more_below tick n task phase here below h = elim (cases_eq task n) [
-  | inl e ↦ here e
-  | inr differs ↦ below (omega (arith, h, differs))
+-- how often a task is among those whose time is up
+times_if_due : (s : Snapshot) (n t : ℕ) → times_in_list t (if_due s n) ≡ cond (is_due s.tick (task_at s n).phase) (one_if (nat_eq t n)) 0
+times_if_due s n t = elim (is_due s.tick (task_at s n).phase) as (λ b. times_in_list t (cond b (n ∷ []) []) ≡ cond b (one_if (nat_eq t n)) 0) [
+  | true ↦ omega (arith, times_in_list-cons t n [])
+  | false ↦ refl
 ]
 
-pub TimedOut-so_far : (app : Application) (n : ℕ) (s : Snapshot) → n ≤ length s.tasks → IsConsistent app (have_time_left_below s.tick 0) s
+times_due : (s : Snapshot) (n t : ℕ) → times_in_list t (due_below s (suc n)) ≡ times_in_list t (due_below s n) + times_in_list t (if_due s n)
+times_due s n t = sum_by-append (λ m. one_if (nat_eq t m)) (due_below s n) (if_due s n)
+
+-- none from the nth on
+not_past : (s : Snapshot) (n t : ℕ) → n ≤ t → times_in_list t (due_below s n) ≡ 0
+not_past s zero t past = refl
+not_past s (suc n) t past =
+    let here : times_in_list t (if_due s n) ≡ 0 = times_if_due s n t ∙ none_either_way (is_due s.tick (task_at s n).phase) (one_if (nat_eq t n))
+    (other_none t n (λ e. omega (arith, past, e))) in
+    omega (arith, times_due s n t, not_past s n t (omega (arith, past)), here)
+
+-- below it, whose time is up and no other
+due_is_listed : (s : Snapshot) (n t : ℕ) → t < n → times_in_list t (due_below s n) ≡ one_if (is_due s.tick (task_at s t).phase)
+due_is_listed s zero t below = absurd (omega (arith, below))
+due_is_listed s (suc n) t below = elim (cases_eq t n) [
+  | inl same ↦
+      let here : times_in_list t (if_due s n) ≡ one_if (is_due s.tick (task_at s t).phase) =
+      times_if_due s n t ∙ ap (λ k. cond (is_due s.tick (task_at s n).phase) k 0) (ap (λ m. one_if (nat_eq m n)) same ∙ same_one n)
+      ∙ ap (λ m. one_if (is_due s.tick (task_at s m).phase)) (sym same) in
+      omega (arith, times_due s n t, not_past s n t (omega (arith, same)), here)
+  | inr differs ↦
+      let here : times_in_list t (if_due s n) ≡ 0 = times_if_due s n t ∙ none_either_way (is_due s.tick (task_at s n).phase) (one_if (nat_eq t n)) (other_none t n differs) in
+      omega (arith, times_due s n t, due_is_listed s n t (omega (arith, below, differs)), here)
+]
+
+due_is_below : (s : Snapshot) (n t : ℕ) → 1 ≤ times_in_list t (due_below s n) → t < n
+due_is_below s n t some = elim (cases_lt t n) [
+  | inl below ↦ below
+  | inr past ↦ absurd (omega (arith, some, not_past s n t past))
+]
+
+-- So many tasks were looked at.
+pub record TimedOut (app : Application) (n : ℕ) (s p : Snapshot) : Type 0 where
+  pub consistent : IsConsistent app any_deadline p
+  pub after : AfterWaking s p (due_below s n)
+
+pub TimedOut-so_far : (app : Application) (n : ℕ) (s : Snapshot) → n ≤ length s.tasks → IsConsistent app any_deadline s
     → TimedOut app n s (timed_out (priorities_of app) n s)
-TimedOut-so_far app zero s few at = record { tick = refl; consistent = at }
-TimedOut-so_far app (suc n) s few at =
-    let priorities = priorities_of app in
-    let before = timed_out priorities n s in
-    let so_far = TimedOut-so_far app n s (omega (arith, few)) at in
-    let phase = (task_at before n).phase in
-    let there : n < length before.tasks = omega (arith, few, so_far.consistent.tasks, at.tasks) in
-    let by_due : (b : Bool) → is_due before.tick phase ≡ b → TimedOut app (suc n) s (cond b (woken priorities before n) before) =
-    λ b. elim b as (λ b. is_due before.tick phase ≡ b → TimedOut app (suc n) s (cond b (woken priorities before n) before)) [
-      | true ↦ λ due.
-          let due_now : is_due s.tick phase ≡ true = ap (λ t. is_due t phase) (sym so_far.tick) ∙ due in
-          let p = woken priorities before n in
-          record {
-            tick = woken_from-tick priorities before n phase ∙ so_far.tick;
-            consistent = IsConsistent-deadlines app (have_time_left_below s.tick n) (have_time_left_below s.tick (suc n)) p
-                (λ t h. more_below s.tick n t (task_at p t).phase
-                (λ e. subst (λ k. HasTimeLeft s.tick (task_at p k).phase) (sym e) (due_again priorities before s.tick n phase there due_now)))
-                (IsConsistent-woken app (have_time_left_below s.tick n) before n there (λ deadline h. absurd (omega (arith, h))) so_far.consistent);
-          }
-      | false ↦ λ waits.
-          let waits_now : is_due s.tick phase ≡ false = ap (λ t. is_due t phase) (sym so_far.tick) ∙ waits in
-          record {
-            tick = so_far.tick;
-            consistent = IsConsistent-deadlines app (have_time_left_below s.tick n) (have_time_left_below s.tick (suc n)) before
-                (λ t h. more_below s.tick n t (task_at before t).phase
-                (λ e. subst (λ k. HasTimeLeft s.tick (task_at before k).phase) (sym e) (not_due s.tick phase waits_now)))
-                so_far.consistent;
-          }
-    ] in
-    by_due (is_due before.tick phase) refl
+TimedOut-so_far app n s few at =
+    let there : (t : ℕ) → 1 ≤ times_in_list t (due_below s n) → t < length s.tasks = λ t some. omega (arith, few, due_is_below s n t some) in
+    record {
+      consistent = IsConsistent-woken_all app any_deadline TriesAgain s (due_below s n)
+          (record { there = there; each = λ t some. may_try_again app any_deadline s t (there t some) (λ deadline. tt) at }) at;
+      after = AfterWaking-woken_all (priorities_of app) TriesAgain s (due_below s n);
+    }
+
+-- One task more: it is the next of those whose time is up, if its is.
+pub timed_out-next : (priorities : List ℕ) (n : ℕ) (s : Snapshot)
+    → timed_out priorities (suc n) s ≡ woken_all priorities TriesAgain (timed_out priorities n s) (if_due (timed_out priorities n s) n)
+timed_out-next priorities n s =
+    let p = timed_out priorities n s in
+    let after = AfterWaking-woken_all priorities TriesAgain s (due_below s n) in
+    let same : task_at p n ≡ task_at s n = after.others n (not_past s n n (omega arith)) in
+    let due : if_due s n ≡ if_due p n =
+    ap (λ tick. cond (is_due tick (task_at s n).phase) (n ∷ []) []) (sym after.tick)
+    ∙ ap (λ (x : TaskSnapshot). cond (is_due p.tick x.phase) (n ∷ []) []) (sym same) in
+    fold-append (woken priorities TriesAgain) s (due_below s n) (if_due s n) ∙ ap (woken_all priorities TriesAgain p) due
+
+-- When all were looked at, the deadlines of all that still wait are ahead.
+pub all_looked_at : (app : Application) (s p : Snapshot) → length s.tasks ≡ length app.tasks.things → TimedOut app (length s.tasks) s p
+    → IsConsistent app (all_have_time_left s.tick) p
+all_looked_at app s p tasks done =
+    IsConsistent-deadlines app any_deadline (all_have_time_left s.tick) p
+    (λ t h any. time_left t (omega (arith, h, done.after.same_length)) (is_due s.tick (task_at s t).phase) refl) done.consistent
+  where
+    time_left : (t : ℕ) → t < length s.tasks → (b : Bool) → is_due s.tick (task_at s t).phase ≡ b → HasTimeLeft s.tick (task_at p t).phase
+    time_left t there true due =
+        let listed : 1 ≤ times_in_list t (due_below s (length s.tasks)) = omega (arith, due_is_listed s (length s.tasks) t there, ap one_if due) in
+        subst (λ (o : Option Place). IfSome o (λ place. is_ahead s.tick (kept_deadline (task_at p t).phase) ≡ true)) (sym (done.after.woken t listed there)) tt
+    time_left t there false waits =
+        let unlisted : times_in_list t (due_below s (length s.tasks)) ≡ 0 = omega (arith, due_is_listed s (length s.tasks) t there, ap one_if waits) in
+        subst (λ (x : TaskSnapshot). HasTimeLeft s.tick x.phase) (sym (done.after.others t unlisted)) (not_due s.tick (task_at s t).phase waits)
 
 -- ---- block times
 

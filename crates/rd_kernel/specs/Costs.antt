@@ -15,6 +15,14 @@ item_cost = 1 + MAX_ITEM_SIZE
 abbrev pub waking_cost : ℕ
 waking_cost = 3
 
--- what becomes of a caller: its value, its phase and its next instruction
+-- a task told through its entry: it may be woken, and the entry
+abbrev pub telling_cost : ℕ
+telling_cost = waking_cost + 1
+
+-- a call that returns: its value, its phase and its next instruction
+abbrev pub returning_cost : ℕ
+returning_cost = 3
+
+-- what becomes of a caller: at the most it gets a second value too
 abbrev pub ending_cost : ℕ
-ending_cost = 3
+ending_cost = returning_cost + 1

@@ -3,6 +3,7 @@ pub mod Costs
 pub mod Tasks
 pub mod Waking
 pub mod Outcomes
+pub mod Telling
 pub use Rattle.rd_state.specs.Snapshot
 pub use Rattle.rd_state.specs.Waiting
 pub use Rattle.rd_state.specs.Change

@@ -1,5 +1,8 @@
 -- A state with one thing of a task changed.
-use Rattle.std.specs.Prelude.{ℕ, ◌≡◌, ◌+◌, List, None, slice_index, slice_set}
+use Rattle.std.specs.Prelude.{ℕ, ◌≡◌, ◌+◌, ◌<◌, List, None, length, slice_index, slice_index_or}
+use Rattle.std.specs.Prelude.{slice_set}
+use Rattle.rd_notify.specs.declared.entries.Entry.{Entry}
+use Rattle.rd_notify.specs.Entries.{idle_entry}
 use Rattle.rd_state.specs.declared.phase.Phase.{Phase}
 use Rattle.rd_state.specs.Snapshot.{Snapshot, task_at, with_task}
 
@@ -19,6 +22,19 @@ with_bytes s task bytes = with_task s task (record (task_at s task) { bytes = by
 
 abbrev pub with_phase : Snapshot → ℕ → Phase → Snapshot
 with_phase s task phase = with_task s task (record (task_at s task) { phase = phase })
+
+-- a notification entry of a task
+abbrev pub entry_at : Snapshot → ℕ → ℕ → Entry
+entry_at s task index = slice_index_or (task_at s task).entries index idle_entry
+
+abbrev pub with_entry : Snapshot → ℕ → ℕ → Entry → Snapshot
+with_entry s task index entry =
+    with_task s task
+    (record (task_at s task) { entries = slice_set (task_at s task).entries index entry })
+
+-- The task has an entry of that index.
+abbrev pub HasEntry : Snapshot → ℕ → ℕ → Type 0
+HasEntry s task index = (task < length s.tasks) × (index < length (task_at s task).entries)
 
 -- The task stands at the same instruction.
 abbrev pub KeepsPc : Snapshot → Snapshot → ℕ → Type 0

@@ -1,12 +1,17 @@
 -- Block times: tasks that begin to wait, and tasks that are woken.
-use Rattle.std.specs.Prelude.{ℕ, ◌≡◌, zero, suc, ◌+◌, ◌<◌, ◌&&◌, Bool, true, List, is_some}
+use Rattle.std.specs.Prelude.{ℕ, ◌≡◌, zero, suc, ◌+◌, ◌<◌, ◌++◌, ◌∷◌, ◌&&◌, [], Bool, true, List}
+use Rattle.std.specs.Prelude.{is_some}
 use Rattle.std.specs.Prelude.{length, nat_eq, nat_lt, not, position, remove, slice_get}
 use Rattle.std.specs.Prelude.{if◌then◌else◌, Option, None, Some}
+use Rattle.std.specs.List.{fold}
+use Rattle.std.specs.Option.{option_to_list}
 use Rattle.rd_app.specs.declared.instr.Operand.{Operand}
 use Rattle.rd_app.specs.declared.instr.Operand.TheVariants.{Number, Register}
 use Rattle.rd_state.specs.declared.phase.Phase.{Phase}
 use Rattle.rd_state.specs.declared.phase.Phase.TheVariants.{Again}
+use Rattle.rd_state.specs.declared.phase.Listed.{Listed}
 use Rattle.rd_state.specs.declared.phase.Place.{Place}
+use Rattle.rd_state.specs.declared.phase.Place.TheVariants as sort
 use Rattle.rd_app.specs.Application.{max_delay}
 use Rattle.rd_wait.specs.Joined.{joined}
 use Rattle.rd_state.specs.Phases.{is_first, kept_deadline, waits_at}
@@ -14,6 +19,8 @@ use Rattle.rd_state.specs.Snapshot.{Snapshot, task_at}
 use Rattle.rd_state.specs.Objects.{ObjectsSnapshot}
 use Rattle.rd_state.specs.Valid.{is_ahead}
 use Rattle.rd_state.specs.Waiting.{objects_then, waiting_at, waiting_in, with_waiting_at}
+use Rattle.rd_kernel.specs.declared.waking.Waking.{Waking}
+use Rattle.rd_kernel.specs.declared.waking.Waking.TheVariants.{TriesAgain}
 use Rattle.rd_kernel.specs.Tasks.{register_at, with_phase}
 
 -- the number that an operand stands for
@@ -42,59 +49,68 @@ FirstTriesWait =
     (s : Snapshot) (task : ℕ) (wait : Operand) → is_first (task_at s task).phase ≡ true
     → may_wait s task wait ≡ nat_lt 0 (operand_value s task wait)
 
--- the state with the task in the list of a place, after those of at least its priority
-abbrev pub with_waiter : List ℕ → Snapshot → Place → ℕ → Snapshot
-with_waiter priorities s place task =
-    with_waiting_at s place (joined priorities (waiting_at s place) task)
+-- the state with the task in a list, after those of at least its priority
+abbrev pub with_waiter : List ℕ → Snapshot → Listed → ℕ → Snapshot
+with_waiter priorities s list task =
+    with_waiting_at s list (joined priorities (waiting_at s list) task)
 
 -- the objects, once the member at that index of the list has left it
-abbrev pub objects_without : ObjectsSnapshot → Place → Option ℕ → ObjectsSnapshot
-objects_without o place None = o
-objects_without o place (Some index) = objects_then o place (remove (waiting_in o place) index)
+abbrev pub objects_without : ObjectsSnapshot → Listed → Option ℕ → ObjectsSnapshot
+objects_without o list None = o
+objects_without o list (Some index) = objects_then o list (remove (waiting_in o list) index)
 
--- the state once the task has left the list, if it stood there
-abbrev pub without_waiter : Snapshot → Place → ℕ → Snapshot
-without_waiter s place task = record s {
-  objects = objects_without s.objects place
-      (position (λ member. nat_eq member task) (waiting_at s place));
-}
+-- the objects, once the task has left a place: it leaves the list, if it stood there; an entry stays
+-- as it is
+abbrev pub objects_left : ObjectsSnapshot → Place → ℕ → ObjectsSnapshot
+objects_left o (sort.Listed list) task =
+    objects_without o list (position (λ member. nat_eq member task) (waiting_in o list))
+objects_left o (sort.Entry index) task = o
+
+abbrev pub left : Snapshot → Place → ℕ → Snapshot
+left s place task = record s { objects = objects_left s.objects place task }
 
 -- The ready list has room for one task more.
 abbrev pub ReadyHasRoom : Snapshot → Type 0
 ReadyHasRoom s = length s.ready < length s.tasks
 
--- A task that waits leaves its list, is to try its call
--- again with its deadline, and joins the ready list.
-abbrev pub woken_at : List ℕ → Snapshot → ℕ → Option Place → Option ℕ → Snapshot
-woken_at priorities s task None deadline = s
-woken_at priorities s task (Some place) deadline =
-    record (with_phase (without_waiter s place task) task (Again deadline))
+-- the phase that a waking leads to
+abbrev pub phase_woken : Waking → Phase → Phase
+phase_woken TriesAgain phase = Again (kept_deadline phase)
+
+-- A task that waits leaves its place, is in the phase that its waking leads to, and joins the ready
+-- list.
+abbrev pub woken_at : List ℕ → Waking → Snapshot → ℕ → Option Place → Snapshot
+woken_at priorities waking s task None = s
+woken_at priorities waking s task (Some place) =
+    record (with_phase (left s place task) task
+    (phase_woken waking (task_at s task).phase))
     { ready = joined priorities s.ready task }
 
-abbrev pub woken_from : List ℕ → Snapshot → ℕ → Phase → Snapshot
-woken_from priorities s task phase =
-    woken_at priorities s task (waits_at phase) (kept_deadline phase)
+abbrev pub woken : List ℕ → Waking → Snapshot → ℕ → Snapshot
+woken priorities waking s task = woken_at priorities waking s task (waits_at (task_at s task).phase)
 
-abbrev pub woken : List ℕ → Snapshot → ℕ → Snapshot
-woken priorities s task = woken_from priorities s task (task_at s task).phase
+-- these tasks, one after the other
+abbrev pub woken_all : List ℕ → Waking → Snapshot → List ℕ → Snapshot
+woken_all priorities waking s tasks = fold (woken priorities waking) s tasks
 
--- the first to be served at a place, if anyone waits there, is woken
-abbrev pub woken_one : List ℕ → Snapshot → Option ℕ → Snapshot
-woken_one priorities s None = s
-woken_one priorities s (Some task) = woken priorities s task
-
-abbrev pub woken_first : List ℕ → Snapshot → Place → Snapshot
-woken_first priorities s place = woken_one priorities s (slice_get (waiting_at s place) 0)
+-- the first to be served of a list, if anyone waits there, which tries its call again
+abbrev pub woken_first : List ℕ → Snapshot → Listed → Snapshot
+woken_first priorities s list =
+    woken_all priorities TriesAgain s (option_to_list (slice_get (waiting_at s list) 0))
 
 -- Is it the end of a task's waiting?
 abbrev pub is_due : ℕ → Phase → Bool
 is_due tick phase = is_some (waits_at phase) && not (is_ahead tick (kept_deadline phase))
 
-abbrev pub woken_if_due : List ℕ → Snapshot → ℕ → Snapshot
-woken_if_due priorities s task =
-    if is_due s.tick (task_at s task).phase then woken priorities s task else s
+-- a task, if its time is up
+abbrev pub if_due : Snapshot → ℕ → List ℕ
+if_due s task = if is_due s.tick (task_at s task).phase then task ∷ [] else []
 
--- Of the first n tasks, those whose time is up are woken, by rising number.
+-- of the first n tasks, those whose time is up, by rising number
+abbrev pub due_below : Snapshot → ℕ → List ℕ
+due_below s zero = []
+due_below s (suc n) = due_below s n ++ if_due s n
+
+-- They are woken.
 abbrev pub timed_out : List ℕ → ℕ → Snapshot → Snapshot
-timed_out priorities zero s = s
-timed_out priorities (suc n) s = woken_if_due priorities (timed_out priorities n s) n
+timed_out priorities n s = woken_all priorities TriesAgain s (due_below s n)

@@ -1,5 +1,5 @@
 //! Single changes in the middle of a move.
-ghost use Rattle.std.specs.Prelude.{◌≡◌, ◌+◌, ◌<◌, ◌≤◌, length, IsOk, OnOk, OnErr};
+ghost use Rattle.std.specs.Prelude.{◌≡◌, ◌+◌, ◌<◌, ◌≤◌, ◌^◌, length, IsOk, OnOk, OnErr};
 ghost use Rattle.rd_bytes.specs.declared.bytes.TheConstants.{MAX_BYTES};
 ghost use Rattle.rd_app.specs.declared.app.TheConstants.{MAX_CODE};
 ghost use Rattle.rd_app.specs.declared.instr.TheConstants.{REGISTERS};
@@ -7,12 +7,13 @@ ghost use Rattle.rd_state.specs.declared.phase.Phase.TheVariants.{Run};
 ghost use Rattle.rd_state.specs.Edit.{Reaches, GivesUp};
 ghost use Rattle.rd_state.specs.Sizes.{IsSizedPhase};
 ghost use Rattle.rd_state.specs.Snapshot.{numbers_of, task_at};
-ghost use Rattle.rd_kernel.specs.Costs.{data_cost, ending_cost};
+ghost use Rattle.rd_kernel.specs.Costs.{data_cost, returning_cost};
 ghost use Rattle.rd_kernel.specs.Tasks.{register_at, with_register, with_pc, with_bytes};
-ghost use Rattle.rd_kernel.specs.Tasks.{with_phase, advanced};
+ghost use Rattle.rd_kernel.specs.Tasks.{entry_at, with_entry, with_phase, advanced, HasEntry};
 ghost use Rattle.rd_kernel.specs.Outcomes.{returned};
 
 use rd_bytes::no_memory::NoMemory;
+use rd_notify::entries::Entry;
 use rd_state::change::Change;
 use rd_state::editing::Editing;
 use rd_state::phase::Phase;
@@ -37,6 +38,35 @@ pub fn set_register(
         return Ok(());
     }
     let change = TaskChange::SetReg { register, value };
+    editing.change(Change::Task { task, change })
+}
+
+/// Puts an entry in the place of a task's notification entry at `index`. If they are equal, nothing
+/// changes, and no memory is taken.
+#[inline(always)]
+pub fn set_entry(
+    editing: &mut Editing,
+    task: usize,
+    index: usize,
+    entry: Entry,
+) -> Result<(), NoMemory>
+    requires there { HasEntry editing.old.now task index }
+    requires value { entry.value < 2 ^ 32 }
+    ensures ok { OnOk result
+        (Reaches editing.old editing.new (with_entry editing.old.now task index entry) 1) }
+    ensures has_it { entry_at editing.old.now task index ≡ entry → IsOk result }
+    ensures err { OnErr result (GivesUp editing.old editing.new 1) }
+{
+    if editing
+        .state()
+        .task(task)
+        .entries()
+        .entry(index)
+        .same(entry)
+    {
+        return Ok(());
+    }
+    let change = TaskChange::SetEntry { index, entry };
     editing.change(Change::Task { task, change })
 }
 
@@ -102,8 +132,8 @@ pub fn return_from(editing: &mut Editing, task: usize, value: u32) -> Result<(),
     requires task { task < length editing.old.now.tasks }
     requires pc { (task_at editing.old.now task).pc < MAX_CODE }
     ensures ok { OnOk result
-        (Reaches editing.old editing.new (returned editing.old.now task value) ending_cost) }
-    ensures err { OnErr result (GivesUp editing.old editing.new ending_cost) }
+        (Reaches editing.old editing.new (returned editing.old.now task value) returning_cost) }
+    ensures err { OnErr result (GivesUp editing.old editing.new returning_cost) }
 {
     let pc = editing.state().task(task).pc();
     set_register(editing, task, 0, value)?;

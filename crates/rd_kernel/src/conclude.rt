@@ -8,7 +8,7 @@ ghost use Rattle.rd_state.specs.Snapshot.{numbers_of, task_at};
 ghost use Rattle.rd_kernel.specs.Costs.{ending_cost};
 ghost use Rattle.rd_kernel.specs.Outcomes.{IsSizedOutcome, concluded, stopped};
 
-use crate::changes::{return_from, set_phase};
+use crate::changes::{return_from, set_phase, set_register};
 use crate::outcome::Outcome;
 use rd_bytes::no_memory::NoMemory;
 use rd_state::change::Change;
@@ -48,6 +48,10 @@ pub fn conclude(
 {
     match outcome {
         Outcome::Returns(value) => return_from(editing, task, value),
+        Outcome::ReturnsBoth { value, second } => {
+            set_register(editing, task, 1, second)?;
+            return_from(editing, task, value)
+        }
         Outcome::Waits { place, deadline } => {
             stop(editing, core, task, Phase::Wait { place, deadline })
         }

@@ -5,4 +5,5 @@ pub mod calling;
 pub mod changes;
 pub mod conclude;
 pub mod outcome;
+pub mod telling;
 pub mod waking;

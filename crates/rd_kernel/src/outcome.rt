@@ -7,6 +7,8 @@ use rd_state::phase::{Cause, Place};
 pub enum Outcome {
     /// The call returns this value.
     Returns(u32),
+    /// The call returns the first value, and gives its task the second one in r1.
+    ReturnsBoth { value: u32, second: u32 },
     /// The task waits at a place while the deadline, a tick, is
     /// ahead; without end where there is none.
     Waits { place: Place, deadline: Option<u64> },

@@ -1,17 +1,17 @@
 //! Block times: tasks that begin to wait, and tasks that are woken.
-ghost use Rattle.std.specs.Prelude.{◌≡◌, ◌<◌, ◌≤◌, [], None, false, length, nat_eq};
-ghost use Rattle.std.specs.Prelude.{position, IfOk, IsOk, OnOk, OnErr, IsTrue};
+ghost use Rattle.std.specs.Prelude.{◌≡◌, ◌<◌, ◌≤◌, [], false, length};
+ghost use Rattle.std.specs.Prelude.{IfOk, IsOk, OnOk, OnErr, IsTrue};
 ghost use Rattle.rd_app.specs.Application.{IsOperand, priorities_of};
 ghost use Rattle.rd_state.specs.Edit.{Reaches, GivesUp};
 ghost use Rattle.rd_state.specs.Sizes.{IsDeadline};
-ghost use Rattle.rd_state.specs.Snapshot.{task_at};
+ghost use Rattle.rd_state.specs.Snapshot.{numbers_of, task_at};
 ghost use Rattle.rd_state.specs.Valid.{is_ahead, seats_to_run};
-ghost use Rattle.rd_state.specs.Waiting.{HasPlace, waiting_at};
+ghost use Rattle.rd_state.specs.Waiting.{HasList, IsPlace, waiting_at};
 ghost use Rattle.rd_kernel.specs.Costs.{waking_cost};
 ghost use Rattle.rd_kernel.specs.Outcomes.{DoesCall, IsCalling, blocked, passed};
 ghost use Rattle.rd_kernel.specs.Waking.{operand_value, deadline_after, deadline_of};
-ghost use Rattle.rd_kernel.specs.Waking.{may_wait, without_waiter, is_due};
-ghost use Rattle.rd_kernel.specs.Waking.{ReadyHasRoom, woken, woken_first, woken_if_due};
+ghost use Rattle.rd_kernel.specs.Waking.{if_due, is_due, may_wait, phase_woken, ReadyHasRoom};
+ghost use Rattle.rd_kernel.specs.Waking.{left, woken, woken_all, woken_first};
 
 use crate::changes::set_phase;
 use crate::outcome::Outcome;
@@ -19,10 +19,30 @@ use rd_app::app::App;
 use rd_app::instr::{MAX_DELAY, Operand};
 use rd_bytes::no_memory::NoMemory;
 use rd_state::editing::Editing;
-use rd_state::phase::{Phase, Place};
+use rd_state::phase::{Listed, Phase, Place};
 
-// The number that an operand stands for.
-fn operand_value(editing: &Editing, task: usize, operand: Operand) -> u32
+/// What a waking leads to.
+#[derive(Clone, Copy, Debug, PartialEq, Eq)]
+pub enum Waking {
+    /// Whoever is woken isn't handed anything: it tries its call again, with its deadline.
+    TriesAgain,
+}
+
+impl Waking {
+    // The phase of a task that was woken in this one.
+    fn phase(self, phase: Phase) -> Phase
+        ensures { result ≡ phase_woken self phase }
+    {
+        match self {
+            Waking::TriesAgain => Phase::Again {
+                deadline: phase.kept_deadline(),
+            },
+        }
+    }
+}
+
+/// The number that an operand stands for.
+pub fn operand_value(editing: &Editing, task: usize, operand: Operand) -> u32
     requires task { task < length editing.now.now.tasks }
     requires register { IsOperand operand }
     ensures { result ≡ operand_value editing.now.now task operand }
@@ -45,8 +65,8 @@ fn deadline_after(tick: u32, time: u32) -> Option<u64>
     }
 }
 
-// The deadline of a call: a new one at its first try, and then the one that it was given there.
-fn deadline_of(editing: &Editing, task: usize, wait: Operand) -> Option<u64>
+/// The deadline of a call: a new one at its first try, and then the one that it was given there.
+pub fn deadline_of(editing: &Editing, task: usize, wait: Operand) -> Option<u64>
     requires task { task < length editing.now.now.tasks }
     requires register { IsOperand wait }
     ensures deadline { result ≡ deadline_of editing.now.now task wait }
@@ -70,21 +90,30 @@ fn is_ahead(tick: u32, deadline: Option<u64>) -> bool
     }
 }
 
-/// Ends a call that can't be done: its task waits at the place, where its block
+/// Whether a call may wait, which it may for as long as its deadline is ahead.
+pub fn may_wait(editing: &Editing, task: usize, wait: Operand) -> bool
+    requires task { task < length editing.now.now.tasks }
+    requires register { IsOperand wait }
+    ensures { result ≡ may_wait editing.now.now task wait }
+{
+    is_ahead(editing.state().tick(), deadline_of(editing, task, wait))
+}
+
+/// Ends a call that can't be done: its task waits in the list, where its block
 /// time lasts, and else the call fails. The task is the last of those of its
 /// priority there. A call that fails takes no memory.
 pub fn block(
     app: &App,
     editing: &mut Editing,
     task: usize,
-    place: Place,
+    list: Listed,
     wait: Operand,
 ) -> Result<Outcome, NoMemory>
     requires caller { IsCalling app.now editing.old.now task }
-    requires place { HasPlace editing.old.now place }
+    requires list { HasList editing.old.now list }
     requires register { IsOperand wait }
     ensures ok { IfOk result (DoesCall editing.old editing.new
-        (blocked (priorities_of app.now) editing.old.now task place wait) 1) }
+        (blocked (priorities_of app.now) editing.old.now task list wait) 1) }
     ensures at_once { may_wait editing.old.now task wait ≡ false → IsOk result }
     ensures err { OnErr result (GivesUp editing.old editing.new 1) }
 {
@@ -93,36 +122,42 @@ pub fn block(
         return Ok(Outcome::Returns(0));
     }
     let priorities = app.priorities();
-    let waiting = editing.state().waiting(place);
+    let waiting = editing.state().waiting(list);
     let index = waiting.index_for(priorities, priorities[task]);
-    editing.insert_waiting(place, index, task)?;
+    editing.insert_waiting(list, index, task)?;
+    let place = Place::Listed { list };
     Ok(Outcome::Waits { place, deadline })
 }
 
-// A task leaves the list of a place, if it stands there.
-fn leave_list(editing: &mut Editing, place: Place, task: usize) -> Result<(), NoMemory>
-    requires { HasPlace editing.old.now place }
+// A task leaves a place: it leaves the list that has it, if it stands there.
+fn leave(editing: &mut Editing, place: Place, task: usize) -> Result<(), NoMemory>
+    requires { IsPlace (numbers_of editing.old.now) place }
     ensures ok { OnOk result
-        (Reaches editing.old editing.new (without_waiter editing.old.now place task) 1) }
-    ensures absent { position (λ member. nat_eq member task) (waiting_at editing.old.now place)
-        ≡ None → IsOk result }
+        (Reaches editing.old editing.new (left editing.old.now place task) 1) }
     ensures err { OnErr result (GivesUp editing.old editing.new 1) }
 {
-    match editing.state().waiting(place).position(task) {
+    let Place::Listed { list } = place else {
+        return Ok(());
+    };
+    match editing.state().waiting(list).position(task) {
         None => Ok(()),
-        Some(index) => editing.delete_waiting(place, index),
+        Some(index) => editing.delete_waiting(list, index),
     }
 }
 
-/// Wakes a task that waits: it leaves its list, is to try its call
-/// again with its deadline, and joins the ready list. A task that
-/// doesn't wait stays as it is; where it can run, that takes no memory.
-pub fn wake(editing: &mut Editing, priorities: &[u8], task: usize) -> Result<(), NoMemory>
+/// Wakes a task that waits: it leaves its place, is in the phase that its waking leads to, and joins
+/// the ready list. A task that doesn't wait stays as it is; where it can run, that takes no memory.
+pub fn wake(
+    editing: &mut Editing,
+    priorities: &[u8],
+    task: usize,
+    waking: Waking,
+) -> Result<(), NoMemory>
     requires task { task < length editing.old.now.tasks }
     requires room { ReadyHasRoom editing.old.now }
     requires priorities { length priorities.now ≡ length editing.old.now.tasks }
-    ensures ok { OnOk result
-        (Reaches editing.old editing.new (woken priorities.now editing.old.now task) waking_cost) }
+    ensures ok { OnOk result (Reaches editing.old editing.new
+        (woken priorities.now waking editing.old.now task) waking_cost) }
     ensures awake { 1 ≤ seats_to_run (task_at editing.old.now task).phase → IsOk result }
     ensures err { OnErr result (GivesUp editing.old editing.new waking_cost) }
 {
@@ -130,40 +165,39 @@ pub fn wake(editing: &mut Editing, priorities: &[u8], task: usize) -> Result<(),
     let Some(place) = phase.waits_at() else {
         return Ok(());
     };
-    let deadline = phase.kept_deadline();
-    leave_list(editing, place, task)?;
-    set_phase(editing, task, Phase::Again { deadline })?;
+    leave(editing, place, task)?;
+    set_phase(editing, task, waking.phase(phase))?;
     editing.join_ready(priorities, task)
 }
 
-/// Wakes the first to be served at a place, if anyone waits there. Waking nobody takes no memory.
-pub fn wake_first(editing: &mut Editing, priorities: &[u8], place: Place) -> Result<(), NoMemory>
-    requires place { HasPlace editing.old.now place }
-    requires room { 0 < length (waiting_at editing.old.now place) → ReadyHasRoom editing.old.now }
+/// Wakes the first to be served of a list, if anyone waits there. Waking nobody takes no memory.
+pub fn wake_first(editing: &mut Editing, priorities: &[u8], list: Listed) -> Result<(), NoMemory>
+    requires list { HasList editing.old.now list }
+    requires room { 0 < length (waiting_at editing.old.now list) → ReadyHasRoom editing.old.now }
     requires priorities { length priorities.now ≡ length editing.old.now.tasks }
     ensures ok { OnOk result
-        (Reaches editing.old editing.new (woken_first priorities.now editing.old.now place)
+        (Reaches editing.old editing.new (woken_first priorities.now editing.old.now list)
         waking_cost) }
-    ensures nobody { waiting_at editing.old.now place ≡ [] → IsOk result }
+    ensures nobody { waiting_at editing.old.now list ≡ [] → IsOk result }
     ensures err { OnErr result (GivesUp editing.old editing.new waking_cost) }
 {
-    match editing.state().waiting(place).first() {
+    match editing.state().waiting(list).first() {
         None => Ok(()),
-        Some(task) => wake(editing, priorities, task),
+        Some(task) => wake(editing, priorities, task, Waking::TriesAgain),
     }
 }
 
 /// Ends a call that was done: it passes, and the first who waits for what it leaves is woken.
-pub fn pass(editing: &mut Editing, priorities: &[u8], place: Place) -> Result<Outcome, NoMemory>
-    requires place { HasPlace editing.old.now place }
-    requires room { 0 < length (waiting_at editing.old.now place) → ReadyHasRoom editing.old.now }
+pub fn pass(editing: &mut Editing, priorities: &[u8], list: Listed) -> Result<Outcome, NoMemory>
+    requires list { HasList editing.old.now list }
+    requires room { 0 < length (waiting_at editing.old.now list) → ReadyHasRoom editing.old.now }
     requires priorities { length priorities.now ≡ length editing.old.now.tasks }
     ensures ok { IfOk result (DoesCall editing.old editing.new
-        (passed priorities.now editing.old.now place) waking_cost) }
-    ensures nobody { waiting_at editing.old.now place ≡ [] → IsOk result }
+        (passed priorities.now editing.old.now list) waking_cost) }
+    ensures nobody { waiting_at editing.old.now list ≡ [] → IsOk result }
     ensures err { OnErr result (GivesUp editing.old editing.new waking_cost) }
 {
-    wake_first(editing, priorities, place)?;
+    wake_first(editing, priorities, list)?;
     Ok(Outcome::Returns(1))
 }
 
@@ -183,14 +217,14 @@ pub fn wake_if_due(editing: &mut Editing, priorities: &[u8], task: usize) -> Res
         → ReadyHasRoom editing.old.now }
     requires priorities { length priorities.now ≡ length editing.old.now.tasks }
     ensures ok { OnOk result
-        (Reaches editing.old editing.new (woken_if_due priorities.now editing.old.now task)
-        waking_cost) }
+        (Reaches editing.old editing.new (woken_all priorities.now Waking.TriesAgain editing.old.now
+        (if_due editing.old.now task)) waking_cost) }
     ensures early { is_due editing.old.now.tick (task_at editing.old.now task).phase ≡ false
         → IsOk result }
     ensures err { OnErr result (GivesUp editing.old editing.new waking_cost) }
 {
     if is_due(editing, task) {
-        wake(editing, priorities, task)
+        wake(editing, priorities, task, Waking::TriesAgain)
     } else {
         Ok(())
     }

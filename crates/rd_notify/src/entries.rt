@@ -1,8 +1,11 @@
 //! The notification entries of a task.
 
-ghost use Rattle.std.specs.Prelude.{◌≡◌, ◌↔◌, IsTrue, ◌<◌, ◌≤◌, length, replicate, slice_get, Some};
-ghost use Rattle.rd_notify.specs.Entries.{idle_entry};
+ghost use Rattle.std.specs.Prelude.{◌≡◌, ◌↔◌, IsTrue, ◌<◌, ◌≤◌, true, false, length, replicate};
+ghost use Rattle.std.specs.Prelude.{slice_get, slice_index_or, slice_set, None, Some};
+ghost use Rattle.rd_notify.specs.Entries.{entry_cleared, entry_idle, entry_notified, entry_taken};
+ghost use Rattle.rd_notify.specs.Entries.{entry_waiting, idle_entry, is_left_alone};
 
+use crate::action::{Action, OnExit};
 use arrayvec::ArrayVec;
 use std::marker::Model;
 
@@ -26,6 +29,71 @@ pub enum EntryState {
 pub struct Entry {
     pub value: u32,
     pub state: EntryState,
+}
+
+impl Entry {
+    /// Whether the other entry is equal.
+    pub fn same(self, other: Entry) -> bool
+        ensures { IsTrue result ↔ (self ≡ other) }
+    {
+        self == other
+    }
+
+    /// The entry as a notification leaves it; none where it is left alone, so that nothing is
+    /// overwritten (`xTaskNotifyGenericIndexed`).
+    pub fn notified(self, action: Action, value: u32) -> Option<Entry>
+        ensures left_alone { is_left_alone action self.state ≡ true → result ≡ None }
+        ensures notified { is_left_alone action self.state ≡ false
+            → result ≡ Some (entry_notified action value self) }
+    {
+        if action == Action::WithoutOverwrite && self.state == EntryState::Received {
+            return None;
+        }
+        Some(Entry {
+            value: action.value(self.value, value),
+            state: EntryState::Received,
+        })
+    }
+
+    /// The entry, once its task waits for it.
+    pub fn waiting(self) -> Entry
+        ensures { result ≡ entry_waiting self }
+    {
+        Entry {
+            state: EntryState::Waiting,
+            ..self
+        }
+    }
+
+    /// The entry, once its task has looked at it.
+    pub fn idle(self) -> Entry
+        ensures { result ≡ entry_idle self }
+    {
+        Entry {
+            state: EntryState::Idle,
+            ..self
+        }
+    }
+
+    /// The entry, once its task has taken the value (`ulTaskGenericNotifyTake`).
+    pub fn taken(self, exit: OnExit) -> Entry
+        ensures { result ≡ entry_taken exit self }
+    {
+        Entry {
+            value: exit.value(self.value),
+            state: EntryState::Idle,
+        }
+    }
+
+    /// The entry without these bits of its value (`ulTaskGenericNotifyValueClear`).
+    pub fn cleared(self, bits: u32) -> Entry
+        ensures { result ≡ entry_cleared bits self }
+    {
+        Entry {
+            value: self.value & !bits,
+            ..self
+        }
+    }
 }
 
 /// The notification entries of one task, 1 to 4 of them, counted from 0
@@ -89,9 +157,18 @@ impl Entries {
     /// The entry at `index`.
     pub fn entry(&self, index: usize) -> Entry
         requires { index < length self.now }
-        ensures { slice_get self.now index ≡ Some result }
+        ensures there { slice_get self.now index ≡ Some result }
+        ensures entry { result ≡ slice_index_or self.now index idle_entry }
     {
         self.entries[index]
+    }
+
+    /// Puts an entry in the place of the one at `index`.
+    pub fn set(&mut self, index: usize, entry: Entry)
+        requires { index < length self.old }
+        ensures { self.new ≡ slice_set self.old index entry }
+    {
+        self.entries[index] = entry;
     }
 
     /// All entries, in order.

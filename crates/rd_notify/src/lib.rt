@@ -1,4 +1,5 @@
 //! Direct-to-task notifications.
 #![tactic(auto)]
 
+pub mod action;
 pub mod entries;

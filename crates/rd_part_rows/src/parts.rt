@@ -12,7 +12,7 @@ use rd_queue::queue::Queue;
 use rd_queue::waiting_list::WaitingList;
 use rd_state::change::Change;
 use rd_state::editing::Editing;
-use rd_state::phase::Place;
+use rd_state::phase::Listed;
 use rd_state::state::State;
 use rd_state::undo::Undo;
 use rd_text::refusal::Refusal;
@@ -142,9 +142,9 @@ fn waiting_lists(rt: HostRuntime) -> Result<(), Fail> {
 fn puts_to_wait(rt: &impl Abort, editing: &mut Editing) -> Result<(), Fail> {
     let queue = 0;
     let list = WaitingList::Sending;
-    let place = Place::Queue { queue, list };
+    let place = Listed::Queue { queue, list };
     let list = WaitingList::Receiving;
-    let other = Place::Queue { queue, list };
+    let other = Listed::Queue { queue, list };
     assert!(rt; editing.state().queue_count() > 0);
     assert!(rt; editing.state().task_count() > 0);
     assert!(rt; editing.state().waiting(place).as_slice().is_empty());

@@ -19,8 +19,11 @@ use std::test::Fail;
 fn file(alloc: Global) -> Result<String, AllocError> {
     let head = r#""profile":1,"cores":1,"queues":[{"name":"q0","length":2,"item":3}]"#;
     let data = format!(in alloc; "data {:0>512}", "")?;
-    let calls = r#""send q0 0","recv q0 0","send q0 0","send q0 0","qreset q0","end""#;
-    let task = format!(in alloc; r#"{{"name":"t0","priority":1,"code":["{data}",{calls}]}}"#)?;
+    let calls = r#""send q0 0","recv q0 0","send q0 0","send q0 0","qreset q0""#;
+    let told = r#""notify t0 0 5 set","take 0 clear 0","end""#;
+    let task = format!(in alloc;
+        r#"{{"name":"t0","priority":1,"code":["{data}",{calls},{told}]}}"#
+    )?;
     format!(in alloc; r#"{{{head},"tasks":[{task}]}}"#)
 }
 
@@ -53,7 +56,7 @@ fn weighs(
 // those that were there before: the data that is replaced, the item that is taken, and the items
 // that a reset takes out. At most a record weighs 4 * tasks + 6 * cores + 528, here 538, and the
 // bytes of items that a reset takes out.
-const WEIGHTS: [(usize, usize); 7] = [
+const WEIGHTS: [(usize, usize); 9] = [
     // data: the data of no bytes, the instruction, the turn
     (3, 3),
     // send: the item, r0, the instruction
@@ -65,6 +68,10 @@ const WEIGHTS: [(usize, usize); 7] = [
     (2, 2),
     // qreset: the two items, the instruction
     (2, 7 + 1),
+    // notify: the entry, the instruction
+    (2, 2),
+    // take: the entry, r0, the instruction
+    (3, 3),
     // end: the phase, the core
     (2, 2),
 ];

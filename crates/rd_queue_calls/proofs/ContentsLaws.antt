@@ -8,8 +8,8 @@ use Rattle.rd_queue.specs.Queues.{with_items}
 use Rattle.rd_app.specs.Application.{Application}
 use Rattle.rd_app.specs.declared.objects.QueueShape.{QueueShape}
 use Rattle.rd_state.specs.declared.phase.Phase.{Phase}
-use Rattle.rd_state.specs.declared.phase.Place.{Place}
-use Rattle.rd_state.specs.declared.phase.Place.TheVariants.{Queue, QueueSet}
+use Rattle.rd_state.specs.declared.phase.Listed.{Listed}
+use Rattle.rd_state.specs.declared.phase.Listed.TheVariants.{Queue, QueueSet}
 use Rattle.rd_state.specs.Objects.{capacity_of, no_queue, no_queue_set, shape_of, shapes_in}
 use Rattle.rd_state.specs.Snapshot.{Snapshot, queue_at, queue_set_at, with_queue, with_queue_set}
 use Rattle.rd_state.specs.Waiting.{waiting_at}
@@ -20,7 +20,7 @@ pub record IsSameWaiting (now was : QueueSnapshot) : Type 0 where
   pub receiving : now.receiving ≡ was.receiving
   pub sending : now.sending ≡ was.sending
 
-pub waiting_at-with_queue : (s : Snapshot) (queue : ℕ) (now : QueueSnapshot) (place : Place) → queue < length s.objects.queues
+pub waiting_at-with_queue : (s : Snapshot) (queue : ℕ) (now : QueueSnapshot) (place : Listed) → queue < length s.objects.queues
     → IsSameWaiting now (queue_at s queue) → waiting_at (with_queue s queue now) place ≡ waiting_at s place
 waiting_at-with_queue s queue now (Queue other Receiving) there kept =
     read_kept (λ (q : QueueSnapshot). q.receiving) s.objects.queues queue other now no_queue there kept.receiving
@@ -35,7 +35,7 @@ ContentsChange-queue s queue now there shape kept = record {
   shapes = ap (λ (qs : List QueueShape). record (shapes_in s.objects) { queues = qs }) (map_kept shape_of s.objects.queues queue now no_queue shape);
 }
 
-pub waiting_at-with_queue_set : (s : Snapshot) (queue_set : ℕ) (now : QueueSetSnapshot) (place : Place) → queue_set < length s.objects.queue_sets
+pub waiting_at-with_queue_set : (s : Snapshot) (queue_set : ℕ) (now : QueueSetSnapshot) (place : Listed) → queue_set < length s.objects.queue_sets
     → now.waiting ≡ (queue_set_at s queue_set).waiting → waiting_at (with_queue_set s queue_set now) place ≡ waiting_at s place
 waiting_at-with_queue_set s queue_set now (QueueSet other) there kept = read_kept (λ (q : QueueSetSnapshot). q.waiting) s.objects.queue_sets queue_set other now no_queue_set there kept
 waiting_at-with_queue_set s queue_set now place there kept = refl

@@ -3,6 +3,7 @@ use Rattle.std.proofs.Common.{◌≡◌, ◌∙◌, ℕ, zero, suc, ◌++◌, �
 use Rattle.std.proofs.Common.{slice_index, map, drop}
 use Rattle.std.proofs.Common.{refl, ap}
 use Rattle.std.specs.Prelude.{◌+◌, nat_eq, position, remove, slice_get}
+use Rattle.std.specs.Option.{option_to_list}
 use Rattle.rd_wait.specs.Joined.{joined}
 use Rattle.rd_app.specs.declared.instr.Operand.{Operand}
 use Rattle.rd_app.specs.declared.instr.QueueCall.{QueueCall}
@@ -15,15 +16,19 @@ use Rattle.rd_queue.specs.declared.waiting_list.WaitingList.TheVariants.{Receivi
 use Rattle.rd_queue.specs.QueueSetSnapshot.{QueueSetSnapshot}
 use Rattle.rd_queue.specs.QueueSets.{with_handles, with_waiting_tasks}
 use Rattle.rd_state.specs.declared.phase.Cause.TheVariants.{SetFull}
+use Rattle.rd_state.specs.declared.phase.Listed.{Listed}
 use Rattle.rd_state.specs.declared.phase.Place.{Place}
-use Rattle.rd_state.specs.declared.phase.Place.TheVariants.{Queue, QueueSet}
-use Rattle.rd_state.specs.Phases.{kept_deadline, waits_at}
+use Rattle.rd_state.specs.declared.phase.Place.TheVariants as sort
+use Rattle.rd_state.specs.declared.phase.Listed.TheVariants.{Queue, QueueSet}
+use Rattle.rd_state.specs.Phases.{waits_at}
 use Rattle.rd_state.specs.Snapshot.{Snapshot, queue_at, queue_set_at, task_at}
 use Rattle.rd_state.specs.Objects.{no_queue_set}
 use Rattle.rd_state.specs.Waiting.{objects_then, waiting_at}
 use Rattle.rd_kernel.specs.Outcomes.{Called, blocked, call_returns, call_fails, call_passes, passed}
 use Rattle.rd_kernel.specs.declared.outcome.Outcome.TheVariants.{Waits}
-use Rattle.rd_kernel.specs.Waking.{deadline_of, may_wait, objects_without, with_waiter, woken_at, woken_first, woken_one}
+use Rattle.rd_kernel.specs.declared.waking.Waking.{Waking}
+use Rattle.rd_kernel.specs.declared.waking.Waking.TheVariants.{TriesAgain}
+use Rattle.rd_kernel.specs.Waking.{deadline_of, may_wait, objects_without, with_waiter, woken, woken_all, woken_at, woken_first}
 use Rattle.rd_queue_calls.specs.Posts.{call_breaks, is_in_full_queue_set, is_in_no_queue_set, is_in_queue_set, posted, replaced, membership_of, with_handle}
 use Rattle.rd_queue_calls.specs.Posts.{with_member}
 use Rattle.rd_queue_calls.specs.QueueCalls.{is_empty, is_full, queue_outcome, outcome_with_room, with_item_over, with_item_peeked, with_item_sent}
@@ -49,32 +54,33 @@ handles_kept [] number tasks = refl
 handles_kept (q ∷ queue_sets) zero tasks = refl
 handles_kept (q ∷ queue_sets) (suc number) tasks = ap (λ rest. q.handles ∷ rest) (handles_kept queue_sets number tasks)
 
-handles_then : (s : Snapshot) (place : Place) (tasks : List ℕ) → map (λ (q : QueueSetSnapshot). q.handles) (objects_then s.objects place tasks).queue_sets ≡ handles_in s
+handles_then : (s : Snapshot) (place : Listed) (tasks : List ℕ) → map (λ (q : QueueSetSnapshot). q.handles) (objects_then s.objects place tasks).queue_sets ≡ handles_in s
 handles_then s (Queue queue list) tasks = refl
 handles_then s (QueueSet number) tasks = handles_kept s.objects.queue_sets number tasks
 
-handles_without : (s : Snapshot) (place : Place) (o : Option ℕ) → map (λ (q : QueueSetSnapshot). q.handles) (objects_without s.objects place o).queue_sets ≡ handles_in s
+handles_without : (s : Snapshot) (place : Listed) (o : Option ℕ) → map (λ (q : QueueSetSnapshot). q.handles) (objects_without s.objects place o).queue_sets ≡ handles_in s
 handles_without s place None = refl
 handles_without s place (Some index) = handles_then s place (remove (waiting_at s place) index)
 
-pub handles_woken_at : (priorities : List ℕ) (s : Snapshot) (task : ℕ) (o : Option Place) (deadline : Option ℕ)
-    → handles_in (woken_at priorities s task o deadline) ≡ handles_in s
-handles_woken_at priorities s task None deadline = refl
-handles_woken_at priorities s task (Some place) deadline = handles_without s place (position (λ member. nat_eq member task) (waiting_at s place))
+handles_woken_at : (priorities : List ℕ) (waking : Waking) (s : Snapshot) (task : ℕ) (o : Option Place)
+    → handles_in (woken_at priorities waking s task o) ≡ handles_in s
+handles_woken_at priorities waking s task None = refl
+handles_woken_at priorities waking s task (Some (sort.Listed list)) = handles_without s list (position (λ member. nat_eq member task) (waiting_at s list))
+handles_woken_at priorities waking s task (Some (sort.Entry index)) = refl
 
-handles_woken_one : (priorities : List ℕ) (s : Snapshot) (o : Option ℕ) → handles_in (woken_one priorities s o) ≡ handles_in s
-handles_woken_one priorities s None = refl
-handles_woken_one priorities s (Some task) =
-    handles_woken_at priorities s task (waits_at (task_at s task).phase) (kept_deadline (task_at s task).phase)
+pub handles_woken_all : (priorities : List ℕ) (waking : Waking) (s : Snapshot) (tasks : List ℕ) → handles_in (woken_all priorities waking s tasks) ≡ handles_in s
+handles_woken_all priorities waking s [] = refl
+handles_woken_all priorities waking s (first ∷ rest) =
+    handles_woken_all priorities waking (woken priorities waking s first) rest ∙ handles_woken_at priorities waking s first (waits_at (task_at s first).phase)
 
-handles_woken_first : (priorities : List ℕ) (s : Snapshot) (place : Place) → handles_in (woken_first priorities s place) ≡ handles_in s
-handles_woken_first priorities s place = handles_woken_one priorities s (slice_get (waiting_at s place) 0)
+handles_woken_first : (priorities : List ℕ) (s : Snapshot) (place : Listed) → handles_in (woken_first priorities s place) ≡ handles_in s
+handles_woken_first priorities s place = handles_woken_all priorities TriesAgain s (option_to_list (slice_get (waiting_at s place) 0))
 
-handles_blocked : (priorities : List ℕ) (s : Snapshot) (task : ℕ) (place : Place) (wait : Operand)
+handles_blocked : (priorities : List ℕ) (s : Snapshot) (task : ℕ) (place : Listed) (wait : Operand)
     → handles_in (blocked priorities s task place wait).state ≡ handles_in s
 handles_blocked priorities s task place wait =
     elim (may_wait s task wait) as (λ b.
-    handles_in (cond b (record { state = with_waiter priorities s place task; outcome = Waits place (deadline_of s task wait) }) (call_fails s)).state ≡ handles_in s) [
+    handles_in (cond b (record { state = with_waiter priorities s place task; outcome = Waits (sort.Listed place) (deadline_of s task wait) }) (call_fails s)).state ≡ handles_in s) [
       | true ↦ handles_then s place (joined priorities (waiting_at s place) task)
       | false ↦ refl
     ]
@@ -82,7 +88,7 @@ handles_blocked priorities s task place wait =
 -- ---- each call
 
 -- A call that either can't be done, or leaves these handles.
-handles_or_blocked : (priorities : List ℕ) (s : Snapshot) (task : ℕ) (place : Place) (wait : Operand) (cannot : Bool) (called : Called) (after : List (List ℕ))
+handles_or_blocked : (priorities : List ℕ) (s : Snapshot) (task : ℕ) (place : Listed) (wait : Operand) (cannot : Bool) (called : Called) (after : List (List ℕ))
     → handles_in called.state ≡ after
     → handles_in (cond cannot (blocked priorities s task place wait) called).state ≡ cond cannot (handles_in s) after
 handles_or_blocked priorities s task place wait cannot called after is =
@@ -176,7 +182,7 @@ pub failed_sends_leave_all : FailedSendsLeaveAll
 failed_sends_leave_all = record {
   full = λ priorities s task queue end wait full never.
       ap (λ b. cond b (blocked priorities s task (Queue queue Sending) wait) (outcome_with_room priorities s task queue end)) full
-      ∙ ap (λ b. cond b (record { state = with_waiter priorities s (Queue queue Sending) task; outcome = Waits (Queue queue Sending) (deadline_of s task wait) })
+      ∙ ap (λ b. cond b (record { state = with_waiter priorities s (Queue queue Sending) task; outcome = Waits (sort.Listed (Queue queue Sending)) (deadline_of s task wait) })
       (call_fails s)) never;
   full_queue_set = λ priorities s task queue end wait room full.
       ap (λ b. cond b (blocked priorities s task (Queue queue Sending) wait) (outcome_with_room priorities s task queue end)) room

@@ -2,4 +2,5 @@
 pub mod ContentsLaws
 pub mod QueueCallLaws
 pub mod HandleLaws
+pub mod EntryLaws
 pub mod Offered

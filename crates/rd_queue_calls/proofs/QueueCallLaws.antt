@@ -21,17 +21,18 @@ use Rattle.rd_queue.specs.Queues.{with_items}
 use Rattle.rd_queue.specs.QueueSetSnapshot.{QueueSetSnapshot}
 use Rattle.rd_queue.specs.QueueSets.{with_handles}
 use Rattle.rd_state.specs.declared.phase.Cause.TheVariants.{SetFull}
-use Rattle.rd_state.specs.declared.phase.Place.{Place}
-use Rattle.rd_state.specs.declared.phase.Place.TheVariants.{Queue, QueueSet}
+use Rattle.rd_state.specs.declared.phase.Listed.{Listed}
+use Rattle.rd_state.specs.declared.phase.Listed.TheVariants.{Queue, QueueSet}
 use Rattle.rd_state.specs.Sizes.{IsSized}
 use Rattle.rd_state.specs.Snapshot.{Snapshot, TaskSnapshot, no_task, task_at, queue_at, queue_set_at, with_queue, with_queue_set, items_at}
-use Rattle.rd_state.specs.Valid.{seats_to_run, times_in_list}
-use Rattle.rd_state.specs.Waiting.{HasPlace, waiting_at, waiting_in}
+use Rattle.rd_state.specs.Valid.{entry_of_call, seats_to_run, times_in_list}
+use Rattle.rd_state.specs.Waiting.{HasList, waiting_at, waiting_in}
 use Rattle.rd_state.proofs.Offered.{queue_sized}
 use Rattle.rd_kernel.specs.Outcomes.{call_returns, call_fails, call_passes, concluded}
 use Rattle.rd_kernel.specs.Waking.{ReadyHasRoom}
 use Rattle.rd_kernel.proofs.Offered.{IsConsistent, IsConsistent-valid, IsDone, all_have_time_left, place_there, task_now}
 use Rattle.rd_kernel.proofs.Offered.{RunsInstr, IsConsistent-returned_alone, IsConsistent-done, IsConsistent-failed, IsConsistent-or_blocked}
+use Rattle.rd_kernel.proofs.Offered.{IsFree, free_at}
 use Rattle.rd_kernel.proofs.Offered.{IsConsistent-returned, IsConsistent-with_values, first_waits, or_blocked-tick, waits_is_task, woken_first-tick}
 use Rattle.rd_queue_calls.proofs.ContentsLaws.{IsConsistent-items, IsConsistent-queue_replaced, IsConsistent-queue_set_replaced, IsSameWaiting}
 use Rattle.rd_queue_calls.proofs.ContentsLaws.{waiting_at-with_queue, waiting_at-with_queue_set}
@@ -45,29 +46,29 @@ use Rattle.rd_queue_calls.specs.QueueSetCalls.{has_no_handle, queue_set_outcome,
 -- ---- room to wake
 
 -- Where the same tasks wait, and as many are ready, whoever waits finds room in the ready list.
-pub room_kept : (s p : Snapshot) → ((place : Place) → waiting_at p place ≡ waiting_at s place) → p.ready ≡ s.ready → length p.tasks ≡ length s.tasks
-    → HasRoomToWake s → (place : Place) → 0 < length (waiting_at p place) → ReadyHasRoom p
+pub room_kept : (s p : Snapshot) → ((place : Listed) → waiting_at p place ≡ waiting_at s place) → p.ready ≡ s.ready → length p.tasks ≡ length s.tasks
+    → HasRoomToWake s → (place : Listed) → 0 < length (waiting_at p place) → ReadyHasRoom p
 room_kept s p same ready tasks room place some =
     let some_before : 0 < length (waiting_at s place) = omega (arith, some, ap length (same place)) in
     let first = first_waits (waiting_at s place) some_before in
     omega (arith, room place (place_there s place first.0 first.1) some_before, ap length ready, tasks)
 
 -- with other objects, where the same tasks wait
-room_after : (s p q : Snapshot) → p.objects ≡ q.objects → ((place : Place) → waiting_at q place ≡ waiting_at s place) → HasRoomToWake s
-    → p.ready ≡ s.ready → length p.tasks ≡ length s.tasks → (place : Place) → 0 < length (waiting_at p place) → ReadyHasRoom p
+room_after : (s p q : Snapshot) → p.objects ≡ q.objects → ((place : Listed) → waiting_at q place ≡ waiting_at s place) → HasRoomToWake s
+    → p.ready ≡ s.ready → length p.tasks ≡ length s.tasks → (place : Listed) → 0 < length (waiting_at p place) → ReadyHasRoom p
 room_after s p q objects same room ready tasks = room_kept s p (λ place. ap (λ o. waiting_in o place) objects ∙ same place) ready tasks room
 
 -- The same of a queue that has changed in something else.
 pub room_after_queue : (s p : Snapshot) (queue : ℕ) (now : QueueSnapshot) → queue < length s.objects.queues → IsSameWaiting now (queue_at s queue) → HasRoomToWake s
     → p.objects ≡ (with_queue s queue now).objects → p.ready ≡ s.ready → length p.tasks ≡ length s.tasks
-    → (place : Place) → 0 < length (waiting_at p place) → ReadyHasRoom p
+    → (place : Listed) → 0 < length (waiting_at p place) → ReadyHasRoom p
 room_after_queue s p queue now there kept room objects =
     room_after s p (with_queue s queue now) objects (λ place. waiting_at-with_queue s queue now place there kept) room
 
 -- and of a set
 pub room_after_queue_set : (s p : Snapshot) (number : ℕ) (now : QueueSetSnapshot) → number < length s.objects.queue_sets → now.waiting ≡ (queue_set_at s number).waiting → HasRoomToWake s
     → p.objects ≡ (with_queue_set s number now).objects → p.ready ≡ s.ready → length p.tasks ≡ length s.tasks
-    → (place : Place) → 0 < length (waiting_at p place) → ReadyHasRoom p
+    → (place : Listed) → 0 < length (waiting_at p place) → ReadyHasRoom p
 room_after_queue_set s p number now there kept room objects =
     room_after s p (with_queue_set s number now) objects (λ place. waiting_at-with_queue_set s number now place there kept) room
 
@@ -88,15 +89,16 @@ queue_set_there s queue sized there =
 -- ---- what a call leaves
 
 -- The tasks are as they were, and the same wait at a place.
-done_as : (app : Application) (s p : Snapshot) (core task : ℕ) (instr : Instr) (place : Place) → RunsInstr app s core task instr
-    → IsConsistent app (all_have_time_left s.tick) p → p.tasks ≡ s.tasks → HasPlace s place → waiting_at p place ≡ waiting_at s place
+done_as : (app : Application) (s p : Snapshot) (core task : ℕ) (instr : Instr) (place : Listed) → RunsInstr app s core task instr → entry_of_call instr ≡ None
+    → IsConsistent app (all_have_time_left s.tick) p → p.tasks ≡ s.tasks → HasList s place → waiting_at p place ≡ waiting_at s place
     → IsDone app s p task place
-done_as app s p core task instr place calls consistent tasks has_place same =
+done_as app s p core task instr place calls none consistent tasks has_place same =
     let is : task_at p task ≡ task_at s task = ap (λ (ts : List TaskSnapshot). get_or ts task no_task) tasks in
     record {
       consistent = consistent;
       there = omega (arith, calls.there, ap length tasks);
       runs = subst (λ (t : TaskSnapshot). 1 ≤ seats_to_run t.phase) (sym is) calls.runs;
+      free = subst (λ (t : TaskSnapshot). IsFree t.entries) (sym is) (free_at app s core task instr calls none);
       within = subst (λ (t : TaskSnapshot). t.pc + 1 < length (code_of app task)) (sym is) calls.within;
       waiters = λ t some.
           let before = waits_is_task s place t calls.valid.in_limits.sized has_place (omega (arith, some, ap (times_in_list t) same)) in
@@ -105,26 +107,26 @@ done_as app s p core task instr place calls consistent tasks has_place same =
 
 -- A queue gets other items, and who waits in one of its lists is woken.
 with_items_done : (app : Application) (s : Snapshot) (core task queue : ℕ) (list : WaitingList) (instr : Instr) (items : List (List ℕ))
-    → RunsInstr app s core task instr → queue < length s.objects.queues
+    → RunsInstr app s core task instr → entry_of_call instr ≡ None → queue < length s.objects.queues
     → IsDone app s (with_queue s queue (with_items (queue_at s queue) items)) task (Queue queue list)
-with_items_done app s core task queue list instr items calls there =
+with_items_done app s core task queue list instr items calls none there =
     let now = with_items (queue_at s queue) items in
     let p = with_queue s queue now in
-    done_as app s p core task instr (Queue queue list) calls
+    done_as app s p core task instr (Queue queue list) calls none
     (IsConsistent-items app (all_have_time_left s.tick) s queue items there (IsConsistent-valid app s calls.valid)) refl there
     (waiting_at-with_queue s queue now (Queue queue list) there (items_keep (queue_at s queue) items))
 
 -- A queue gets other items, and its set a handle.
 with_handle_done : (app : Application) (s : Snapshot) (core task queue number : ℕ) (instr : Instr) (items : List (List ℕ))
-    → RunsInstr app s core task instr → queue < length s.objects.queues → number < length s.objects.queue_sets
+    → RunsInstr app s core task instr → entry_of_call instr ≡ None → queue < length s.objects.queues → number < length s.objects.queue_sets
     → IsDone app s (with_handle (with_queue s queue (with_items (queue_at s queue) items)) number queue) task (QueueSet number)
-with_handle_done app s core task queue number instr items calls there has_queue_set =
+with_handle_done app s core task queue number instr items calls none there has_queue_set =
     let D = all_have_time_left s.tick in
     let now = with_items (queue_at s queue) items in
     let p = with_queue s queue now in
     let handles = with_handles (queue_set_at p number) ((queue_set_at p number).handles ++ queue ∷ []) in
     let q = with_queue_set p number handles in
-    done_as app s q core task instr (QueueSet number) calls
+    done_as app s q core task instr (QueueSet number) calls none
     (IsConsistent-queue_set_replaced app D p number handles has_queue_set refl refl (IsConsistent-items app D s queue items there (IsConsistent-valid app s calls.valid)))
     refl has_queue_set
     (waiting_at-with_queue_set p number handles (QueueSet number) has_queue_set refl
@@ -132,29 +134,29 @@ with_handle_done app s core task queue number instr items calls there has_queue_
 
 -- A queue becomes a member of a set, or of none.
 with_member_done : (app : Application) (s : Snapshot) (core task queue : ℕ) (member : Option ℕ) (instr : Instr)
-    → RunsInstr app s core task instr → queue < length s.objects.queues → IsDone app s (with_member s queue member) task (Queue queue Receiving)
-with_member_done app s core task queue member instr calls there =
+    → RunsInstr app s core task instr → entry_of_call instr ≡ None → queue < length s.objects.queues → IsDone app s (with_member s queue member) task (Queue queue Receiving)
+with_member_done app s core task queue member instr calls none there =
     let now : QueueSnapshot = record (queue_at s queue) { queue_set = member } in
     let p = with_queue s queue now in
     let kept : IsSameWaiting now (queue_at s queue) = record { receiving = refl; sending = refl } in
-    done_as app s p core task instr (Queue queue Receiving) calls
+    done_as app s p core task instr (Queue queue Receiving) calls none
     (IsConsistent-queue_replaced app (all_have_time_left s.tick) s queue now there refl kept (IsConsistent-valid app s calls.valid)) refl there
     (waiting_at-with_queue s queue now (Queue queue Receiving) there kept)
 
 -- The first handle leaves a set.
 with_handle_taken_done : (app : Application) (s : Snapshot) (core task number : ℕ) (instr : Instr)
-    → RunsInstr app s core task instr → number < length s.objects.queue_sets → IsDone app s (with_handle_taken s number) task (QueueSet number)
-with_handle_taken_done app s core task number instr calls has_queue_set =
+    → RunsInstr app s core task instr → entry_of_call instr ≡ None → number < length s.objects.queue_sets → IsDone app s (with_handle_taken s number) task (QueueSet number)
+with_handle_taken_done app s core task number instr calls none has_queue_set =
     let now = with_handles (queue_set_at s number) (drop 1 (queue_set_at s number).handles) in
     let p = with_queue_set s number now in
-    done_as app s p core task instr (QueueSet number) calls
+    done_as app s p core task instr (QueueSet number) calls none
     (IsConsistent-queue_set_replaced app (all_have_time_left s.tick) s number now has_queue_set refl refl (IsConsistent-valid app s calls.valid)) refl has_queue_set
     (waiting_at-with_queue_set s number now (QueueSet number) has_queue_set refl)
 
 -- The first item becomes the caller's data, and who else waits for one is woken.
-peeked : (app : Application) (s : Snapshot) (core task queue : ℕ) (instr : Instr) → RunsInstr app s core task instr → queue < length s.objects.queues
+peeked : (app : Application) (s : Snapshot) (core task queue : ℕ) (instr : Instr) → RunsInstr app s core task instr → entry_of_call instr ≡ None → queue < length s.objects.queues
     → IsDone app s (with_item_peeked s task queue) task (Queue queue Receiving)
-peeked app s core task queue instr calls there =
+peeked app s core task queue instr calls none there =
     let x = record (task_at s task) { bytes = get_or (items_at s queue) 0 [] } in
     let p = with_item_peeked s task queue in
     let is : task_at p task ≡ x = task_now s task x calls.there in
@@ -164,14 +166,15 @@ peeked app s core task queue instr calls there =
           (IsConsistent-valid app s calls.valid);
       there = omega (arith, calls.there, same);
       runs = subst (λ (t : TaskSnapshot). 1 ≤ seats_to_run t.phase) (sym is) calls.runs;
+      free = subst (λ (t : TaskSnapshot). IsFree t.entries) (sym is) (free_at app s core task instr calls none);
       within = subst (λ (t : TaskSnapshot). t.pc + 1 < length (code_of app task)) (sym is) calls.within;
       waiters = λ t some. subst (λ n. t < n) (sym same) (waits_is_task s (Queue queue Receiving) t calls.valid.in_limits.sized there some);
     }
 
 -- It leaves the queue too, and who waits for a free slot is woken.
-taken : (app : Application) (s : Snapshot) (core task queue : ℕ) (instr : Instr) → RunsInstr app s core task instr → queue < length s.objects.queues
+taken : (app : Application) (s : Snapshot) (core task queue : ℕ) (instr : Instr) → RunsInstr app s core task instr → entry_of_call instr ≡ None → queue < length s.objects.queues
     → IsDone app s (with_item_taken s task queue) task (Queue queue Sending)
-taken app s core task queue instr calls there =
+taken app s core task queue instr calls none there =
     let D = all_have_time_left s.tick in
     let items = drop 1 (items_at s queue) in
     let now = with_items (queue_at s queue) items in
@@ -186,6 +189,7 @@ taken app s core task queue instr calls there =
           (IsConsistent-items app D s queue items there (IsConsistent-valid app s calls.valid));
       there = omega (arith, calls.there, same);
       runs = subst (λ (t : TaskSnapshot). 1 ≤ seats_to_run t.phase) (sym is) calls.runs;
+      free = subst (λ (t : TaskSnapshot). IsFree t.entries) (sym is) (free_at app s core task instr calls none);
       within = subst (λ (t : TaskSnapshot). t.pc + 1 < length (code_of app task)) (sym is) calls.within;
       waiters = λ t some.
           let before = waiting_at-with_queue s queue now (Queue queue Sending) there (items_keep (queue_at s queue) items) in
@@ -196,63 +200,63 @@ taken app s core task queue instr calls there =
 -- ---- each call
 
 -- A call that is done returns.
-returns_done : (app : Application) (s p : Snapshot) (core task value : ℕ) (place : Place) → IsDone app s p task place
+returns_done : (app : Application) (s p : Snapshot) (core task value : ℕ) (place : Listed) → IsDone app s p task place
     → IsConsistent app (all_have_time_left s.tick) (concluded (call_returns p value) core task)
 returns_done app s p core task value place done =
-    IsConsistent-returned app (all_have_time_left s.tick) p task value done.there done.runs done.within tt done.consistent
+    IsConsistent-returned app (all_have_time_left s.tick) p task value done.there done.runs done.free done.within tt done.consistent
 
 -- An item was put.
 posts : (app : Application) (s : Snapshot) (core task queue : ℕ) (member : Option ℕ) (instr : Instr) (items : List (List ℕ))
-    → RunsInstr app s core task instr → queue < length s.objects.queues → IfSome member (λ queue_set. queue_set < length s.objects.queue_sets)
+    → RunsInstr app s core task instr → entry_of_call instr ≡ None → queue < length s.objects.queues → IfSome member (λ queue_set. queue_set < length s.objects.queue_sets)
     → IsConsistent app (all_have_time_left s.tick)
     (concluded (posted (priorities_of app) (with_queue s queue (with_items (queue_at s queue) items)) queue member) core task)
-posts app s core task queue None instr items calls there has_queue_set =
+posts app s core task queue None instr items calls none there has_queue_set =
     IsConsistent-done app s (with_queue s queue (with_items (queue_at s queue) items)) core task (Queue queue Receiving)
-    (with_items_done app s core task queue Receiving instr items calls there)
-posts app s core task queue (Some number) instr items calls there has_queue_set =
+    (with_items_done app s core task queue Receiving instr items calls none there)
+posts app s core task queue (Some number) instr items calls none there has_queue_set =
     IsConsistent-done app s (with_handle (with_queue s queue (with_items (queue_at s queue) items)) number queue) core task (QueueSet number)
-    (with_handle_done app s core task queue number instr items calls there has_queue_set)
+    (with_handle_done app s core task queue number instr items calls none there has_queue_set)
 
-sends : (app : Application) (s : Snapshot) (core task queue : ℕ) (end : End) (instr : Instr) → RunsInstr app s core task instr → queue < length s.objects.queues
+sends : (app : Application) (s : Snapshot) (core task queue : ℕ) (end : End) (instr : Instr) → RunsInstr app s core task instr → entry_of_call instr ≡ None → queue < length s.objects.queues
     → IsConsistent app (all_have_time_left s.tick) (concluded (outcome_with_room (priorities_of app) s task queue end) core task)
-sends app s core task queue end instr calls there =
+sends app s core task queue end instr calls none there =
     elim (is_in_full_queue_set s (membership_of s queue)) as (λ b.
     IsConsistent app (all_have_time_left s.tick)
     (concluded (cond b (call_breaks s SetFull) (posted (priorities_of app) (with_item_sent s task queue end) queue (membership_of s queue))) core task)) [
-      | true ↦ IsConsistent-failed app s core task SetFull instr calls
+      | true ↦ IsConsistent-failed app s core task SetFull instr calls none
       | false ↦ by_end end
     ]
   where
     by_end : (end : End) → IsConsistent app (all_have_time_left s.tick)
         (concluded (posted (priorities_of app) (with_item_sent s task queue end) queue (membership_of s queue)) core task)
     by_end Back =
-        posts app s core task queue (membership_of s queue) instr (items_at s queue ++ sent_item s task queue ∷ []) calls there
+        posts app s core task queue (membership_of s queue) instr (items_at s queue ++ sent_item s task queue ∷ []) calls none there
         (queue_set_there s queue calls.valid.in_limits.sized there)
     by_end Front =
-        posts app s core task queue (membership_of s queue) instr (sent_item s task queue ∷ items_at s queue) calls there
+        posts app s core task queue (membership_of s queue) instr (sent_item s task queue ∷ items_at s queue) calls none there
         (queue_set_there s queue calls.valid.in_limits.sized there)
 
 -- An item took the place of another.
-replaces : (app : Application) (s : Snapshot) (core task queue : ℕ) (member : Option ℕ) (instr : Instr) → RunsInstr app s core task instr
+replaces : (app : Application) (s : Snapshot) (core task queue : ℕ) (member : Option ℕ) (instr : Instr) → RunsInstr app s core task instr → entry_of_call instr ≡ None
     → queue < length s.objects.queues
     → IsConsistent app (all_have_time_left s.tick) (concluded (replaced (priorities_of app) (with_item_over s task queue) queue member) core task)
-replaces app s core task queue None instr calls there =
+replaces app s core task queue None instr calls none there =
     IsConsistent-done app s (with_item_over s task queue) core task (Queue queue Receiving)
-    (with_items_done app s core task queue Receiving instr (set (items_at s queue) 0 (sent_item s task queue)) calls there)
-replaces app s core task queue (Some number) instr calls there =
+    (with_items_done app s core task queue Receiving instr (set (items_at s queue) 0 (sent_item s task queue)) calls none there)
+replaces app s core task queue (Some number) instr calls none there =
     returns_done app s (with_item_over s task queue) core task 1 (Queue queue Receiving)
-    (with_items_done app s core task queue Receiving instr (set (items_at s queue) 0 (sent_item s task queue)) calls there)
+    (with_items_done app s core task queue Receiving instr (set (items_at s queue) 0 (sent_item s task queue)) calls none there)
 
 -- A queue joins a set or leaves it, or nothing happens.
-joins_or_not : (app : Application) (s : Snapshot) (core task queue : ℕ) (member : Option ℕ) (instr : Instr) (can : Bool) → RunsInstr app s core task instr
+joins_or_not : (app : Application) (s : Snapshot) (core task queue : ℕ) (member : Option ℕ) (instr : Instr) (can : Bool) → RunsInstr app s core task instr → entry_of_call instr ≡ None
     → queue < length s.objects.queues
     → IsConsistent app (all_have_time_left s.tick) (concluded (cond can (call_passes (with_member s queue member)) (call_fails s)) core task)
-joins_or_not app s core task queue member instr can calls there =
+joins_or_not app s core task queue member instr can calls none there =
     elim can as (λ b. IsConsistent app (all_have_time_left s.tick) (concluded (cond b (call_passes (with_member s queue member)) (call_fails s)) core task)) [
       | true ↦
           returns_done app s (with_member s queue member) core task 1 (Queue queue Receiving)
-          (with_member_done app s core task queue member instr calls there)
-      | false ↦ IsConsistent-returned_alone app s core task 0 instr calls
+          (with_member_done app s core task queue member instr calls none there)
+      | false ↦ IsConsistent-returned_alone app s core task 0 instr calls none
     ]
 
 -- A call of a queue leaves what stands, and the tick.
@@ -261,35 +265,35 @@ pub IsConsistent-queue_call : (app : Application) (s : Snapshot) (core task queu
     → IsConsistent app (all_have_time_left s.tick) (concluded (queue_outcome (priorities_of app) s task queue call) core task)
 IsConsistent-queue_call app s core task queue (Send end wait) calls there =
     IsConsistent-or_blocked app s core task (instr.Queue queue (Send end wait)) (Queue queue Sending) wait (is_full (queue_at s queue))
-    (outcome_with_room (priorities_of app) s task queue end) calls there refl (sends app s core task queue end (instr.Queue queue (Send end wait)) calls there)
+    (outcome_with_room (priorities_of app) s task queue end) calls there refl (sends app s core task queue end (instr.Queue queue (Send end wait)) calls refl there)
 IsConsistent-queue_call app s core task queue (Receive wait) calls there =
     IsConsistent-or_blocked app s core task (instr.Queue queue (Receive wait)) (Queue queue Receiving) wait (is_empty (queue_at s queue)) _ calls there refl
     (IsConsistent-done app s (with_item_taken s task queue) core task (Queue queue Sending)
-    (taken app s core task queue (instr.Queue queue (Receive wait)) calls there))
+    (taken app s core task queue (instr.Queue queue (Receive wait)) calls refl there))
 IsConsistent-queue_call app s core task queue (Peek wait) calls there =
     IsConsistent-or_blocked app s core task (instr.Queue queue (Peek wait)) (Queue queue Receiving) wait (is_empty (queue_at s queue)) _ calls there refl
     (IsConsistent-done app s (with_item_peeked s task queue) core task (Queue queue Receiving)
-    (peeked app s core task queue (instr.Queue queue (Peek wait)) calls there))
+    (peeked app s core task queue (instr.Queue queue (Peek wait)) calls refl there))
 IsConsistent-queue_call app s core task queue Overwrite calls there =
     elim (is_empty (queue_at s queue)) as (λ b.
     IsConsistent app (all_have_time_left s.tick)
     (concluded (cond b (outcome_with_room (priorities_of app) s task queue Back)
     (replaced (priorities_of app) (with_item_over s task queue) queue (membership_of s queue))) core task)) [
-      | true ↦ sends app s core task queue Back (instr.Queue queue Overwrite) calls there
-      | false ↦ replaces app s core task queue (membership_of s queue) (instr.Queue queue Overwrite) calls there
+      | true ↦ sends app s core task queue Back (instr.Queue queue Overwrite) calls refl there
+      | false ↦ replaces app s core task queue (membership_of s queue) (instr.Queue queue Overwrite) calls refl there
     ]
 IsConsistent-queue_call app s core task queue Reset calls there =
     IsConsistent-done app s (with_no_items s queue) core task (Queue queue Sending)
-    (with_items_done app s core task queue Sending (instr.Queue queue Reset) [] calls there)
+    (with_items_done app s core task queue Sending (instr.Queue queue Reset) [] calls refl there)
 IsConsistent-queue_call app s core task queue Count calls there =
-    IsConsistent-returned_alone app s core task (length (items_at s queue)) (instr.Queue queue Count) calls
+    IsConsistent-returned_alone app s core task (length (items_at s queue)) (instr.Queue queue Count) calls refl
 IsConsistent-queue_call app s core task queue Spaces calls there =
-    IsConsistent-returned_alone app s core task ((queue_at s queue).capacity - length (items_at s queue)) (instr.Queue queue Spaces) calls
+    IsConsistent-returned_alone app s core task ((queue_at s queue).capacity - length (items_at s queue)) (instr.Queue queue Spaces) calls refl
 IsConsistent-queue_call app s core task queue (AddToSet number) calls there =
-    joins_or_not app s core task queue (Some number) (instr.Queue queue (AddToSet number)) (is_empty (queue_at s queue) && is_in_no_queue_set (membership_of s queue)) calls there
+    joins_or_not app s core task queue (Some number) (instr.Queue queue (AddToSet number)) (is_empty (queue_at s queue) && is_in_no_queue_set (membership_of s queue)) calls refl there
 IsConsistent-queue_call app s core task queue (RemoveFromSet number) calls there =
     joins_or_not app s core task queue None (instr.Queue queue (RemoveFromSet number)) (is_empty (queue_at s queue) && is_in_queue_set number (membership_of s queue)) calls
-    there
+    refl there
 
 -- and so does a call of a set.
 pub IsConsistent-queue_set_call : (app : Application) (s : Snapshot) (core task number : ℕ) (call : QueueSetCall) → RunsInstr app s core task (instr.QueueSet number call)
@@ -298,7 +302,7 @@ pub IsConsistent-queue_set_call : (app : Application) (s : Snapshot) (core task 
 IsConsistent-queue_set_call app s core task number (Select wait) calls there =
     IsConsistent-or_blocked app s core task (instr.QueueSet number (Select wait)) (QueueSet number) wait (has_no_handle (queue_set_at s number)) _ calls there refl
     (returns_done app s (with_handle_taken s number) core task (slice_index (queue_set_at s number).handles 0 + 1) (QueueSet number)
-    (with_handle_taken_done app s core task number (instr.QueueSet number (Select wait)) calls there))
+    (with_handle_taken_done app s core task number (instr.QueueSet number (Select wait)) calls refl there))
 
 -- ---- the tick
 

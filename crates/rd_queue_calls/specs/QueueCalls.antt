@@ -15,7 +15,7 @@ use Rattle.rd_queue.specs.Changes.{put_at, queue_applied}
 use Rattle.rd_queue.specs.QueueSnapshot.{QueueSnapshot}
 use Rattle.rd_queue.specs.Queues.{fitted, with_items}
 use Rattle.rd_state.specs.declared.phase.Cause.TheVariants.{SetFull}
-use Rattle.rd_state.specs.declared.phase.Place.TheVariants.{Queue}
+use Rattle.rd_state.specs.declared.phase.Listed.TheVariants.{Queue}
 use Rattle.rd_state.specs.Snapshot.{Snapshot, task_at, queue_at, with_queue, items_at}
 use Rattle.rd_kernel.specs.Costs.{data_cost, item_cost, waking_cost}
 use Rattle.rd_kernel.specs.Outcomes.{Called, blocked, call_returns, call_fails}
@@ -169,9 +169,17 @@ dropped_by s queue Spaces = 0
 dropped_by s queue (AddToSet queue_set) = 0
 dropped_by s queue (RemoveFromSet queue_set) = 0
 
--- the most of them all, beside the bytes that a reset drops
-abbrev pub queue_call_cost : ℕ
-queue_call_cost = receive_cost
+-- what a call takes in a record at the most: a reset also the bytes that it drops
+abbrev pub queue_call_cost : Snapshot → ℕ → QueueCall → ℕ
+queue_call_cost s queue (Send end wait) = send_cost
+queue_call_cost s queue (Receive wait) = receive_cost
+queue_call_cost s queue (Peek wait) = peek_cost
+queue_call_cost s queue Overwrite = overwrite_cost
+queue_call_cost s queue Reset = reset_cost + length (concat (items_at s queue))
+queue_call_cost s queue Count = 0
+queue_call_cost s queue Spaces = 0
+queue_call_cost s queue (AddToSet queue_set) = member_cost
+queue_call_cost s queue (RemoveFromSet queue_set) = member_cost
 
 -- The queue has room for the item that is put, and the queue's set has none for its handle.
 abbrev pub IsIntoFullQueueSet : Snapshot → ℕ → Type 0

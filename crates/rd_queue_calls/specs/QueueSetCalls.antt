@@ -6,7 +6,7 @@ use Rattle.rd_app.specs.declared.instr.QueueSetCall.{QueueSetCall}
 use Rattle.rd_app.specs.declared.instr.QueueSetCall.TheVariants.{Select}
 use Rattle.rd_queue.specs.QueueSetSnapshot.{QueueSetSnapshot}
 use Rattle.rd_queue.specs.QueueSets.{with_handles}
-use Rattle.rd_state.specs.declared.phase.Place.TheVariants.{QueueSet}
+use Rattle.rd_state.specs.declared.phase.Listed.TheVariants.{QueueSet}
 use Rattle.rd_state.specs.Snapshot.{Snapshot, queue_set_at, with_queue_set}
 use Rattle.rd_kernel.specs.Outcomes.{Called, blocked, call_returns}
 use Rattle.rd_kernel.specs.Waking.{may_wait}

@@ -37,7 +37,7 @@ use rd_queue::waiting_list::WaitingList;
 use rd_state::change::Change;
 use rd_state::editing::Editing;
 use rd_state::objects::ObjectChange;
-use rd_state::phase::{Cause, Place};
+use rd_state::phase::{Cause, Listed};
 use rd_state::transfer::{Sink, Source, Transfer};
 
 // The queue's first item becomes the task's data.
@@ -59,18 +59,18 @@ fn dequeue(editing: &mut Editing, task: usize, queue: usize) -> Result<(), NoMem
 }
 
 // Where tasks wait for an item of the queue, and for a free slot.
-fn receiving(queue: usize) -> Place
-    ensures { result ≡ Place.Queue queue WaitingList.Receiving }
+fn receiving(queue: usize) -> Listed
+    ensures { result ≡ Listed.Queue queue WaitingList.Receiving }
 {
     let list = WaitingList::Receiving;
-    Place::Queue { queue, list }
+    Listed::Queue { queue, list }
 }
 
-fn sending(queue: usize) -> Place
-    ensures { result ≡ Place.Queue queue WaitingList.Sending }
+fn sending(queue: usize) -> Listed
+    ensures { result ≡ Listed.Queue queue WaitingList.Sending }
 {
     let list = WaitingList::Sending;
-    Place::Queue { queue, list }
+    Listed::Queue { queue, list }
 }
 
 // Puts the task's data at an end of a queue with room for it, unless its set is full.
@@ -290,11 +290,11 @@ pub fn call_queue(
     requires registers { IsQueueCall (length editing.old.now.objects.queue_sets) call }
     ensures ok { IfOk result (DoesCall editing.old editing.new
         (queue_outcome (priorities_of app.now) editing.old.now task queue call)
-        (queue_call_cost + dropped_by editing.old.now queue call)) }
+        (queue_call_cost editing.old.now queue call)) }
     ensures nothing { ChangesNothing editing.old.now task queue call → IsOk result }
     ensures stays { OnOk result (KeepsPc editing.old.now editing.new.now task) }
     ensures err { OnErr result (GivesUp editing.old editing.new
-        (queue_call_cost + dropped_by editing.old.now queue call)) }
+        (queue_call_cost editing.old.now queue call)) }
 {
     match call {
         QueueCall::Send { end, wait } => send(app, editing, task, queue, end, wait),

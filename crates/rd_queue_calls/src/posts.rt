@@ -16,7 +16,7 @@ use rd_queue::waiting_list::WaitingList;
 use rd_state::change::Change;
 use rd_state::editing::Editing;
 use rd_state::objects::ObjectChange;
-use rd_state::phase::Place;
+use rd_state::phase::Listed;
 use rd_state::state::State;
 
 /// Has the set that a queue is a member of, if it is one, no room for one handle more?
@@ -50,11 +50,11 @@ pub fn post(
 {
     let Some(queue_set) = queue_set else {
         let list = WaitingList::Receiving;
-        return pass(editing, app.priorities(), Place::Queue { queue, list });
+        return pass(editing, app.priorities(), Listed::Queue { queue, list });
     };
     let _ = editing.state().queue_set(queue_set);
     let change = QueueSetChange::PushHandle { queue };
     let change = ObjectChange::QueueSet { queue_set, change };
     editing.change(Change::Object { change })?;
-    pass(editing, app.priorities(), Place::QueueSet { queue_set })
+    pass(editing, app.priorities(), Listed::QueueSet { queue_set })
 }

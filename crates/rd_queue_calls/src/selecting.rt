@@ -20,7 +20,7 @@ use rd_queue::queue_set_change::QueueSetChange;
 use rd_state::change::Change;
 use rd_state::editing::Editing;
 use rd_state::objects::ObjectChange;
-use rd_state::phase::Place;
+use rd_state::phase::Listed;
 
 // Takes the set's oldest handle (`xQueueSelectFromSet`), or waits for one.
 fn select(
@@ -42,7 +42,7 @@ fn select(
     ensures err { OnErr result (GivesUp editing.old editing.new queue_set_call_cost) }
 {
     if editing.state().queue_set(queue_set).count() == 0 {
-        return block(app, editing, task, Place::QueueSet { queue_set }, wait);
+        return block(app, editing, task, Listed::QueueSet { queue_set }, wait);
     }
     app.limits();
     let queue = editing.state().queue_set(queue_set).first_handle();

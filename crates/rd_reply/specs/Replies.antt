@@ -19,8 +19,10 @@ use Rattle.rd_state.specs.declared.phase.Cause.{Cause}
 use Rattle.rd_state.specs.declared.phase.Cause.TheVariants.{SetFull}
 use Rattle.rd_state.specs.declared.phase.Phase.{Phase}
 use Rattle.rd_state.specs.declared.phase.Phase.TheVariants.{Run, Again, Wait, Ended, Failed}
+use Rattle.rd_state.specs.declared.phase.Listed.{Listed}
+use Rattle.rd_state.specs.declared.phase.Listed.TheVariants.{Queue, QueueSet}
 use Rattle.rd_state.specs.declared.phase.Place.{Place}
-use Rattle.rd_state.specs.declared.phase.Place.TheVariants.{Queue, QueueSet}
+use Rattle.rd_state.specs.declared.phase.Place.TheVariants as sort
 use Rattle.rd_state.specs.Snapshot.{Snapshot, TaskSnapshot}
 use Rattle.rd_reply.specs.Names.{name_at, name_or_dash}
 use Rattle.rd_reply.specs.declared.reply.Reply.{Reply}
@@ -78,11 +80,16 @@ abbrev pub list_name : WaitingList → List ℕ
 list_name Receiving = codes "recv"
 list_name Sending = codes "send"
 
--- a place where tasks wait, by the name of its queue or of its set
-abbrev pub place_text : Application → Place → List ℕ
-place_text app (Queue queue list) =
+-- a list in which tasks wait, by the name of its queue or of its set
+abbrev pub listed_text : Application → Listed → List ℕ
+listed_text app (Queue queue list) =
     list_name list ++ codes ":" ++ name_at app.objects.queues.names queue
-place_text app (QueueSet queue_set) = codes "set:" ++ name_at app.objects.queue_sets.names queue_set
+listed_text app (QueueSet queue_set) = codes "set:" ++ name_at app.objects.queue_sets.names queue_set
+
+-- a place where tasks wait: its list, or the index of an entry
+abbrev pub place_text : Application → Place → List ℕ
+place_text app (sort.Listed list) = listed_text app list
+place_text app (sort.Entry index) = codes "note:" ++ decimal index
 
 -- why a call failed
 abbrev pub cause_text : Cause → List ℕ

@@ -5,13 +5,14 @@ ghost use Rattle.std.specs.Prelude.{◌≡◌, ◌+◌, ◌++◌, ◌≤◌, dec
 ghost use Rattle.std.specs.Prelude.{All, IsOk, OnErr, OnOk, vec_capacity, vec_len};
 ghost use Rattle.rd_app.specs.Application.{names_of};
 ghost use Rattle.rd_state.specs.Objects.{numbers_named};
-ghost use Rattle.rd_state.specs.Waiting.{IsPlace};
+ghost use Rattle.rd_state.specs.Waiting.{IsList, IsPlace};
 ghost use Rattle.rd_reply.specs.Names.{name_at, name_or_dash};
 ghost use Rattle.rd_reply.specs.Names.{IsNamed, IsNamedOrNone, PlaceIsNamed};
 ghost use Rattle.rd_reply.specs.Names.{QueueIsNamed, QueueSetIsNamed, SeatedAreNamed};
 ghost use Rattle.rd_reply.specs.Replies.{line_of, refusal_text, reply_text, list_text};
 ghost use Rattle.rd_reply.specs.Replies.{bytes_text, comma_at};
-ghost use Rattle.rd_reply.specs.Replies.{deadline_text, list_name, place_text, cause_text};
+ghost use Rattle.rd_reply.specs.Replies.{cause_text, deadline_text, list_name, listed_text};
+ghost use Rattle.rd_reply.specs.Replies.{place_text};
 ghost use Rattle.rd_reply.specs.Replies.{phase_text, entry_text};
 ghost use Rattle.rd_reply.specs.Replies.{counts_text, contents_text, waiting_text};
 ghost use Rattle.rd_reply.specs.Replies.{membership_text, queue_text};
@@ -28,7 +29,7 @@ use rd_notify::entries::{Entry, EntryState};
 use rd_queue::queue::Queue;
 use rd_queue::queue_set::QueueSet;
 use rd_queue::waiting_list::WaitingList;
-use rd_state::phase::{Cause, Phase, Place};
+use rd_state::phase::{Cause, Listed, Phase, Place};
 use rd_state::state::State;
 use rd_state::task::Task;
 use rd_text::kind::Kind;
@@ -283,20 +284,34 @@ fn list_name(list: WaitingList) -> &'static str
     }
 }
 
+// The list in which a task waits.
+fn append_listed(page: &mut Page<'_>, app: &App, list: Listed)
+    requires { IsList (numbers_named app.now.objects) list }
+    ensures { Appends page.old page.new (listed_text app.now list) }
+{
+    match list {
+        Listed::Queue { queue, list } => {
+            page.append(list_name(list));
+            page.append(":");
+            append_name(page, app, Kind::Queue, queue);
+        }
+        Listed::QueueSet { queue_set } => {
+            page.append("set:");
+            append_name(page, app, Kind::QueueSet, queue_set);
+        }
+    }
+}
+
 // Where a task waits.
 fn append_place(page: &mut Page<'_>, app: &App, place: Place)
     requires { IsPlace (numbers_named app.now.objects) place }
     ensures { Appends page.old page.new (place_text app.now place) }
 {
     match place {
-        Place::Queue { queue, list } => {
-            page.append(list_name(list));
-            page.append(":");
-            append_name(page, app, Kind::Queue, queue);
-        }
-        Place::QueueSet { queue_set } => {
-            page.append("set:");
-            append_name(page, app, Kind::QueueSet, queue_set);
+        Place::Listed { list } => append_listed(page, app, list),
+        Place::Entry { index } => {
+            page.append("note:");
+            append_number(page, index);
         }
     }
 }

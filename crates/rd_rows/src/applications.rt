@@ -34,6 +34,17 @@ macro_rules! file_with_queue_sets {
     };
 }
 
+// The file of two tasks with two notifications each, of which t0 has this code.
+macro_rules! file_with_two_notes {
+    ($code:literal) => {
+        concat!(
+            r#"{"profile":1,"cores":1,"notes":2,"tasks":[{"name":"t0","priority":1,"code":["#,
+            $code,
+            r#"]},{"name":"t1","priority":1,"code":["end"]}]}"#
+        )
+    };
+}
+
 // What the program writes to its errors, by the fault that it finds.
 const NOT_JSON: &str = "rdbg: application refused: L1 NotJson\n";
 
@@ -184,10 +195,112 @@ const REFUSED_QUEUE_SETS: [Refused; 8] = [
     },
 ];
 
+const REFUSED_NOTIFICATIONS: [Refused; 23] = [
+    Refused {
+        text: file_with_two_notes!(r#""notify t2 0 5 set","end""#),
+        errors: NAME,
+    },
+    Refused {
+        text: file_with_two_notes!(r#""notify t1 2 5 set","end""#),
+        errors: INSTR,
+    },
+    Refused {
+        text: file_with_two_notes!(r#""notify t1 0 5 max","end""#),
+        errors: INSTR,
+    },
+    Refused {
+        text: file_with_two_notes!(r#""notify t1 0 5","end""#),
+        errors: INSTR,
+    },
+    Refused {
+        text: file_with_two_notes!(r#""notify t2 0 5 swap","end""#),
+        errors: INSTR,
+    },
+    Refused {
+        text: file_with_two_notes!(r#""query t2 1 5 inc","end""#),
+        errors: NAME,
+    },
+    Refused {
+        text: file_with_two_notes!(r#""query t1 2 5 inc","end""#),
+        errors: INSTR,
+    },
+    Refused {
+        text: file_with_two_notes!(r#""query t1 1 inc","end""#),
+        errors: INSTR,
+    },
+    Refused {
+        text: file_with_two_notes!(r#""take 2 clear 0","end""#),
+        errors: INSTR,
+    },
+    Refused {
+        text: file_with_two_notes!(r#""take 1 none 0","end""#),
+        errors: INSTR,
+    },
+    Refused {
+        text: file_with_two_notes!(r#""take 1 dec","end""#),
+        errors: INSTR,
+    },
+    Refused {
+        text: file_with_two_notes!(r#""nwait 2 0 0 max","end""#),
+        errors: INSTR,
+    },
+    Refused {
+        text: file_with_two_notes!(r#""nwait 1 0 max 0","end""#),
+        errors: INSTR,
+    },
+    Refused {
+        text: file_with_two_notes!(r#""nwait 1 0 0","end""#),
+        errors: INSTR,
+    },
+    Refused {
+        text: file_with_two_notes!(r#""nclear t2 1","end""#),
+        errors: NAME,
+    },
+    Refused {
+        text: file_with_two_notes!(r#""nclear t1 2","end""#),
+        errors: INSTR,
+    },
+    Refused {
+        text: file_with_two_notes!(r#""nclear t1","end""#),
+        errors: INSTR,
+    },
+    Refused {
+        text: file_with_two_notes!(r#""vclear t2 1 0","end""#),
+        errors: NAME,
+    },
+    Refused {
+        text: file_with_two_notes!(r#""vclear t1 2 0","end""#),
+        errors: INSTR,
+    },
+    Refused {
+        text: file_with_two_notes!(r#""vclear t2 1 r8","end""#),
+        errors: INSTR,
+    },
+    Refused {
+        text: file_with_code!(r#""notify t0 1 5 set","end""#),
+        errors: INSTR,
+    },
+    Refused {
+        text: concat!(
+            r#"{"profile":1,"cores":1,"notes":0,"#,
+            r#""tasks":[{"name":"t0","priority":1,"code":["end"]}]}"#
+        ),
+        errors: LIMIT,
+    },
+    Refused {
+        text: concat!(
+            r#"{"profile":1,"cores":1,"notes":5,"#,
+            r#""tasks":[{"name":"t0","priority":1,"code":["end"]}]}"#
+        ),
+        errors: LIMIT,
+    },
+];
+
 #[test]
 fn refused_files(rt: HostRuntime) -> Result<(), Fail> {
     assert_refused(&rt, &REFUSED_FILES)?;
-    assert_refused(&rt, &REFUSED_QUEUE_SETS)
+    assert_refused(&rt, &REFUSED_QUEUE_SETS)?;
+    assert_refused(&rt, &REFUSED_NOTIFICATIONS)
 }
 
 const ROWS: [Row; 4] = [

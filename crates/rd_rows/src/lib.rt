@@ -8,6 +8,8 @@ mod asserts;
 #[cfg(test)]
 mod memory;
 #[cfg(test)]
+mod notifications;
+#[cfg(test)]
 mod programs;
 #[cfg(test)]
 mod queue_sets;

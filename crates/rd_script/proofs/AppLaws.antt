@@ -17,7 +17,8 @@ use Rattle.rd_script.specs.declared.error.AppError.TheVariants as fault
 use Rattle.rd_script.specs.Values.{object_with, field, number_in, number_or, array_in, nothing_named, IsNumberOr}
 use Rattle.rd_script.specs.Objects.{file_keys, objects_of}
 use Rattle.rd_script.specs.File.{TaskDraft, task_of, tasks_after, scripts_after, AppDraft, draft_of, with_scripts, app_of, app_of_text, app_of_bytes, checked}
-use Rattle.rd_script.specs.File.{GivesFaultFirst, GivesOrNoMemory}
+use Rattle.rd_script.specs.File.{GivesFaultFirst, GivesOrNoMemory, scope_of_draft}
+use Rattle.rd_script.specs.Scope.{scope_of}
 use Rattle.rd_script.specs.Says.{Says, FileSays}
 use Rattle.rd_script.specs.Spelling.{◌>>=◌}
 use Rattle.rd_script.proofs.NamedLaws.{AllByRecursion-first, length_named, named_again, named_take, each_again, each_takes, no_names, said_named}
@@ -50,7 +51,7 @@ pub record IsRead (d : Data) (app : Application) (profile cores tasks : Data) (t
   pub objects : objects_of d ≡ Ok app.objects
   pub task_array : array_in 1 32 tasks ≡ Ok task_items
   pub drafts_are : tasks_after nothing_named task_items ≡ Ok (drafts_of app drafts)
-  pub scripts : scripts_after app.objects [] drafts ≡ Ok app.tasks.things
+  pub scripts : scripts_after (scope_of app) [] drafts ≡ Ok app.tasks.things
 
 pub read_takes : (d : Data) (app : Application) (profile cores tasks : Data) (task_items : Items) (drafts : List TaskDraft)
     → IsRead d app profile cores tasks task_items drafts → Says d app task_items × IsApplication app
@@ -65,13 +66,13 @@ read_takes d app profile cores tasks task_items drafts read =
     named_take (λ before. task_of before.names) task.IsDraft (AllByRecursion task.IsDraftInLimits)
     (each_takes task_of task.IsDraft task.IsDraftInLimits task.task_takes) task_items nothing_named (drafts_of app drafts) read.drafts_are
     (record { are_names = no_names; are_things = tt }) in
-    let scripts = scripts_take app.objects drafts [] app.tasks.things read.scripts in
+    let scripts = scripts_take (scope_of app) drafts [] app.tasks.things read.scripts in
     let drafts_said : task.AreDrafts task_items app.tasks.names drafts =
     said_named task.IsDraft task_items (drafts_of app drafts) taken.0 taken.1 taken.2.names_are taken.2.things_are taken.2.said in
-    let scripts_said : AreScripts app.objects drafts app.tasks.things = subst (AreScripts app.objects drafts) (sym scripts.1) scripts.2 in
-    let tasks_said = task.tasks_said app.objects task_items app.tasks.names drafts app.tasks.things drafts_said scripts_said in
+    let scripts_said : AreScripts (scope_of app) drafts app.tasks.things = subst (AreScripts (scope_of app) drafts) (sym scripts.1) scripts.2 in
+    let tasks_said = task.tasks_said (scope_of app) task_items app.tasks.names drafts app.tasks.things drafts_said scripts_said in
     let count = (length_named task.IsDraft task_items app.tasks.names drafts drafts_said).0 in
-    let within = task.scripts_in_limits app drafts app.tasks.things objects.1 taken.2.kept.are_things scripts_said in (
+    let within = task.scripts_in_limits app drafts app.tasks.things (record { objects = objects.1; tasks = tasks_said.1 }) taken.2.kept.are_things scripts_said in (
       record {
         keys = object_ok file_keys d tt read.keys;
         profile_at = field_ok (codes "profile") d profile read.profile_at ∙ ap Some one.0;
@@ -127,7 +128,7 @@ pub app_takes : (d : Data) (app : Application) → app_of d ≡ Ok app
 unfolding draft_of
 app_takes d app e =
     let drafted = bind_ok (draft_of d) with_scripts app e in
-    let scripts = bind_ok (scripts_after drafted.0.objects [] drafted.0.tasks.things) _ app drafted.2 in
+    let scripts = bind_ok (scripts_after (scope_of_draft drafted.0) [] drafted.0.tasks.things) _ app drafted.2 in
     let keys = bind_ok (object_with file_keys d) _ drafted.0 drafted.1 in
     let profile = bind_ok (field (codes "profile") d) _ drafted.0 keys.2 in
     let cores = bind_ok (field (codes "cores") d) _ drafted.0 profile.2 in
@@ -161,7 +162,7 @@ app_takes d app e =
       objects = objects.1;
       task_array = task_items.1;
       drafts_are = drafts.1;
-      scripts = ap (λ (draft : AppDraft). scripts_after draft.objects [] draft.tasks.things) {x = draft} draft_is ∙ scripts.1;
+      scripts = ap (λ (draft : AppDraft). scripts_after (scope_of_draft draft) [] draft.tasks.things) {x = draft} draft_is ∙ scripts.1;
     }) in
     let says = subst (λ (app : Application). Says d app task_items.0) {x = made} is all.0 in
     (task_items.0, says, subst IsApplication {x = made} is all.1)
@@ -205,13 +206,13 @@ app_read : (d : Data) (app : Application) (profile cores tasks : Data) (task_ite
     → IsRead d app profile cores tasks task_items drafts → app_of d ≡ Ok app
 app_read d app profile cores tasks task_items drafts read =
     then_is (draft_of d) with_scripts (draft_from app drafts) _ (draft_read d app profile cores tasks task_items drafts read)
-    (then_is (scripts_after app.objects [] drafts) _ app.tasks.things _ read.scripts refl)
+    (then_is (scripts_after (scope_of app) [] drafts) _ app.tasks.things _ read.scripts refl)
 
 pub app_again : (d : Data) (app : Application) (task_items : Items) → Says d app task_items → IsApplication app
     → app_of d ≡ Ok app
 app_again d app task_items says limits =
     let scripts = recursion_from_All (IsScript app) app.tasks.things limits.tasks in
-    let split = task.tasks_split app app.objects task_items app.tasks.names app.tasks.things says.tasks scripts in
+    let split = task.tasks_split app (scope_of app) task_items app.tasks.names app.tasks.things says.tasks scripts in
     let count = (length_named task.IsDraft task_items app.tasks.names split.0 split.1).0 in
     app_read d app (number (unsigned 1)) (number (unsigned app.cores)) (array task_items) task_items split.0 (record {
       keys = object_again file_keys d says.keys;
@@ -227,7 +228,7 @@ app_again d app task_items says limits =
           (omega (arith, count, limits.few_tasks, limits.named_tasks.paired));
       drafts_are = named_again (λ before. task_of before.names) task.IsDraft (AllByRecursion task.IsReadable) (AllByRecursion-first task.IsReadable)
           (each_again task_of task.IsDraft task.IsReadable task.draft_again) task_items nothing_named app.tasks.names split.0 split.1 limits.named_tasks.names split.2;
-      scripts = scripts_again app.objects split.0 [] app.tasks.things split.3;
+      scripts = scripts_again (scope_of app) split.0 [] app.tasks.things split.3;
     })
 
 -- ---- the bytes of a file
@@ -270,27 +271,27 @@ pub at_any : (r : Result Application AppError) (read : Result Application AppErr
 at_any (Ok app) read h = h
 at_any (Err e) read h = λ other. elim h [ inl is ↦ is | inr memory ↦ absurd (other memory.0) ]
 
-kept_app : (d : Data) (draft : AppDraft) (r : Result (List TaskScript) AppError) → draft_of d ≡ Ok draft → scripts_after draft.objects [] draft.tasks.things ≡ r
+kept_app : (d : Data) (draft : AppDraft) (r : Result (List TaskScript) AppError) → draft_of d ≡ Ok draft → scripts_after (scope_of_draft draft) [] draft.tasks.things ≡ r
     → checked r ≡ Ok tt
     → IsOkAnd (r >>= λ scripts. Ok (app_with draft scripts)) IsApplication
 kept_app d draft (Ok scripts) drafted e h =
     (app_takes d (app_with draft scripts)
-    (then_is (draft_of d) with_scripts draft _ drafted (then_is (scripts_after draft.objects [] draft.tasks.things) _ scripts _ e refl))).2
+    (then_is (draft_of d) with_scripts draft _ drafted (then_is (scripts_after (scope_of_draft draft) [] draft.tasks.things) _ scripts _ e refl))).2
 kept_app d draft (Err x) drafted e h = absurd cc
 
 -- a draft whose scripts were checked is an application within the limits
-pub checked_app : (d : Data) (draft : AppDraft) → draft_of d ≡ Ok draft → checked (scripts_after draft.objects [] draft.tasks.things) ≡ Ok tt
+pub checked_app : (d : Data) (draft : AppDraft) → draft_of d ≡ Ok draft → checked (scripts_after (scope_of_draft draft) [] draft.tasks.things) ≡ Ok tt
     → IsOkAnd (with_scripts draft) IsApplication
-checked_app d draft drafted h = kept_app d draft (scripts_after draft.objects [] draft.tasks.things) drafted refl h
+checked_app d draft drafted h = kept_app d draft (scripts_after (scope_of_draft draft) [] draft.tasks.things) drafted refl h
 
 fault_kept : (r : Result (List TaskScript) AppError) (f : List TaskScript → Result Application AppError) (e : AppError) → checked r ≡ Err e → (r >>= f) ≡ Err e
 fault_kept (Ok scripts) f e h = absurd cc
 fault_kept (Err d) f e h = cc
 
 -- a draft with a fault in its scripts is no application
-pub fault_found : (d : Data) (draft : AppDraft) (e : AppError) → draft_of d ≡ Ok draft → checked (scripts_after draft.objects [] draft.tasks.things) ≡ Err e
+pub fault_found : (d : Data) (draft : AppDraft) (e : AppError) → draft_of d ≡ Ok draft → checked (scripts_after (scope_of_draft draft) [] draft.tasks.things) ≡ Err e
     → app_of d ≡ Err e
-fault_found d draft e drafted h = then_is (draft_of d) with_scripts draft (Err e) drafted (fault_kept (scripts_after draft.objects [] draft.tasks.things) _ e h)
+fault_found d draft e drafted h = then_is (draft_of d) with_scripts draft (Err e) drafted (fault_kept (scripts_after (scope_of_draft draft) [] draft.tasks.things) _ e h)
 
 pub file_again : (bytes : List ℕ) (app : Application) → FileSays bytes app → IsApplication app → app_of_bytes bytes ≡ Ok app
 file_again bytes app says limits =

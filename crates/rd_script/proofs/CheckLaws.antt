@@ -8,15 +8,15 @@ use Rattle.rd_app.specs.declared.instr.Instr.{Instr}
 use Rattle.serde_json.specs.Data.{Data, Items, no_items, item}
 use Rattle.serde_json.specs.Events.{items_len}
 use Rattle.rd_app.specs.Application.{is_final}
-use Rattle.rd_app.specs.Objects.{NamedObjects}
+use Rattle.rd_script.specs.Scope.{Scope}
 use Rattle.rd_script.specs.File.{TaskDraft, instr_of_value, ends_script, instrs_after, ends, instrs_of, scripts_after, checked}
 use Rattle.rd_script.specs.Spelling.{◌>>=◌}
 use Rattle.rd_app.specs.TaskScript.{TaskScript}
 
 -- what is left to check of a script, where the instruction before ends it or not
-abbrev pub check_values : NamedObjects → ℕ → Bool → Items → Result (Unit {0}) AppError
-check_values objects len ended no_items = cond ended (Ok tt) (Err fault.Instr)
-check_values objects len ended (item d ds) = ends_script objects len d >>= λ ended. check_values objects len ended ds
+abbrev pub check_values : Scope → ℕ → Bool → Items → Result (Unit {0}) AppError
+check_values scope len ended no_items = cond ended (Ok tt) (Err fault.Instr)
+check_values scope len ended (item d ds) = ends_script scope len d >>= λ ended. check_values scope len ended ds
 
 abbrev closed : List Instr → Result (List Instr) AppError
 closed code = cond (ends code) (Ok code) (Err fault.Instr)
@@ -35,48 +35,48 @@ closed_end : (b : Bool) (code : List Instr) → cond b (Ok tt) (Err fault.Instr)
 closed_end true code = refl
 closed_end false code = refl
 
-check_next : (r : Result Instr AppError) (objects : NamedObjects) (len : ℕ) (before : List Instr) (ds : Items)
-    → ((i : Instr) → check_values objects len (ends (before ++ i ∷ [])) ds ≡ checked (instrs_after objects len (before ++ i ∷ []) ds >>= closed))
-    → ((r >>= λ i. Ok (is_final i)) >>= λ ended. check_values objects len ended ds) ≡ checked
-    ((r >>= λ i. instrs_after objects len (before ++ i ∷ []) ds) >>= closed)
-check_next (Ok i) objects len before ds h = ap (λ b. check_values objects len b ds) (sym (ends-push before i)) ∙ h i
-check_next (Err e) objects len before ds h = refl
+check_next : (r : Result Instr AppError) (scope : Scope) (len : ℕ) (before : List Instr) (ds : Items)
+    → ((i : Instr) → check_values scope len (ends (before ++ i ∷ [])) ds ≡ checked (instrs_after scope len (before ++ i ∷ []) ds >>= closed))
+    → ((r >>= λ i. Ok (is_final i)) >>= λ ended. check_values scope len ended ds) ≡ checked
+    ((r >>= λ i. instrs_after scope len (before ++ i ∷ []) ds) >>= closed)
+check_next (Ok i) scope len before ds h = ap (λ b. check_values scope len b ds) (sym (ends-push before i)) ∙ h i
+check_next (Err e) scope len before ds h = refl
 
-check_all : (objects : NamedObjects) (len : ℕ) (before : List Instr) (ds : Items)
-    → check_values objects len (ends before) ds ≡ checked (instrs_after objects len before ds >>= closed)
-check_all objects len before no_items = closed_end (ends before) before
-check_all objects len before (item d ds) =
-    check_next (instr_of_value objects len d) objects len before ds (λ i. check_all objects len (before ++ i ∷ []) ds)
+check_all : (scope : Scope) (len : ℕ) (before : List Instr) (ds : Items)
+    → check_values scope len (ends before) ds ≡ checked (instrs_after scope len before ds >>= closed)
+check_all scope len before no_items = closed_end (ends before) before
+check_all scope len before (item d ds) =
+    check_next (instr_of_value scope len d) scope len before ds (λ i. check_all scope len (before ++ i ∷ []) ds)
 
 -- checking a script from its first instruction on
-pub check_is : (objects : NamedObjects) (values : Items) → check_values objects (items_len values) false values ≡ checked (instrs_of objects values)
+pub check_is : (scope : Scope) (values : Items) → check_values scope (items_len values) false values ≡ checked (instrs_of scope values)
 unfolding instrs_of
-check_is objects values = check_all objects (items_len values) [] values
+check_is scope values = check_all scope (items_len values) [] values
 
 -- ---- scripts
 
-kept_next : (r : Result (List Instr) AppError) (objects : NamedObjects) (drafts : List TaskDraft) (f g : List Instr → List TaskScript)
-    → ((code : List Instr) → checked (scripts_after objects (f code) drafts) ≡ checked (scripts_after objects (g code) drafts))
-    → checked (r >>= λ code. scripts_after objects (f code) drafts) ≡ checked (r >>= λ code. scripts_after objects (g code) drafts)
-kept_next (Ok code) objects drafts f g h = h code
-kept_next (Err e) objects drafts f g h = refl
+kept_next : (r : Result (List Instr) AppError) (scope : Scope) (drafts : List TaskDraft) (f g : List Instr → List TaskScript)
+    → ((code : List Instr) → checked (scripts_after scope (f code) drafts) ≡ checked (scripts_after scope (g code) drafts))
+    → checked (r >>= λ code. scripts_after scope (f code) drafts) ≡ checked (r >>= λ code. scripts_after scope (g code) drafts)
+kept_next (Ok code) scope drafts f g h = h code
+kept_next (Err e) scope drafts f g h = refl
 
 -- the scripts before don't count
-kept_any : (objects : NamedObjects) (before others : List TaskScript) (drafts : List TaskDraft)
-    → checked (scripts_after objects before drafts) ≡ checked (scripts_after objects others drafts)
-kept_any objects before others [] = refl
-kept_any objects before others (draft ∷ drafts) =
-    kept_next (instrs_of objects draft.code) objects drafts _ _ (λ code. kept_any objects _ _ drafts)
+kept_any : (scope : Scope) (before others : List TaskScript) (drafts : List TaskDraft)
+    → checked (scripts_after scope before drafts) ≡ checked (scripts_after scope others drafts)
+kept_any scope before others [] = refl
+kept_any scope before others (draft ∷ drafts) =
+    kept_next (instrs_of scope draft.code) scope drafts _ _ (λ code. kept_any scope _ _ drafts)
 
-first_checked : (r : Result (List Instr) AppError) (objects : NamedObjects) (drafts : List TaskDraft) (f : List Instr → List TaskScript)
-    → checked r ≡ Ok tt → checked (r >>= λ code. scripts_after objects (f code) drafts) ≡ checked (scripts_after objects [] drafts)
-first_checked (Ok code) objects drafts f e = kept_any objects (f code) [] drafts
-first_checked (Err d) objects drafts f e = absurd cc
+first_checked : (r : Result (List Instr) AppError) (scope : Scope) (drafts : List TaskDraft) (f : List Instr → List TaskScript)
+    → checked r ≡ Ok tt → checked (r >>= λ code. scripts_after scope (f code) drafts) ≡ checked (scripts_after scope [] drafts)
+first_checked (Ok code) scope drafts f e = kept_any scope (f code) [] drafts
+first_checked (Err d) scope drafts f e = absurd cc
 
 -- a script without a fault
-pub scripts_checked : (objects : NamedObjects) (draft : TaskDraft) (drafts : List TaskDraft) → checked (instrs_of objects draft.code) ≡ Ok tt
-    → checked (scripts_after objects [] (draft ∷ drafts)) ≡ checked (scripts_after objects [] drafts)
-scripts_checked objects draft drafts e = first_checked (instrs_of objects draft.code) objects drafts _ e
+pub scripts_checked : (scope : Scope) (draft : TaskDraft) (drafts : List TaskDraft) → checked (instrs_of scope draft.code) ≡ Ok tt
+    → checked (scripts_after scope [] (draft ∷ drafts)) ≡ checked (scripts_after scope [] drafts)
+scripts_checked scope draft drafts e = first_checked (instrs_of scope draft.code) scope drafts _ e
 
 -- ---- what is kept is without a fault
 
@@ -84,24 +84,24 @@ bind_is_ok : {A B : Type 0} (r : Result A AppError) (f : A → Result B AppError
 bind_is_ok (Ok x) f h = refl
 bind_is_ok (Err e) f h = absurd cc
 
-pub value_is_ok : (objects : NamedObjects) (len : ℕ) (before : List Instr) (d : Data) (ds : Items) → IsOk (instrs_after objects len before (item d ds))
-    → IsOk (instr_of_value objects len d)
-value_is_ok objects len before d ds h = bind_is_ok (instr_of_value objects len d) _ h
+pub value_is_ok : (scope : Scope) (len : ℕ) (before : List Instr) (d : Data) (ds : Items) → IsOk (instrs_after scope len before (item d ds))
+    → IsOk (instr_of_value scope len d)
+value_is_ok scope len before d ds h = bind_is_ok (instr_of_value scope len d) _ h
 
-pub values_are_ok : (objects : NamedObjects) (values : Items) → IsOk (instrs_of objects values) → IsOk (instrs_after objects (items_len values) [] values)
+pub values_are_ok : (scope : Scope) (values : Items) → IsOk (instrs_of scope values) → IsOk (instrs_after scope (items_len values) [] values)
 unfolding instrs_of
-values_are_ok objects values h = bind_is_ok (instrs_after objects (items_len values) [] values) _ h
+values_are_ok scope values h = bind_is_ok (instrs_after scope (items_len values) [] values) _ h
 
 closed_kept : (b : Bool) (code : List Instr) → IsOk (cond b (Ok code) (Err fault.Instr)) → cond b (Ok code) (Err fault.Instr) ≡ Ok code
 closed_kept true code h = refl
 closed_kept false code h = absurd cc
 
 -- the instructions that were kept are the script's
-pub code_kept : (objects : NamedObjects) (values : Items) (code : List Instr) → IsOk (instrs_of objects values)
-    → instrs_after objects (items_len values) [] values ≡ Ok code → instrs_of objects values ≡ Ok code
+pub code_kept : (scope : Scope) (values : Items) (code : List Instr) → IsOk (instrs_of scope values)
+    → instrs_after scope (items_len values) [] values ≡ Ok code → instrs_of scope values ≡ Ok code
 unfolding instrs_of
-code_kept objects values code ok is =
-    let all : (instrs_after objects (items_len values) [] values >>= closed) ≡ closed code = ap (λ (r : Result (List Instr) AppError). r >>= closed) is in
+code_kept scope values code ok is =
+    let all : (instrs_after scope (items_len values) [] values >>= closed) ≡ closed code = ap (λ (r : Result (List Instr) AppError). r >>= closed) is in
     all ∙ closed_kept (ends code) code (ap is_ok (sym all) ∙ ok)
 
 -- the values from an index on, each as it is seen

@@ -9,7 +9,7 @@ use Rattle.std.proofs.lemmas.Slice.Eq.{bytes_eq-Decides}
 use Rattle.rd_app.specs.Application.{Application, IsOperand, IsWithin}
 use Rattle.rd_app.specs.Objects.{AreObjects, names_in}
 use Rattle.rd_script.specs.declared.keyword.Parameter.{Parameter}
-use Rattle.rd_script.specs.declared.keyword.Parameter.TheVariants.{Register, Number, Target, Data, Time, Name}
+use Rattle.rd_script.specs.declared.keyword.Parameter.TheVariants.{Register, Number, Target, Data, Time, Operand, Index, Action, OnExit, Name}
 use Rattle.rd_script.specs.declared.keyword.Keyword.{Keyword}
 use Rattle.rd_script.specs.declared.keyword.Keyword.TheVariants as keyword
 use Rattle.rd_script.specs.declared.keyword.LocalKeyword.{LocalKeyword}
@@ -18,7 +18,9 @@ use Rattle.rd_script.specs.declared.keyword.QueueKeyword.{QueueKeyword}
 use Rattle.rd_script.specs.declared.keyword.QueueKeyword.TheVariants.{Send, Front, Receive, Peek, Overwrite, Reset, Count, Spaces, AddToSet, RemoveFromSet}
 use Rattle.rd_script.specs.declared.keyword.QueueSetKeyword.{QueueSetKeyword}
 use Rattle.rd_script.specs.declared.keyword.QueueSetKeyword.TheVariants.{Select}
-use Rattle.rd_script.specs.Keywords.{Makes, Row, Value, Written, first_written, keyword_of, local_row, operands_of, queue_row, row_of, queue_set_row, text_of, texts_of}
+use Rattle.rd_script.specs.declared.keyword.NotifyKeyword.{NotifyKeyword}
+use Rattle.rd_script.specs.declared.keyword.NotifyKeyword.TheVariants as told
+use Rattle.rd_script.specs.Keywords.{Makes, Row, Value, Written, first_written, keyword_of, local_row, notify_row, operands_of, queue_row, row_of, queue_set_row, text_of, texts_of}
 use Rattle.rd_script.specs.Spelling.{IsForQueue}
 
 same_bytes : (xs ys : List ℕ) → bytes_eq xs ys ≡ true → xs ≡ ys
@@ -93,10 +95,24 @@ queue_again RemoveFromSet = refl
 queue_set_again : (k : QueueSetKeyword) → keyword_of (text_of (queue_set_row k)) ≡ Some (keyword.QueueSet k)
 queue_set_again Select = refl
 
+notify_again : (k : NotifyKeyword) → keyword_of (text_of (notify_row k)) ≡ Some (keyword.Notify k)
+notify_again told.Notify = refl
+notify_again told.Query = refl
+notify_again told.Take = refl
+notify_again told.Wait = refl
+notify_again told.ClearState = refl
+notify_again told.ClearValue = refl
+
 pub keyword_again : (k : Keyword) → keyword_of (text_of (row_of k)) ≡ Some k
 keyword_again (keyword.Local k) = local_again k
 keyword_again (keyword.Queue k) = queue_again k
 keyword_again (keyword.QueueSet k) = queue_set_again k
+keyword_again (keyword.Notify k) = notify_again k
+
+-- The objects of an application are within the limits, and each of its tasks has its name.
+pub record AreThere (app : Application) : Type 0 where
+  pub objects : AreObjects app.objects
+  pub tasks : length app.tasks.names ≡ length app.tasks.things
 
 -- what an operand of that kind may stand for
 abbrev pub IsValue : Application → ℕ → (parameter : Parameter) → Value parameter → Type 0
@@ -105,7 +121,11 @@ IsValue app len Number value = Unit {0}
 IsValue app len Target target = target < len
 IsValue app len Data bytes = length bytes ≤ 256
 IsValue app len Time wait = IsOperand wait
-IsValue app len (Name kind) number = number < length (names_in app.objects [] kind)
+IsValue app len Operand value = IsOperand value
+IsValue app len Index index = index < app.entries
+IsValue app len Action action = Unit {0}
+IsValue app len OnExit exit = Unit {0}
+IsValue app len (Name kind) number = number < length (names_in app.objects app.tasks.names kind)
 
 -- Whatever its operands stand for, what a keyword makes is within the application.
 abbrev pub MakesWithin : Application → ℕ → (parameters : List Parameter) → Makes parameters → Type 0
@@ -126,22 +146,31 @@ local_within app len of.Jump = λ target there fits. there
 local_within app len of.JumpZero = λ register there target also_there fits. (there, also_there)
 local_within app len of.End = λ fits. tt
 
-queue_within : (app : Application) (len : ℕ) → AreObjects app.objects → (k : QueueKeyword) → RowWithin app len (queue_row k)
-queue_within app len sizes Send = λ queue named wait there fits. (rw (← sizes.named_queues.paired) named, there, fits)
-queue_within app len sizes Front = λ queue named wait there fits. (rw (← sizes.named_queues.paired) named, there, fits)
-queue_within app len sizes Receive = λ queue named wait there fits. (rw (← sizes.named_queues.paired) named, there, fits)
-queue_within app len sizes Peek = λ queue named wait there fits. (rw (← sizes.named_queues.paired) named, there, fits)
-queue_within app len sizes Overwrite = λ queue named fits. (rw (← sizes.named_queues.paired) named, tt, fits)
-queue_within app len sizes Reset = λ queue named fits. (rw (← sizes.named_queues.paired) named, tt, fits)
-queue_within app len sizes Count = λ queue named fits. (rw (← sizes.named_queues.paired) named, tt, fits)
-queue_within app len sizes Spaces = λ queue named fits. (rw (← sizes.named_queues.paired) named, tt, fits)
-queue_within app len sizes AddToSet = λ queue named queue_set also_named fits. (rw (← sizes.named_queues.paired) named, rw (← sizes.named_queue_sets.paired) also_named, fits)
-queue_within app len sizes RemoveFromSet = λ queue named queue_set also_named fits. (rw (← sizes.named_queues.paired) named, rw (← sizes.named_queue_sets.paired) also_named, fits)
+queue_within : (app : Application) (len : ℕ) → AreThere app → (k : QueueKeyword) → RowWithin app len (queue_row k)
+queue_within app len there Send = λ queue named wait read fits. (rw (← there.objects.named_queues.paired) named, read, fits)
+queue_within app len there Front = λ queue named wait read fits. (rw (← there.objects.named_queues.paired) named, read, fits)
+queue_within app len there Receive = λ queue named wait read fits. (rw (← there.objects.named_queues.paired) named, read, fits)
+queue_within app len there Peek = λ queue named wait read fits. (rw (← there.objects.named_queues.paired) named, read, fits)
+queue_within app len there Overwrite = λ queue named fits. (rw (← there.objects.named_queues.paired) named, tt, fits)
+queue_within app len there Reset = λ queue named fits. (rw (← there.objects.named_queues.paired) named, tt, fits)
+queue_within app len there Count = λ queue named fits. (rw (← there.objects.named_queues.paired) named, tt, fits)
+queue_within app len there Spaces = λ queue named fits. (rw (← there.objects.named_queues.paired) named, tt, fits)
+queue_within app len there AddToSet = λ queue named queue_set also_named fits. (rw (← there.objects.named_queues.paired) named, rw (← there.objects.named_queue_sets.paired) also_named, fits)
+queue_within app len there RemoveFromSet = λ queue named queue_set also_named fits. (rw (← there.objects.named_queues.paired) named, rw (← there.objects.named_queue_sets.paired) also_named, fits)
 
-queue_set_within : (app : Application) (len : ℕ) → AreObjects app.objects → (k : QueueSetKeyword) → RowWithin app len (queue_set_row k)
-queue_set_within app len sizes Select = λ queue_set named wait there fits. (rw (← sizes.named_queue_sets.paired) named, there)
+queue_set_within : (app : Application) (len : ℕ) → AreThere app → (k : QueueSetKeyword) → RowWithin app len (queue_set_row k)
+queue_set_within app len there Select = λ queue_set named wait read fits. (rw (← there.objects.named_queue_sets.paired) named, read)
 
-pub row_within : (app : Application) (len : ℕ) → AreObjects app.objects → (k : Keyword) → RowWithin app len (row_of k)
-row_within app len sizes (keyword.Local k) = local_within app len k
-row_within app len sizes (keyword.Queue k) = queue_within app len sizes k
-row_within app len sizes (keyword.QueueSet k) = queue_set_within app len sizes k
+notify_within : (app : Application) (len : ℕ) → AreThere app → (k : NotifyKeyword) → RowWithin app len (notify_row k)
+notify_within app len there told.Notify = λ task named index few value read action _ fits. (rw (← there.tasks) named, few, read)
+notify_within app len there told.Query = λ task named index few value read action _ fits. (rw (← there.tasks) named, few, read)
+notify_within app len there told.Take = λ index few exit _ wait read fits. (few, read)
+notify_within app len there told.Wait = λ index few entry_bits read exit_bits also_read wait read_too fits. (few, read, also_read, read_too)
+notify_within app len there told.ClearState = λ task named index few fits. (rw (← there.tasks) named, few)
+notify_within app len there told.ClearValue = λ task named index few bits read fits. (rw (← there.tasks) named, few, read)
+
+pub row_within : (app : Application) (len : ℕ) → AreThere app → (k : Keyword) → RowWithin app len (row_of k)
+row_within app len there (keyword.Local k) = local_within app len k
+row_within app len there (keyword.Queue k) = queue_within app len there k
+row_within app len there (keyword.QueueSet k) = queue_set_within app len there k
+row_within app len there (keyword.Notify k) = notify_within app len there k

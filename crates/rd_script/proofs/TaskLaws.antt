@@ -6,7 +6,8 @@ use Rattle.serde_json.specs.Find.{get}
 use Rattle.std.specs.List.{AllByRecursion}
 use Rattle.rd_app.specs.declared.instr.Instr.{Instr}
 use Rattle.rd_app.specs.Application.{Application, IsScript}
-use Rattle.rd_app.specs.Objects.{AreObjects, NamedObjects}
+use Rattle.rd_script.specs.Scope.{Scope, scope_of}
+use Rattle.rd_script.proofs.KeywordLaws.{AreThere}
 use Rattle.rd_script.specs.Values.{SayEach, is_object_with, object_with, field, number_in, array_in, new_name}
 use Rattle.rd_script.specs.File.{are_texts, TaskDraft, task_keys, task_of}
 use Rattle.rd_script.specs.Says.{AreTasks, AreInstrs}
@@ -61,17 +62,17 @@ abbrev pub AreDrafts : Items → List (List ℕ) → List TaskDraft → Type 0
 AreDrafts ds names drafts = SayEach IsDraft ds names drafts
 
 -- drafts and their scripts are tasks
-pub tasks_said : (objects : NamedObjects) (ds : Items) (names : List (List ℕ)) (drafts : List TaskDraft) (scripts : List TaskScript) → AreDrafts ds names drafts
-    → AreScripts objects drafts scripts → AreTasks objects ds (record { names = names; things = scripts }) × (length names ≡ length scripts)
-tasks_said objects no_items [] [] [] a b = (tt, refl)
-tasks_said objects no_items [] [] (s ∷ scripts) a b = absurd b
-tasks_said objects no_items [] (draft ∷ drafts) scripts a b = absurd a
-tasks_said objects no_items (n ∷ names) drafts scripts a b = absurd a
-tasks_said objects (item d ds) [] drafts scripts a b = absurd a
-tasks_said objects (item d ds) (n ∷ names) [] scripts a b = absurd a
-tasks_said objects (item d ds) (n ∷ names) (draft ∷ drafts) [] a b = absurd b
-tasks_said objects (item d ds) (n ∷ names) (draft ∷ drafts) (s ∷ scripts) a b =
-    let rest = tasks_said objects ds names drafts scripts a.1 b.2 in (
+pub tasks_said : (scope : Scope) (ds : Items) (names : List (List ℕ)) (drafts : List TaskDraft) (scripts : List TaskScript) → AreDrafts ds names drafts
+    → AreScripts scope drafts scripts → AreTasks scope ds (record { names = names; things = scripts }) × (length names ≡ length scripts)
+tasks_said scope no_items [] [] [] a b = (tt, refl)
+tasks_said scope no_items [] [] (s ∷ scripts) a b = absurd b
+tasks_said scope no_items [] (draft ∷ drafts) scripts a b = absurd a
+tasks_said scope no_items (n ∷ names) drafts scripts a b = absurd a
+tasks_said scope (item d ds) [] drafts scripts a b = absurd a
+tasks_said scope (item d ds) (n ∷ names) [] scripts a b = absurd a
+tasks_said scope (item d ds) (n ∷ names) (draft ∷ drafts) [] a b = absurd b
+tasks_said scope (item d ds) (n ∷ names) (draft ∷ drafts) (s ∷ scripts) a b =
+    let rest = tasks_said scope ds names drafts scripts a.1 b.2 in (
       (
         (
           draft.code,
@@ -88,8 +89,8 @@ tasks_said objects (item d ds) (n ∷ names) (draft ∷ drafts) (s ∷ scripts) 
       ap suc rest.1,
     )
 
-pub scripts_in_limits : (app : Application) (drafts : List TaskDraft) (scripts : List TaskScript) → AreObjects app.objects
-    → AllByRecursion IsDraftInLimits drafts → AreScripts app.objects drafts scripts → AllByRecursion (IsScript app) scripts
+pub scripts_in_limits : (app : Application) (drafts : List TaskDraft) (scripts : List TaskScript) → AreThere app
+    → AllByRecursion IsDraftInLimits drafts → AreScripts (scope_of app) drafts scripts → AllByRecursion (IsScript app) scripts
 scripts_in_limits app [] [] sizes a b = tt
 scripts_in_limits app [] (s ∷ scripts) sizes a b = absurd b
 scripts_in_limits app (draft ∷ drafts) [] sizes a b = absurd b
@@ -123,33 +124,33 @@ pub draft_again : (names : List (List ℕ)) (d : Data) (name : List ℕ) (draft 
     → task_of names d ≡ Ok (name, draft)
 draft_again names d name draft h new ok = task_again names d name draft h new ok.in_limits ok.texts
 
-texts_said : (objects : NamedObjects) (len : ℕ) (values : Items) (code : List Instr) → AreInstrs objects len values code → are_texts values ≡ true
-texts_said objects len no_items [] h = refl
-texts_said objects len no_items (i ∷ code) h = absurd h
-texts_said objects len (item d ds) [] h = absurd h
-texts_said objects len (item d ds) (i ∷ code) h = rw h.0.1 (texts_said objects len ds code h.1)
+texts_said : (scope : Scope) (len : ℕ) (values : Items) (code : List Instr) → AreInstrs scope len values code → are_texts values ≡ true
+texts_said scope len no_items [] h = refl
+texts_said scope len no_items (i ∷ code) h = absurd h
+texts_said scope len (item d ds) [] h = absurd h
+texts_said scope len (item d ds) (i ∷ code) h = rw h.0.1 (texts_said scope len ds code h.1)
 
 -- tasks are drafts and their scripts
-pub tasks_split : (app : Application) (objects : NamedObjects) (ds : Items) (names : List (List ℕ)) (scripts : List TaskScript)
-    → AreTasks objects ds (record { names = names; things = scripts }) → AllByRecursion (IsScript app) scripts
-    → (drafts : List TaskDraft) × AreDrafts ds names drafts × AllByRecursion IsReadable drafts × AreScripts objects drafts scripts
-tasks_split app objects no_items [] [] h limits = ([], tt, tt, tt)
-tasks_split app objects no_items [] (s ∷ scripts) h limits = absurd h
-tasks_split app objects no_items (n ∷ names) scripts h limits = absurd h
-tasks_split app objects (item d ds) [] scripts h limits = absurd h
-tasks_split app objects (item d ds) (n ∷ names) [] h limits = absurd h
-tasks_split app objects (item d ds) (n ∷ names) (s ∷ scripts) h limits =
+pub tasks_split : (app : Application) (scope : Scope) (ds : Items) (names : List (List ℕ)) (scripts : List TaskScript)
+    → AreTasks scope ds (record { names = names; things = scripts }) → AllByRecursion (IsScript app) scripts
+    → (drafts : List TaskDraft) × AreDrafts ds names drafts × AllByRecursion IsReadable drafts × AreScripts scope drafts scripts
+tasks_split app scope no_items [] [] h limits = ([], tt, tt, tt)
+tasks_split app scope no_items [] (s ∷ scripts) h limits = absurd h
+tasks_split app scope no_items (n ∷ names) scripts h limits = absurd h
+tasks_split app scope (item d ds) [] scripts h limits = absurd h
+tasks_split app scope (item d ds) (n ∷ names) [] h limits = absurd h
+tasks_split app scope (item d ds) (n ∷ names) (s ∷ scripts) h limits =
     let values = h.0.0 in
     let said = h.0.1 in
-    let rest = tasks_split app objects ds names scripts h.1 limits.1 in
-    let len = length_values objects (items_len values) values s.code said.code.0 in
+    let rest = tasks_split app scope ds names scripts h.1 limits.1 in
+    let len = length_values scope (items_len values) values s.code said.code.0 in
     let draft : TaskDraft = record { priority = s.priority; code = values } in (
       draft ∷ rest.0,
       (record { keys = said.keys; name_at = said.name_at; priority_at = said.priority_at; code_at = said.code_at }, rest.1),
       (
         record {
           in_limits = record { priority = limits.0.priority; some = omega (arith, limits.0.some); few = omega (arith, limits.0.few) };
-          texts = texts_said objects (items_len values) values s.code said.code.0;
+          texts = texts_said scope (items_len values) values s.code said.code.0;
         },
         rest.2,
       ),

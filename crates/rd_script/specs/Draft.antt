@@ -1,4 +1,6 @@
 -- What a contract sees of tasks and of an application that are not read to their end.
+use Rattle.rd_script.specs.declared.scope.Scope as declared_scope
+use Rattle.rd_script.specs.Scope.{Scope}
 use Rattle.std.specs.Prelude.{ℕ, map}
 use Rattle.rd_app.specs.Named.{Named}
 use Rattle.serde_json.specs.View.{items_view}
@@ -25,4 +27,12 @@ app_draft_view draft = record {
   tick = draft.tick;
   objects = drafts_view draft.objects;
   tasks = task_drafts_view draft.tasks;
+}
+
+-- what its scripts can name
+abbrev pub scope_view : declared_scope.Scope → Scope
+scope_view scope = record {
+  objects = drafts_view scope.objects.now;
+  tasks = texts scope.tasks.now;
+  entries = scope.entries;
 }

@@ -18,6 +18,7 @@ use Rattle.rd_app.specs.TaskScript.{TaskScript}
 use Rattle.rd_script.specs.declared.error.AppError.{AppError}
 use Rattle.rd_script.specs.declared.error.AppError.TheVariants as fault
 use Rattle.rd_script.specs.Objects.{file_keys, objects_of}
+use Rattle.rd_script.specs.Scope.{Scope}
 use Rattle.rd_script.specs.Spelling.{◌>>=◌, instr_of}
 use Rattle.rd_script.specs.Values.{array_in, field, named_after, new_name, nothing_named}
 use Rattle.rd_script.specs.Values.{number_in, number_or, object_with}
@@ -57,41 +58,41 @@ tasks_after before ds = named_after (λ before. task_of before.names) before ds
 -- ---- scripts
 
 -- the instruction of a value, in a script of that length
-abbrev pub instr_of_value : NamedObjects → ℕ → Data → Result Instr AppError
-instr_of_value objects len d = do
+abbrev pub instr_of_value : Scope → ℕ → Data → Result Instr AppError
+instr_of_value scope len d = do
   text ← ok_or (as_str d) fault.Shape
-  instr_of objects len (words_of text)
+  instr_of scope len (words_of text)
 
 -- does the script never go on after the instruction of a value?
-abbrev pub ends_script : NamedObjects → ℕ → Data → Result Bool AppError
-ends_script objects len d = do
-  instr ← instr_of_value objects len d
+abbrev pub ends_script : Scope → ℕ → Data → Result Bool AppError
+ends_script scope len d = do
+  instr ← instr_of_value scope len d
   Ok (is_final instr)
 
 -- the instructions before, and those of the values
-abbrev pub instrs_after : NamedObjects → ℕ → List Instr → Items → Result (List Instr) AppError
-instrs_after objects len before no_items = Ok before
-instrs_after objects len before (item d ds) = do
-  instr ← instr_of_value objects len d
-  instrs_after objects len (before ++ instr ∷ []) ds
+abbrev pub instrs_after : Scope → ℕ → List Instr → Items → Result (List Instr) AppError
+instrs_after scope len before no_items = Ok before
+instrs_after scope len before (item d ds) = do
+  instr ← instr_of_value scope len d
+  instrs_after scope len (before ++ instr ∷ []) ds
 
 -- does the last instruction never go on at the next?
 abbrev pub ends : List Instr → Bool
 ends code = unwrap_or (option_map is_final (slice_get code (length code - 1))) false
 
 -- the instructions of a task, the last of which never goes on at the next
-unfoldable pub instrs_of : NamedObjects → Items → Result (List Instr) AppError
-instrs_of objects values = do
-  code ← instrs_after objects (items_len values) [] values
+unfoldable pub instrs_of : Scope → Items → Result (List Instr) AppError
+instrs_of scope values = do
+  code ← instrs_after scope (items_len values) [] values
   if ends code then Ok code else Err fault.Instr
 
 -- the scripts before, and those of the drafts
-abbrev pub scripts_after : NamedObjects → List TaskScript → List TaskDraft
+abbrev pub scripts_after : Scope → List TaskScript → List TaskDraft
     → Result (List TaskScript) AppError
-scripts_after objects scripts [] = Ok scripts
-scripts_after objects scripts (draft ∷ drafts) = do
-  code ← instrs_of objects draft.code
-  scripts_after objects (scripts ++ record { priority = draft.priority; code = code } ∷ []) drafts
+scripts_after scope scripts [] = Ok scripts
+scripts_after scope scripts (draft ∷ drafts) = do
+  code ← instrs_of scope draft.code
+  scripts_after scope (scripts ++ record { priority = draft.priority; code = code } ∷ []) drafts
 
 -- ---- the file
 
@@ -124,10 +125,15 @@ draft_of d = do
     tasks = tasks;
   })
 
+-- what its scripts can name
+abbrev pub scope_of_draft : AppDraft → Scope
+scope_of_draft draft =
+    record { objects = draft.objects; tasks = draft.tasks.names; entries = draft.entries }
+
 -- the application of a draft
 abbrev pub with_scripts : AppDraft → Result Application AppError
 with_scripts draft = do
-  scripts ← scripts_after draft.objects [] draft.tasks.things
+  scripts ← scripts_after (scope_of_draft draft) [] draft.tasks.things
   Ok (record {
     cores = draft.cores;
     entries = draft.entries;

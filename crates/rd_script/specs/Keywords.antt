@@ -6,15 +6,19 @@ use Rattle.std.specs.List.{find}
 use Rattle.std.specs.Str.{bytes_eq}
 use Rattle.rd_queue.specs.declared.end.End.TheVariants as end
 use Rattle.rd_text.specs.declared.kind.Kind.TheVariants as kind
-use Rattle.rd_app.specs.declared.instr.Operand.{Operand}
+use Rattle.rd_app.specs.declared.instr.Operand as operands
+use Rattle.rd_notify.specs.declared.action.Action as notified
+use Rattle.rd_notify.specs.declared.action.OnExit as taken
 use Rattle.rd_app.specs.declared.instr.Instr.{Instr}
 use Rattle.rd_app.specs.declared.instr.Instr.TheVariants as instruction
 use Rattle.rd_app.specs.declared.instr.LocalInstr.TheVariants as local
 use Rattle.rd_app.specs.declared.instr.QueueCall.TheVariants as call
 use Rattle.rd_app.specs.declared.instr.QueueSetCall.TheVariants as queue_set_call
+use Rattle.rd_app.specs.declared.instr.NotifyCall.TheVariants as notify
 use Rattle.rd_script.specs.declared.keyword.Parameter.{Parameter}
 use Rattle.rd_script.specs.declared.keyword.Parameter.TheVariants.{Register, Number, Target}
-use Rattle.rd_script.specs.declared.keyword.Parameter.TheVariants.{Data, Time, Name}
+use Rattle.rd_script.specs.declared.keyword.Parameter.TheVariants.{Data, Time, Operand, Index}
+use Rattle.rd_script.specs.declared.keyword.Parameter.TheVariants.{Action, OnExit, Name}
 use Rattle.rd_script.specs.declared.keyword.Keyword.{Keyword}
 use Rattle.rd_script.specs.declared.keyword.Keyword.TheVariants as keyword
 use Rattle.rd_script.specs.declared.keyword.LocalKeyword.{LocalKeyword}
@@ -26,14 +30,20 @@ use Rattle.rd_script.specs.declared.keyword.QueueKeyword.TheVariants.{Spaces, Ad
 use Rattle.rd_script.specs.declared.keyword.QueueKeyword.TheVariants.{RemoveFromSet}
 use Rattle.rd_script.specs.declared.keyword.QueueSetKeyword.{QueueSetKeyword}
 use Rattle.rd_script.specs.declared.keyword.QueueSetKeyword.TheVariants.{Select}
+use Rattle.rd_script.specs.declared.keyword.NotifyKeyword.{NotifyKeyword}
+use Rattle.rd_script.specs.declared.keyword.NotifyKeyword.TheVariants as told
 
--- what an operand stands for; a name is that of the object with this number
+-- what an operand stands for; a name is that of the thing with this number
 abbrev pub Value : Parameter → Type 0
 Value Register = ℕ
 Value Number = ℕ
 Value Target = ℕ
 Value Data = List ℕ
-Value Time = Operand
+Value Time = operands.Operand
+Value Operand = operands.Operand
+Value Index = ℕ
+Value Action = notified.Action
+Value OnExit = taken.OnExit
 Value (Name kind) = ℕ
 
 -- the instruction for each choice of values
@@ -56,6 +66,9 @@ queue_name = Name kind.Queue
 
 abbrev queue_set_name : Parameter
 queue_set_name = Name kind.QueueSet
+
+abbrev task_name : Parameter
+task_name = Name kind.Task
 
 -- ---- the rows
 
@@ -115,10 +128,32 @@ queue_set_row Select =
     Written (codes "select") (queue_set_name ∷ Time ∷ [])
     (λ queue_set wait. instruction.QueueSet queue_set (queue_set_call.Select wait))
 
+abbrev pub notify_row : NotifyKeyword → Row
+notify_row told.Notify =
+    Written (codes "notify") (task_name ∷ Index ∷ Operand ∷ Action ∷ [])
+    (λ task index value action. instruction.Notify (notify.Notify task index value action))
+notify_row told.Query =
+    Written (codes "query") (task_name ∷ Index ∷ Operand ∷ Action ∷ [])
+    (λ task index value action. instruction.Notify (notify.Query task index value action))
+notify_row told.Take =
+    Written (codes "take") (Index ∷ OnExit ∷ Time ∷ [])
+    (λ index exit wait. instruction.Notify (notify.Take index exit wait))
+notify_row told.Wait =
+    Written (codes "nwait") (Index ∷ Operand ∷ Operand ∷ Time ∷ [])
+    (λ index entry_bits exit_bits wait.
+    instruction.Notify (notify.Wait index entry_bits exit_bits wait))
+notify_row told.ClearState =
+    Written (codes "nclear") (task_name ∷ Index ∷ [])
+    (λ task index. instruction.Notify (notify.ClearState task index))
+notify_row told.ClearValue =
+    Written (codes "vclear") (task_name ∷ Index ∷ Operand ∷ [])
+    (λ task index bits. instruction.Notify (notify.ClearValue task index bits))
+
 abbrev pub row_of : Keyword → Row
 row_of (keyword.Local of) = local_row of
 row_of (keyword.Queue of) = queue_row of
 row_of (keyword.QueueSet of) = queue_set_row of
+row_of (keyword.Notify of) = notify_row of
 
 abbrev pub local_keywords : List LocalKeyword
 local_keywords =
@@ -132,11 +167,16 @@ queue_keywords =
 abbrev pub queue_set_keywords : List QueueSetKeyword
 queue_set_keywords = Select ∷ []
 
+abbrev pub notify_keywords : List NotifyKeyword
+notify_keywords =
+    told.Notify ∷ told.Query ∷ told.Take ∷ told.Wait ∷ told.ClearState ∷ told.ClearValue ∷ []
+
 abbrev pub keywords : List Keyword
 keywords =
     map keyword.Local local_keywords
     ++ map keyword.Queue queue_keywords
     ++ map keyword.QueueSet queue_set_keywords
+    ++ map keyword.Notify notify_keywords
 
 -- the keyword that is written so
 abbrev pub keyword_of : List ℕ → Option Keyword

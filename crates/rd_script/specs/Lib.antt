@@ -1,5 +1,6 @@
 -- What the contracts of this crate cite.
 pub mod Keywords
+pub mod Scope
 pub mod Spelling
 pub mod Values
 pub mod Objects

@@ -7,31 +7,31 @@ use Rattle.serde_json.specs.Find.{get}
 use Rattle.rd_app.specs.declared.instr.Instr.{Instr}
 use Rattle.rd_app.specs.Application.{Application}
 use Rattle.rd_app.specs.Named.{Named}
-use Rattle.rd_app.specs.Objects.{NamedObjects}
 use Rattle.rd_app.specs.TaskScript.{TaskScript}
 use Rattle.rd_script.specs.File.{ends, task_keys}
 use Rattle.rd_script.specs.Objects.{SaysObjects, file_keys}
+use Rattle.rd_script.specs.Scope.{Scope, scope_of}
 use Rattle.rd_script.specs.Spelling.{Spells}
 use Rattle.rd_script.specs.Values.{IsNumberOr, SayEachNamed, is_object_with}
 use Rattle.rd_text.specs.Words.{words_of}
 
 -- a text whose words spell the instruction
-abbrev pub IsInstr : NamedObjects → ℕ → Data → Instr → Type 0
-IsInstr objects len d instr =
-    (text : List ℕ) × (d ≡ string text) × Spells objects len (words_of text) instr
+abbrev pub IsInstr : Scope → ℕ → Data → Instr → Type 0
+IsInstr scope len d instr =
+    (text : List ℕ) × (d ≡ string text) × Spells scope len (words_of text) instr
 
-abbrev pub AreInstrs : NamedObjects → ℕ → Items → List Instr → Type 0
-AreInstrs objects len no_items [] = Unit {0}
-AreInstrs objects len (item d ds) (instr ∷ code) =
-    IsInstr objects len d instr × AreInstrs objects len ds code
-AreInstrs objects len _ _ = ⊥
+abbrev pub AreInstrs : Scope → ℕ → Items → List Instr → Type 0
+AreInstrs scope len no_items [] = Unit {0}
+AreInstrs scope len (item d ds) (instr ∷ code) =
+    IsInstr scope len d instr × AreInstrs scope len ds code
+AreInstrs scope len _ _ = ⊥
 
 -- the texts spell the script, which never goes on after its last instruction
-abbrev pub IsCode : NamedObjects → Items → List Instr → Type 0
-IsCode objects values code = AreInstrs objects (items_len values) values code × (ends code ≡ true)
+abbrev pub IsCode : Scope → Items → List Instr → Type 0
+IsCode scope values code = AreInstrs scope (items_len values) values code × (ends code ≡ true)
 
 pub record IsTask
-    (objects : NamedObjects)
+    (scope : Scope)
     (d : Data)
     (name : List ℕ)
     (script : TaskScript)
@@ -41,11 +41,11 @@ pub record IsTask
   pub name_at : get (codes "name") d ≡ Some (string name)
   pub priority_at : get (codes "priority") d ≡ Some (number (unsigned script.priority))
   pub code_at : get (codes "code") d ≡ Some (array values)
-  pub code : IsCode objects values script.code
+  pub code : IsCode scope values script.code
 
-abbrev pub AreTasks : NamedObjects → Items → Named TaskScript → Type 0
-AreTasks objects ds tasks =
-    SayEachNamed (λ d name task. (values : Items) × IsTask objects d name task values) ds tasks
+abbrev pub AreTasks : Scope → Items → Named TaskScript → Type 0
+AreTasks scope ds tasks =
+    SayEachNamed (λ d name task. (values : Items) × IsTask scope d name task values) ds tasks
 
 pub record Says (d : Data) (app : Application) (task_items : Items) : Type 0 where
   pub keys : is_object_with file_keys d ≡ true
@@ -55,7 +55,7 @@ pub record Says (d : Data) (app : Application) (task_items : Items) : Type 0 whe
   pub tick_at : IsNumberOr 0 (get (codes "tick") d) app.tick
   pub objects : SaysObjects d app.objects
   pub tasks_at : get (codes "tasks") d ≡ Some (array task_items)
-  pub tasks : AreTasks app.objects task_items app.tasks
+  pub tasks : AreTasks (scope_of app) task_items app.tasks
 
 -- the bytes are JSON whose value says the application
 abbrev pub FileSays : List ℕ → Application → Type 0

@@ -8,8 +8,12 @@ use Rattle.std.specs.Prelude.{Result, Ok, Err, ok_or}
 use Rattle.std.specs.Option.{option_map_or, option_or}
 use Rattle.std.specs.Str.{bytes_eq}
 use Rattle.rd_text.specs.Words.{number_of, bytes_of, is_name, name_of}
+use Rattle.rd_notify.specs.declared.action.Action as notified
+use Rattle.rd_notify.specs.declared.action.Action.TheVariants as act
+use Rattle.rd_notify.specs.declared.action.OnExit as taken
+use Rattle.rd_notify.specs.declared.action.OnExit.TheVariants as exit
 use Rattle.rd_app.specs.declared.objects.QueueShape.{QueueShape}
-use Rattle.rd_app.specs.declared.instr.Operand.{Operand}
+use Rattle.rd_app.specs.declared.instr.Operand as operands
 use Rattle.rd_app.specs.declared.instr.Operand.TheVariants as operand
 use Rattle.rd_app.specs.declared.instr.Instr.{Instr}
 use Rattle.rd_app.specs.declared.instr.QueueCall.{QueueCall}
@@ -20,8 +24,10 @@ use Rattle.rd_script.specs.declared.error.AppError.{AppError}
 use Rattle.rd_script.specs.declared.error.AppError.TheVariants as fault
 use Rattle.rd_script.specs.declared.keyword.Parameter.{Parameter}
 use Rattle.rd_script.specs.declared.keyword.Parameter.TheVariants.{Register, Number, Target}
-use Rattle.rd_script.specs.declared.keyword.Parameter.TheVariants.{Data, Time, Name}
+use Rattle.rd_script.specs.declared.keyword.Parameter.TheVariants.{Data, Time, Operand, Index}
+use Rattle.rd_script.specs.declared.keyword.Parameter.TheVariants.{Action, OnExit, Name}
 use Rattle.rd_script.specs.declared.keyword.Keyword.{Keyword}
+use Rattle.rd_script.specs.Scope.{Scope}
 use Rattle.rd_script.specs.Keywords.{Makes, Row, Value, keyword_of, operands_of, row_of, Written}
 
 -- ---- what a word stands for
@@ -36,44 +42,69 @@ register_of word =
     then Some (slice_index word 1 - 48)
     else None
 
--- the number of an instruction in a script of that length
-abbrev pub target_of : ℕ → List ℕ → Option ℕ
-target_of len word =
-    option_and_then (λ target. if nat_lt target len then Some target else None) (number_of word)
+-- a number below a limit
+abbrev pub number_below : ℕ → List ℕ → Option ℕ
+number_below limit word =
+    option_and_then (λ number. if nat_lt number limit then Some number else None) (number_of word)
 
 -- a number, or the value of a register
-abbrev pub operand_of : List ℕ → Option Operand
+abbrev pub operand_of : List ℕ → Option operands.Operand
 operand_of word =
     option_or (option_map operand.Register (register_of word))
     (option_map operand.Number (number_of word))
 
 -- a block time: `max` is the number 4,294,967,295
-abbrev pub time_of : List ℕ → Option Operand
+abbrev pub time_of : List ℕ → Option operands.Operand
 time_of word =
     if bytes_eq word (codes "max") then Some (operand.Number max_delay) else operand_of word
+
+-- what a notification does (eNotifyAction)
+abbrev pub action_of : List ℕ → Option notified.Action
+action_of word =
+    if bytes_eq word (codes "none") then Some act.KeepValue
+    else (if bytes_eq word (codes "bits") then Some act.SetBits
+    else (if bytes_eq word (codes "inc") then Some act.Increment
+    else (if bytes_eq word (codes "set") then Some act.Overwrite
+    else (if bytes_eq word (codes "setif") then Some act.WithoutOverwrite
+    else None))))
+
+-- what a task that takes a value leaves of it (xClearCountOnExit)
+abbrev pub on_exit_of : List ℕ → Option taken.OnExit
+on_exit_of word =
+    if bytes_eq word (codes "clear") then Some exit.Clear
+    else (if bytes_eq word (codes "dec") then Some exit.Decrement
+    else None)
 
 -- the number of the thing that a word names
 abbrev pub index_named : List (List ℕ) → List ℕ → Option ℕ
 index_named names word = option_and_then (λ name. position (bytes_eq name) names) (name_of word)
 
--- over these objects, in a script of that length
-abbrev pub value_of : NamedObjects → ℕ → (parameter : Parameter) → List ℕ
+-- in that scope, in a script of that length
+abbrev pub value_of : Scope → ℕ → (parameter : Parameter) → List ℕ
     → Option (Value parameter)
-value_of objects len Register word = register_of word
-value_of objects len Number word = number_of word
-value_of objects len Target word = target_of len word
-value_of objects len Data word = bytes_of word
-value_of objects len Time word = time_of word
-value_of objects len (Name kind) word = index_named (names_in objects [] kind) word
+value_of scope len Register word = register_of word
+value_of scope len Number word = number_of word
+value_of scope len Target word = number_below len word
+value_of scope len Data word = bytes_of word
+value_of scope len Time word = time_of word
+value_of scope len Operand word = operand_of word
+value_of scope len Index word = number_below scope.entries word
+value_of scope len Action word = action_of word
+value_of scope len OnExit word = on_exit_of word
+value_of scope len (Name kind) word = index_named (names_in scope.objects scope.tasks kind) word
 
 -- has it the form of such an operand, whatever it names?
-abbrev pub is_formed : ℕ → Parameter → List ℕ → Bool
-is_formed len Register word = is_some (register_of word)
-is_formed len Number word = is_some (number_of word)
-is_formed len Target word = is_some (target_of len word)
-is_formed len Data word = is_some (bytes_of word)
-is_formed len Time word = is_some (time_of word)
-is_formed len (Name kind) word = is_name word
+abbrev pub is_formed : Scope → ℕ → Parameter → List ℕ → Bool
+is_formed scope len Register word = is_some (register_of word)
+is_formed scope len Number word = is_some (number_of word)
+is_formed scope len Target word = is_some (number_below len word)
+is_formed scope len Data word = is_some (bytes_of word)
+is_formed scope len Time word = is_some (time_of word)
+is_formed scope len Operand word = is_some (operand_of word)
+is_formed scope len Index word = is_some (number_below scope.entries word)
+is_formed scope len Action word = is_some (action_of word)
+is_formed scope len OnExit word = is_some (on_exit_of word)
+is_formed scope len (Name kind) word = is_name word
 
 -- ---- from the first word to the last
 
@@ -86,19 +117,19 @@ abbrev pub ◌>>=◌ : {A B : Type 0} → Result A AppError → (A → Result B 
 abbrev pub index_of : List (List ℕ) → List ℕ → Result ℕ AppError
 index_of names name = ok_or (position (bytes_eq name) names) fault.Name
 
--- the words after a keyword that are left, in a script of that length over these objects
+-- the words after a keyword that are left, in that scope, in a script of that length
 pub record Reading : Type 0 where
-  pub objects : NamedObjects
+  pub scope : Scope
   pub len : ℕ
   pub words : List (List ℕ)
 
 -- have the words the forms of these operands, and are there no more?
-abbrev pub are_formed : ℕ → List Parameter → List (List ℕ) → Bool
-are_formed len [] [] = true
-are_formed len [] (word ∷ words) = false
-are_formed len (parameter ∷ others) [] = false
-are_formed len (parameter ∷ others) (word ∷ words) =
-    is_formed len parameter word && are_formed len others words
+abbrev pub are_formed : Scope → ℕ → List Parameter → List (List ℕ) → Bool
+are_formed scope len [] [] = true
+are_formed scope len [] (word ∷ words) = false
+are_formed scope len (parameter ∷ others) [] = false
+are_formed scope len (parameter ∷ others) (word ∷ words) =
+    is_formed scope len parameter word && are_formed scope len others words
 
 -- what is left behind the next word
 abbrev pub after_word : Reading → Reading
@@ -109,7 +140,7 @@ unfoldable pub next_value : (parameter : Parameter) → Reading → Option (Valu
 next_value parameter reading =
     option_and_then (λ word.
     option_map (λ value. (value, after_word reading))
-    (value_of reading.objects reading.len parameter word))
+    (value_of reading.scope reading.len parameter word))
     (slice_get reading.words 0)
 
 -- The operand that was read, and the reading that is left, are what reading the next word gives.
@@ -147,47 +178,47 @@ is_for_queue objects instr =
 abbrev pub instr_named : Row → Reading → Result Instr AppError
 instr_named row reading = do
   instr ← ok_or (instr_made row reading) fault.Name
-  if is_for_queue reading.objects instr then Ok instr else Err fault.OverwriteLength
+  if is_for_queue reading.scope.objects instr then Ok instr else Err fault.OverwriteLength
 
 -- The instruction of a text's words, or its fault. One in the form of a word comes before an
 -- unknown name, and that before a queue that the call is not for.
-unfoldable pub instr_of : NamedObjects → ℕ → List (List ℕ) → Result Instr AppError
-instr_of objects len [] = Err fault.Instr
-instr_of objects len (word ∷ words) = do
+unfoldable pub instr_of : Scope → ℕ → List (List ℕ) → Result Instr AppError
+instr_of scope len [] = Err fault.Instr
+instr_of scope len (word ∷ words) = do
   keyword ← ok_or (keyword_of word) fault.Instr
-  if are_formed len (operands_of (row_of keyword)) words
-      then instr_named (row_of keyword) (record { objects = objects; len = len; words = words })
+  if are_formed scope len (operands_of (row_of keyword)) words
+      then instr_named (row_of keyword) (record { scope = scope; len = len; words = words })
       else Err fault.Instr
 
 -- ---- what words spell
 
 -- The words stand for such operands, no word is left, and this is what they make.
-abbrev pub AreOperands : NamedObjects → ℕ → (operands : List Parameter) → Makes operands
+abbrev pub AreOperands : Scope → ℕ → (operands : List Parameter) → Makes operands
     → List (List ℕ) → Instr
     → Type 0
-AreOperands objects len [] made words instr = (words ≡ []) × (made ≡ instr)
-AreOperands objects len (parameter ∷ others) make words instr =
+AreOperands scope len [] made words instr = (words ≡ []) × (made ≡ instr)
+AreOperands scope len (parameter ∷ others) make words instr =
     (word : List ℕ)
     × (left : List (List ℕ))
     × (value : Value parameter)
     × (words ≡ word ∷ left)
-    × (value_of objects len parameter word ≡ Some value)
-    × AreOperands objects len others (make value) left instr
+    × (value_of scope len parameter word ≡ Some value)
+    × AreOperands scope len others (make value) left instr
 
-abbrev pub SpellsRow : NamedObjects → ℕ → Row → List (List ℕ) → Instr → Type 0
-SpellsRow objects len (Written text operands make) words instr =
+abbrev pub SpellsRow : Scope → ℕ → Row → List (List ℕ) → Instr → Type 0
+SpellsRow scope len (Written text operands make) words instr =
     (left : List (List ℕ))
     × (words ≡ text ∷ left)
-    × AreOperands objects len operands make left instr
+    × AreOperands scope len operands make left instr
 
 -- A call of a queue is one for that queue: only a queue with room for one item is overwritten.
 abbrev pub IsForQueue : NamedObjects → Instr → Type 0
 IsForQueue objects instr =
     IfSome (queue_call_of instr) (λ of. IsCallFor (shape_at objects of.0) of.1)
 
--- The words are a keyword and its operands: over these objects, in a script of that length.
-abbrev pub Spells : NamedObjects → ℕ → List (List ℕ) → Instr → Type 0
-Spells objects len words instr =
+-- The words are a keyword and its operands: in that scope, in a script of that length.
+abbrev pub Spells : Scope → ℕ → List (List ℕ) → Instr → Type 0
+Spells scope len words instr =
     (keyword : Keyword)
-    × SpellsRow objects len (row_of keyword) words instr
-    × IsForQueue objects instr
+    × SpellsRow scope len (row_of keyword) words instr
+    × IsForQueue scope.objects instr

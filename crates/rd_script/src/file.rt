@@ -9,14 +9,16 @@ ghost use Rattle.rd_script.specs.Draft.{app_draft_view, task_draft_view, task_dr
 ghost use Rattle.rd_script.specs.File.{GivesFaultFirst, GivesOrNoMemory, checked};
 ghost use Rattle.rd_script.specs.File.{are_texts, task_of, tasks_after};
 ghost use Rattle.rd_script.specs.File.{ends_script, instr_of_value, instrs_of, scripts_after};
-ghost use Rattle.rd_script.specs.File.{draft_of, with_scripts, app_of, app_of_text, app_of_bytes};
-ghost use Rattle.rd_script.specs.Objects.{drafts_view};
+ghost use Rattle.rd_script.specs.File.{draft_of, scope_of_draft, with_scripts};
+ghost use Rattle.rd_script.specs.File.{app_of, app_of_text, app_of_bytes};
 ghost use Rattle.rd_script.specs.Says.{FileSays};
+ghost use Rattle.rd_script.specs.Draft.{scope_view};
 ghost use Rattle.rd_script.specs.Values.{Gives, nothing_named};
 ghost use Rattle.rd_text.specs.Words.{texts};
 
 use crate::error::AppError;
 use crate::objects::{FILE_KEYS, NamedArray, ObjectDrafts, keep_objects, read_objects};
+use crate::scope::Scope;
 use crate::spelling::read_instr;
 use crate::values::{array, field, new_name, number, number_or, object_with};
 use arrayvec::ArrayVec;
@@ -89,6 +91,19 @@ struct AppDraft<'a> {
     tasks: NamedArray<'a, TaskDraft<'a>, MAX_TASKS>,
 }
 
+impl<'a> AppDraft<'a> {
+    // What its scripts can name.
+    fn scope(&self) -> Scope<'_>
+        ensures { scope_view result ≡ scope_of_draft (app_draft_view self.now) }
+    {
+        Scope {
+            objects: &self.objects,
+            tasks: self.tasks.names.as_slice(),
+            entries: self.entries,
+        }
+    }
+}
+
 #[tactic(auto, unfolding(crate::specs::File::draft_of))]
 fn read_draft(file: &Value) -> Result<AppDraft<'_>, AppError>
     ensures { Gives app_draft_view result (draft_of (view file.now)) }
@@ -112,57 +127,53 @@ fn read_draft(file: &Value) -> Result<AppDraft<'_>, AppError>
     })
 }
 
-// The instruction of a value, in a script of that length.
-fn read_value(value: &Value, objects: &ObjectDrafts<'_>, len: usize) -> Result<Instr, AppError>
-    ensures { result ≡ instr_of_value (drafts_view objects.now) len (view value.now) }
+// The instruction of a value, in that scope, in a script of that length.
+fn read_value(value: &Value, scope: Scope<'_>, len: usize) -> Result<Instr, AppError>
+    ensures { result ≡ instr_of_value (scope_view scope.entry) len (view value.now) }
 {
     let text = value.as_str().ok_or(AppError::Shape)?;
-    read_instr(text.as_bytes(), objects, len)
+    read_instr(text.as_bytes(), scope, len)
 }
 
 // Whether the instruction of a value is one after which the script never goes on.
-fn ends_script(value: &Value, objects: &ObjectDrafts<'_>, len: usize) -> Result<bool, AppError>
-    ensures { result ≡ ends_script (drafts_view objects.now) len (view value.now) }
+fn ends_script(value: &Value, scope: Scope<'_>, len: usize) -> Result<bool, AppError>
+    ensures { result ≡ ends_script (scope_view scope.entry) len (view value.now) }
 {
-    let instr = read_value(value, objects, len)?;
+    let instr = read_value(value, scope, len)?;
     Ok(instr.is_final())
 }
 
 // Finds the first fault of a script, and keeps nothing of it.
-fn check_code(values: &[Value], objects: &ObjectDrafts<'_>) -> Result<(), AppError>
-    ensures { result ≡ checked (instrs_of (drafts_view objects.now) (items_view values.now)) }
+fn check_code(values: &[Value], scope: Scope<'_>) -> Result<(), AppError>
+    ensures { result ≡ checked (instrs_of (scope_view scope.entry) (items_view values.now)) }
 {
     let mut ended = false;
     for value in values {
-        ended = ends_script(value, objects, values.len())?;
+        ended = ends_script(value, scope, values.len())?;
     }
     if ended { Ok(()) } else { Err(AppError::Instr) }
 }
 
 // Finds the first fault of the scripts, and keeps nothing of them.
-fn check_scripts(drafts: &[TaskDraft<'_>], objects: &ObjectDrafts<'_>) -> Result<(), AppError>
+fn check_scripts(drafts: &[TaskDraft<'_>], scope: Scope<'_>) -> Result<(), AppError>
     ensures { result
-        ≡ checked (scripts_after (drafts_view objects.now) [] (map task_draft_view drafts.now)) }
+        ≡ checked (scripts_after (scope_view scope.entry) [] (map task_draft_view drafts.now)) }
 {
     for draft in drafts {
-        check_code(draft.code, objects)?;
+        check_code(draft.code, scope)?;
     }
     Ok(())
 }
 
 // The instructions of a script without a fault.
-fn keep_code(
-    alloc: Global,
-    values: &[Value],
-    objects: &ObjectDrafts<'_>,
-) -> Result<Vec<Instr>, AllocError>
-    requires { IsOk (instrs_of (drafts_view objects.now) (items_view values.now)) }
+fn keep_code(alloc: Global, values: &[Value], scope: Scope<'_>) -> Result<Vec<Instr>, AllocError>
+    requires { IsOk (instrs_of (scope_view scope) (items_view values.now)) }
     ensures { IfOk result
-        (λ code. instrs_of (drafts_view objects.now) (items_view values.now) ≡ Ok code.items) }
+        (λ code. instrs_of (scope_view scope.entry) (items_view values.now) ≡ Ok code.items) }
 {
     let mut code = Vec::new(alloc);
     for value in values {
-        code.push(read_value(value, objects, values.len()).unwrap())?;
+        code.push(read_value(value, scope, values.len()).unwrap())?;
     }
     Ok(code)
 }
@@ -171,16 +182,16 @@ fn keep_code(
 fn keep_scripts(
     alloc: Global,
     drafts: &[TaskDraft<'_>],
-    objects: &ObjectDrafts<'_>,
+    scope: Scope<'_>,
 ) -> Result<Vec<Script>, AllocError>
-    requires { IsOk (scripts_after (drafts_view objects.now) [] (map task_draft_view drafts.now)) }
+    requires { IsOk (scripts_after (scope_view scope) [] (map task_draft_view drafts.now)) }
     ensures { IfOk result (λ scripts.
-        scripts_after (drafts_view objects.now) [] (map task_draft_view drafts.now)
+        scripts_after (scope_view scope.entry) [] (map task_draft_view drafts.now)
         ≡ Ok scripts.items) }
 {
     let mut scripts = Vec::new(alloc);
     for draft in drafts {
-        let code = keep_code(alloc, draft.code, objects)?;
+        let code = keep_code(alloc, draft.code, scope)?;
         scripts.push(Script::new(draft.priority, code))?;
     }
     Ok(scripts)
@@ -199,7 +210,7 @@ fn keep(alloc: Global, draft: &AppDraft<'_>) -> Result<App, AllocError>
         objects: keep_objects(alloc, &draft.objects)?,
         tasks: Named {
             names: Names::new(alloc, tasks.names.as_slice())?,
-            things: keep_scripts(alloc, tasks.things.as_slice(), &draft.objects)?,
+            things: keep_scripts(alloc, tasks.things.as_slice(), draft.scope())?,
         },
     };
     App::new(alloc, parts)
@@ -210,7 +221,7 @@ fn read_file(alloc: Global, file: &Value) -> Result<App, AppError>
     ensures { GivesFaultFirst (λ app. app) result (app_of (view file.now)) }
 {
     let draft = read_draft(file)?;
-    check_scripts(draft.tasks.things.as_slice(), &draft.objects)?;
+    check_scripts(draft.tasks.things.as_slice(), draft.scope())?;
     Ok(keep(alloc, &draft)?)
 }
 

@@ -4,7 +4,7 @@ ghost use Rattle.std.specs.Prelude.{◌≡◌, IfSome, option_map};
 ghost use Rattle.rd_script.specs.Keywords.{keyword_of, row_of, operands_of};
 ghost use Rattle.rd_script.specs.Keywords.{first_written, texts_view};
 
-use Keyword::{Local, Queue, QueueSet};
+use Keyword::{Local, Notify, Queue, QueueSet};
 use rd_text::kind::Kind;
 
 /// What an operand of an instruction is.
@@ -20,6 +20,14 @@ pub(crate) enum Parameter {
     Data,
     /// A block time: `max`, a number of ticks, or the value of a register.
     Time,
+    /// A number below 2^32, or the value of a register.
+    Operand,
+    /// The index of a notification entry that each task has.
+    Index,
+    /// What a notification does to the value: `none`, `bits`, `inc`, `set` or `setif`.
+    Action,
+    /// What is left of a value that is taken: `clear` or `dec`.
+    OnExit,
     /// The name of a thing of that kind.
     Name(Kind),
 }
@@ -59,12 +67,24 @@ pub(crate) enum QueueSetKeyword {
     Select,
 }
 
+/// The first word of a call that notifies a task, or looks at an entry.
+#[derive(Clone, Copy, Debug, PartialEq, Eq)]
+pub(crate) enum NotifyKeyword {
+    Notify,
+    Query,
+    Take,
+    Wait,
+    ClearState,
+    ClearValue,
+}
+
 /// The first word of an instruction.
 #[derive(Clone, Copy, Debug, PartialEq, Eq)]
 pub(crate) enum Keyword {
     Local(LocalKeyword),
     Queue(QueueKeyword),
     QueueSet(QueueSetKeyword),
+    Notify(NotifyKeyword),
 }
 
 const REGISTER: Parameter = Parameter::Register;
@@ -77,12 +97,22 @@ const DATA: Parameter = Parameter::Data;
 
 const TIME: Parameter = Parameter::Time;
 
+const OPERAND: Parameter = Parameter::Operand;
+
+const INDEX: Parameter = Parameter::Index;
+
+const ACTION: Parameter = Parameter::Action;
+
+const ON_EXIT: Parameter = Parameter::OnExit;
+
+const TASK: Parameter = Parameter::Name(Kind::Task);
+
 const QUEUE: Parameter = Parameter::Name(Kind::Queue);
 
 const QUEUE_SET: Parameter = Parameter::Name(Kind::QueueSet);
 
 // Each keyword: as it is written, and its operands.
-const KEYWORDS: [(&str, &[Parameter], Keyword); 20] = [
+const KEYWORDS: [(&str, &[Parameter], Keyword); 26] = [
     ("set", &[REGISTER, NUMBER], Local(LocalKeyword::Set)),
     ("add", &[REGISTER, NUMBER], Local(LocalKeyword::Add)),
     ("move", &[REGISTER, REGISTER], Local(LocalKeyword::Move)),
@@ -110,6 +140,28 @@ const KEYWORDS: [(&str, &[Parameter], Keyword); 20] = [
         "select",
         &[QUEUE_SET, TIME],
         QueueSet(QueueSetKeyword::Select),
+    ),
+    (
+        "notify",
+        &[TASK, INDEX, OPERAND, ACTION],
+        Notify(NotifyKeyword::Notify),
+    ),
+    (
+        "query",
+        &[TASK, INDEX, OPERAND, ACTION],
+        Notify(NotifyKeyword::Query),
+    ),
+    ("take", &[INDEX, ON_EXIT, TIME], Notify(NotifyKeyword::Take)),
+    (
+        "nwait",
+        &[INDEX, OPERAND, OPERAND, TIME],
+        Notify(NotifyKeyword::Wait),
+    ),
+    ("nclear", &[TASK, INDEX], Notify(NotifyKeyword::ClearState)),
+    (
+        "vclear",
+        &[TASK, INDEX, OPERAND],
+        Notify(NotifyKeyword::ClearValue),
     ),
 ];
 

@@ -6,5 +6,6 @@ pub mod file;
 mod keyword;
 mod objects;
 mod reader;
+mod scope;
 mod spelling;
 mod values;

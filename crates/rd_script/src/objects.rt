@@ -4,7 +4,7 @@
 ghost use Rattle.std.specs.Prelude.{◌≡◌, ◌≤◌, [], ◌++◌, length, nat_eq, IfOk};
 ghost use Rattle.std.specs.List.{list_any};
 ghost use Rattle.serde_json.specs.View.{view, items_view};
-ghost use Rattle.rd_app.specs.Objects.{members_of, names_in, objects_view, AreObjects};
+ghost use Rattle.rd_app.specs.Objects.{members_of, objects_view, AreObjects};
 ghost use Rattle.rd_script.specs.Objects.{array_view, drafts_view, file_keys, objects_of};
 ghost use Rattle.rd_script.specs.Objects.{queue_of, queues_after};
 ghost use Rattle.rd_script.specs.Objects.{member_of, members_after, queue_set_of, queue_sets_after};
@@ -19,7 +19,6 @@ use rd_app::objects::{MAX_QUEUE_SETS, MAX_QUEUES, Named, NamedObjects, QueueSetS
 use rd_queue::item::MAX_ITEM_SIZE;
 use rd_queue::queue::MAX_ITEMS;
 use rd_queue::queue_set::MAX_HANDLES;
-use rd_text::kind::Kind;
 use rd_text::names::Names;
 use rd_text::words::is_name;
 use serde_json::Value;
@@ -59,19 +58,6 @@ impl Model for QueueSetDraft {
 pub(crate) struct ObjectDrafts<'a> {
     pub(crate) queues: NamedArray<'a, QueueShape, MAX_QUEUES>,
     pub(crate) queue_sets: NamedArray<'a, QueueSetDraft, MAX_QUEUE_SETS>,
-}
-
-impl<'a> ObjectDrafts<'a> {
-    /// The names of a kind. Instructions name no tasks.
-    pub(crate) fn names(&self, kind: Kind) -> &[&'a str]
-        ensures { texts result.now ≡ names_in (drafts_view self.now) [] kind }
-    {
-        match kind {
-            Kind::Queue => self.queues.names.as_slice(),
-            Kind::QueueSet => self.queue_sets.names.as_slice(),
-            Kind::Task => &[],
-        }
-    }
 }
 
 #[tactic(auto, unfolding(crate::specs::Objects::queue_of))]

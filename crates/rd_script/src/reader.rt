@@ -2,17 +2,19 @@
 
 ghost use Rattle.std.specs.Prelude.{◌≡◌};
 ghost use Rattle.rd_script.specs.declared.keyword.Parameter.TheVariants as parameter;
-ghost use Rattle.rd_script.specs.Objects.{drafts_view};
-ghost use Rattle.rd_script.specs.Spelling.{register_of, target_of, operand_of, time_of};
+ghost use Rattle.rd_script.specs.Draft.{scope_view};
+ghost use Rattle.rd_script.specs.Spelling.{register_of, number_below, operand_of, time_of};
+ghost use Rattle.rd_script.specs.Spelling.{action_of, on_exit_of};
 ghost use Rattle.rd_script.specs.Spelling.{index_named, index_of, is_formed, are_formed};
 ghost use Rattle.rd_script.specs.Spelling.{Takes};
 ghost use Rattle.rd_text.specs.Words.{texts};
 
 use crate::error::AppError;
 use crate::keyword::Parameter;
-use crate::objects::ObjectDrafts;
+use crate::scope::Scope;
 use rd_app::instr::{MAX_DELAY, Operand};
 use rd_bytes::bytes::Bytes;
+use rd_notify::action::{Action, OnExit};
 use rd_text::kind::Kind;
 use rd_text::words::{Words, bytes, name, number};
 use std::marker::Model;
@@ -49,12 +51,37 @@ fn time_of(word: &[u8]) -> Option<Operand>
     }
 }
 
-// The number of an instruction of a script of that length.
-fn target_of(word: &[u8], len: usize) -> Option<usize>
-    ensures { result ≡ target_of len word.now }
+// A number below a limit.
+fn number_below(word: &[u8], limit: usize) -> Option<usize>
+    ensures { result ≡ number_below limit word.now }
 {
-    let target = number(word)? as usize;
-    if target < len { Some(target) } else { None }
+    let number = number(word)? as usize;
+    if number < limit { Some(number) } else { None }
+}
+
+// What a notification does (`eNotifyAction`).
+fn action_of(word: &[u8]) -> Option<Action>
+    ensures { result ≡ action_of word.now }
+{
+    match word {
+        b"none" => Some(Action::KeepValue),
+        b"bits" => Some(Action::SetBits),
+        b"inc" => Some(Action::Increment),
+        b"set" => Some(Action::Overwrite),
+        b"setif" => Some(Action::WithoutOverwrite),
+        _ => None,
+    }
+}
+
+// What a task that takes a value leaves of it (`xClearCountOnExit`).
+fn on_exit_of(word: &[u8]) -> Option<OnExit>
+    ensures { result ≡ on_exit_of word.now }
+{
+    match word {
+        b"clear" => Some(OnExit::Clear),
+        b"dec" => Some(OnExit::Decrement),
+        _ => None,
+    }
 }
 
 /// The number of the thing with that name, which is its index among these.
@@ -77,35 +104,39 @@ fn index_named(word: &[u8], names: &[&str]) -> Option<usize>
 }
 
 // Whether the word has the form of such an operand, whatever it names.
-fn is_formed(parameter: Parameter, word: &[u8], len: usize) -> bool
-    ensures { result ≡ is_formed len parameter word.now }
+fn is_formed(parameter: Parameter, word: &[u8], scope: Scope<'_>, len: usize) -> bool
+    ensures { result ≡ is_formed (scope_view scope.entry) len parameter word.now }
 {
     match parameter {
         Parameter::Register => register_of(word).is_some(),
         Parameter::Number => number(word).is_some(),
-        Parameter::Target => target_of(word, len).is_some(),
+        Parameter::Target => number_below(word, len).is_some(),
         Parameter::Data => bytes(word).is_some(),
         Parameter::Time => time_of(word).is_some(),
+        Parameter::Operand => operand_of(word).is_some(),
+        Parameter::Index => number_below(word, scope.entries).is_some(),
+        Parameter::Action => action_of(word).is_some(),
+        Parameter::OnExit => on_exit_of(word).is_some(),
         Parameter::Name(_) => name(word).is_some(),
     }
 }
 
-/// Reads the words after a keyword, in a script of that length over those objects.
+/// Reads the words after a keyword, in that scope, in a script of that length.
 #[derive(Debug, Drop)]
 pub(crate) struct Reader<'a> {
-    objects: &'a ObjectDrafts<'a>,
+    scope: Scope<'a>,
     len: usize,
     words: Words<'a>,
 }
 
 impl<'a> Model for Reader<'a> {
-    ghost use Rattle.rd_script.specs.Objects.{drafts_view};
+    ghost use Rattle.rd_script.specs.Draft.{scope_view};
     ghost use Rattle.rd_script.specs.Spelling.{Reading};
 
     ghost Value = { Reading };
 
     ghost view = { λ r. record {
-      objects = drafts_view r.objects.now;
+      scope = scope_view r.scope;
       len = r.len;
       words = r.words;
     } };
@@ -113,30 +144,26 @@ impl<'a> Model for Reader<'a> {
 
 impl<'a> Reader<'a> {
     /// Reads these words.
-    pub(crate) fn new(objects: &'a ObjectDrafts<'a>, len: usize, words: Words<'a>) -> Reader<'a>
+    pub(crate) fn new(scope: Scope<'a>, len: usize, words: Words<'a>) -> Reader<'a>
         ensures { result ≡ record {
-          objects = drafts_view objects.now;
+          scope = scope_view scope.entry;
           len = len;
           words = words.entry;
         } }
     {
-        Reader {
-            objects,
-            len,
-            words,
-        }
+        Reader { scope, len, words }
     }
 
     /// Whether the words have the forms of these operands, and there are no more.
     pub(crate) fn are_formed(&self, parameters: &[Parameter]) -> bool
-        ensures { result ≡ are_formed self.now.len parameters.now self.now.words }
+        ensures { result ≡ are_formed self.now.scope self.now.len parameters.now self.now.words }
     {
         let mut words = self.words.copy();
         for parameter in parameters {
             let Some(word) = words.next() else {
                 return false;
             };
-            if !is_formed(*parameter, word, self.len) {
+            if !is_formed(*parameter, word, self.scope, self.len) {
                 return false;
             }
         }
@@ -164,7 +191,7 @@ impl<'a> Reader<'a> {
     pub(crate) fn target(&mut self) -> Option<usize>
         ensures { Takes parameter.Target self.old result self.new }
     {
-        target_of(self.words.next()?, self.len)
+        number_below(self.words.next()?, self.len)
     }
 
     /// The next word, as bytes.
@@ -183,11 +210,43 @@ impl<'a> Reader<'a> {
         time_of(self.words.next()?)
     }
 
+    /// The next word, as a number or the value of a register.
+    #[tactic(auto, unfolding(crate::specs::Spelling::next_value))]
+    pub(crate) fn operand(&mut self) -> Option<Operand>
+        ensures { Takes parameter.Operand self.old result self.new }
+    {
+        operand_of(self.words.next()?)
+    }
+
+    /// The next word, as the index of a notification entry.
+    #[tactic(auto, unfolding(crate::specs::Spelling::next_value))]
+    pub(crate) fn index(&mut self) -> Option<usize>
+        ensures { Takes parameter.Index self.old result self.new }
+    {
+        number_below(self.words.next()?, self.scope.entries)
+    }
+
+    /// The next word, as what a notification does.
+    #[tactic(auto, unfolding(crate::specs::Spelling::next_value))]
+    pub(crate) fn action(&mut self) -> Option<Action>
+        ensures { Takes parameter.Action self.old result self.new }
+    {
+        action_of(self.words.next()?)
+    }
+
+    /// The next word, as what is left of a value that is taken.
+    #[tactic(auto, unfolding(crate::specs::Spelling::next_value))]
+    pub(crate) fn on_exit(&mut self) -> Option<OnExit>
+        ensures { Takes parameter.OnExit self.old result self.new }
+    {
+        on_exit_of(self.words.next()?)
+    }
+
     /// The next word, as the number of the thing of that kind that it names.
     #[tactic(auto, unfolding(crate::specs::Spelling::next_value))]
-    pub(crate) fn object(&mut self, kind: Kind) -> Option<usize>
+    pub(crate) fn named(&mut self, kind: Kind) -> Option<usize>
         ensures { Takes (parameter.Name kind) self.old result self.new }
     {
-        index_named(self.words.next()?, self.objects.names(kind))
+        index_named(self.words.next()?, self.scope.names(kind))
     }
 }

@@ -2,15 +2,20 @@
 
 ghost use Rattle.std.specs.Prelude.{◌≡◌};
 ghost use Rattle.rd_text.specs.Words.{words_of};
-ghost use Rattle.rd_script.specs.Keywords.{local_row, queue_row, row_of, queue_set_row};
+ghost use Rattle.rd_script.specs.Keywords.{local_row, notify_row, queue_row, row_of};
+ghost use Rattle.rd_script.specs.Keywords.{queue_set_row};
 ghost use Rattle.rd_script.specs.Objects.{drafts_view};
+ghost use Rattle.rd_script.specs.Draft.{scope_view};
 ghost use Rattle.rd_script.specs.Spelling.{instr_made, is_call_for, is_for_queue, instr_of};
 
 use crate::error::AppError;
-use crate::keyword::{Keyword, LocalKeyword, QueueKeyword, QueueSetKeyword, keyword_of};
+use crate::keyword::{
+    Keyword, LocalKeyword, NotifyKeyword, QueueKeyword, QueueSetKeyword, keyword_of,
+};
 use crate::objects::ObjectDrafts;
 use crate::reader::Reader;
-use rd_app::instr::{Instr, LocalInstr, QueueCall, QueueSetCall};
+use crate::scope::Scope;
+use rd_app::instr::{Instr, LocalInstr, NotifyCall, QueueCall, QueueSetCall};
 use rd_app::objects::QueueShape;
 use rd_queue::end::End;
 use rd_text::kind::Kind;
@@ -58,7 +63,7 @@ fn local_instr(keyword: LocalKeyword, reader: &mut Reader<'_>) -> Option<Instr>
 fn queue_instr(keyword: QueueKeyword, reader: &mut Reader<'_>) -> Option<Instr>
     ensures { result ≡ instr_made (queue_row keyword) reader.old }
 {
-    let queue = reader.object(Kind::Queue)?;
+    let queue = reader.named(Kind::Queue)?;
     let call = match keyword {
         QueueKeyword::Send => QueueCall::Send {
             end: End::Back,
@@ -79,10 +84,10 @@ fn queue_instr(keyword: QueueKeyword, reader: &mut Reader<'_>) -> Option<Instr>
         QueueKeyword::Count => QueueCall::Count,
         QueueKeyword::Spaces => QueueCall::Spaces,
         QueueKeyword::AddToSet => QueueCall::AddToSet {
-            queue_set: reader.object(Kind::QueueSet)?,
+            queue_set: reader.named(Kind::QueueSet)?,
         },
         QueueKeyword::RemoveFromSet => QueueCall::RemoveFromSet {
-            queue_set: reader.object(Kind::QueueSet)?,
+            queue_set: reader.named(Kind::QueueSet)?,
         },
     };
     Some(Instr::Queue { queue, call })
@@ -92,13 +97,54 @@ fn queue_instr(keyword: QueueKeyword, reader: &mut Reader<'_>) -> Option<Instr>
 fn queue_set_instr(keyword: QueueSetKeyword, reader: &mut Reader<'_>) -> Option<Instr>
     ensures { result ≡ instr_made (queue_set_row keyword) reader.old }
 {
-    let queue_set = reader.object(Kind::QueueSet)?;
+    let queue_set = reader.named(Kind::QueueSet)?;
     let call = match keyword {
         QueueSetKeyword::Select => QueueSetCall::Select {
             wait: reader.time()?,
         },
     };
     Some(Instr::QueueSet { queue_set, call })
+}
+
+// A call that notifies a task, or looks at an entry, of the words after its keyword.
+fn notify_instr(keyword: NotifyKeyword, reader: &mut Reader<'_>) -> Option<Instr>
+    ensures { result ≡ instr_made (notify_row keyword) reader.old }
+{
+    let call = match keyword {
+        NotifyKeyword::Notify => NotifyCall::Notify {
+            task: reader.named(Kind::Task)?,
+            index: reader.index()?,
+            value: reader.operand()?,
+            action: reader.action()?,
+        },
+        NotifyKeyword::Query => NotifyCall::Query {
+            task: reader.named(Kind::Task)?,
+            index: reader.index()?,
+            value: reader.operand()?,
+            action: reader.action()?,
+        },
+        NotifyKeyword::Take => NotifyCall::Take {
+            index: reader.index()?,
+            exit: reader.on_exit()?,
+            wait: reader.time()?,
+        },
+        NotifyKeyword::Wait => NotifyCall::Wait {
+            index: reader.index()?,
+            entry_bits: reader.operand()?,
+            exit_bits: reader.operand()?,
+            wait: reader.time()?,
+        },
+        NotifyKeyword::ClearState => NotifyCall::ClearState {
+            task: reader.named(Kind::Task)?,
+            index: reader.index()?,
+        },
+        NotifyKeyword::ClearValue => NotifyCall::ClearValue {
+            task: reader.named(Kind::Task)?,
+            index: reader.index()?,
+            bits: reader.operand()?,
+        },
+    };
+    Some(Instr::Notify { call })
 }
 
 // The instruction of a keyword and the words after it, if each stands for something.
@@ -109,6 +155,7 @@ fn instr_made(keyword: Keyword, reader: &mut Reader<'_>) -> Option<Instr>
         Keyword::Local(keyword) => local_instr(keyword, reader),
         Keyword::Queue(keyword) => queue_instr(keyword, reader),
         Keyword::QueueSet(keyword) => queue_set_instr(keyword, reader),
+        Keyword::Notify(keyword) => notify_instr(keyword, reader),
     }
 }
 
@@ -140,25 +187,21 @@ fn is_for_queue(instr: &Instr, objects: &ObjectDrafts<'_>) -> bool
     is_call_for(&shape.unwrap_or_default(), &call)
 }
 
-/// The instruction of a text, in a script of that length over those objects. A fault in the form of
-/// a word comes before a name that nothing has, and that before a queue that the call is not for.
+/// The instruction of a text, in that scope, in a script of that length. A fault in the form of a
+/// word comes before a name that nothing has, and that before a queue that the call is not for.
 #[tactic(auto, unfolding(crate::specs::Spelling::instr_of))]
-pub(crate) fn read_instr(
-    text: &[u8],
-    objects: &ObjectDrafts<'_>,
-    len: usize,
-) -> Result<Instr, AppError>
-    ensures { result ≡ instr_of (drafts_view objects.now) len (words_of text.now) }
+pub(crate) fn read_instr(text: &[u8], scope: Scope<'_>, len: usize) -> Result<Instr, AppError>
+    ensures { result ≡ instr_of (scope_view scope.entry) len (words_of text.now) }
 {
     let mut words = Words::new(text);
     let word = words.next().ok_or(AppError::Instr)?;
     let (parameters, keyword) = keyword_of(word).ok_or(AppError::Instr)?;
-    let mut reader = Reader::new(objects, len, words);
+    let mut reader = Reader::new(scope, len, words);
     if !reader.are_formed(parameters) {
         return Err(AppError::Instr);
     }
     let instr = instr_made(keyword, &mut reader).ok_or(AppError::Name)?;
-    if is_for_queue(&instr, objects) {
+    if is_for_queue(&instr, scope.objects) {
         Ok(instr)
     } else {
         Err(AppError::OverwriteLength)

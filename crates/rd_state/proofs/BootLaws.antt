@@ -1,10 +1,13 @@
 -- The state at boot is valid.
-use Rattle.std.proofs.Common.{◌≡◌, ◌∙◌, ℕ, zero, suc, ◌<◌, ◌≤◌, List, [], length, get_or, replicate, None, refl, ap, subst, sym, arith}
-use Rattle.std.specs.Prelude.{All}
-use Rattle.std.proofs.lemmas.List.{length-replicate, get_or-replicate}
+use Rattle.std.proofs.Common.{◌≡◌, ◌∙◌, ℕ, zero, suc, ◌<◌, ◌≤◌, List, [], length, get_or, replicate, None, Some, refl, ap, subst, sym, arith, inl, inr}
+use Rattle.std.proofs.lemmas.List.{length-replicate, get_or-replicate, get_or_past}
+use Rattle.std.proofs.lemmas.Bool.{cases_lt}
 use Rattle.std.proofs.lemmas.List.Elements.{All-replicate, All-get_or}
 use Rattle.std.proofs.lemmas.List.Sums.{sum_by-cons}
 use Rattle.std.proofs.lemmas.Bool.Decides.{nat_tests}
+use Rattle.rd_app.specs.declared.instr.Instr.{Instr}
+use Rattle.rd_notify.specs.declared.entries.Entry.{Entry}
+use Rattle.rd_notify.specs.declared.entries.EntryState.TheVariants.{Idle, Waiting}
 use Rattle.rd_notify.specs.Entries.{idle_entry}
 use Rattle.rd_app.specs.Application.{Application, IsApplication, IsScript, instr_at, priorities_of}
 use Rattle.rd_wait.specs.Joined.{IsInOrder}
@@ -13,8 +16,8 @@ use Rattle.rd_state.specs.Boot.{all_joined, before_scheduling, boot_of, fresh_ta
 use Rattle.rd_state.specs.Settled.{seating_of, IsSettled}
 use Rattle.rd_state.specs.Sizes.{IsSized}
 use Rattle.rd_state.specs.Snapshot.{Snapshot, TaskSnapshot, no_task, task_at}
-use Rattle.rd_state.specs.Valid.{IsNotWaiting, IsValid, PhaseFitsCall, HasTimeLeft, is_on, seats_to_run}
-use Rattle.rd_state.specs.Valid.{times_in_list, times_on_cores, times_waiting_at}
+use Rattle.rd_state.specs.Valid.{EntriesFitCall, IsValid, PhaseFitsCall, HasTimeLeft, is_on, seats_to_run}
+use Rattle.rd_state.specs.Valid.{times_in_list, times_on_cores, times_waiting_in}
 use Rattle.rd_state.proofs.EndLaws.{scheduling_settles}
 use Rattle.rd_state.proofs.ObjectLaws.{AreShaped-new}
 use Rattle.rd_state.proofs.PlaceLaws.{waiting_at-before_scheduling}
@@ -37,8 +40,24 @@ IsInOrder-all_joined : (priorities : List ℕ) (n : ℕ) → IsInOrder prioritie
 IsInOrder-all_joined priorities zero = tt
 IsInOrder-all_joined priorities (suc n) = IsInOrder-joined priorities (all_joined priorities n) n (IsInOrder-all_joined priorities n)
 
-idle_is_not_waiting : IsNotWaiting idle_entry
-idle_is_not_waiting h = cc
+-- At boot all entries are idle.
+fresh_is_idle : (count index : ℕ) → get_or (replicate count idle_entry) index idle_entry ≡ idle_entry
+fresh_is_idle count index = elim (cases_lt index count) [
+  | inl there ↦ get_or-replicate count index idle_entry idle_entry there
+  | inr past ↦ get_or_past (replicate count idle_entry) index idle_entry (omega (arith, past, length-replicate count idle_entry))
+]
+
+EntriesFitCall-fresh : (count : ℕ) (instr : Instr) → EntriesFitCall (fresh_task count).phase instr (fresh_task count).entries
+EntriesFitCall-fresh count instr = record {
+  in_call = λ index waiting. absurd (idle_is_not_waiting (sym (ap (λ (e : Entry). e.state) (fresh_is_idle count index)) ∙ waiting));
+  while_waiting = λ index waits. absurd (none_is_some index waits);
+}
+  where
+    idle_is_not_waiting : Idle ≡ Waiting → ⊥
+    idle_is_not_waiting e = cc
+
+    none_is_some : (n : ℕ) → None ≡ Some n → ⊥
+    none_is_some n e = cc
 
 pub IsValid-boot : (app : Application) (s : Snapshot) → IsApplication app → IsSized s → s ≡ boot_of app → IsValid app s
 IsValid-boot app s limits sized e =
@@ -76,12 +95,11 @@ IsValid-boot app s limits sized e =
         waiting = λ place. subst (IsInOrder priorities) (sym (waiting_at-before_scheduling app place)) tt;
       };
       places = λ place task h.
-          ap (times_in_list task) (waiting_at-before_scheduling app place) ∙ sym (ap (λ (t : TaskSnapshot). times_waiting_at place t.phase) (there task h));
+          ap (times_in_list task) (waiting_at-before_scheduling app place) ∙ sym (ap (λ (t : TaskSnapshot). times_waiting_in place t.phase) (there task h));
       calls = λ task h. subst (λ (t : TaskSnapshot). PhaseFitsCall t.phase (instr_at app task t.pc)) (sym (there task h)) tt;
       deadlines = λ task h. subst (λ (t : TaskSnapshot). HasTimeLeft app.tick t.phase) (sym (there task h)) tt;
-      entries =
-          All-replicate (λ (task : TaskSnapshot). All IsNotWaiting task.entries) n (fresh_task app.entries)
-          (All-replicate IsNotWaiting app.entries idle_entry idle_is_not_waiting);
+      entries = λ task h. subst (λ (t : TaskSnapshot). EntriesFitCall t.phase (instr_at app task t.pc) t.entries) (sym (there task h))
+          (EntriesFitCall-fresh app.entries (instr_at app task 0));
     } in
     subst (λ (t : Snapshot). IsSized t → IsValid app t) (sym e) valid sized
 

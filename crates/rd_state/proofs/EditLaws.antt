@@ -9,7 +9,7 @@ use Rattle.rd_state.specs.Change.{SetTick, SetTurn, SetCore, InsReady, DelReady,
 use Rattle.rd_state.specs.Snapshot.{Snapshot}
 use Rattle.rd_state.specs.Change.{applied, inverse_of, cost_of, weight_of, Fits}
 use Rattle.rd_state.specs.Edit.{Base, Edit, GoesOn, SameShape, Reaches, begun_at, capacity_of, edit_of}
-use Rattle.std.proofs.Common.{zero, suc, ◌+◌, ◌-◌, ◌*◌, ◌<◌, ap₂, length-append}
+use Rattle.std.proofs.Common.{zero, suc, ◌+◌, ◌<◌, ap₂, length-append}
 use Rattle.rd_state.specs.Edit.{room_for, room_of}
 use Rattle.rd_state.specs.PackedChanges.{all_packed, packed, ChangeListView}
 use Rattle.rd_state.proofs.PackingLaws.{all_packed-push, packed_short}

@@ -14,13 +14,13 @@ use Rattle.rd_queue.specs.Changes.{QueueChange}
 use Rattle.rd_queue.specs.declared.queue_set_change.QueueSetChange.{QueueSetChange}
 use Rattle.rd_queue.specs.PackedChanges.{last_queue_change, queue_change_length, QueueChangeIsAtEnd}
 use Rattle.rd_queue.specs.PackedQueueSetChanges.{last_queue_set_change, queue_set_change_length, QueueSetChangeIsAtEnd}
-use Rattle.std.proofs.Common.{◌*◌}
+use Rattle.std.proofs.Common.{◌*◌, ◌≢◌, nat_lt}
 use Rattle.std.proofs.lemmas.List.Sums.{sum_by-cons}
 use Rattle.rd_queue.specs.Changes.{InsWait, DelWait, PutBack, TakeBack, PutFront, TakeFront, SetItem, Clear, Fill, SetMember}
 use Rattle.rd_queue.specs.declared.queue_set_change.QueueSetChange.TheVariants as in_set
 use Rattle.rd_queue.specs.PackedChanges.{queue_fields}
 use Rattle.rd_state.specs.Change.{cost_of, saved_bytes, weight_of}
-use Rattle.rd_state.specs.TaskChanges.{SetPc, SetReg, SetPhase, SetData}
+use Rattle.rd_state.specs.TaskChanges.{SetPc, SetReg, SetPhase, SetEntry, SetData}
 use Rattle.rd_state.specs.PackedTaskChanges.{task_fields}
 use Rattle.rd_state.specs.Change.{Change, SetTick, SetTurn, SetCore, InsReady, DelReady, Task, Object, inverse_of, Fits}
 use Rattle.rd_state.specs.Objects.{ObjectChange, ObjectsSnapshot, Queue, QueueSet, queue_in, queue_set_in, object_inverse_of, AreSizedObjects, ObjectFits}
@@ -262,6 +262,7 @@ packed_short (DelReady index) = omega arith
 packed_short (Task task (SetPc pc)) = omega arith
 packed_short (Task task (SetReg register value)) = omega arith
 packed_short (Task task (SetPhase phase)) = omega arith
+packed_short (Task task (SetEntry index entry)) = omega arith
 packed_short (Task task (SetData d)) = omega (arith, length-append d (task_fields task (SetData d)))
 packed_short (Object (Queue queue (InsWait list index task))) = omega arith
 packed_short (Object (Queue queue (DelWait list index))) = omega arith
@@ -295,3 +296,15 @@ weight_bounds_bytes (change ∷ later) =
 pub length-weight-le : (changes : List Change) → length changes ≤ weight_of changes
 length-weight-le [] = omega arith
 length-weight-le (change ∷ later) = omega (arith, sum_by-cons cost_of change later, length-weight-le later)
+
+-- A change of a task takes as many bytes as it says.
+pub change_length-task : (bytes : List ℕ) → end_byte 1 bytes ≢ SET_TICK → end_byte 1 bytes ≢ SET_TURN → end_byte 1 bytes ≢ SET_CORE
+    → end_byte 1 bytes < INS_READY → change_length bytes ≡ task_change_length bytes
+change_length-task bytes tick turn core below =
+    let no_tick : (end_byte 1 bytes == SET_TICK) ≡ false = grind (arith, nat_tests, tick) in
+    let no_turn : (end_byte 1 bytes == SET_TURN) ≡ false = grind (arith, nat_tests, turn) in
+    let no_core : (end_byte 1 bytes == SET_CORE) ≡ false = grind (arith, nat_tests, core) in
+    let no_ready : (end_byte 1 bytes == INS_READY) ≡ false = grind (arith, nat_tests, below) in
+    let no_left : (end_byte 1 bytes == DEL_READY) ≡ false = grind (arith, nat_tests, below) in
+    let task : nat_lt (end_byte 1 bytes) INS_READY ≡ true = grind (arith, nat_tests, below) in
+    rw (no_tick, no_turn, no_core, no_ready, no_left, task) refl

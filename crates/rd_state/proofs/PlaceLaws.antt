@@ -1,4 +1,4 @@
--- The places where tasks wait: who waits at one is a task, and at boot nobody does.
+-- The lists in which tasks wait: who waits in one is a task, and at boot nobody does.
 use Rattle.std.proofs.Common.{◌≡◌, ◌∙◌, ℕ, zero, suc, ◌<◌, List, [], ◌∷◌, length, get_or, map, refl, ap, subst}
 use Rattle.std.proofs.Common.{inl, inr}
 use Rattle.std.specs.Prelude.{All}
@@ -11,13 +11,13 @@ use Rattle.rd_queue.specs.Queues.{tasks_in_list}
 use Rattle.rd_queue.specs.Sizes.{IsSizedList}
 use Rattle.rd_app.specs.QueueSetShapeView.{QueueSetShapeView}
 use Rattle.rd_app.specs.Application.{Application}
-use Rattle.rd_state.specs.declared.phase.Place.{Place}
-use Rattle.rd_state.specs.declared.phase.Place.TheVariants.{Queue, QueueSet}
+use Rattle.rd_state.specs.declared.phase.Listed.{Listed}
+use Rattle.rd_state.specs.declared.phase.Listed.TheVariants.{Queue, QueueSet}
 use Rattle.rd_state.specs.Boot.{before_scheduling}
 use Rattle.rd_state.specs.Objects.{IsQueueFor, first_queues, new_queue, new_queue_set, no_queue, no_queue_set}
 use Rattle.rd_state.specs.Sizes.{IsSized}
 use Rattle.rd_state.specs.Snapshot.{Snapshot, queue_at, queue_set_at}
-use Rattle.rd_state.specs.Waiting.{HasPlace, waiting_at}
+use Rattle.rd_state.specs.Waiting.{HasList, waiting_at}
 use Rattle.rd_state.proofs.ObjectLaws.{queue_in_sized, queue_set_in_sized}
 
 -- A queue of the state has its sizes.
@@ -25,8 +25,8 @@ pub queue_sized : (s : Snapshot) (queue : ℕ) → IsSized s → queue < length 
     → IsQueueFor (length s.tasks) (length s.objects.queue_sets) (queue_at s queue)
 queue_sized s queue sized there = queue_in_sized (length s.tasks) s.objects queue sized.objects there
 
--- Those who wait at a place are tasks, and no more than there are.
-pub IsSizedList-waiting_at : (s : Snapshot) (place : Place) → IsSized s → HasPlace s place → IsSizedList (length s.tasks) (waiting_at s place)
+-- Those who wait in a list are tasks, and no more than there are.
+pub IsSizedList-waiting_at : (s : Snapshot) (place : Listed) → IsSized s → HasList s place → IsSizedList (length s.tasks) (waiting_at s place)
 IsSizedList-waiting_at s (Queue queue Receiving) sized there =
     let here = queue_sized s queue sized there in
     subst (λ n. IsSizedList n (queue_at s queue).receiving) here.1 here.0.receiving
@@ -61,6 +61,6 @@ nobody_selects task_count queue_count [] queue_set = refl
 nobody_selects task_count queue_count (shape ∷ shapes) zero = refl
 nobody_selects task_count queue_count (shape ∷ shapes) (suc queue_set) = nobody_selects task_count queue_count shapes queue_set
 
-pub waiting_at-before_scheduling : (app : Application) (place : Place) → waiting_at (before_scheduling app) place ≡ []
+pub waiting_at-before_scheduling : (app : Application) (place : Listed) → waiting_at (before_scheduling app) place ≡ []
 waiting_at-before_scheduling app (Queue queue list) = nobody_waits_at app list queue (length app.objects.queues.things)
 waiting_at-before_scheduling app (QueueSet queue_set) = nobody_selects (length app.tasks.things) (length app.objects.queues.things) app.objects.queue_sets.things queue_set

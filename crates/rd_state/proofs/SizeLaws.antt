@@ -16,11 +16,13 @@ use Rattle.rd_state.specs.Change.{InsReady, Task, Object}
 use Rattle.rd_state.specs.Objects.{ObjectChange}
 use Rattle.rd_state.specs.declared.state.State.TheInside.{Inside}
 use Rattle.rd_state.specs.TaskChanges.{TaskChange}
-use Rattle.rd_state.specs.TaskChanges.{SetPc, SetReg, SetPhase, SetData}
+use Rattle.rd_state.specs.TaskChanges.{SetPc, SetReg, SetPhase, SetEntry, SetData}
 use Rattle.rd_state.specs.Boot.{all_joined, fresh_task}
 use Rattle.rd_state.specs.Change.{Fits, MentionsObjects}
 use Rattle.rd_state.specs.Inside.{HasSizes, snapshot_of}
 use Rattle.rd_state.specs.Objects.{AreSizedObjects, Numbers, ObjectsSnapshot, new_objects, numbers_in, object_applied}
+use Rattle.rd_notify.specs.declared.entries.Entry.{Entry}
+use Rattle.rd_notify.specs.Entries.{idle_entry}
 use Rattle.rd_state.specs.Sizes.{IsSized, IsSizedPhase, IsSizedTask, IsTaskOrIdle}
 use Rattle.rd_state.specs.Snapshot.{Snapshot, TaskSnapshot, no_task, numbers_of, task_at, with_task}
 use Rattle.rd_state.specs.TaskChanges.{task_applied}
@@ -112,6 +114,7 @@ phase_then : (s : Snapshot) (task : ℕ) (change : TaskChange) → IsSized s →
 phase_then s task (SetPc pc) sized there names = phase_sized s task sized there
 phase_then s task (SetReg register value) sized there names = phase_sized s task sized there
 phase_then s task (SetPhase phase) sized there names = names
+phase_then s task (SetEntry index entry) sized there names = phase_sized s task sized there
 phase_then s task (SetData bytes) sized there names = phase_sized s task sized there
 
 -- a change of a task
@@ -164,12 +167,14 @@ All-all_joined priorities (suc n) limit h =
     All-insert (λ task. task < limit) (all_joined priorities n) _ n (All-all_joined priorities n limit (omega (arith, h))) (omega (arith, h))
 
 -- a task at its first instruction
-IsSizedTask-fresh : (entries : ℕ) → IsSizedTask (fresh_task entries)
-IsSizedTask-fresh entries = record {
+IsSizedTask-fresh : (entries : ℕ) → entries ≤ 4 → IsSizedTask (fresh_task entries)
+IsSizedTask-fresh entries few = record {
   pc = omega arith;
   registers = refl;
   values = All-replicate (λ v. v < 2 ^ 32) 8 0 (omega arith);
   bytes = omega arith;
+  entries = All-replicate (λ (entry : Entry). entry.value < 2 ^ 32) entries idle_entry (omega arith);
+  few_entries = omega (arith, length-replicate entries idle_entry, few);
 }
 
 -- a new state
@@ -197,7 +202,7 @@ HasSizes-new app s n limits tick turn cores ready tasks scripts objects =
         tasks = record {
           tasks =
               All-same IsSizedTask s.tasks.items (replicate n (fresh_task app.entries)) tasks
-              (All-replicate IsSizedTask n (fresh_task app.entries) (IsSizedTask-fresh app.entries));
+              (All-replicate IsSizedTask n (fresh_task app.entries) (IsSizedTask-fresh app.entries limits.few_entries));
           few = omega (arith, count, scripts, limits.few_tasks);
           phases =
               All-same HasPhase s.tasks.items (replicate n (fresh_task app.entries)) tasks (All-replicate HasPhase n (fresh_task app.entries) tt);

@@ -5,18 +5,23 @@ use Rattle.std.proofs.lemmas.Bool.Decides.{nat_tests}
 use Rattle.std.proofs.lemmas.Nat.{from_le_bytes-to_le_bytes_2, from_le_bytes-to_le_bytes_4, from_le_bytes-to_le_bytes_8}
 use Rattle.rd_bytes.proofs.Offered.{end_byte_of, end_short_of, end_word_of, end_long_of, all_but_end, all_but_saved, bytes_before_end}
 use Rattle.rd_bytes.specs.Ends.{end_byte, end_short, end_word, end_long}
-use Rattle.rd_bytes.specs.declared.tag.TheConstants.{SET_PC, SET_REG, SET_PHASE, SET_DATA}
+use Rattle.rd_bytes.specs.declared.tag.TheConstants.{SET_PC, SET_REG, SET_PHASE, SET_ENTRY, SET_DATA}
 use Rattle.rd_queue.specs.declared.waiting_list.WaitingList.TheVariants.{Receiving, Sending}
+use Rattle.rd_notify.specs.declared.entries.Entry.{Entry}
+use Rattle.rd_notify.specs.declared.entries.EntryState.{EntryState}
+use Rattle.rd_notify.specs.declared.entries.EntryState.TheVariants.{Idle, Waiting, Received}
+use Rattle.rd_state.specs.PackedTaskChanges.{byte_of_entry_state, entry_state_of_byte}
 use Rattle.rd_state.specs.declared.phase.Cause.TheVariants.{SetFull}
 use Rattle.rd_state.specs.declared.phase.Phase.{Phase}
 use Rattle.rd_state.specs.declared.phase.Phase.TheVariants.{Run, Again, Wait, Ended, Failed}
 use Rattle.rd_state.specs.declared.phase.Place.{Place}
-use Rattle.rd_state.specs.declared.phase.Place.TheVariants.{Queue, QueueSet}
+use Rattle.rd_state.specs.declared.phase.Place.TheVariants as sort
+use Rattle.rd_state.specs.declared.phase.Listed.TheVariants.{Queue, QueueSet}
 use Rattle.rd_state.specs.Objects.{Numbers}
 use Rattle.rd_state.specs.Sizes.{IsDeadline, IsSizedPhase, IsSizedTask}
 use Rattle.rd_state.specs.Snapshot.{TaskSnapshot}
 use Rattle.rd_state.specs.Waiting.{IsPlace}
-use Rattle.rd_state.specs.TaskChanges.{TaskChange, SetPc, SetReg, SetPhase, SetData, task_inverse_of, TaskFits}
+use Rattle.rd_state.specs.TaskChanges.{TaskChange, SetPc, SetReg, SetPhase, SetEntry, SetData, task_inverse_of, TaskFits}
 use Rattle.rd_state.specs.PackedTaskChanges.{number_of_deadline, deadline_of_number, list_of_place, object_of_place, place_of_bytes}
 use Rattle.rd_state.specs.PackedTaskChanges.{phase_kind, phase_list, phase_object, phase_number, phase_of_bytes, task_fields, task_packed}
 use Rattle.rd_state.specs.PackedTaskChanges.{last_task, last_task_change, task_change_length}
@@ -30,9 +35,10 @@ deadline_again None fits = refl
 deadline_again (Some tick) fits = grind (arith, nat_tests)
 
 place_again : (place : Place) → place_of_bytes (list_of_place place) (object_of_place place) ≡ place
-place_again (Queue queue Receiving) = refl
-place_again (Queue queue Sending) = refl
-place_again (QueueSet queue_set) = refl
+place_again (sort.Listed (Queue queue Receiving)) = refl
+place_again (sort.Listed (Queue queue Sending)) = refl
+place_again (sort.Listed (QueueSet queue_set)) = refl
+place_again (sort.Entry index) = refl
 
 phase_again : (phase : Phase) → PhaseFitsBytes phase → phase_of_bytes (phase_kind phase) (phase_list phase) (phase_object phase) (phase_number phase) ≡ phase
 phase_again Run fits = refl
@@ -99,6 +105,24 @@ set_phase_read b task phase fits =
     plain_read b x task _ (omega arith) (omega (arith, tag)) (omega (arith, tag)) (rw tag e13)
     (rw (tag, e12, e11, e10, number) (ap SetPhase (phase_again phase fits))) (rw tag refl)
 
+entry_state_again : (state : EntryState) → entry_state_of_byte (byte_of_entry_state state) ≡ state
+entry_state_again Idle = refl
+entry_state_again Waiting = refl
+entry_state_again Received = refl
+
+set_entry_read : (b : List ℕ) (task index : ℕ) (entry : Entry) → entry.value < 2 ^ 32
+    → TaskChangeIsAtEnd (b ++ task_packed task (SetEntry index entry)) b task (SetEntry index entry)
+set_entry_read b task index entry fits =
+    let x : List ℕ = task_packed task (SetEntry index entry) in
+    let tag : end_byte 1 (b ++ x) ≡ SET_ENTRY = end_byte_of b x 1 (omega arith) (omega arith) in
+    let e8 : end_byte 8 (b ++ x) ≡ task = end_byte_of b x 8 (omega arith) (omega arith) in
+    let e7 : end_byte 7 (b ++ x) ≡ index = end_byte_of b x 7 (omega arith) (omega arith) in
+    let e2 : end_byte 2 (b ++ x) ≡ byte_of_entry_state entry.state = end_byte_of b x 2 (omega arith) (omega arith) in
+    let number : end_word 3 (b ++ x) ≡ entry.value = end_word_of b x 3 (omega arith) (omega arith) ∙ from_le_bytes-to_le_bytes_4 entry.value fits in
+    plain_read b x task _ (omega arith) (omega (arith, tag)) (omega (arith, tag)) (rw tag e8)
+    (rw (tag, e7, e2, number) (ap (λ (state : EntryState). SetEntry index (record { value = entry.value; state = state })) (entry_state_again entry.state)))
+    (rw tag refl)
+
 set_data_read : (b : List ℕ) (task : ℕ) (data_ : List ℕ) → length data_ < 65536
     → TaskChangeIsAtEnd ((b ++ data_) ++ task_fields task (SetData data_)) b task (SetData data_)
 set_data_read b task d fits =
@@ -123,6 +147,7 @@ pub task_change_is_read_back : EachTaskChangeIsReadBack
 task_change_is_read_back b task (SetPc pc) fits = set_pc_read b task pc fits.1
 task_change_is_read_back b task (SetReg register value) fits = set_reg_read b task register value fits.1.1
 task_change_is_read_back b task (SetPhase phase) fits = set_phase_read b task phase fits.1
+task_change_is_read_back b task (SetEntry index entry) fits = set_entry_read b task index entry fits.1.1
 task_change_is_read_back b task (SetData d) fits =
     subst (λ (bytes : List ℕ). TaskChangeIsAtEnd bytes b task (SetData d)) (append_assoc b d (task_fields task (SetData d))) (set_data_read b task d fits.1)
 
@@ -133,8 +158,9 @@ deadline_fits None sized = tt
 deadline_fits (Some tick) sized = omega (arith, sized)
 
 place_fits : (numbers : Numbers) (place : Place) → IsPlace numbers place → numbers.queue_count ≤ 255 → numbers.queue_set_count ≤ 255 → PlaceFitsBytes place
-place_fits numbers (Queue queue list) there few few_sets = omega (arith, there, few)
-place_fits numbers (QueueSet queue_set) there few few_sets = omega (arith, there, few_sets)
+place_fits numbers (sort.Listed (Queue queue list)) there few few_sets = omega (arith, there, few)
+place_fits numbers (sort.Listed (QueueSet queue_set)) there few few_sets = omega (arith, there, few_sets)
+place_fits numbers (sort.Entry index) there few few_sets = omega (arith, there)
 
 phase_fits : (numbers : Numbers) (phase : Phase) → IsSizedPhase numbers phase → numbers.queue_count ≤ 255 → numbers.queue_set_count ≤ 255 → PhaseFitsBytes phase
 phase_fits numbers Run sized few few_sets = tt
@@ -144,10 +170,13 @@ phase_fits numbers Ended sized few few_sets = tt
 phase_fits numbers (Failed cause) sized few few_sets = tt
 
 pub task_inverse_has_bytes : (numbers : Numbers) (task : TaskSnapshot) (change : TaskChange) → IsSizedTask task → IsSizedPhase numbers task.phase
-    → TaskFits change → numbers.queue_count ≤ 255 → numbers.queue_set_count ≤ 255 → TaskFitsBytes (task_inverse_of task change)
+    → TaskFits task change → numbers.queue_count ≤ 255 → numbers.queue_set_count ≤ 255 → TaskFitsBytes (task_inverse_of task change)
 task_inverse_has_bytes numbers task (SetPc pc) sized phase fits few few_sets = omega (arith, sized.pc)
 task_inverse_has_bytes numbers task (SetReg register value) sized phase fits few few_sets =
     let back = (task_law.each_is_undone task (SetReg register value) sized fits).fits in
     (omega (arith, fits.0), back.1)
 task_inverse_has_bytes numbers task (SetPhase p) sized phase fits few few_sets = phase_fits numbers task.phase phase few few_sets
+task_inverse_has_bytes numbers task (SetEntry index entry) sized phase fits few few_sets =
+    let back = (task_law.each_is_undone task (SetEntry index entry) sized fits).fits in
+    (omega (arith, fits.0, sized.few_entries), back.1)
 task_inverse_has_bytes numbers task (SetData bytes) sized phase fits few few_sets = omega (arith, sized.bytes)

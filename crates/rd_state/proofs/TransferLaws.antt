@@ -15,7 +15,6 @@ use Rattle.rd_state.specs.declared.transfer.Source.TheVariants.{QueueFront}
 use Rattle.rd_state.specs.declared.transfer.Transfer.{Transfer}
 use Rattle.rd_state.specs.declared.transfer.Transfer.TheVariants.{FromData, ToData}
 use Rattle.rd_state.specs.Objects.{ObjectsSnapshot, queue_in, AreSizedObjects, ObjectFits}
-use Rattle.rd_state.specs.Change.{Change}
 use Rattle.rd_state.specs.Change.{applied, cost_of, inverse_of, Fits}
 use Rattle.rd_state.specs.Edit.{Edit, Reaches, edit_of, room_for}
 use Rattle.rd_state.specs.PackedChanges.{all_packed, packed, ChangeListView}

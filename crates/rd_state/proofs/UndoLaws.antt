@@ -6,12 +6,13 @@ use Rattle.std.proofs.lemmas.List.Elements.{All-get_or}
 use Rattle.rd_state.specs.Change.{Change}
 use Rattle.rd_state.specs.Change.{SetTick, SetTurn, SetCore, InsReady, DelReady, Task, Object}
 use Rattle.rd_state.specs.TaskChanges.{TaskChange}
-use Rattle.rd_state.specs.TaskChanges.{SetPc, SetReg, SetPhase, SetData}
+use Rattle.rd_state.specs.TaskChanges.{SetPc, SetReg, SetPhase, SetEntry, SetData}
 use Rattle.rd_state.specs.Change.{applied, inverse_of, Fits, MentionsObjects}
 use Rattle.rd_state.specs.Objects.{ObjectsSnapshot}
 use Rattle.rd_state.specs.Sizes.{IsSized, IsSizedPhase, IsSizedTask, IsTaskOrIdle}
 use Rattle.rd_state.specs.Snapshot.{Snapshot, TaskSnapshot, no_task, numbers_of, task_at}
-use Rattle.rd_state.specs.TaskChanges.{task_applied, task_inverse_of}
+use Rattle.std.proofs.lemmas.List.{get_or-set_same}
+use Rattle.rd_state.specs.TaskChanges.{task_applied, task_inverse_of, TaskFits}
 use Rattle.rd_state.specs.Undoing.{undone, CanUndo, EachIsUndone}
 use Rattle.rd_state.proofs.ObjectLaws.{object_back, object_fits}
 use Rattle.rd_state.proofs.TaskLaws as task_law
@@ -44,6 +45,7 @@ names_back : (s : Snapshot) (task : ℕ) (change : TaskChange) → IsSized s →
 names_back s task (SetPc pc) sized there = tt
 names_back s task (SetReg register value) sized there = tt
 names_back s task (SetPhase phase) sized there = phase_sized s task sized there
+names_back s task (SetEntry index entry) sized there = tt
 names_back s task (SetData bytes) sized there = tt
 
 inverse_fits : (s : Snapshot) (change : Change) → IsSized s → Fits s change → Fits (applied s change) (inverse_of s change)
@@ -60,7 +62,8 @@ inverse_fits s (DelReady index) sized fits = (
 inverse_fits s (Task task change) sized fits =
     let was = task_at s task in (
       omega (arith, length-set s.tasks task (task_applied was change), fits.0),
-      (task_law.each_is_undone was change (task_sized s task sized fits.0) fits.1).fits,
+      subst (λ (now : TaskSnapshot). TaskFits now (task_inverse_of was change)) (sym (get_or-set_same s.tasks task (task_applied was change) no_task fits.0))
+          (task_law.each_is_undone was change (task_sized s task sized fits.0) fits.1).fits,
       names_back s task change sized fits.0,
     )
 inverse_fits s (Object change) sized fits = object_fits (length s.tasks) s.objects change sized.objects fits

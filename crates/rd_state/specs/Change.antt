@@ -7,7 +7,7 @@ use Rattle.rd_state.specs.Objects.{Numbers, object_applied, object_inverse_of}
 use Rattle.rd_state.specs.Objects.{ObjectChange, object_saved_bytes, the_object_change, ObjectFits}
 use Rattle.rd_state.specs.Sizes.{IsSizedPhase}
 use Rattle.rd_state.specs.Snapshot.{Snapshot, core_at, numbers_of, task_at, with_objects, with_task}
-use Rattle.rd_state.specs.TaskChanges.{TaskChange, SetPc, SetReg, SetPhase, SetData}
+use Rattle.rd_state.specs.TaskChanges.{TaskChange, SetPc, SetReg, SetPhase, SetEntry, SetData}
 use Rattle.rd_state.specs.TaskChanges.{task_applied, task_inverse_of, task_saved_bytes}
 use Rattle.rd_state.specs.TaskChanges.{the_task_change, TaskFits}
 
@@ -67,6 +67,7 @@ abbrev pub MentionsObjects : Numbers → TaskChange → Type 0
 MentionsObjects numbers (SetPc pc) = Unit {0}
 MentionsObjects numbers (SetReg register value) = Unit {0}
 MentionsObjects numbers (SetPhase phase) = IsSizedPhase numbers phase
+MentionsObjects numbers (SetEntry index entry) = Unit {0}
 MentionsObjects numbers (SetData bytes) = Unit {0}
 
 -- The change names what is there, and there is room.
@@ -78,7 +79,8 @@ Fits s (InsReady index task) =
     (index ≤ length s.ready) × (length s.ready < length s.tasks) × (task < length s.tasks)
 Fits s (DelReady index) = index < length s.ready
 Fits s (Task task change) =
-    (task < length s.tasks) × TaskFits change × MentionsObjects (numbers_of s) change
+    (task < length s.tasks) × TaskFits (task_at s task) change
+    × MentionsObjects (numbers_of s) change
 Fits s (Object change) = ObjectFits s.objects change
 
 -- the bytes that a change carries

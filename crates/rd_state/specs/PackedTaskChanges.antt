@@ -3,16 +3,20 @@ use Rattle.std.specs.Prelude.{ℕ, ◌≡◌, ◌+◌, ◌^◌, ◌<◌, ◌≤�
 use Rattle.std.specs.Prelude.{IfSome, List, [], ◌∷◌, ◌++◌, length}
 use Rattle.std.specs.Int.{w16, w32, w64, to_le_bytes}
 use Rattle.rd_bytes.specs.Ends.{all_but, bytes_before, end_byte, end_long, end_short, end_word}
-use Rattle.rd_bytes.specs.declared.tag.TheConstants.{SET_PC, SET_REG, SET_PHASE, SET_DATA}
-use Rattle.rd_bytes.specs.declared.tag.TheConstants.{SELECTING_LIST}
+use Rattle.rd_bytes.specs.declared.tag.TheConstants.{SET_PC, SET_REG, SET_PHASE, SET_ENTRY, SET_DATA}
+use Rattle.rd_bytes.specs.declared.tag.TheConstants.{OWN_ENTRY, SELECTING_LIST}
 use Rattle.rd_queue.specs.PackedChanges.{byte_of_list, list_of_byte}
-use Rattle.rd_state.specs.TaskChanges.{TaskChange, SetPc, SetReg, SetPhase, SetData}
+use Rattle.rd_state.specs.TaskChanges.{TaskChange, SetPc, SetReg, SetPhase, SetEntry, SetData}
+use Rattle.rd_notify.specs.declared.entries.EntryState.{EntryState}
+use Rattle.rd_notify.specs.declared.entries.EntryState.TheVariants.{Idle, Waiting, Received}
 use Rattle.rd_state.specs.declared.phase.Cause.{Cause}
 use Rattle.rd_state.specs.declared.phase.Cause.TheVariants.{SetFull}
 use Rattle.rd_state.specs.declared.phase.Phase.{Phase}
 use Rattle.rd_state.specs.declared.phase.Phase.TheVariants.{Run, Again, Wait, Ended, Failed}
 use Rattle.rd_state.specs.declared.phase.Place.{Place}
-use Rattle.rd_state.specs.declared.phase.Place.TheVariants.{Queue, QueueSet}
+use Rattle.rd_state.specs.declared.phase.Place.TheVariants as sort
+use Rattle.rd_state.specs.declared.phase.Listed.TheVariants.{Queue, QueueSet}
+use Rattle.rd_state.specs.declared.phase.Listed.{Listed}
 
 -- a deadline as a number, the largest for none; and the deadline of such a number
 abbrev pub number_of_deadline : Option ℕ → ℕ
@@ -29,18 +33,31 @@ number_of_cause SetFull = 0
 abbrev pub cause_of_number : ℕ → Cause
 cause_of_number number = SetFull
 
--- a place as two bytes, its list and its object; and the place of such bytes
+-- a list as two bytes, its kind and its object; and the list of such bytes
+abbrev pub kind_of_listed : Listed → ℕ
+kind_of_listed (Queue queue list) = byte_of_list list
+kind_of_listed (QueueSet queue_set) = SELECTING_LIST
+
+abbrev pub object_of_listed : Listed → ℕ
+object_of_listed (Queue queue list) = queue
+object_of_listed (QueueSet queue_set) = queue_set
+
+abbrev pub listed_of_bytes : ℕ → ℕ → Listed
+listed_of_bytes kind object =
+    if kind == SELECTING_LIST then QueueSet object else Queue object (list_of_byte kind)
+
+-- a place, likewise
 abbrev pub list_of_place : Place → ℕ
-list_of_place (Queue queue list) = byte_of_list list
-list_of_place (QueueSet queue_set) = SELECTING_LIST
+list_of_place (sort.Listed list) = kind_of_listed list
+list_of_place (sort.Entry index) = OWN_ENTRY
 
 abbrev pub object_of_place : Place → ℕ
-object_of_place (Queue queue list) = queue
-object_of_place (QueueSet queue_set) = queue_set
+object_of_place (sort.Listed list) = object_of_listed list
+object_of_place (sort.Entry index) = index
 
 abbrev pub place_of_bytes : ℕ → ℕ → Place
 place_of_bytes list object =
-    if list == SELECTING_LIST then QueueSet object else Queue object (list_of_byte list)
+    if list == OWN_ENTRY then sort.Entry object else sort.Listed (listed_of_bytes list object)
 
 -- A phase is its kind, its place and a number; what it lacks is 0.
 abbrev pub phase_kind : Phase → ℕ
@@ -79,11 +96,21 @@ phase_of_bytes kind list object number =
     else (if kind == 4 then Ended
     else Failed (cause_of_number number))))
 
+-- the state of an entry as a byte, and the state of such a byte
+abbrev pub byte_of_entry_state : EntryState → ℕ
+byte_of_entry_state Idle = 0
+byte_of_entry_state Waiting = 1
+byte_of_entry_state Received = 2
+
+abbrev pub entry_state_of_byte : ℕ → EntryState
+entry_state_of_byte byte = if byte == 0 then Idle else (if byte == 1 then Waiting else Received)
+
 -- the bytes that a change carries
 abbrev pub task_carried : TaskChange → List ℕ
 task_carried (SetPc pc) = []
 task_carried (SetReg register value) = []
 task_carried (SetPhase phase) = []
+task_carried (SetEntry index entry) = []
 task_carried (SetData bytes) = bytes
 
 -- what follows them: the task and the other fields, with the number of those bytes in their place,
@@ -94,6 +121,8 @@ task_fields task (SetReg register value) = task ∷ register ∷ (to_le_bytes w3
 task_fields task (SetPhase phase) =
     task ∷ phase_kind phase ∷ phase_list phase ∷ phase_object phase
     ∷ (to_le_bytes w64 (phase_number phase) ++ SET_PHASE ∷ [])
+task_fields task (SetEntry index entry) =
+    task ∷ index ∷ (to_le_bytes w32 entry.value ++ byte_of_entry_state entry.state ∷ SET_ENTRY ∷ [])
 task_fields task (SetData bytes) = task ∷ (to_le_bytes w16 (length bytes) ++ SET_DATA ∷ [])
 
 abbrev pub task_packed : ℕ → TaskChange → List ℕ
@@ -104,8 +133,7 @@ abbrev pub DeadlineFitsBytes : Option ℕ → Type 0
 DeadlineFitsBytes deadline = IfSome deadline (λ tick. tick < 18446744073709551615)
 
 abbrev pub PlaceFitsBytes : Place → Type 0
-PlaceFitsBytes (Queue queue list) = queue < 255
-PlaceFitsBytes (QueueSet queue_set) = queue_set < 255
+PlaceFitsBytes place = object_of_place place < 255
 
 abbrev pub PhaseFitsBytes : Phase → Type 0
 PhaseFitsBytes Run = Unit {0}
@@ -118,6 +146,7 @@ abbrev pub TaskFitsBytes : TaskChange → Type 0
 TaskFitsBytes (SetPc pc) = pc < 65536
 TaskFitsBytes (SetReg register value) = (register < 255) × (value < 2 ^ 32)
 TaskFitsBytes (SetPhase phase) = PhaseFitsBytes phase
+TaskFitsBytes (SetEntry index entry) = (index < 255) × (entry.value < 2 ^ 32)
 TaskFitsBytes (SetData bytes) = length bytes < 65536
 
 abbrev pub TaskHasBytes : ℕ → TaskChange → Type 0
@@ -131,7 +160,10 @@ last_task_change bytes =
     else (if end_byte 1 bytes == SET_PHASE
     then SetPhase
     (phase_of_bytes (end_byte 12 bytes) (end_byte 11 bytes) (end_byte 10 bytes) (end_long 2 bytes))
-    else SetData (bytes_before 4 (end_short 2 bytes) bytes)))
+    else (if end_byte 1 bytes == SET_ENTRY
+    then SetEntry (end_byte 7 bytes)
+    (record { value = end_word 3 bytes; state = entry_state_of_byte (end_byte 2 bytes) })
+    else SetData (bytes_before 4 (end_short 2 bytes) bytes))))
 
 -- the task that changes
 abbrev pub last_task : List ℕ → ℕ
@@ -139,7 +171,8 @@ last_task bytes =
     if end_byte 1 bytes == SET_PC then end_byte 4 bytes
     else (if end_byte 1 bytes == SET_REG then end_byte 7 bytes
     else (if end_byte 1 bytes == SET_PHASE then end_byte 13 bytes
-    else end_byte 4 bytes))
+    else (if end_byte 1 bytes == SET_ENTRY then end_byte 8 bytes
+    else end_byte 4 bytes)))
 
 -- how many bytes the change takes
 abbrev pub task_change_length : List ℕ → ℕ
@@ -147,7 +180,8 @@ task_change_length bytes =
     if end_byte 1 bytes == SET_PC then 4
     else (if end_byte 1 bytes == SET_REG then 7
     else (if end_byte 1 bytes == SET_PHASE then 13
-    else 4 + end_short 2 bytes))
+    else (if end_byte 1 bytes == SET_ENTRY then 8
+    else 4 + end_short 2 bytes)))
 
 -- A change is there, whole.
 pub record EndsInTaskChange (bytes : List ℕ) : Type 0 where

@@ -32,6 +32,14 @@ waits_at (Wait place deadline) = Some place
 waits_at Ended = None
 waits_at (Failed cause) = None
 
+-- Is it in a call that it began before, whether it waits or tries it again?
+abbrev pub is_in_call : Phase → Bool
+is_in_call Run = false
+is_in_call (Again deadline) = true
+is_in_call (Wait place deadline) = true
+is_in_call Ended = false
+is_in_call (Failed cause) = false
+
 -- the deadline that its call was given at the first try; none where there is none
 abbrev pub kept_deadline : Phase → Option ℕ
 kept_deadline Run = None

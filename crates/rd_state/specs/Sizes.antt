@@ -4,6 +4,8 @@ use Rattle.std.specs.Prelude.{ℕ, ◌≡◌, ◌<◌, ◌≤◌, ◌^◌, lengt
 use Rattle.rd_bytes.specs.declared.bytes.TheConstants.{MAX_BYTES}
 use Rattle.rd_app.specs.declared.app.TheConstants.{MAX_CODE, MAX_CORES, MAX_TASKS}
 use Rattle.rd_app.specs.declared.instr.TheConstants.{REGISTERS}
+use Rattle.rd_notify.specs.declared.entries.Entry.{Entry}
+use Rattle.rd_notify.specs.declared.entries.TheConstants.{MAX_ENTRIES}
 use Rattle.rd_state.specs.declared.phase.Phase.{Phase}
 use Rattle.rd_state.specs.declared.phase.Place.{Place}
 use Rattle.rd_state.specs.Phases.{kept_deadline, waits_at}
@@ -15,12 +17,15 @@ use Rattle.rd_state.specs.Waiting.{IsPlace}
 abbrev pub IsTaskOrIdle : ℕ → Option ℕ → Type 0
 IsTaskOrIdle tasks running = IfSome running (λ task. task < tasks)
 
--- The instruction that comes next can be one of a script, and each register has 32 bits.
+-- The instruction that comes next can be one of a script, and each register and each value of an
+-- entry has 32 bits.
 pub record IsSizedTask (task : TaskSnapshot) : Type 0 where
   pub pc : task.pc ≤ MAX_CODE
   pub registers : length task.registers ≡ REGISTERS
   pub values : All (λ value. value < 2 ^ 32) task.registers
   pub bytes : length task.bytes ≤ MAX_BYTES
+  pub entries : All (λ (entry : Entry). entry.value < 2 ^ 32) task.entries
+  pub few_entries : length task.entries ≤ MAX_ENTRIES
 
 -- A deadline, where there is one, is a sum of a tick and a block time.
 abbrev pub IsDeadline : Option ℕ → Type 0

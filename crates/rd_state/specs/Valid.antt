@@ -1,23 +1,29 @@
 -- What holds of a state between moves, for an application.
-use Rattle.std.specs.Prelude.{ℕ, ◌≡◌, ◌≢◌, ◌+◌, ◌<◌, Bool, true, false, List, length, All}
-use Rattle.std.specs.Prelude.{count_by, nat_eq, nat_lt, if◌then◌else◌}
+use Rattle.std.specs.Prelude.{ℕ, ◌≡◌, ◌+◌, ◌<◌, Bool, true, false, List, length, All}
+use Rattle.std.specs.Prelude.{count_by, nat_eq, nat_lt, slice_index_or, if◌then◌else◌}
 use Rattle.std.specs.Prelude.{Option, Some, None, IsSome, IfSome, option_map}
+use Rattle.std.specs.Option.{option_and_then}
 use Rattle.rd_notify.specs.declared.entries.Entry.{Entry}
+use Rattle.rd_notify.specs.declared.entries.EntryState.{EntryState}
 use Rattle.rd_notify.specs.declared.entries.EntryState.TheVariants.{Waiting}
+use Rattle.rd_notify.specs.Entries.{idle_entry}
 use Rattle.rd_state.specs.declared.phase.Phase.{Phase}
-use Rattle.rd_state.specs.Phases.{can_run, kept_deadline, tries_again, waits_at}
+use Rattle.rd_state.specs.Phases.{can_run, is_in_call, kept_deadline, tries_again, waits_at}
 use Rattle.rd_app.specs.declared.instr.Instr.{Instr}
 use Rattle.rd_app.specs.declared.instr.Instr.TheVariants as instr
 use Rattle.rd_app.specs.declared.instr.QueueSetCall.{QueueSetCall}
 use Rattle.rd_app.specs.declared.instr.QueueSetCall.TheVariants.{Select}
 use Rattle.rd_state.specs.declared.phase.Place.{Place}
-use Rattle.rd_state.specs.declared.phase.Place.TheVariants as place
-use Rattle.rd_app.specs.Application.{Application, code_of, instr_at, list_of_call, priorities_of}
+use Rattle.rd_state.specs.declared.phase.Place.TheVariants as sort
+use Rattle.rd_state.specs.declared.phase.Listed.{Listed}
+use Rattle.rd_state.specs.declared.phase.Listed.TheVariants.{Queue, QueueSet}
+use Rattle.rd_app.specs.Application.{Application, code_of, index_of_call, instr_at, list_of_call}
+use Rattle.rd_app.specs.Application.{priorities_of}
 use Rattle.rd_wait.specs.Joined.{IsInOrder}
 use Rattle.rd_state.specs.Objects.{AreShaped}
 use Rattle.rd_state.specs.Snapshot.{Snapshot, task_at}
 use Rattle.rd_state.specs.Sizes.{IsSized}
-use Rattle.rd_state.specs.Waiting.{same_place, waiting_at}
+use Rattle.rd_state.specs.Waiting.{entry_of, listed_at, same_list, waiting_at}
 
 -- Numbers and lengths are the application's, and each task stands at an instruction of its script.
 pub record InLimits (app : Application) (s : Snapshot) : Type 0 where
@@ -49,29 +55,35 @@ SeatedOnce s =
     (task : ℕ) → task < length s.tasks
     → times_in_list task s.ready + times_on_cores task s.cores ≡ seats_to_run (task_at s task).phase
 
--- how often a task of this phase stands in the list of a place
-abbrev pub is_at_place : Place → Option Place → Bool
-is_at_place place None = false
-is_at_place place (Some other) = same_place place other
+-- the list in which a task of this phase waits, if one has it
+abbrev pub waits_in : Phase → Option Listed
+waits_in phase = option_and_then listed_at (waits_at phase)
 
-abbrev pub times_waiting_at : Place → Phase → ℕ
-times_waiting_at place phase = if is_at_place place (waits_at phase) then 1 else 0
+-- how often it stands in a list
+abbrev pub is_in_list : Listed → Option Listed → Bool
+is_in_list list None = false
+is_in_list list (Some other) = same_list list other
 
--- A task stands in the list of each place as often as its phase says.
-abbrev pub WaitsAtPlaces : Snapshot → Type 0
-WaitsAtPlaces s =
-    (place : Place) (task : ℕ) → task < length s.tasks
-    → times_in_list task (waiting_at s place) ≡ times_waiting_at place (task_at s task).phase
+abbrev pub times_waiting_in : Listed → Phase → ℕ
+times_waiting_in list phase = if is_in_list list (waits_in phase) then 1 else 0
+
+-- A task stands in each list as often as its phase says.
+abbrev pub WaitsInLists : Snapshot → Type 0
+WaitsInLists s =
+    (list : Listed) (task : ℕ) → task < length s.tasks
+    → times_in_list task (waiting_at s list) ≡ times_waiting_in list (task_at s task).phase
 
 -- the place where a task waits for a call of a set
 abbrev pub place_of_queue_set_call : ℕ → QueueSetCall → Option Place
-place_of_queue_set_call queue_set (Select wait) = Some (place.QueueSet queue_set)
+place_of_queue_set_call queue_set (Select wait) = Some (sort.Listed (QueueSet queue_set))
 
 -- the place where a task waits for an instruction, if that is a call with a block time
 abbrev pub place_of_call : Instr → Option Place
 place_of_call (instr.Local instr) = None
-place_of_call (instr.Queue queue call) = option_map (place.Queue queue) (list_of_call call)
+place_of_call (instr.Queue queue call) =
+    option_map (λ list. sort.Listed (Queue queue list)) (list_of_call call)
 place_of_call (instr.QueueSet queue_set call) = place_of_queue_set_call queue_set call
+place_of_call (instr.Notify call) = option_map sort.Entry (index_of_call call)
 
 -- A task that waits stands at the call of its place. One that tries again stands at a call with a
 -- block time.
@@ -105,17 +117,34 @@ WaitersHaveTimeLeft s =
 -- Each list of tasks is in priority order.
 pub record ListsInOrder (priorities : List ℕ) (s : Snapshot) : Type 0 where
   pub ready : IsInOrder priorities s.ready
-  pub waiting : (place : Place) → IsInOrder priorities (waiting_at s place)
+  pub waiting : (list : Listed) → IsInOrder priorities (waiting_at s list)
 
--- No task waits for a notification.
-abbrev pub IsNotWaiting : Entry → Type 0
-IsNotWaiting entry = entry.state ≢ Waiting
+-- the entry through which a call waits, if it waits through one
+abbrev pub entry_of_call : Instr → Option ℕ
+entry_of_call instr = option_and_then entry_of (place_of_call instr)
+
+abbrev pub state_of_entry : List Entry → ℕ → EntryState
+state_of_entry entries index = (slice_index_or entries index idle_entry).state
+
+-- An entry is waiting only while its task is in a call that waits through it, woken or not. It is
+-- waiting for as long as the task isn't woken.
+pub record EntriesFitCall (phase : Phase) (instr : Instr) (entries : List Entry) : Type 0 where
+  pub in_call : (index : ℕ) → state_of_entry entries index ≡ Waiting
+      → (entry_of_call instr ≡ Some index) × (is_in_call phase ≡ true)
+  pub while_waiting : (index : ℕ) → option_and_then entry_of (waits_at phase) ≡ Some index
+      → state_of_entry entries index ≡ Waiting
+
+abbrev pub EntriesFitScripts : Application → Snapshot → Type 0
+EntriesFitScripts app s =
+    (task : ℕ) → task < length s.tasks
+    → EntriesFitCall (task_at s task).phase (instr_at app task (task_at s task).pc)
+    (task_at s task).entries
 
 pub record IsValid (app : Application) (s : Snapshot) : Type 0 where
   pub in_limits : InLimits app s
   pub seated_once : SeatedOnce s
   pub waiting_lists : ListsInOrder (priorities_of app) s
-  pub places : WaitsAtPlaces s
+  pub places : WaitsInLists s
   pub calls : PhasesFitScripts app s
   pub deadlines : WaitersHaveTimeLeft s
-  pub entries : All (λ task. All IsNotWaiting task.entries) s.tasks
+  pub entries : EntriesFitScripts app s

@@ -8,12 +8,12 @@ ghost use Rattle.rd_state.specs.PackedChanges.{all_packed};
 ghost use Rattle.rd_state.specs.Sizes.{IsSized};
 ghost use Rattle.rd_state.specs.Transfers.{change_of, CanTransfer};
 ghost use Rattle.rd_state.specs.Undoing.{undone, CanUndo};
-ghost use Rattle.rd_state.specs.Waiting.{HasPlace, waiting_at, with_waiting_at};
+ghost use Rattle.rd_state.specs.Waiting.{HasList, waiting_at, with_waiting_at};
 
 use crate::change::Change;
 use crate::change_list::ChangeList;
 use crate::objects::ObjectChange;
-use crate::phase::Place;
+use crate::phase::Listed;
 use crate::state::State;
 use crate::transfer::Transfer;
 use crate::undo::Undo;
@@ -151,15 +151,15 @@ impl Editing {
         self.changes.act_transfer(&mut self.state, transfer)
     }
 
-    /// Puts a task into the list of a place, at the index.
+    /// Puts a task into a list, at the index.
     #[inline(always)]
     pub fn insert_waiting(
         &mut self,
-        place: Place,
+        place: Listed,
         index: usize,
         task: usize,
     ) -> Result<(), NoMemory>
-        requires place { HasPlace self.old.now place }
+        requires place { HasList self.old.now place }
         requires within { index ≤ length (waiting_at self.old.now place) }
         requires room { length (waiting_at self.old.now place) < length self.old.now.tasks }
         requires task { task < length self.old.now.tasks }
@@ -171,12 +171,12 @@ impl Editing {
     {
         self.state.sizes();
         match place {
-            Place::Queue { queue, list } => {
+            Listed::Queue { queue, list } => {
                 let change = QueueChange::InsWait { list, index, task };
                 let change = ObjectChange::Queue { queue, change };
                 self.change(Change::Object { change })
             }
-            Place::QueueSet { queue_set } => {
+            Listed::QueueSet { queue_set } => {
                 let change = QueueSetChange::InsWait { index, task };
                 let change = ObjectChange::QueueSet { queue_set, change };
                 self.change(Change::Object { change })
@@ -184,10 +184,10 @@ impl Editing {
         }
     }
 
-    /// Takes the task at the index out of the list of a place.
+    /// Takes the task at the index out of a list.
     #[inline(always)]
-    pub fn delete_waiting(&mut self, place: Place, index: usize) -> Result<(), NoMemory>
-        requires place { HasPlace self.old.now place }
+    pub fn delete_waiting(&mut self, place: Listed, index: usize) -> Result<(), NoMemory>
+        requires place { HasList self.old.now place }
         requires within { index < length (waiting_at self.old.now place) }
         ensures ok { OnOk result (Reaches self.old self.new
             (with_waiting_at self.old.now place (remove (waiting_at self.old.now place) index))
@@ -196,12 +196,12 @@ impl Editing {
         ensures err { OnErr result (self.new ≡ self.old) }
     {
         match place {
-            Place::Queue { queue, list } => {
+            Listed::Queue { queue, list } => {
                 let change = QueueChange::DelWait { list, index };
                 let change = ObjectChange::Queue { queue, change };
                 self.change(Change::Object { change })
             }
-            Place::QueueSet { queue_set } => {
+            Listed::QueueSet { queue_set } => {
                 let change = QueueSetChange::DelWait { index };
                 let change = ObjectChange::QueueSet { queue_set, change };
                 self.change(Change::Object { change })

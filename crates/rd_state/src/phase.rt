@@ -60,9 +60,18 @@ impl Phase {
     }
 }
 
-/// Where a task can wait. Each such place has its list of tasks.
+/// Where a task can wait.
 #[derive(Clone, Copy, Debug, PartialEq, Eq)]
 pub enum Place {
+    /// In a list of tasks, which is in the order of their priorities.
+    Listed { list: Listed },
+    /// For a notification that comes to its own entry of that index. No list has it.
+    Entry { index: usize },
+}
+
+/// The lists in which tasks wait.
+#[derive(Clone, Copy, Debug, PartialEq, Eq)]
+pub enum Listed {
     /// For an item of the queue, or for room in it.
     Queue { queue: usize, list: WaitingList },
     /// For a handle of the set.

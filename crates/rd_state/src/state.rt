@@ -15,12 +15,12 @@ ghost use Rattle.rd_state.specs.Snapshot.{SameScheduling, SameObjects};
 ghost use Rattle.rd_state.specs.TaskChanges.{the_task_change};
 ghost use Rattle.rd_state.specs.Transfers.{change_of, CanTransfer, HasSink, HasSource};
 ghost use Rattle.rd_state.specs.declared.transfer.Transfer.TheVariants as transfer;
-ghost use Rattle.rd_state.specs.Waiting.{HasPlace, waiting_at};
+ghost use Rattle.rd_state.specs.Waiting.{HasList, waiting_at};
 
 use crate::boot::{all_ready, new_tasks};
 use crate::change::Change;
 use crate::objects::{ObjectChange, Objects};
-use crate::phase::{Phase, Place};
+use crate::phase::{Listed, Phase};
 use crate::task::Task;
 use crate::task_change::TaskChange;
 use crate::transfer::{Sink, Source, Transfer};
@@ -241,16 +241,16 @@ impl State {
         self.objects.queue_set(queue_set)
     }
 
-    /// The tasks that wait at a place, the first to be served first.
-    pub fn waiting(&self, place: Place) -> &PrioList
-        requires { HasPlace self.now place }
+    /// The tasks that wait in a list, the first to be served first.
+    pub fn waiting(&self, place: Listed) -> &PrioList
+        requires { HasList self.now place }
         ensures tasks { result.now.tasks ≡ waiting_at self.now place }
         ensures members { All (λ task. task < length self.now.tasks) (waiting_at self.now place) }
         ensures room { result.now.capacity ≡ length self.now.tasks }
     {
         match place {
-            Place::Queue { queue, list } => self.queue(queue).waiting(list),
-            Place::QueueSet { queue_set } => self.queue_set(queue_set).waiting(),
+            Listed::Queue { queue, list } => self.queue(queue).waiting(list),
+            Listed::QueueSet { queue_set } => self.queue_set(queue_set).waiting(),
         }
     }
 

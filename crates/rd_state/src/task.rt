@@ -9,7 +9,7 @@ ghost use Rattle.rd_state.specs.Boot.{fresh_task};
 use crate::phase::Phase;
 use rd_app::instr::REGISTERS;
 use rd_bytes::bytes::Bytes;
-use rd_notify::entries::Entries;
+use rd_notify::entries::{Entries, Entry};
 use std::marker::Model;
 
 /// A task of the target.
@@ -142,6 +142,15 @@ impl Task {
         ensures { self.new ≡ record self.old { bytes = bytes.now } }
     {
         self.bytes.replace(bytes);
+    }
+
+    /// Puts an entry in the place of its notification entry at `index`.
+    pub fn set_entry(&mut self, index: usize, entry: Entry)
+        requires { index < length self.old.entries }
+        ensures { self.new
+            ≡ record self.old { entries = slice_set self.old.entries index entry } }
+    {
+        self.entries.set(index, entry);
     }
 
     /// Puts the task into another phase.

@@ -6,6 +6,7 @@ ghost use Rattle.rd_state.specs.TaskChanges.{the_task_change, TaskFits, EachTask
 
 use crate::phase::Phase;
 use crate::task::Task;
+use rd_notify::entries::Entry;
 
 /// A primitive change of a task. Its bytes are borrowed: from the task, from an object, or from
 /// where changes are kept.
@@ -17,6 +18,8 @@ pub enum TaskChange<'a> {
     SetReg { register: usize, value: u32 },
     /// The task is in this phase.
     SetPhase { phase: Phase },
+    /// The notification entry becomes this one.
+    SetEntry { index: usize, entry: Entry },
     /// The data becomes these bytes.
     SetData { bytes: &'a [u8] },
 }
@@ -27,7 +30,10 @@ impl TaskChange<'_> {
         ensures { result ≡ 1 + task_saved_bytes (the_task_change self.entry) }
     {
         match self {
-            TaskChange::SetPc { .. } | TaskChange::SetReg { .. } | TaskChange::SetPhase { .. } => 1,
+            TaskChange::SetPc { .. }
+            | TaskChange::SetReg { .. }
+            | TaskChange::SetPhase { .. }
+            | TaskChange::SetEntry { .. } => 1,
             TaskChange::SetData { bytes } => 1 + bytes.len(),
         }
     }
@@ -37,13 +43,14 @@ impl Task {
     /// Makes a change. It takes no memory.
     #[inline(always)]
     pub fn apply(&mut self, change: TaskChange<'_>)
-        requires { TaskFits (the_task_change change) }
+        requires { TaskFits self.old (the_task_change change) }
         ensures { self.new ≡ task_applied self.old (the_task_change change.entry) }
     {
         match change {
             TaskChange::SetPc { pc } => self.set_pc(pc),
             TaskChange::SetReg { register, value } => self.set_register(register, value),
             TaskChange::SetPhase { phase } => self.set_phase(phase),
+            TaskChange::SetEntry { index, entry } => self.set_entry(index, entry),
             TaskChange::SetData { bytes } => self.set_bytes(bytes),
         }
     }
@@ -52,7 +59,7 @@ impl Task {
     /// memory.
     #[inline(always)]
     pub fn inverse_of(&self, change: TaskChange<'_>) -> TaskChange<'_>
-        requires { TaskFits (the_task_change change) }
+        requires { TaskFits self.now (the_task_change change) }
         ensures { the_task_change result
             ≡ task_inverse_of self.now (the_task_change change.entry) }
     {
@@ -64,6 +71,10 @@ impl Task {
             },
             TaskChange::SetPhase { .. } => TaskChange::SetPhase {
                 phase: self.phase(),
+            },
+            TaskChange::SetEntry { index, .. } => TaskChange::SetEntry {
+                index,
+                entry: self.entries().entry(index),
             },
             TaskChange::SetData { .. } => TaskChange::SetData {
                 bytes: self.bytes(),

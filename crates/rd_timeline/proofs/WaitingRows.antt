@@ -11,7 +11,8 @@ use Rattle.rd_queue.specs.declared.end.End.TheVariants.{Back}
 use Rattle.rd_app.specs.declared.instr.Operand.TheVariants.{Number}
 use Rattle.rd_state.specs.declared.phase.Phase.{Phase}
 use Rattle.rd_state.specs.declared.phase.Phase.TheVariants.{Run, Again, Wait}
-use Rattle.rd_state.specs.declared.phase.Place.TheVariants.{Queue}
+use Rattle.rd_state.specs.declared.phase.Listed.TheVariants.{Queue}
+use Rattle.rd_state.specs.declared.phase.Place.TheVariants as sort
 use Rattle.rd_app.specs.Application.{Application, max_delay}
 use Rattle.rd_app.specs.Builtin.{builtin}
 use Rattle.rd_app.specs.TaskScript.{TaskScript}
@@ -37,7 +38,7 @@ abbrev task_of : ℕ → ℕ → List ℕ → Phase → TaskSnapshot
 task_of pc r0 bytes phase = record { pc = pc; registers = r0 ∷ 0 ∷ 0 ∷ 0 ∷ 0 ∷ 0 ∷ 0 ∷ 0 ∷ []; bytes = bytes; phase = phase; entries = idle_entry ∷ [] }
 
 abbrev waits_for_item : Option ℕ → TaskSnapshot
-waits_for_item deadline = task_of 0 0 [] (Wait (Queue 0 Receiving) deadline)
+waits_for_item deadline = task_of 0 0 [] (Wait (sort.Listed (Queue 0 Receiving)) deadline)
 
 abbrev queue_of : List (List ℕ) → List ℕ → QueueSnapshot
 queue_of items receiving = record { items = items; capacity = 1; item_size = 1; receiving = receiving; sending = []; task_count = 3; queue_set = None; queue_set_count = 0 }

@@ -2,7 +2,7 @@
 use Rattle.std.proofs.Common.{length, set, ap}
 use Rattle.rd_queue.specs.declared.waiting_list.WaitingList.TheVariants.{Receiving}
 use Rattle.rd_queue.specs.Queues.{with_items}
-use Rattle.rd_state.specs.declared.phase.Place.TheVariants.{Queue}
+use Rattle.rd_state.specs.declared.phase.Listed.TheVariants.{Queue}
 use Rattle.rd_state.specs.Snapshot.{Snapshot, queue_at, items_at}
 use Rattle.rd_queue_calls.specs.QueueCalls.{sent_item}
 use Rattle.rd_queue_calls.proofs.QueueCallLaws.{items_keep, room_after_queue}

@@ -2,7 +2,7 @@
 use Rattle.std.proofs.Common.{◌∙◌, length, ap}
 use Rattle.std.proofs.lemmas.List.{length-set}
 use Rattle.rd_queue.specs.declared.waiting_list.WaitingList.TheVariants.{Receiving}
-use Rattle.rd_state.specs.declared.phase.Place.TheVariants.{Queue}
+use Rattle.rd_state.specs.declared.phase.Listed.TheVariants.{Queue}
 use Rattle.rd_state.specs.Snapshot.{Snapshot}
 use Rattle.rd_state.specs.Waiting.{waiting_at}
 use Rattle.rd_queue_calls.proofs.QueueCallLaws.{room_kept}

@@ -3,7 +3,7 @@ use Rattle.std.proofs.Common.{◌∙◌, drop, length, ap}
 use Rattle.std.proofs.lemmas.List.{length-set}
 use Rattle.rd_queue.specs.declared.waiting_list.WaitingList.TheVariants.{Sending}
 use Rattle.rd_queue.specs.Queues.{with_items}
-use Rattle.rd_state.specs.declared.phase.Place.TheVariants.{Queue}
+use Rattle.rd_state.specs.declared.phase.Listed.TheVariants.{Queue}
 use Rattle.rd_state.specs.Snapshot.{Snapshot, queue_at, items_at}
 use Rattle.rd_queue_calls.proofs.QueueCallLaws.{items_keep, room_after_queue}
 use Rattle.rd_queue_calls.proofs.calls.receive.Goals as goal

@@ -3,7 +3,7 @@ use Rattle.std.proofs.Common.{◌<◌, ◌∷◌, ◌++◌, [], length, refl, ap
 use Rattle.std.specs.Prelude.{IfSome}
 use Rattle.rd_queue.specs.declared.waiting_list.WaitingList.TheVariants.{Receiving}
 use Rattle.rd_queue.specs.QueueSets.{with_handles}
-use Rattle.rd_state.specs.declared.phase.Place.TheVariants.{Queue, QueueSet}
+use Rattle.rd_state.specs.declared.phase.Listed.TheVariants.{Queue, QueueSet}
 use Rattle.rd_state.specs.Snapshot.{Snapshot, queue_set_at}
 use Rattle.rd_queue_calls.proofs.QueueCallLaws.{room_after_queue_set}
 use Rattle.rd_queue_calls.proofs.posts.post.Goals as goal

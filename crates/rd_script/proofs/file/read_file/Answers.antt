@@ -8,12 +8,12 @@ use Rattle.rd_script.proofs.file.read_file.Goals as goal
 pub keep-requires : goal.keep-requires
 keep-requires c =
     checked_app (view c.args.file.now) (app_draft_view c.in_ok-draft.draft) c.in_ok-draft.ensures
-    (rw (← c.as_slice.ensures.value) (sym c.check_scripts.ensures ∙ c.in_ok-check_scripts.was))
+    (rw (← c.as_slice.ensures.value, ← c.scope.ensures) (sym c.check_scripts.ensures ∙ c.in_ok-check_scripts.was))
 
 pub returns-in_err-check_scripts : goal.returns-in_err-check_scripts
 returns-in_err-check_scripts c =
     let fault = c.in_err-check_scripts.field-0.0 in
     let found =
     fault_found (view c.args.file.now) (app_draft_view c.in_ok-draft.draft) fault c.in_ok-draft.ensures
-    (rw (← c.as_slice.ensures.value) (sym c.check_scripts.ensures ∙ c.in_err-check_scripts.was)) in
+    (rw (← c.as_slice.ensures.value, ← c.scope.ensures) (sym c.check_scripts.ensures ∙ c.in_err-check_scripts.was)) in
     rw found (search rules)

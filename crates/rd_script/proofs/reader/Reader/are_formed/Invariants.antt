@@ -6,4 +6,4 @@ use Rattle.rd_script.proofs.reader.Reader.are_formed.Given as goal
 -- the operands and words that are left decide
 abbrev pub invariant-loop-parameter : goal.invariant-loop-parameter
 invariant-loop-parameter l =
-    are_formed l.self.len (drop l.parameter-index l.parameters) l.words ≡ are_formed l.self.len l.parameters l.self.words
+    are_formed l.self.scope l.self.len (drop l.parameter-index l.parameters) l.words ≡ are_formed l.self.scope l.self.len l.parameters l.self.words

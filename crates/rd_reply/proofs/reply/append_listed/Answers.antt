@@ -1,7 +1,7 @@
--- The goals of append_place that the check left open.
+-- The goals of append_listed that the check left open.
 use Rattle.std.proofs.Common.{rules}
 use Rattle.rd_reply.proofs.PageLaws.{appends_as, appends_then}
-use Rattle.rd_reply.proofs.reply.append_place.Goals as goal
+use Rattle.rd_reply.proofs.reply.append_listed.Goals as goal
 
 pub returns-in-Queue : goal.returns-in-Queue
 returns-in-Queue c =

@@ -1,0 +1,54 @@
+//! What a notification does to the value of an entry, and what a task does that takes it.
+
+ghost use Rattle.std.specs.Prelude.{◌≡◌};
+ghost use Rattle.rd_notify.specs.Entries.{value_left, value_notified};
+
+/// What a notification does to the value of its entry (`eNotifyAction`).
+#[derive(Clone, Copy, Debug, PartialEq, Eq)]
+pub enum Action {
+    /// The value stays (`eNoAction`).
+    KeepValue,
+    /// Bits are set in it (`eSetBits`).
+    SetBits,
+    /// It grows by one, modulo 2^32 (`eIncrement`).
+    Increment,
+    /// Another takes its place (`eSetValueWithOverwrite`).
+    Overwrite,
+    /// Another takes its place, unless the entry has received (`eSetValueWithoutOverwrite`).
+    WithoutOverwrite,
+}
+
+impl Action {
+    /// The value that it makes of `old`, with the value that is sent along.
+    pub fn value(self, old: u32, value: u32) -> u32
+        ensures { result ≡ value_notified self old value }
+    {
+        match self {
+            Action::KeepValue => old,
+            Action::SetBits => old | value,
+            Action::Increment => old.wrapping_add(1),
+            Action::Overwrite | Action::WithoutOverwrite => value,
+        }
+    }
+}
+
+/// What a task that takes a value leaves of it (`xClearCountOnExit`).
+#[derive(Clone, Copy, Debug, PartialEq, Eq)]
+pub enum OnExit {
+    /// Nothing: it becomes 0.
+    Clear,
+    /// One less, and 0 stays 0.
+    Decrement,
+}
+
+impl OnExit {
+    /// What is left of a value.
+    pub fn value(self, value: u32) -> u32
+        ensures { result ≡ value_left self value }
+    {
+        match self {
+            OnExit::Clear => 0,
+            OnExit::Decrement => value.saturating_sub(1),
+        }
+    }
+}

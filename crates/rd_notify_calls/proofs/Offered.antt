@@ -1,0 +1,2 @@
+-- The laws of rd_notify_calls that crates above stand on. No other of its proofs is used there.
+pub use Rattle.rd_notify_calls.proofs.NotifyCallLaws.{IsConsistent-notify_call, ByWaking, by_waking}

@@ -1,0 +1,3 @@
+-- The files of definitions of rd_notify_calls.
+pub mod NotifyCalls
+pub mod NotifyLaws

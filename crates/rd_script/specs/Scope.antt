@@ -1,0 +1,15 @@
+-- What the instructions of a file can name.
+use Rattle.std.specs.Prelude.{ℕ, List}
+use Rattle.rd_app.specs.Application.{Application}
+use Rattle.rd_app.specs.Objects.{NamedObjects}
+
+-- Its objects and its tasks, and of each task so many notification entries.
+pub record Scope : Type 0 where
+  pub objects : NamedObjects
+  pub tasks : List (List ℕ)
+  pub entries : ℕ
+
+-- that of an application
+abbrev pub scope_of : Application → Scope
+scope_of app =
+    record { objects = app.objects; tasks = app.tasks.names; entries = app.entries }
