@@ -10,7 +10,8 @@ use Rattle.rd_text.specs.declared.kind.Kind.{Kind}
 use Rattle.rd_app.specs.declared.instr.Operand.{Operand}
 use Rattle.rd_app.specs.declared.instr.Operand.TheVariants.{Number, Register}
 use Rattle.rd_app.specs.declared.instr.Instr.{Instr}
-use Rattle.rd_app.specs.declared.instr.Instr.TheVariants.{Local, Queue, QueueSet, Notify}
+use Rattle.rd_app.specs.declared.instr.Instr.TheVariants.{Local, Queue, QueueSet, Stream}
+use Rattle.rd_app.specs.declared.instr.Instr.TheVariants.{Message, Notify}
 use Rattle.rd_app.specs.declared.instr.LocalInstr.{LocalInstr}
 use Rattle.rd_app.specs.declared.instr.LocalInstr.TheVariants as local
 use Rattle.rd_app.specs.declared.instr.QueueCall.{QueueCall}
@@ -19,10 +20,16 @@ use Rattle.rd_app.specs.declared.instr.QueueCall.TheVariants.{Overwrite, Reset, 
 use Rattle.rd_app.specs.declared.instr.QueueCall.TheVariants.{AddToSet, RemoveFromSet}
 use Rattle.rd_app.specs.declared.instr.QueueSetCall.{QueueSetCall}
 use Rattle.rd_app.specs.declared.instr.QueueSetCall.TheVariants.{Select}
+use Rattle.rd_app.specs.declared.instr.StreamCall.{StreamCall}
+use Rattle.rd_app.specs.declared.instr.StreamCall.TheVariants as stream_call
+use Rattle.rd_app.specs.declared.instr.MessageCall.{MessageCall}
+use Rattle.rd_app.specs.declared.instr.MessageCall.TheVariants as message_call
 use Rattle.rd_app.specs.declared.instr.NotifyCall.{NotifyCall}
 use Rattle.rd_app.specs.declared.instr.NotifyCall.TheVariants as notify
 use Rattle.rd_queue.specs.declared.waiting_list.WaitingList.{WaitingList}
 use Rattle.rd_queue.specs.declared.waiting_list.WaitingList.TheVariants.{Receiving, Sending}
+use Rattle.rd_stream.specs.declared.side.Side.{Side}
+use Rattle.rd_stream.specs.declared.side.Side.TheVariants.{Reader, Writer}
 use Rattle.rd_app.specs.TaskScript.{TaskScript}
 use Rattle.rd_app.specs.Named.{AreNamed, Named}
 use Rattle.rd_app.specs.Objects.{AreObjects, NamedObjects, names_in, shape_at}
@@ -91,6 +98,24 @@ IsQueueCall queue_set_count (RemoveFromSet queue_set) = queue_set < queue_set_co
 abbrev pub IsQueueSetCall : QueueSetCall → Type 0
 IsQueueSetCall (Select wait) = IsOperand wait
 
+-- The registers that a call of a stream buffer names are there, and a read takes a byte at the
+-- least, and at the most as many as a task's data has room for.
+abbrev pub IsStreamCall : StreamCall → Type 0
+IsStreamCall (stream_call.Write wait) = IsOperand wait
+IsStreamCall (stream_call.Read room wait) = (0 < room) × (room ≤ MAX_BYTES) × IsOperand wait
+IsStreamCall stream_call.Reset = Unit {0}
+IsStreamCall (stream_call.SetTrigger trigger) = IsOperand trigger
+IsStreamCall stream_call.Count = Unit {0}
+IsStreamCall stream_call.Spaces = Unit {0}
+
+-- the same of a call of a message buffer
+abbrev pub IsMessageCall : MessageCall → Type 0
+IsMessageCall (message_call.Write wait) = IsOperand wait
+IsMessageCall (message_call.Read room wait) = (0 < room) × (room ≤ MAX_BYTES) × IsOperand wait
+IsMessageCall message_call.Reset = Unit {0}
+IsMessageCall message_call.Spaces = Unit {0}
+IsMessageCall message_call.NextLength = Unit {0}
+
 -- The registers that a call names are there, and of so many tasks, each with so many entries, the one
 -- that it names.
 abbrev pub IsNotifyCall : ℕ → ℕ → NotifyCall → Type 0
@@ -138,6 +163,23 @@ list_of_call Spaces = None
 list_of_call (AddToSet queue_set) = None
 list_of_call (RemoveFromSet queue_set) = None
 
+-- the side of its stream buffer at which a task waits for a call, if that has a block time
+abbrev pub side_of_stream_call : StreamCall → Option Side
+side_of_stream_call (stream_call.Write wait) = Some Writer
+side_of_stream_call (stream_call.Read room wait) = Some Reader
+side_of_stream_call stream_call.Reset = None
+side_of_stream_call (stream_call.SetTrigger trigger) = None
+side_of_stream_call stream_call.Count = None
+side_of_stream_call stream_call.Spaces = None
+
+-- the same of its message buffer
+abbrev pub side_of_message_call : MessageCall → Option Side
+side_of_message_call (message_call.Write wait) = Some Writer
+side_of_message_call (message_call.Read room wait) = Some Reader
+side_of_message_call message_call.Reset = None
+side_of_message_call message_call.Spaces = None
+side_of_message_call message_call.NextLength = None
+
 -- Registers, instructions of the script, objects, tasks and their entries are there.
 abbrev pub IsWithin : Application → ℕ → Instr → Type 0
 IsWithin app len (Local instr) = IsLocalWithin len instr
@@ -147,6 +189,10 @@ IsWithin app len (Queue queue call) =
     × IsCallFor (shape_at app.objects queue) call
 IsWithin app len (QueueSet queue_set call) =
     (queue_set < length app.objects.queue_sets.things) × IsQueueSetCall call
+IsWithin app len (Stream stream call) =
+    (stream < length app.objects.streams.things) × IsStreamCall call
+IsWithin app len (Message message call) =
+    (message < length app.objects.messages.things) × IsMessageCall call
 IsWithin app len (Notify call) = IsNotifyCall (length app.tasks.things) app.entries call
 
 -- does the script never go on at the next instruction?
@@ -165,6 +211,8 @@ abbrev pub is_final : Instr → Bool
 is_final (Local instr) = is_local_final instr
 is_final (Queue queue call) = false
 is_final (QueueSet queue_set call) = false
+is_final (Stream stream call) = false
+is_final (Message message call) = false
 is_final (Notify call) = false
 
 -- the queue and the call, where the instruction is a call of a queue
@@ -172,6 +220,8 @@ abbrev pub queue_call_of : Instr → Option (ℕ × QueueCall)
 queue_call_of (Local instr) = None
 queue_call_of (Queue queue call) = Some (queue, call)
 queue_call_of (QueueSet queue_set call) = None
+queue_call_of (Stream stream call) = None
+queue_call_of (Message message call) = None
 queue_call_of (Notify call) = None
 
 pub record IsScript (app : Application) (script : TaskScript) : Type 0 where

@@ -7,8 +7,14 @@ use Rattle.rd_text.specs.declared.kind.Kind.TheVariants as kind
 use Rattle.rd_queue.specs.declared.item.TheConstants.{MAX_ITEM_SIZE}
 use Rattle.rd_queue.specs.declared.queue.TheConstants.{MAX_ITEMS}
 use Rattle.rd_queue.specs.declared.queue_set.TheConstants.{MAX_HANDLES}
-use Rattle.rd_app.specs.declared.objects.TheConstants.{MAX_QUEUES, MAX_QUEUE_SETS}
+use Rattle.rd_stream.specs.declared.message_buf.TheConstants.{MIN_MESSAGE_BUFFER_SIZE}
+use Rattle.rd_stream.specs.declared.message_buf.TheConstants.{MAX_MESSAGE_BUFFER_SIZE}
+use Rattle.rd_stream.specs.declared.stream_buf.TheConstants.{MAX_STREAM_SIZE}
+use Rattle.rd_app.specs.declared.objects.TheConstants.{MAX_QUEUES, MAX_QUEUE_SETS, MAX_STREAMS}
+use Rattle.rd_app.specs.declared.objects.TheConstants.{MAX_MESSAGE_BUFFERS}
 use Rattle.rd_app.specs.declared.objects.QueueShape.{QueueShape}
+use Rattle.rd_app.specs.declared.objects.StreamShape.{StreamShape}
+use Rattle.rd_app.specs.declared.objects.MessageShape.{MessageShape}
 use Rattle.rd_app.specs.declared.objects.NamedObjects as code
 use Rattle.rd_app.specs.Named.{AreNamed, Named, named_view}
 use Rattle.rd_app.specs.QueueSetShapeView.{QueueSetShapeView}
@@ -16,11 +22,15 @@ use Rattle.rd_app.specs.QueueSetShapeView.{QueueSetShapeView}
 pub record NamedObjects : Type 0 where
   pub queues : Named QueueShape
   pub queue_sets : Named QueueSetShapeView
+  pub streams : Named StreamShape
+  pub messages : Named MessageShape
 
 abbrev pub no_named_objects : NamedObjects
 no_named_objects = record {
   queues = record { names = []; things = [] };
   queue_sets = record { names = []; things = [] };
+  streams = record { names = []; things = [] };
+  messages = record { names = []; things = [] };
 }
 
 -- what a contract sees of the code's
@@ -28,12 +38,16 @@ abbrev pub objects_view : code.NamedObjects → NamedObjects
 objects_view objects = record {
   queues = named_view objects.queues;
   queue_sets = named_view objects.queue_sets;
+  streams = named_view objects.streams;
+  messages = named_view objects.messages;
 }
 
 -- the names of a kind, among these objects and the tasks of these names
 abbrev pub names_in : NamedObjects → List (List ℕ) → Kind → List (List ℕ)
 names_in o tasks kind.Queue = o.queues.names
 names_in o tasks kind.QueueSet = o.queue_sets.names
+names_in o tasks kind.Stream = o.streams.names
+names_in o tasks kind.Message = o.messages.names
 names_in o tasks kind.Task = tasks
 
 -- the shape of a queue
@@ -62,6 +76,18 @@ pub record IsQueueSetShape (o : NamedObjects) (queue_set : QueueSetShapeView) : 
   pub few : queue_set.capacity ≤ MAX_HANDLES
   pub members : All (λ queue. queue < length o.queues.things) queue_set.members
 
+-- There is room for a byte, and the trigger level is a number of bytes for which there is room.
+abbrev pub IsStreamShape : StreamShape → Type 0
+IsStreamShape stream =
+    (0 < stream.capacity)
+    × (stream.capacity ≤ MAX_STREAM_SIZE)
+    × (stream.trigger ≤ stream.capacity)
+
+-- There is room for a message of one byte.
+abbrev pub IsMessageShape : MessageShape → Type 0
+IsMessageShape buffer =
+    (MIN_MESSAGE_BUFFER_SIZE ≤ buffer.capacity) × (buffer.capacity ≤ MAX_MESSAGE_BUFFER_SIZE)
+
 pub record AreObjects (o : NamedObjects) : Type 0 where
   pub named_queues : AreNamed o.queues
   pub few_queues : length o.queues.things ≤ MAX_QUEUES
@@ -70,3 +96,9 @@ pub record AreObjects (o : NamedObjects) : Type 0 where
   pub few_queue_sets : length o.queue_sets.things ≤ MAX_QUEUE_SETS
   pub queue_sets : All (IsQueueSetShape o) o.queue_sets.things
   pub one_queue_set_each : IsDistinct nat_eq (members_of o.queue_sets.things)
+  pub named_streams : AreNamed o.streams
+  pub few_streams : length o.streams.things ≤ MAX_STREAMS
+  pub streams : All IsStreamShape o.streams.things
+  pub named_messages : AreNamed o.messages
+  pub few_messages : length o.messages.things ≤ MAX_MESSAGE_BUFFERS
+  pub messages : All IsMessageShape o.messages.things

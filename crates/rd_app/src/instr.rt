@@ -81,6 +81,42 @@ pub enum QueueSetCall {
     Select { wait: Operand },
 }
 
+/// A call of a stream buffer.
+#[derive(Clone, Copy, Debug, PartialEq, Eq)]
+pub enum StreamCall {
+    /// `swrite B T`: puts as many bytes of the data into the buffer as it has room for, and waits
+    /// for room for all of them up to the block time (`xStreamBufferSend`).
+    Write { wait: Operand },
+    /// `sread B ROOM T`: takes the buffer's first bytes as the data, `room` of them at the most,
+    /// and waits for some up to the block time (`xStreamBufferReceive`).
+    Read { room: usize, wait: Operand },
+    /// `sreset B`: empties the buffer (`xStreamBufferReset`).
+    Reset,
+    /// `strig B V`: sets the trigger level (`xStreamBufferSetTriggerLevel`).
+    SetTrigger { trigger: Operand },
+    /// `scount B`: the number of bytes (`xStreamBufferBytesAvailable`).
+    Count,
+    /// `sspaces B`: for how many bytes there is room (`xStreamBufferSpacesAvailable`).
+    Spaces,
+}
+
+/// A call of a message buffer.
+#[derive(Clone, Copy, Debug, PartialEq, Eq)]
+pub enum MessageCall {
+    /// `mwrite M T`: puts the data into the buffer as one message, and waits for room up to the
+    /// block time (`xMessageBufferSend`).
+    Write { wait: Operand },
+    /// `mread M ROOM T`: takes the buffer's first message as the data, if it has `room` bytes at
+    /// the most, and waits for one up to the block time (`xMessageBufferReceive`).
+    Read { room: usize, wait: Operand },
+    /// `mreset M`: empties the buffer (`xMessageBufferReset`).
+    Reset,
+    /// `mspaces M`: for how many bytes there is room (`xMessageBufferSpacesAvailable`).
+    Spaces,
+    /// `mnext M`: the number of bytes of the first message (`xMessageBufferNextLengthBytes`).
+    NextLength,
+}
+
 /// A call that notifies a task, or looks at an entry of a task. Tasks and the entries of each are
 /// counted from 0.
 #[derive(Clone, Copy, Debug, PartialEq, Eq)]
@@ -145,6 +181,16 @@ pub enum Instr {
         queue_set: usize,
         call: QueueSetCall,
     },
+    /// A call of a stream buffer.
+    Stream {
+        stream: usize,
+        call: StreamCall,
+    },
+    /// A call of a message buffer.
+    Message {
+        message: usize,
+        call: MessageCall,
+    },
     /// A call that notifies a task, or looks at an entry.
     Notify {
         call: NotifyCall,
@@ -176,7 +222,11 @@ impl Instr {
     {
         match self {
             Instr::Local { instr } => instr.is_final(),
-            Instr::Queue { .. } | Instr::QueueSet { .. } | Instr::Notify { .. } => false,
+            Instr::Queue { .. }
+            | Instr::QueueSet { .. }
+            | Instr::Stream { .. }
+            | Instr::Message { .. }
+            | Instr::Notify { .. } => false,
         }
     }
 
@@ -186,7 +236,11 @@ impl Instr {
     {
         match self {
             Instr::Queue { queue, call } => Some((*queue, *call)),
-            Instr::Local { .. } | Instr::QueueSet { .. } | Instr::Notify { .. } => None,
+            Instr::Local { .. }
+            | Instr::QueueSet { .. }
+            | Instr::Stream { .. }
+            | Instr::Message { .. }
+            | Instr::Notify { .. } => None,
         }
     }
 }

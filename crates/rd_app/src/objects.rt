@@ -16,6 +16,12 @@ pub const MAX_QUEUES: usize = 32;
 /// How many queue sets an application has at the most.
 pub const MAX_QUEUE_SETS: usize = 32;
 
+/// How many stream buffers an application has at the most.
+pub const MAX_STREAMS: usize = 32;
+
+/// How many message buffers an application has at the most.
+pub const MAX_MESSAGE_BUFFERS: usize = 32;
+
 /// A queue to be made: room for 1 to 64 items of 1 to 64 bytes each.
 #[derive(Clone, Copy, Debug, Default, PartialEq, Eq)]
 pub struct QueueShape {
@@ -62,6 +68,21 @@ impl QueueSetShape {
     }
 }
 
+/// A stream buffer to be made (`xStreamBufferCreate`): room for 1 to 1,024 bytes, and how many of
+/// them there have to be for a write to complete a reader's wait, 0 to all, where 0 is taken as 1.
+#[derive(Clone, Copy, Debug, Default, PartialEq, Eq)]
+pub struct StreamShape {
+    pub capacity: usize,
+    pub trigger: usize,
+}
+
+/// A message buffer to be made (`xMessageBufferCreate`): room for 5 to 1,024 bytes, of which each
+/// message takes four more than it has.
+#[derive(Clone, Copy, Debug, Default, PartialEq, Eq)]
+pub struct MessageShape {
+    pub capacity: usize,
+}
+
 /// Things of one kind, with their names. They go by number: the index in both.
 #[derive(Debug, Drop)]
 pub struct Named<T> {
@@ -78,6 +99,10 @@ pub struct NamedObjects {
     pub queues: Named<QueueShape>,
     /// The queue sets, at most 32.
     pub queue_sets: Named<QueueSetShape>,
+    /// The stream buffers, at most 32.
+    pub streams: Named<StreamShape>,
+    /// The message buffers, at most 32.
+    pub messages: Named<MessageShape>,
 }
 
 impl NamedObjects {
@@ -91,6 +116,14 @@ impl NamedObjects {
                 things: Vec::new(alloc),
             },
             queue_sets: Named {
+                names: Names::new(alloc, &[])?,
+                things: Vec::new(alloc),
+            },
+            streams: Named {
+                names: Names::new(alloc, &[])?,
+                things: Vec::new(alloc),
+            },
+            messages: Named {
                 names: Names::new(alloc, &[])?,
                 things: Vec::new(alloc),
             },
@@ -121,6 +154,20 @@ impl NamedObjects {
         self.queue_sets.things.as_slice()
     }
 
+    /// The stream buffers, by number.
+    pub fn streams(&self) -> &[StreamShape]
+        ensures { result.now ≡ (objects_view self.now).streams.things }
+    {
+        self.streams.things.as_slice()
+    }
+
+    /// The message buffers, by number.
+    pub fn messages(&self) -> &[MessageShape]
+        ensures { result.now ≡ (objects_view self.now).messages.things }
+    {
+        self.messages.things.as_slice()
+    }
+
     /// The set that the queue is a member of at boot, if it is one of any.
     pub fn set_of(&self, queue: usize) -> Option<usize>
         ensures queue_set { result ≡ queue_set_at_boot (objects_view self.now) queue }
@@ -140,6 +187,8 @@ impl NamedObjects {
         match kind {
             Kind::Queue => &self.queues.names,
             Kind::QueueSet => &self.queue_sets.names,
+            Kind::Stream => &self.streams.names,
+            Kind::Message => &self.messages.names,
             Kind::Task => tasks,
         }
     }
@@ -149,4 +198,6 @@ impl NamedObjects {
 pub fn limits_of_objects()
     ensures queues { MAX_QUEUES ≡ 32 }
     ensures queue_sets { MAX_QUEUE_SETS ≡ 32 }
+    ensures streams { MAX_STREAMS ≡ 32 }
+    ensures messages { MAX_MESSAGE_BUFFERS ≡ 32 }
 {}

@@ -1,6 +1,6 @@
 //! The data of a task, which lies in the value itself.
 
-ghost use Rattle.std.specs.Prelude.{◌≡◌, ◌↔◌, ◌≤◌, IsTrue, [], length};
+ghost use Rattle.std.specs.Prelude.{◌≡◌, ◌↔◌, ◌++◌, ◌≤◌, IsTrue, [], length};
 
 use arrayvec::ArrayVec;
 use std::marker::Model;
@@ -64,6 +64,16 @@ impl Bytes {
     {
         self.bytes.clear();
         self.bytes.try_extend_from_slice(bytes).unwrap();
+    }
+
+    /// Makes them these bytes, which are in two pieces that follow one another.
+    pub fn replace_halves(&mut self, front: &[u8], back: &[u8])
+        requires { length (front.now ++ back.now) ≤ MAX_BYTES }
+        ensures { self.new ≡ front.now ++ back.now }
+    {
+        self.bytes.clear();
+        self.bytes.try_extend_from_slice(front).unwrap();
+        self.bytes.try_extend_from_slice(back).unwrap();
     }
 }
 

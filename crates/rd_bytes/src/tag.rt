@@ -3,7 +3,7 @@
 
 ghost use Rattle.std.specs.Prelude.{◌≡◌, ◌≤◌, length};
 ghost use Rattle.rd_bytes.specs.Ends.{end_byte};
-ghost use Rattle.rd_bytes.specs.Tags.{kind_of_list, kind_of_tag, last_kind};
+ghost use Rattle.rd_bytes.specs.Tags.{kind_of_holder, kind_of_list, kind_of_tag, last_kind};
 
 use crate::ends::end_byte;
 
@@ -81,7 +81,55 @@ pub const TAKE_HANDLE: u8 = 25;
 /// `UntakeHandle`: a handle goes to the front of a queue set.
 pub const UNTAKE_HANDLE: u8 = 26;
 
-// 27 to 43 are for stream and message buffers and for event groups.
+/// `PushBytes`: bytes go to the back of a stream buffer.
+pub const PUSH_BYTES: u8 = 27;
+
+/// `DropBytes`: bytes at the back of a stream buffer leave.
+pub const DROP_BYTES: u8 = 28;
+
+/// `TakeBytes`: bytes at the front of a stream buffer leave.
+pub const TAKE_BYTES: u8 = 29;
+
+/// `UntakeBytes`: bytes go to the front of a stream buffer.
+pub const UNTAKE_BYTES: u8 = 30;
+
+/// `SetByte`: a byte of a stream buffer has another value.
+pub const SET_BYTE: u8 = 31;
+
+/// `SetTrigger`: a stream buffer has another trigger level.
+pub const SET_TRIGGER: u8 = 32;
+
+/// `SetHolder`: the reader's place of a stream or message buffer names another task, or nobody.
+pub const SET_READER: u8 = 33;
+
+/// `SetHolder`: so does the writer's.
+pub const SET_WRITER: u8 = 34;
+
+/// `Push`: a message goes to the back of a message buffer.
+pub const PUSH_MESSAGE: u8 = 35;
+
+/// `Drop`: the message at the back of a message buffer leaves.
+pub const DROP_MESSAGE: u8 = 36;
+
+/// `Take`: the message at the front of a message buffer leaves.
+pub const TAKE_MESSAGE: u8 = 37;
+
+/// `Untake`: a message goes to the front of a message buffer.
+pub const UNTAKE_MESSAGE: u8 = 38;
+
+/// `Clear`: all bytes leave a stream buffer.
+pub const CLEAR_BYTES: u8 = 39;
+
+/// `Clear`: all messages leave a message buffer.
+pub const CLEAR_MESSAGES: u8 = 40;
+
+/// `Fill`: an empty stream buffer gets bytes.
+pub const FILL_BYTES: u8 = 41;
+
+/// `Fill`: an empty message buffer gets messages.
+pub const FILL_MESSAGES: u8 = 42;
+
+// 43 is for event groups.
 
 /// The list of those that wait to receive from a queue.
 pub const RECEIVING_LIST: u8 = 0;
@@ -92,7 +140,19 @@ pub const SENDING_LIST: u8 = 1;
 /// The list of those that wait to select from a queue set.
 pub const SELECTING_LIST: u8 = 2;
 
-// 3 to 6 are for buffers, and 8 for event groups.
+/// No list: the place of a stream buffer's reader.
+pub const READING_STREAM: u8 = 3;
+
+/// That of its writer.
+pub const WRITING_STREAM: u8 = 4;
+
+/// The place of a message buffer's reader.
+pub const READING_MESSAGES: u8 = 5;
+
+/// That of its writer.
+pub const WRITING_MESSAGES: u8 = 6;
+
+// 8 is for event groups.
 
 /// No list: a notification entry of the task itself.
 pub const OWN_ENTRY: u8 = 7;
@@ -102,6 +162,18 @@ pub const OF_QUEUE: u8 = 0;
 
 /// A queue set.
 pub const OF_QUEUE_SET: u8 = 1;
+
+/// A stream buffer.
+pub const OF_STREAM: u8 = 2;
+
+/// A message buffer.
+pub const OF_MESSAGE: u8 = 3;
+
+/// The kind of buffer whose place changes: a stream buffer.
+pub const STREAM_HOLDER: u8 = 0;
+
+/// A message buffer.
+pub const MESSAGE_HOLDER: u8 = 1;
 
 // The kind of object that has a list of that byte.
 fn kind_of_list(list: u8) -> u8
@@ -120,8 +192,23 @@ fn kind_of_tag(tag: u8) -> u8
 {
     if tag < PUSH_HANDLE {
         OF_QUEUE
-    } else {
+    } else if tag < PUSH_BYTES {
         OF_QUEUE_SET
+    } else if tag < SET_READER || tag == CLEAR_BYTES || tag == FILL_BYTES {
+        OF_STREAM
+    } else {
+        OF_MESSAGE
+    }
+}
+
+// The kind of buffer whose place changes, by its byte.
+fn kind_of_holder(buffer: u8) -> u8
+    ensures { result ≡ kind_of_holder buffer }
+{
+    if buffer == STREAM_HOLDER {
+        OF_STREAM
+    } else {
+        OF_MESSAGE
     }
 }
 
@@ -131,11 +218,14 @@ pub fn last_kind(bytes: &[u8]) -> u8
     requires some { 1 ≤ length bytes.now }
     requires insertion { end_byte 1 bytes.now ≡ INS_WAIT → 5 ≤ length bytes.now }
     requires deletion { end_byte 1 bytes.now ≡ DEL_WAIT → 4 ≤ length bytes.now }
+    requires reader { end_byte 1 bytes.now ≡ SET_READER → 4 ≤ length bytes.now }
+    requires writer { end_byte 1 bytes.now ≡ SET_WRITER → 4 ≤ length bytes.now }
     ensures { result ≡ last_kind bytes.now }
 {
     match end_byte(bytes, 1) {
         INS_WAIT => kind_of_list(end_byte(bytes, 5)),
         DEL_WAIT => kind_of_list(end_byte(bytes, 4)),
+        SET_READER | SET_WRITER => kind_of_holder(end_byte(bytes, 4)),
         tag => kind_of_tag(tag),
     }
 }

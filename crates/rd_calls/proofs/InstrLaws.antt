@@ -1,19 +1,19 @@
 -- What each instruction leaves as it is.
 use Rattle.std.proofs.Common.{◌≡◌, ◌∙◌, ℕ, ◌+◌, ◌%◌, ◌<◌, ◌≤◌, true, false, cond, List, length}
-use Rattle.std.proofs.Common.{set, map, Some, None, refl, ap, sym, subst, arith}
+use Rattle.std.proofs.Common.{set, map, Some, None, Option, refl, ap, sym, subst, arith}
 use Rattle.std.specs.Prelude.{◌^◌, nat_eq}
 use Rattle.std.specs.Int.{w32, to_le_bytes}
 use Rattle.rd_app.specs.declared.instr.Instr.{Instr}
-use Rattle.rd_app.specs.declared.instr.Instr.TheVariants.{Local, Queue, QueueSet, Notify}
+use Rattle.rd_app.specs.declared.instr.Instr.TheVariants.{Local, Queue, QueueSet, Stream, Message, Notify}
 use Rattle.rd_app.specs.declared.instr.LocalInstr.TheVariants.{Add, Move, Data, Pack, Unpack, Jump, JumpZero, End}
 use Rattle.rd_app.specs.declared.instr.LocalInstr.TheVariants as local
 use Rattle.rd_state.specs.declared.phase.Phase.TheVariants.{Run, Ended}
 use Rattle.rd_app.specs.Application.{Application, IsNotifyCall, IsWithin, code_of, instr_at, is_final, priorities_of}
 use Rattle.rd_state.specs.Snapshot.{Snapshot, task_at, core_at, with_task}
 use Rattle.rd_kernel.proofs.Offered.{IsFree, free_in_run}
-use Rattle.rd_state.specs.Valid.{EntriesFitCall, IsValid, PhaseFitsCall, place_of_call, seats_to_run}
+use Rattle.rd_state.specs.Valid.{EntriesFitCall, HoldersFitCall, IsValid, PhaseFitsCall, place_of_call, seats_to_run}
 use Rattle.rd_state.specs.Objects.{AreShaped}
-use Rattle.rd_state.proofs.Offered.{queue_count_shaped, queue_set_count_shaped}
+use Rattle.rd_state.proofs.Offered.{message_count_shaped, queue_count_shaped, queue_set_count_shaped, stream_count_shaped}
 use Rattle.rd_calls.specs.Local.{unpacked}
 use Rattle.rd_calls.specs.Step.{performed}
 use Rattle.rd_kernel.specs.Tasks.{register_at, with_pc, advanced}
@@ -29,6 +29,13 @@ use Rattle.rd_queue_calls.specs.QueueCalls.{queue_outcome}
 use Rattle.rd_queue_calls.specs.QueueSetCalls.{queue_set_outcome}
 use Rattle.rd_queue_calls.specs.QueueSetLaws.{handles_in}
 use Rattle.rd_queue_calls.proofs.Offered.{handles_go_by_calls, handles_woken_all}
+use Rattle.rd_stream_calls.specs.StreamCalls.{stream_outcome}
+use Rattle.rd_stream_calls.specs.MessageCalls.{message_outcome}
+use Rattle.rd_stream_calls.proofs.Offered.{IsBesideBuffers, IsConsistent-stream_call, stream_call-beside, stream_call-tick}
+use Rattle.rd_stream_calls.proofs.Offered.{IsConsistent-message_call, message_call-beside, message_call-tick}
+use Rattle.rd_state.specs.declared.phase.Held.{Held}
+use Rattle.rd_state.specs.declared.phase.Held.TheVariants as held
+use Rattle.rd_state.specs.Waiting.{objects_naming}
 use Rattle.rd_notify_calls.proofs.Offered.{IsConsistent-notify_call, by_waking}
 use Rattle.rd_kernel.specs.declared.waking.Waking.TheVariants.{TriesAgain}
 use Rattle.rd_queue.specs.QueueSetSnapshot.{QueueSetSnapshot}
@@ -37,12 +44,12 @@ use Rattle.rd_calls.specs.Local.{local_step}
 use Rattle.rd_calls.specs.Step.{handles_performed}
 
 -- It leaves what makes a state valid,
-pub IsConsistent-performed : (app : Application) (s : Snapshot) (core task : ℕ) (instr : Instr) → IsValid app s → task < length s.tasks
+pub IsConsistent-performed : (app : Application) (s : Snapshot) (core task : ℕ) (instr : Instr) → 0 < app.entries → IsValid app s → task < length s.tasks
     → 1 ≤ seats_to_run (task_at s task).phase → core < length s.cores → core_at s core ≡ Some task
     → instr_at app task (task_at s task).pc ≡ instr → IsWithin app (length (code_of app task)) instr
     → (is_final instr ≡ false → (task_at s task).pc + 1 < length (code_of app task))
     → IsConsistent app (all_have_time_left s.tick) (performed (priorities_of app) s core task instr)
-IsConsistent-performed app s core task instr valid there runs has_core e is within next =
+IsConsistent-performed app s core task instr entries valid there runs has_core e is within next =
     let D = all_have_time_left s.tick in
     let at = IsConsistent-valid app s valid in
     let x = task_at s task in
@@ -53,9 +60,10 @@ IsConsistent-performed app s core task instr valid there runs has_core e is with
     λ registers bytes none goes. IsConsistent-advanced app D s task registers bytes there (run none) (next goes) at in
     let jumps : (target : ℕ) → place_of_call instr ≡ None → target < length (code_of app task) → IsConsistent app D (with_pc s task target) =
     λ target none inside. IsConsistent-with_pc app D s task target there (run none) inside at in
-    let free : place_of_call instr ≡ None → IsFree x.entries =
-    λ none. free_in_run instr x.entries
-    (subst (λ phase. EntriesFitCall phase instr x.entries) (run none) (subst (λ i. EntriesFitCall x.phase i x.entries) is (at.each task there).entries)) in
+    let free : place_of_call instr ≡ None → IsFree s.objects task x.entries =
+    λ none. free_in_run s.objects task instr x.entries
+    (subst (λ phase. EntriesFitCall phase instr x.entries) (run none) (subst (λ i. EntriesFitCall x.phase i x.entries) is (at.each task there).entries))
+    (subst (λ phase. HoldersFitCall s.objects task phase instr) (run none) (subst (HoldersFitCall s.objects task x.phase) is (at.holders task there))) in
     let calls : is_final instr ≡ false → RunsInstr app s core task instr =
     λ goes. record { valid = valid; there = there; runs = runs; has_core = has_core; on_core = e; at_instr = is; within = next goes } in
     by_instr instr valid.in_limits.objects within next calls further jumps free
@@ -68,7 +76,7 @@ IsConsistent-performed app s core task instr valid there runs has_core e is with
         → IsConsistent app (all_have_time_left s.tick) (advanced (with_task s task (record (task_at s task) { registers = registers; bytes = bytes })) task))
         → ((target : ℕ) → place_of_call instr
         ≡ None → target < length (code_of app task) → IsConsistent app (all_have_time_left s.tick) (with_pc s task target))
-        → (place_of_call instr ≡ None → IsFree (task_at s task).entries)
+        → (place_of_call instr ≡ None → IsFree s.objects task (task_at s task).entries)
         → IsConsistent app (all_have_time_left s.tick) (performed (priorities_of app) s core task instr)
     by_instr (Local (local.Set register value)) shaped within next calls further jumps free =
         further (set (task_at s task).registers register value) (task_at s task).bytes refl refl
@@ -96,6 +104,12 @@ IsConsistent-performed app s core task instr valid there runs has_core e is with
     by_instr (QueueSet queue_set call) shaped within next calls further jumps free =
         IsConsistent-queue_set_call app s core task queue_set call (calls refl)
         (omega (arith, within.0, queue_set_count_shaped app s.objects shaped))
+    by_instr (Stream stream call) shaped within next calls further jumps free =
+        IsConsistent-stream_call app s core task stream call (calls refl)
+        (omega (arith, within.0, stream_count_shaped app s.objects shaped)) entries
+    by_instr (Message message call) shaped within next calls further jumps free =
+        IsConsistent-message_call app s core task message call (calls refl)
+        (omega (arith, within.0, message_count_shaped app s.objects shaped)) entries
     by_instr (Notify call) shaped within next calls further jumps free =
         IsConsistent-notify_call app s core task call (calls refl)
         (subst (λ n. IsNotifyCall n app.entries call) (sym valid.in_limits.tasks) within)
@@ -113,6 +127,8 @@ performed-tick priorities s core task (Local (JumpZero register target)) = refl
 performed-tick priorities s core task (Local End) = refl
 performed-tick priorities s core task (Queue queue call) = queue_call-tick priorities s core task queue call
 performed-tick priorities s core task (QueueSet queue_set call) = queue_set_call-tick priorities s core task queue_set call
+performed-tick priorities s core task (Stream stream call) = stream_call-tick priorities s core task stream call
+performed-tick priorities s core task (Message message call) = message_call-tick priorities s core task message call
 performed-tick priorities s core task (Notify call) = (by_waking priorities s core task call).tick
 
 -- and the handles of queue sets, but for those that a call adds or takes.
@@ -134,6 +150,21 @@ handles_concluded s (Waits place deadline) core task = refl
 handles_concluded s (ReturnsBoth value second) core task = refl
 handles_concluded s (Fails cause) core task = refl
 
+-- None is a buffer's.
+abbrev handles_of : ObjectsSnapshot → List (List ℕ)
+handles_of o = map (λ (q : QueueSetSnapshot). q.handles) o.queue_sets
+
+handles_beside : (priorities : List ℕ) → IsBesideBuffers handles_of priorities
+handles_beside priorities = record {
+  beside = record { naming = naming; waking = λ s tasks. handles_woken_all priorities TriesAgain s tasks };
+  streams = λ o stream now. refl;
+  messages = λ o message now. refl;
+}
+  where
+    naming : (o : ObjectsSnapshot) (held : Held) (who : Option ℕ) → handles_of (objects_naming o held who) ≡ handles_of o
+    naming o (held.Stream stream side) who = refl
+    naming o (held.Message message side) who = refl
+
 pub handles_performed-is : (priorities : List ℕ) (s : Snapshot) (core task : ℕ) (instr : Instr) → handles_in (performed priorities s core task instr) ≡ handles_performed s instr
 handles_performed-is priorities s core task (Local instr) = handles_local s core task instr
 handles_performed-is priorities s core task (Queue queue call) =
@@ -142,6 +173,12 @@ handles_performed-is priorities s core task (Queue queue call) =
 handles_performed-is priorities s core task (QueueSet number call) =
     let called = queue_set_outcome priorities s task number call in
     handles_concluded called.state called.outcome core task ∙ handles_go_by_calls.of_queue_sets priorities s task number call
+handles_performed-is priorities s core task (Stream stream call) =
+    let called = stream_outcome priorities s task stream call in
+    handles_concluded called.state called.outcome core task ∙ stream_call-beside handles_of priorities s task stream call (handles_beside priorities)
+handles_performed-is priorities s core task (Message message call) =
+    let called = message_outcome priorities s task message call in
+    handles_concluded called.state called.outcome core task ∙ message_call-beside handles_of priorities s task message call (handles_beside priorities)
 handles_performed-is priorities s core task (Notify call) =
     let by = by_waking priorities s core task call in
     ap (λ (o : ObjectsSnapshot). map (λ (q : QueueSetSnapshot). q.handles) o.queue_sets) by.objects ∙ handles_woken_all priorities TriesAgain s by.tasks

@@ -8,18 +8,27 @@ use Rattle.std.proofs.lemmas.List.{get_or_past}
 use Rattle.std.specs.List.{concat}
 use Rattle.rd_app.specs.Application.{Application, IsApplication, priorities_of}
 use Rattle.rd_app.specs.declared.instr.Instr.{Instr}
-use Rattle.rd_app.specs.declared.instr.Instr.TheVariants.{Local, Queue, QueueSet, Notify}
+use Rattle.rd_app.specs.declared.instr.Instr.TheVariants.{Local, Queue, QueueSet, Stream, Message, Notify}
 use Rattle.rd_app.specs.declared.instr.NotifyCall.{NotifyCall}
 use Rattle.rd_app.specs.declared.instr.NotifyCall.TheVariants as notify
 use Rattle.rd_app.specs.declared.instr.NotifyCall.TheVariants.{Query, Take, ClearState, ClearValue}
 use Rattle.rd_notify_calls.specs.NotifyCalls.{notify_call_cost}
 use Rattle.rd_app.specs.declared.instr.QueueCall.{QueueCall}
 use Rattle.rd_app.specs.declared.instr.QueueCall.TheVariants.{Send, Receive, Peek, Overwrite, Reset, Count, Spaces, AddToSet, RemoveFromSet}
+use Rattle.rd_app.specs.declared.instr.StreamCall.{StreamCall}
+use Rattle.rd_app.specs.declared.instr.StreamCall.TheVariants as on_stream
+use Rattle.rd_app.specs.declared.instr.MessageCall.{MessageCall}
+use Rattle.rd_app.specs.declared.instr.MessageCall.TheVariants as on_message
+use Rattle.rd_stream_calls.specs.StreamCalls.{dropped_by_stream_call, stream_call_cost}
+use Rattle.rd_stream_calls.specs.MessageCalls.{dropped_by_message_call, message_call_cost}
 use Rattle.rd_queue.proofs.Offered.{items_short}
 use Rattle.rd_queue.specs.QueueSnapshot.{QueueSnapshot}
 use Rattle.rd_queue_calls.specs.QueueCalls.{dropped_by, queue_call_cost}
-use Rattle.rd_state.proofs.Offered.{length-weight-le, queue_sized, weight_bounds_bytes}
-use Rattle.rd_state.specs.Objects.{no_queue}
+use Rattle.rd_state.proofs.Offered.{length-weight-le, message_in_sized, queue_sized, stream_in_sized, weight_bounds_bytes}
+use Rattle.rd_state.specs.Objects.{no_message_buffer, no_queue, no_stream}
+use Rattle.rd_stream.specs.MessageSnapshot.{MessageSnapshot}
+use Rattle.rd_stream.specs.Messages.{bytes_held}
+use Rattle.rd_stream.specs.StreamSnapshot.{StreamSnapshot}
 use Rattle.rd_state.specs.PackedChanges.{all_packed}
 use Rattle.rd_state.specs.Change.{Change}
 use Rattle.rd_state.specs.Change.{weight_of}
@@ -51,10 +60,37 @@ dropped_by_few s queue Spaces sized = omega arith
 dropped_by_few s queue (AddToSet queue_set) sized = omega arith
 dropped_by_few s queue (RemoveFromSet queue_set) sized = omega arith
 
+dropped_by_stream_few : (s : Snapshot) (stream : ℕ) (call : StreamCall) → IsSized s → dropped_by_stream_call s stream call ≤ 4096
+dropped_by_stream_few s stream (on_stream.Write wait) sized = omega arith
+dropped_by_stream_few s stream (on_stream.Read room wait) sized = omega arith
+dropped_by_stream_few s stream on_stream.Reset sized =
+    elim (cases_lt stream (length s.objects.streams)) [
+      | inl there ↦ let size = (stream_in_sized (length s.tasks) s.objects stream sized.objects there).0 in
+          omega (arith, size.room, size.few)
+      | inr past ↦ omega (arith, ap (λ (b : StreamSnapshot). length b.bytes) (get_or_past s.objects.streams stream no_stream past))
+    ]
+dropped_by_stream_few s stream (on_stream.SetTrigger trigger) sized = omega arith
+dropped_by_stream_few s stream on_stream.Count sized = omega arith
+dropped_by_stream_few s stream on_stream.Spaces sized = omega arith
+
+dropped_by_message_few : (s : Snapshot) (message : ℕ) (call : MessageCall) → IsSized s → dropped_by_message_call s message call ≤ 4096
+dropped_by_message_few s message (on_message.Write wait) sized = omega arith
+dropped_by_message_few s message (on_message.Read room wait) sized = omega arith
+dropped_by_message_few s message on_message.Reset sized =
+    elim (cases_lt message (length s.objects.messages)) [
+      | inl there ↦ let size = (message_in_sized (length s.tasks) s.objects message sized.objects there).0 in
+          omega (arith, size.room, size.few)
+      | inr past ↦ omega (arith, ap (λ (b : MessageSnapshot). bytes_held b.messages) (get_or_past s.objects.messages message no_message_buffer past))
+    ]
+dropped_by_message_few s message on_message.Spaces sized = omega arith
+dropped_by_message_few s message on_message.NextLength sized = omega arith
+
 dropped_by_instr_few : (s : Snapshot) (instr : Instr) → IsSized s → dropped_by_instr s instr ≤ 4096
 dropped_by_instr_few s (Local instr) sized = omega arith
 dropped_by_instr_few s (Queue queue call) sized = dropped_by_few s queue call sized
 dropped_by_instr_few s (QueueSet queue_set call) sized = omega arith
+dropped_by_instr_few s (Stream stream call) sized = dropped_by_stream_few s stream call sized
+dropped_by_instr_few s (Message message call) sized = dropped_by_message_few s message call sized
 dropped_by_instr_few s (Notify call) sized = omega arith
 
 dropped_by_task_few : (app : Application) (s : Snapshot) (running : Option ℕ) → IsSized s → dropped_by_task app s running ≤ 4096
@@ -145,10 +181,27 @@ notify_call_cost_few (notify.Wait index entry_bits exit_bits wait) = omega arith
 notify_call_cost_few (ClearState target index) = omega arith
 notify_call_cost_few (ClearValue target index bits) = omega arith
 
-instr_cost_few : (s : Snapshot) (instr : Instr) → instr_cost s instr ≤ 334 + dropped_by_instr s instr
+stream_call_cost_few : (s : Snapshot) (stream : ℕ) (call : StreamCall) → stream_call_cost s stream call ≤ 521 + dropped_by_stream_call s stream call
+stream_call_cost_few s stream (on_stream.Write wait) = omega arith
+stream_call_cost_few s stream (on_stream.Read room wait) = omega arith
+stream_call_cost_few s stream on_stream.Reset = omega arith
+stream_call_cost_few s stream (on_stream.SetTrigger trigger) = omega arith
+stream_call_cost_few s stream on_stream.Count = omega arith
+stream_call_cost_few s stream on_stream.Spaces = omega arith
+
+message_call_cost_few : (s : Snapshot) (message : ℕ) (call : MessageCall) → message_call_cost s message call ≤ 521 + dropped_by_message_call s message call
+message_call_cost_few s message (on_message.Write wait) = omega arith
+message_call_cost_few s message (on_message.Read room wait) = omega arith
+message_call_cost_few s message on_message.Reset = omega arith
+message_call_cost_few s message on_message.Spaces = omega arith
+message_call_cost_few s message on_message.NextLength = omega arith
+
+instr_cost_few : (s : Snapshot) (instr : Instr) → instr_cost s instr ≤ 525 + dropped_by_instr s instr
 instr_cost_few s (Local instr) = omega arith
 instr_cost_few s (Queue queue call) = omega (arith, queue_call_cost_few s queue call)
 instr_cost_few s (QueueSet queue_set call) = omega arith
+instr_cost_few s (Stream stream call) = omega (arith, stream_call_cost_few s stream call)
+instr_cost_few s (Message message call) = omega (arith, message_call_cost_few s message call)
 instr_cost_few s (Notify call) = omega (arith, notify_call_cost_few call)
 
 pub Leads-core : (app : Application) (s : Snapshot) (core task : ℕ) → IsApplication app → IsValid app s → core < length s.cores → core_at s core ≡ Some task

@@ -3,13 +3,13 @@ use Rattle.rd_app.specs.declared.instr.LocalInstr.TheVariants as local
 use Rattle.rd_app.specs.declared.instr.NotifyCall.TheVariants as notify
 use Rattle.std.proofs.Common.{◌%◌, ◌&&◌, ◌+◌, ◌∙◌, ◌≡◌, Bool, List, None, Option, Some, ap, arith, cond, false, get_or, length, refl, set, subst, sym}
 use Rattle.std.proofs.Common.{true, ℕ}
-use Rattle.std.specs.Prelude.{◌^◌, Err, Ok, nat_eq, nat_lt, not}
+use Rattle.std.specs.Prelude.{◌^◌, Err, Ok, is_some, nat_eq, nat_lt, not}
 use Rattle.std.specs.Int.{to_le_bytes, w32}
 use Rattle.rd_app.specs.declared.instr.Instr.{Instr}
-use Rattle.rd_app.specs.declared.instr.Instr.TheVariants.{Local, Notify, Queue, QueueSet}
+use Rattle.rd_app.specs.declared.instr.Instr.TheVariants.{Local, Message, Notify, Queue, QueueSet, Stream}
 use Rattle.rd_app.specs.declared.instr.LocalInstr.TheVariants.{Add, Data, End, Jump, JumpZero, Move, Pack, Unpack}
 use Rattle.rd_state.specs.declared.phase.Phase.TheVariants.{Ended}
-use Rattle.rd_app.specs.Application.{Application, priorities_of}
+use Rattle.rd_app.specs.Application.{Application, priorities_of, side_of_message_call, side_of_stream_call}
 use Rattle.rd_state.specs.Snapshot.{Snapshot, TaskSnapshot, core_at, task_at, with_task}
 use Rattle.rd_kernel.proofs.Offered.{EntriesStay, EntriesStay-concluded, EntriesStay-task, EntriesStay-woken_all, entry_after}
 use Rattle.rd_calls.specs.Local.{local_step, unpacked}
@@ -24,6 +24,9 @@ use Rattle.rd_kernel.specs.declared.waking.Waking.TheVariants.{TriesAgain}
 use Rattle.std.proofs.lemmas.Bool.{false≢true}
 use Rattle.rd_app.specs.declared.instr.NotifyCall.{NotifyCall}
 use Rattle.rd_app.specs.declared.instr.NotifyCall.TheVariants.{ClearState, ClearValue, Query, Take}
+use Rattle.rd_stream_calls.specs.StreamCalls.{stream_outcome}
+use Rattle.rd_stream_calls.specs.MessageCalls.{message_outcome}
+use Rattle.rd_stream_calls.proofs.Offered.{message_call-received, stream_call-received}
 use Rattle.rd_notify_calls.specs.NotifyCalls.{entry_closed, entry_opened, notify_call_outcome}
 use Rattle.rd_calls.specs.declared.moves.Move.TheVariants.{Core, Tick}
 use Rattle.rd_kernel.specs.Waking.{due_below, operand_value, woken_all}
@@ -129,6 +132,13 @@ call_come priorities s task (ClearValue of i bits) target index come looks =
     entry_after s of i target index (entry_cleared (operand_value s task bits) (entry_at s of i)) has_come
     (λ same same_index. ap (λ n. (entry_at s n i).state) same ∙ ap (λ n. (entry_at s target n).state) same_index ∙ come) come
 
+-- ---- calls of buffers
+
+-- One that may wait looks at another entry.
+another_entry : (may : Bool) (task target index : ℕ) → (may && is_entry task 0 target index) ≡ false → may ≡ true → task ≡ target → 0 ≡ index → ⊥
+another_entry true task target index looks may = not_it task 0 target index looks
+another_entry false task target index looks may = absurd (false≢true may)
+
 -- ---- moves
 
 instr_come : (priorities : List ℕ) (s : Snapshot) (core task : ℕ) (instr : Instr) (target index : ℕ) → has_come (entry_at s target index)
@@ -142,6 +152,14 @@ instr_come priorities s core task (QueueSet number call) target index come looks
     let called = queue_set_outcome priorities s task number call in
     stays_come called.state (concluded called core task) target index (EntriesStay-concluded called.state called.outcome core task)
     (stays_come s called.state target index (EntriesStay-queue_set_call priorities s task number call) come)
+instr_come priorities s core task (Stream stream call) target index come looks =
+    let called = stream_outcome priorities s task stream call in
+    stays_come called.state (concluded called core task) target index (EntriesStay-concluded called.state called.outcome core task)
+    (stream_call-received priorities s task stream target index call (another_entry (is_some (side_of_stream_call call)) task target index looks) come)
+instr_come priorities s core task (Message message call) target index come looks =
+    let called = message_outcome priorities s task message call in
+    stays_come called.state (concluded called core task) target index (EntriesStay-concluded called.state called.outcome core task)
+    (message_call-received priorities s task message target index call (another_entry (is_some (side_of_message_call call)) task target index looks) come)
 instr_come priorities s core task (Notify call) target index come looks =
     let called = notify_call_outcome priorities s task call in
     stays_come called.state (concluded called core task) target index (EntriesStay-concluded called.state called.outcome core task)

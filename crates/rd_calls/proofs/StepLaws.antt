@@ -44,7 +44,7 @@ IsConsistent-next_instr app s core task limits valid has_core e =
     All-get_or (IsScript app) app.tasks.things task (record { priority = 0; code = [] }) (omega (arith, there, valid.in_limits.tasks)) limits.tasks in
     let within = valid.in_limits.pcs task there in
     let fits = All-get_or (IsWithin app (length script.code)) script.code pc (Local End) within ok.within in
-    IsConsistent-performed app s core task (next_instr app s task) valid there (runs_on_core app s core task valid has_core e) has_core e refl fits
+    IsConsistent-performed app s core task (next_instr app s task) limits.some_entries valid there (runs_on_core app s core task valid has_core e) has_core e refl fits
     (not_last app script pc ok within)
 
 pub IsValid-step : (app : Application) (s s' : Snapshot) (core task : ℕ) → IsApplication app → IsValid app s → core < length s.cores

@@ -1,5 +1,5 @@
 -- What has come to an entry stays until somebody looks.
-use Rattle.std.specs.Prelude.{ℕ, ◌≡◌, ◌&&◌, Bool, false, nat_eq, Ok}
+use Rattle.std.specs.Prelude.{ℕ, ◌≡◌, ◌&&◌, Bool, false, is_some, nat_eq, Ok}
 use Rattle.std.specs.Option.{option_map_or}
 use Rattle.rd_notify.specs.declared.entries.EntryState.TheVariants.{Received}
 use Rattle.rd_app.specs.declared.instr.Instr.{Instr}
@@ -7,7 +7,7 @@ use Rattle.rd_app.specs.declared.instr.Instr.TheVariants as instr
 use Rattle.rd_app.specs.declared.instr.NotifyCall.{NotifyCall}
 use Rattle.rd_app.specs.declared.instr.NotifyCall.TheVariants.{Notify, Query, Take, Wait}
 use Rattle.rd_app.specs.declared.instr.NotifyCall.TheVariants.{ClearState, ClearValue}
-use Rattle.rd_app.specs.Application.{Application}
+use Rattle.rd_app.specs.Application.{Application, side_of_message_call, side_of_stream_call}
 use Rattle.rd_state.specs.Snapshot.{Snapshot, core_at}
 use Rattle.rd_kernel.specs.Tasks.{entry_at}
 use Rattle.rd_calls.specs.declared.moves.Move.{Move}
@@ -29,11 +29,16 @@ call_looks_at task (Wait entry entry_bits exit_bits wait) target index =
 call_looks_at task (ClearState of entry) target index = is_entry of entry target index
 call_looks_at task (ClearValue of entry bits) target index = false
 
--- An instruction does it by such a call alone.
+-- An instruction does it by such a call, or by one of a buffer that may wait, which its task does
+-- through its entry 0.
 abbrev pub looks_at : ℕ → Instr → ℕ → ℕ → Bool
 looks_at task (instr.Local instr) target index = false
 looks_at task (instr.Queue queue call) target index = false
 looks_at task (instr.QueueSet queue_set call) target index = false
+looks_at task (instr.Stream stream call) target index =
+    is_some (side_of_stream_call call) && is_entry task 0 target index
+looks_at task (instr.Message message call) target index =
+    is_some (side_of_message_call call) && is_entry task 0 target index
 looks_at task (instr.Notify call) target index = call_looks_at task call target index
 
 -- a move, by the instruction of its core's task

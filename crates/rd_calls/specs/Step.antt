@@ -1,12 +1,11 @@
 -- A move: one instruction of the task on a core, or a tick, and then scheduling.
 use Rattle.std.specs.Prelude.{ℕ, ◌≡◌, ◌+◌, ◌*◌, ◌%◌, ◌<◌, ◌≤◌, List, length, drop, position, nat_lt}
 use Rattle.std.specs.Prelude.{if◌then◌else◌, Option, None, Some, is_some, Result, Ok, Err}
-use Rattle.std.specs.Option.{option_map_or}
 use Rattle.rd_app.specs.declared.instr.Instr.{Instr}
-use Rattle.rd_app.specs.declared.instr.Instr.TheVariants.{Local, Queue, QueueSet, Notify}
-use Rattle.rd_app.specs.Application.{Application, IsNotifyCall, IsQueueCall, IsQueueSetCall}
-use Rattle.rd_app.specs.Application.{instr_at}
-use Rattle.rd_app.specs.Application.{priorities_of, queue_call_of}
+use Rattle.rd_app.specs.declared.instr.Instr.TheVariants.{Local, Queue, QueueSet, Stream, Message}
+use Rattle.rd_app.specs.declared.instr.Instr.TheVariants.{Notify}
+use Rattle.rd_app.specs.Application.{Application, IsMessageCall, IsNotifyCall, IsQueueCall}
+use Rattle.rd_app.specs.Application.{IsQueueSetCall, IsStreamCall, instr_at, priorities_of}
 use Rattle.rd_text.specs.declared.refusal.Refusal.{Refusal}
 use Rattle.rd_text.specs.declared.refusal.Refusal.TheVariants.{NoTask, TickLimit}
 use Rattle.rd_state.specs.Change.{Change}
@@ -24,6 +23,10 @@ use Rattle.rd_queue_calls.specs.QueueCalls.{dropped_by, queue_call_cost, queue_o
 use Rattle.rd_queue_calls.specs.QueueSetCalls.{queue_set_call_cost, queue_set_outcome}
 use Rattle.rd_queue_calls.specs.QueueSetLaws.{handles_after, handles_in, handles_selected}
 use Rattle.rd_notify_calls.specs.NotifyCalls.{notify_call_cost, notify_call_outcome}
+use Rattle.rd_stream_calls.specs.MessageCalls.{dropped_by_message_call, message_call_cost}
+use Rattle.rd_stream_calls.specs.MessageCalls.{message_outcome}
+use Rattle.rd_stream_calls.specs.StreamCalls.{dropped_by_stream_call, stream_call_cost}
+use Rattle.rd_stream_calls.specs.StreamCalls.{stream_outcome}
 use Rattle.rd_calls.specs.declared.moves.Move.{Move}
 use Rattle.rd_calls.specs.declared.moves.Move.TheVariants.{Core, Tick}
 
@@ -34,6 +37,10 @@ performed priorities s core task (Queue queue call) =
     concluded (queue_outcome priorities s task queue call) core task
 performed priorities s core task (QueueSet queue_set call) =
     concluded (queue_set_outcome priorities s task queue_set call) core task
+performed priorities s core task (Stream stream call) =
+    concluded (stream_outcome priorities s task stream call) core task
+performed priorities s core task (Message message call) =
+    concluded (message_outcome priorities s task message call) core task
 performed priorities s core task (Notify call) =
     concluded (notify_call_outcome priorities s task call) core task
 
@@ -43,6 +50,8 @@ abbrev pub handles_performed : Snapshot → Instr → List (List ℕ)
 handles_performed s (Local instr) = handles_in s
 handles_performed s (Queue queue call) = handles_after s queue call
 handles_performed s (QueueSet queue_set call) = handles_selected s queue_set call
+handles_performed s (Stream stream call) = handles_in s
+handles_performed s (Message message call) = handles_in s
 handles_performed s (Notify call) = handles_in s
 
 -- the instruction that a task stands at
@@ -98,10 +107,15 @@ move_from turn (Some ahead) = Core (turn + ahead)
 abbrev pub policy_of : Snapshot → Move
 policy_of s = move_from s.turn (position is_some (drop s.turn s.cores))
 
--- the bytes of the items that an instruction drops, which only a call of a queue does, and those
--- that a move drops
+-- the bytes that an instruction drops, which only a call does that resets an object, and those that
+-- a move drops
 abbrev pub dropped_by_instr : Snapshot → Instr → ℕ
-dropped_by_instr s instr = option_map_or (λ of. dropped_by s of.0 of.1) (queue_call_of instr) 0
+dropped_by_instr s (Local instr) = 0
+dropped_by_instr s (Queue queue call) = dropped_by s queue call
+dropped_by_instr s (QueueSet queue_set call) = 0
+dropped_by_instr s (Stream stream call) = dropped_by_stream_call s stream call
+dropped_by_instr s (Message message call) = dropped_by_message_call s message call
+dropped_by_instr s (Notify call) = 0
 
 abbrev pub dropped_by_task : Application → Snapshot → Option ℕ → ℕ
 dropped_by_task app s None = 0
@@ -141,6 +155,10 @@ NamesParts entries s (Queue queue call) =
     (queue < length s.objects.queues) × IsQueueCall (length s.objects.queue_sets) call
 NamesParts entries s (QueueSet queue_set call) =
     (queue_set < length s.objects.queue_sets) × IsQueueSetCall call
+NamesParts entries s (Stream stream call) =
+    (stream < length s.objects.streams) × IsStreamCall call
+NamesParts entries s (Message message call) =
+    (message < length s.objects.messages) × IsMessageCall call
 NamesParts entries s (Notify call) = IsNotifyCall (length s.tasks) entries call
 
 -- What an instruction takes in a record at the most: a call, and what becomes of its caller.
@@ -148,4 +166,6 @@ abbrev pub instr_cost : Snapshot → Instr → ℕ
 instr_cost s (Local instr) = local_cost
 instr_cost s (Queue queue call) = queue_call_cost s queue call + ending_cost
 instr_cost s (QueueSet queue_set call) = queue_set_call_cost + ending_cost
+instr_cost s (Stream stream call) = stream_call_cost s stream call + ending_cost
+instr_cost s (Message message call) = message_call_cost s message call + ending_cost
 instr_cost s (Notify call) = notify_call_cost call + ending_cost

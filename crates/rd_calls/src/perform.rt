@@ -20,6 +20,8 @@ use rd_notify_calls::calls::call_notify;
 use rd_queue_calls::calls::call_queue;
 use rd_queue_calls::selecting::call_queue_set;
 use rd_state::editing::Editing;
+use rd_stream_calls::messages::call_message;
+use rd_stream_calls::streams::call_stream;
 
 // Does one instruction of the task on a core.
 fn perform(
@@ -47,6 +49,14 @@ fn perform(
         }
         Instr::QueueSet { queue_set, call } => {
             let outcome = call_queue_set(app, editing, task, *queue_set, *call)?;
+            conclude(editing, core, task, outcome)
+        }
+        Instr::Stream { stream, call } => {
+            let outcome = call_stream(app, editing, task, *stream, *call)?;
+            conclude(editing, core, task, outcome)
+        }
+        Instr::Message { message, call } => {
+            let outcome = call_message(app, editing, task, *message, *call)?;
             conclude(editing, core, task, outcome)
         }
         Instr::Notify { call } => {

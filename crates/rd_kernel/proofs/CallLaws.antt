@@ -13,7 +13,7 @@ use Rattle.rd_app.specs.Application.{Application, code_of, instr_at, priorities_
 use Rattle.rd_wait.specs.Joined.{joined}
 use Rattle.rd_state.specs.Sizes.{IsSized, IsTaskOrIdle}
 use Rattle.rd_state.specs.Snapshot.{Snapshot, TaskSnapshot, core_at, task_at, with_task}
-use Rattle.rd_state.specs.Valid.{EntriesFitCall, IsValid, PhaseFitsCall, entry_of_call, is_ahead, is_in_list, is_on, place_of_call, seats_to_run}
+use Rattle.rd_state.specs.Valid.{EntriesFitCall, HoldersFitCall, IsValid, PhaseFitsCall, entry_of_call, is_ahead, is_in_list, is_on, place_of_call, seats_to_run}
 use Rattle.rd_state.specs.Valid.{times_in_list, times_on_cores}
 use Rattle.rd_state.specs.Waiting.{HasList, entry_of, listed_at, waiting_at}
 use Rattle.rd_state.proofs.Offered.{IsSizedList-waiting_at, one_if}
@@ -21,12 +21,13 @@ use Rattle.rd_state.specs.declared.phase.Place.{Place}
 use Rattle.std.proofs.lemmas.List.Sums.{get_or-le-sum_by}
 use Rattle.rd_state.specs.declared.phase.Phase.TheVariants.{Again, Ended, Failed, Run, Wait}
 use Rattle.rd_state.specs.Phases.{can_run, kept_deadline, waits_at}
-use Rattle.rd_kernel.proofs.ConsistentLaws.{IsConsistent, IsConsistent-valid, all_have_time_left, task_now}
+use Rattle.rd_kernel.proofs.ConsistentLaws.{HoldersFitCall-objects, IsConsistent, IsConsistent-valid, all_have_time_left, holders_then, task_now}
 use Rattle.rd_kernel.proofs.TaskListLaws.{first_waits, member_has, room_for}
 use Rattle.std.specs.Option.{option_and_then, option_to_list}
 use Rattle.rd_app.specs.declared.instr.Instr.{Instr}
 use Rattle.rd_kernel.specs.Waking.{deadline_of, is_due, may_wait, with_waiter, woken_first}
-use Rattle.rd_kernel.proofs.MovingLaws.{EntriesFitCall-free, IsConsistent-moves, IsConsistent-task_replaced, IsFree, ListGoes-joined, ObjectsGo-list}
+use Rattle.rd_kernel.proofs.MovingLaws.{EntriesFitCall-free, HoldersFitCall-free, IsConsistent-moves, IsConsistent-task_replaced, IsFree, IsFree-objects}
+use Rattle.rd_kernel.proofs.MovingLaws.{ListGoes-joined, ObjectsGo-list}
 use Rattle.rd_kernel.proofs.MovingLaws.{ObjectsGo-stay, SeatsGo-off_core, free_in_call, free_in_run, has_seat, runner_waits_nowhere}
 use Rattle.rd_kernel.proofs.MovingLaws.{seats_to_run-at_most_one, seats_to_run-one, times_waiting_in-at_most_one, waiter_is_idle, waits_idle}
 use Rattle.rd_kernel.proofs.MovingLaws.{waits_nowhere}
@@ -74,13 +75,17 @@ pub IsConsistent-with_values : (app : Application) (D : ℕ → Phase → Type 0
 IsConsistent-with_values app D s task registers bytes there at =
     let was = at.each task there in
     IsConsistent-task_replaced app D s task (record (task_at s task) { registers = registers; bytes = bytes }) there
-    (record { pc = was.pc; entry_count = was.entry_count; call = was.call; deadline = was.deadline; entries = was.entries }) refl (λ place. refl) at
+    (record { pc = was.pc; entry_count = was.entry_count; call = was.call; deadline = was.deadline; entries = was.entries }) refl (λ place. refl) (at.holders task there) at
 
 -- It goes on at another instruction.
 pub IsConsistent-with_pc : (app : Application) (D : ℕ → Phase → Type 0) (s : Snapshot) (task pc : ℕ) → task < length s.tasks → (task_at s task).phase ≡ Run
     → pc < length (code_of app task) → IsConsistent app D s → IsConsistent app D (with_pc s task pc)
 IsConsistent-with_pc app D s task pc there runs within at =
     let was = at.each task there in
+    let x = task_at s task in
+    let free = free_in_run s.objects task (instr_at app task x.pc) x.entries
+    (subst (λ phase. EntriesFitCall phase (instr_at app task x.pc) x.entries) runs was.entries)
+    (subst (λ phase. HoldersFitCall s.objects task phase (instr_at app task x.pc)) runs (at.holders task there)) in
     IsConsistent-task_replaced app D s task (record (task_at s task) { pc = pc }) there
     (record {
       pc = within;
@@ -88,14 +93,15 @@ IsConsistent-with_pc app D s task pc there runs within at =
       call = subst (λ phase. PhaseFitsCall phase (instr_at app task pc)) (sym runs) tt;
       deadline = was.deadline;
       entries = subst (λ phase. EntriesFitCall phase (instr_at app task pc) (task_at s task).entries) (sym runs)
-          (EntriesFitCall-free Run (instr_at app task pc) (task_at s task).entries refl
-          (free_in_run (instr_at app task (task_at s task).pc) (task_at s task).entries
-          (subst (λ phase. EntriesFitCall phase (instr_at app task (task_at s task).pc) (task_at s task).entries) runs was.entries)));
-    }) refl (λ place. refl) at
+          (EntriesFitCall-free s.objects task Run (instr_at app task pc) x.entries refl free);
+    }) refl (λ place. refl)
+    (subst (λ phase. HoldersFitCall s.objects task phase (instr_at app task pc)) (sym runs)
+    (HoldersFitCall-free s.objects task Run (instr_at app task pc) x.entries refl free)) at
 
 -- It is in Run, whichever of the phases that can run it was in.
 pub IsConsistent-with_run : (app : Application) (D : ℕ → Phase → Type 0) (s : Snapshot) (task : ℕ) → task < length s.tasks
-    → 1 ≤ seats_to_run (task_at s task).phase → IsFree (task_at s task).entries → D task Run → IsConsistent app D s → IsConsistent app D (with_phase s task Run)
+    → 1 ≤ seats_to_run (task_at s task).phase → IsFree s.objects task (task_at s task).entries → D task Run → IsConsistent app D s
+    → IsConsistent app D (with_phase s task Run)
 IsConsistent-with_run app D s task there runs free asked at =
     let was = at.each task there in
     IsConsistent-task_replaced app D s task (record (task_at s task) { phase = Run }) there
@@ -104,9 +110,10 @@ IsConsistent-with_run app D s task there runs free asked at =
       entry_count = was.entry_count;
       call = tt;
       deadline = asked;
-      entries = EntriesFitCall-free Run (instr_at app task (task_at s task).pc) (task_at s task).entries refl free;
+      entries = EntriesFitCall-free s.objects task Run (instr_at app task (task_at s task).pc) (task_at s task).entries refl free;
     }) (sym (seats_to_run-one (task_at s task).phase runs))
-    (λ place. sym (waits_nowhere place (task_at s task).phase runs)) at
+    (λ place. sym (waits_nowhere place (task_at s task).phase runs))
+    (HoldersFitCall-free s.objects task Run (instr_at app task (task_at s task).pc) (task_at s task).entries refl free) at
 
 -- It gets other registers or data, and goes on at an instruction of its script.
 pub IsConsistent-values_and_pc : (app : Application) (D : ℕ → Phase → Type 0) (s : Snapshot) (task pc : ℕ) (registers bytes : List ℕ) → task < length s.tasks
@@ -131,7 +138,7 @@ IsConsistent-advanced app D s task registers bytes there runs within at =
 
 -- A call returns.
 pub IsConsistent-returned : (app : Application) (D : ℕ → Phase → Type 0) (s : Snapshot) (task value : ℕ) → task < length s.tasks
-    → 1 ≤ seats_to_run (task_at s task).phase → IsFree (task_at s task).entries → (task_at s task).pc + 1 < length (code_of app task) → D task Run
+    → 1 ≤ seats_to_run (task_at s task).phase → IsFree s.objects task (task_at s task).entries → (task_at s task).pc + 1 < length (code_of app task) → D task Run
     → IsConsistent app D s → IsConsistent app D (returned s task value)
 IsConsistent-returned app D s task value there runs free within asked at =
     let x = record (task_at s task) { registers = set (task_at s task).registers 0 value } in
@@ -142,7 +149,7 @@ IsConsistent-returned app D s task value there runs free within asked at =
     let two = with_task one task y in
     let there_two : task < length two.tasks = omega (arith, there_one, length-set one.tasks task y) in
     IsConsistent-with_pc app D two task ((task_at s task).pc + 1) there_two (ap (λ (t : TaskSnapshot). t.phase) (task_now one task y there_one)) within
-    (IsConsistent-with_run app D one task there_one runs_still (subst (λ (t : TaskSnapshot). IsFree t.entries) (sym (task_now s task x there)) free) asked
+    (IsConsistent-with_run app D one task there_one runs_still (subst (λ (t : TaskSnapshot). IsFree s.objects task t.entries) (sym (task_now s task x there)) free) asked
     (IsConsistent-with_values app D s task (set (task_at s task).registers 0 value) (task_at s task).bytes there at))
 
 -- ---- a task that leaves its core
@@ -150,7 +157,8 @@ IsConsistent-returned app D s task value there runs free within asked at =
 -- It is in a phase in which it can't run and waits nowhere.
 pub IsConsistent-stopped : (app : Application) (D : ℕ → Phase → Type 0) (s : Snapshot) (core task : ℕ) (phase : Phase) → task < length s.tasks
     → 1 ≤ seats_to_run (task_at s task).phase → core < length s.cores → core_at s core ≡ Some task
-    → seats_to_run phase ≡ 0 → waits_at phase ≡ None → IsFree (task_at s task).entries → PhaseFitsCall phase (instr_at app task (task_at s task).pc) → D task phase
+    → seats_to_run phase ≡ 0 → waits_at phase ≡ None → IsFree s.objects task (task_at s task).entries
+    → PhaseFitsCall phase (instr_at app task (task_at s task).pc) → D task phase
     → IsConsistent app D s → IsConsistent app D (stopped s core task phase)
 IsConsistent-stopped app D s core task phase there runs has_core e idle nowhere free call asked at =
     let was = at.each task there in
@@ -160,8 +168,9 @@ IsConsistent-stopped app D s core task phase there runs has_core e idle nowhere 
       entry_count = was.entry_count;
       call = call;
       deadline = asked;
-      entries = EntriesFitCall-free phase (instr_at app task (task_at s task).pc) (task_at s task).entries (ap (option_and_then entry_of) nowhere) free;
+      entries = EntriesFitCall-free s.objects task phase (instr_at app task (task_at s task).pc) (task_at s task).entries (ap (option_and_then entry_of) nowhere) free;
     })
+    (HoldersFitCall-free s.objects task phase (instr_at app task (task_at s task).pc) (task_at s task).entries (ap (option_and_then entry_of) nowhere) free)
     (SeatsGo-off_core app D s core task phase there runs has_core e idle at)
     (ObjectsGo-stay app D s task phase there
     (λ place. ap (λ o. one_if (is_in_list place (option_and_then listed_at o))) nowhere ∙ sym (waits_nowhere place (task_at s task).phase runs)) at) at
@@ -169,7 +178,7 @@ IsConsistent-stopped app D s core task phase there runs has_core e idle nowhere 
 -- It waits.
 pub IsConsistent-waiting : (app : Application) (D : ℕ → Phase → Type 0) (s : Snapshot) (core task : ℕ) (place : Listed) (deadline : Option ℕ)
     → task < length s.tasks → 1 ≤ seats_to_run (task_at s task).phase → core < length s.cores → core_at s core ≡ Some task
-    → HasList s place → place_of_call (instr_at app task (task_at s task).pc) ≡ Some (sort.Listed place) → IsFree (task_at s task).entries
+    → HasList s place → place_of_call (instr_at app task (task_at s task).pc) ≡ Some (sort.Listed place) → IsFree s.objects task (task_at s task).entries
     → D task (Wait (sort.Listed place) deadline) → IsConsistent app D s
     → IsConsistent app D (with_idle_core (with_phase (with_waiter (priorities_of app) s place task) task (Wait (sort.Listed place) deadline)) core)
 IsConsistent-waiting app D s core task place deadline there runs has_core e has_place call free asked at =
@@ -182,8 +191,11 @@ IsConsistent-waiting app D s core task place deadline there runs has_core e has_
       entry_count = was.entry_count;
       call = call;
       deadline = asked;
-      entries = EntriesFitCall-free phase (instr_at app task (task_at s task).pc) (task_at s task).entries refl free;
+      entries = EntriesFitCall-free s.objects task phase (instr_at app task (task_at s task).pc) (task_at s task).entries refl free;
     })
+    (HoldersFitCall-objects s.objects p.objects task phase (instr_at app task (task_at s task).pc)
+    (holders_then s.objects place (joined (priorities_of app) (waiting_at s place) task))
+    (HoldersFitCall-free s.objects task phase (instr_at app task (task_at s task).pc) (task_at s task).entries refl free))
     (SeatsGo-off_core app D s core task phase there runs has_core e refl at)
     (ObjectsGo-list app D s place (joined (priorities_of app) (waiting_at s place) task) task phase there
     (ListGoes-joined app D s place task phase there has_place runs refl at) at) at
@@ -193,7 +205,7 @@ IsConsistent-waiting app D s core task place deadline there runs has_core e has_
 -- A call that can't be done.
 pub IsConsistent-blocked : (app : Application) (s : Snapshot) (core task : ℕ) (place : Listed) (wait : Operand) → task < length s.tasks
     → 1 ≤ seats_to_run (task_at s task).phase → core < length s.cores → core_at s core ≡ Some task
-    → HasList s place → place_of_call (instr_at app task (task_at s task).pc) ≡ Some (sort.Listed place) → IsFree (task_at s task).entries
+    → HasList s place → place_of_call (instr_at app task (task_at s task).pc) ≡ Some (sort.Listed place) → IsFree s.objects task (task_at s task).entries
     → (task_at s task).pc + 1 < length (code_of app task)
     → IsConsistent app (all_have_time_left s.tick) s
     → IsConsistent app (all_have_time_left s.tick) (concluded (blocked (priorities_of app) s task place wait) core task)
@@ -214,12 +226,14 @@ IsConsistent-blocked app s core task place wait there runs has_core e has_place 
 
 -- The call is done, others may have been woken, and it returns.
 pub IsConsistent-passed : (app : Application) (tick : ℕ) (s p : Snapshot) (task value : ℕ) (tasks : List ℕ) → task < length s.tasks
-    → 1 ≤ seats_to_run (task_at s task).phase → IsFree (task_at s task).entries → (task_at s task).pc + 1 < length (code_of app task) → AfterWaking s p tasks
+    → 1 ≤ seats_to_run (task_at s task).phase → IsFree s.objects task (task_at s task).entries → (task_at s task).pc + 1 < length (code_of app task)
+    → AfterWaking s p tasks
     → IsConsistent app (all_have_time_left tick) p → IsConsistent app (all_have_time_left tick) (returned p task value)
 IsConsistent-passed app tick s p task value tasks there runs free within after at =
     let same = after.idle task (runner_waits_nowhere (task_at s task).phase (has_seat (can_run (task_at s task).phase) runs)) in
     IsConsistent-returned app (all_have_time_left tick) p task value (omega (arith, there, after.same_length))
-    (subst (λ (t : TaskSnapshot). 1 ≤ seats_to_run t.phase) (sym same) runs) (subst (λ (t : TaskSnapshot). IsFree t.entries) (sym same) free)
+    (subst (λ (t : TaskSnapshot). 1 ≤ seats_to_run t.phase) (sym same) runs)
+    (IsFree-objects s.objects p.objects task (task_at p task).entries after.holders (subst (λ (t : TaskSnapshot). IsFree s.objects task t.entries) (sym same) free))
     (subst (λ (t : TaskSnapshot). t.pc + 1 < length (code_of app task)) (sym same) within) tt at
 
 -- Who waits at a place is a task.
@@ -238,18 +252,19 @@ pub record RunsInstr (app : Application) (s : Snapshot) (core task : ℕ) (instr
 
 -- Whoever runs a call that waits through no entry has none that is waiting.
 pub free_at : (app : Application) (s : Snapshot) (core task : ℕ) (instr : Instr) → RunsInstr app s core task instr → entry_of_call instr ≡ None
-    → IsFree (task_at s task).entries
+    → IsFree s.objects task (task_at s task).entries
 free_at app s core task instr calls none =
-    free_in_call (task_at s task).phase instr (task_at s task).entries none
-    (subst (λ i. EntriesFitCall (task_at s task).phase i (task_at s task).entries) calls.at_instr
-    ((IsConsistent-valid app s calls.valid).each task calls.there).entries)
+    let at = IsConsistent-valid app s calls.valid in
+    free_in_call s.objects task (task_at s task).phase instr (task_at s task).entries none
+    (subst (λ i. EntriesFitCall (task_at s task).phase i (task_at s task).entries) calls.at_instr (at.each task calls.there).entries)
+    (subst (HoldersFitCall s.objects task (task_at s task).phase) calls.at_instr (at.holders task calls.there))
 
 -- A call that was done: what stands then, its caller, and who waits for what it left.
 pub record IsDone (app : Application) (s p : Snapshot) (task : ℕ) (waiting : Listed) : Type 0 where
   pub consistent : IsConsistent app (all_have_time_left s.tick) p
   pub there : task < length p.tasks
   pub runs : 1 ≤ seats_to_run (task_at p task).phase
-  pub free : IsFree (task_at p task).entries
+  pub free : IsFree p.objects task (task_at p task).entries
   pub within : (task_at p task).pc + 1 < length (code_of app task)
   pub waiters : (t : ℕ) → 1 ≤ times_in_list t (waiting_at p waiting) → t < length p.tasks
 
@@ -334,20 +349,16 @@ due_idle tick phase = by_place (waits_at phase) refl
     by_place None e due = absurd (false≢true due)
     by_place (Some place) e due = waiter_is_idle phase place e
 
-pub room_for_first : (app : Application) (s : Snapshot) (place : Listed) → IsValid app s → HasList s place → 0 < length (waiting_at s place)
+-- The ready list has room as long as a task runs.
+room_beside_core : (app : Application) (s : Snapshot) (core task : ℕ) → IsValid app s → core < length s.cores → core_at s core ≡ Some task
     → length s.ready < length s.tasks
-room_for_first app s place valid has_place some =
-    let first = first_waits (waiting_at s place) some in
-    let there = waits_is_task s place first.0 valid.in_limits.sized has_place first.1 in
-    room_in_ready app (all_have_time_left s.tick) s first.0 (IsConsistent-valid app s valid) valid.in_limits.sized there
-    (waits_idle place (task_at s first.0).phase (omega (arith, first.1, valid.places place first.0 there)))
-
-pub waits_somewhere : (phase : Phase) → IsSome (waits_at phase) → seats_to_run phase ≡ 0
-waits_somewhere phase = by_place (waits_at phase) refl
-  where
-    by_place : (o : Option Place) → waits_at phase ≡ o → IsSome o → seats_to_run phase ≡ 0
-    by_place None e none = absurd (false≢true none)
-    by_place (Some place) e some = waiter_is_idle phase place e
+room_beside_core app s core task valid has_core e =
+    let at = IsConsistent-valid app s valid in
+    let there = is_task_on_core app s core task valid has_core e in
+    let seats = at.seated_once task there in
+    room_for s.ready (length s.tasks) task valid.in_limits.sized.scheduling.ready
+    (λ t h. omega (arith, at.seated_once t h, seats_to_run-at_most_one (task_at s t).phase)) there
+    (omega (arith, seats, seats_to_run-at_most_one (task_at s task).phase, times_on_cores-some s core task has_core e))
 
 -- Whoever is on a core can call.
 pub calls_from : (app : Application) (s : Snapshot) (core : ℕ) (running : Option ℕ) → IsValid app s → core < length s.cores → running ≡ core_at s core
@@ -361,7 +372,5 @@ calls_from app s core (Some task) valid has_core e =
       there = there;
       runs = runs;
       room_to_wait = λ place has_place. room_in_list app s task place valid there runs has_place;
-      room_to_wake = λ place has_place some. room_for_first app s place valid has_place some;
-      room_to_tell = λ t in_s waits. room_in_ready app (all_have_time_left s.tick) s t (IsConsistent-valid app s valid) valid.in_limits.sized in_s
-          (waits_somewhere (task_at s t).phase waits);
+      room_to_wake = room_beside_core app s core task valid has_core (sym e);
     }

@@ -21,10 +21,23 @@ use Rattle.rd_wait.specs.Joined.{IsInOrder}
 use Rattle.rd_state.specs.Settled.{seating_of}
 use Rattle.rd_state.specs.Sizes.{IsSized}
 use Rattle.rd_state.specs.Snapshot.{Snapshot, TaskSnapshot, no_task, task_at, with_objects, with_task}
-use Rattle.rd_state.specs.Objects.{AreShaped, ObjectsSnapshot, capacity_of, no_queue, no_queue_set, numbers_in, shape_of, shapes_in}
-use Rattle.rd_state.specs.Valid.{EntriesFitCall, HasTimeLeft, IsValid, ListsInOrder, PhaseFitsCall, SeatedOnce, WaitsInLists, seats_to_run}
+use Rattle.rd_state.specs.Objects.{AreShaped, ObjectsSnapshot, capacity_of, no_message_buffer, no_queue, no_queue_set, no_stream, numbers_in, shape_of, shapes_in}
+use Rattle.rd_state.specs.Objects.{size_of_message_buffer, size_of_stream}
+use Rattle.rd_state.specs.declared.phase.Held.{Held}
+use Rattle.rd_state.specs.declared.phase.Held.TheVariants.{Stream, Message}
+use Rattle.rd_app.specs.declared.instr.Instr.{Instr}
+use Rattle.rd_stream.specs.Holders.{HoldersView, holder_of, with_holder_of}
+use Rattle.rd_stream.specs.MessageSnapshot.{MessageSnapshot}
+use Rattle.rd_stream.specs.Messages.{with_message_holders}
+use Rattle.rd_stream.specs.StreamSnapshot.{StreamSnapshot}
+use Rattle.rd_stream.specs.Streams.{with_stream_holders}
+use Rattle.rd_stream.specs.declared.side.Side.{Side}
+use Rattle.rd_stream.specs.declared.side.Side.TheVariants.{Reader, Writer}
+use Rattle.rd_state.specs.Valid.{EntriesFitCall, HasTimeLeft, HoldersFitCall, HoldersFitScripts, IsValid, ListsInOrder, PhaseFitsCall, SeatedOnce, WaitsInLists}
+use Rattle.rd_state.specs.Valid.{seats_to_run}
 use Rattle.rd_state.specs.Valid.{times_in_list, times_waiting_in}
-use Rattle.rd_state.specs.Waiting.{HasList, IsList, list_kind, list_object, list_part, objects_then, part_number, same_list, waiting_at, waiting_in}
+use Rattle.rd_state.specs.Waiting.{HasList, IsHeld, IsList, held_kind, held_object, held_side, holder_in, list_kind, list_object, list_part, objects_naming}
+use Rattle.rd_state.specs.Waiting.{objects_then, part_number, same_held, same_list, side_number, waiting_at, waiting_in}
 use Rattle.rd_state.proofs.Offered.{SeatsKept}
 
 -- What holds of a task by itself. What is asked of its deadline is a parameter: in the middle of a tick it holds of
@@ -44,6 +57,7 @@ pub record IsConsistent (app : Application) (D : ℕ → Phase → Type 0) (s : 
   pub seated_once : SeatedOnce s
   pub waiting_lists : ListsInOrder (priorities_of app) s
   pub places : WaitsInLists s
+  pub holders : HoldersFitScripts app s
 
 -- The deadlines of all tasks that wait are ahead.
 abbrev pub all_have_time_left : ℕ → ℕ → Phase → Type 0
@@ -64,6 +78,7 @@ IsConsistent-valid app s valid = record {
   seated_once = valid.seated_once;
   waiting_lists = valid.waiting_lists;
   places = valid.places;
+  holders = valid.holders;
 }
 
 pub IsValid-consistent : (app : Application) (s : Snapshot) → IsConsistent app (all_have_time_left s.tick) s → IsSized s → IsValid app s
@@ -82,6 +97,7 @@ IsValid-consistent app s at sized = record {
   calls = λ task h. (at.each task h).call;
   deadlines = λ task h. (at.each task h).deadline;
   entries = λ task h. (at.each task h).entries;
+  holders = at.holders;
 }
 
 -- Something else is asked of deadlines, which each task's phase gives.
@@ -98,12 +114,13 @@ IsConsistent-deadlines app D E s gives at = record {
   seated_once = at.seated_once;
   waiting_lists = at.waiting_lists;
   places = at.places;
+  holders = at.holders;
 }
 
 -- ---- who waits where, once a list was changed
 
 -- what is read of a member of a list, once one of them was changed
-read_changed : {A X : Type 0} (f : X → A) (xs : List X) (number other : ℕ) (now d : X) → number < length xs
+pub read_changed : {A X : Type 0} (f : X → A) (xs : List X) (number other : ℕ) (now d : X) → number < length xs
     → f (get_or (set xs number now) other d) ≡ cond (nat_eq other number) (f now) (f (get_or xs other d))
 read_changed f xs number other now d there = elim (cases_eq other number) [
   | inl e ↦ let same : nat_eq other number ≡ true = grind (arith, nat_tests, e) in
@@ -137,13 +154,13 @@ tasks_in_list-with Sending Receiving tasks queue = refl
 tasks_in_list-with Sending Sending tasks queue = refl
 
 -- of two tests, the second says whether the object is the one that was changed
-by_number : {A : Type 0} (a b : Bool) (new old other : A) → (b ≡ true → old ≡ other) → cond b (cond a new old) other ≡ cond (a && b) new other
+pub by_number : {A : Type 0} (a b : Bool) (new old other : A) → (b ≡ true → old ≡ other) → cond b (cond a new old) other ≡ cond (a && b) new other
 by_number true true new old other is = refl
 by_number true false new old other is = refl
 by_number false true new old other is = is refl
 by_number false false new old other is = refl
 
-same_number : (a b : ℕ) → nat_eq a b ≡ true → a ≡ b
+pub same_number : (a b : ℕ) → nat_eq a b ≡ true → a ≡ b
 same_number a b e = grind (arith, nat_tests, e)
 
 -- Who waits in each list, once these wait in one: a row for each kind, and one for lists of two kinds.
@@ -160,9 +177,10 @@ waiting_then o (QueueSet queue_set) (QueueSet number) tasks there =
     read_changed (λ (q : QueueSetSnapshot). q.waiting) o.queue_sets queue_set number (with_waiting_tasks (get_or o.queue_sets queue_set no_queue_set) tasks) no_queue_set there
 waiting_then o place other tasks there = refl
 
--- Objects that have changed in something else than their shapes and who waits where.
+-- Objects that have changed in something else than their shapes, who waits where, and who is named.
 pub record ContentsChange (o n : ObjectsSnapshot) : Type 0 where
   pub waiting : (place : Listed) → waiting_in n place ≡ waiting_in o place
+  pub holders : (held : Held) → holder_in n held ≡ holder_in o held
   pub shapes : shapes_in n ≡ shapes_in o
 
 -- Who waits where is none of an object's shape.
@@ -172,6 +190,13 @@ shapes_then o (Queue queue list) tasks =
 shapes_then o (QueueSet queue_set) tasks =
     ap (λ (rooms : List ℕ). record (shapes_in o) { queue_sets = rooms })
     (map_kept capacity_of o.queue_sets queue_set (with_waiting_tasks (get_or o.queue_sets queue_set no_queue_set) tasks) no_queue_set refl)
+
+-- Nor is it whom a buffer's place names.
+pub holders_then : (o : ObjectsSnapshot) (place : Listed) (tasks : List ℕ) (held : Held) → holder_in (objects_then o place tasks) held ≡ holder_in o held
+holders_then o (Queue queue list) tasks (Stream stream side) = refl
+holders_then o (Queue queue list) tasks (Message message side) = refl
+holders_then o (QueueSet queue_set) tasks (Stream stream side) = refl
+holders_then o (QueueSet queue_set) tasks (Message message side) = refl
 
 -- A list in which somebody waits is there.
 pub place_there : (s : Snapshot) (place : Listed) (task : ℕ) → 1 ≤ times_in_list task (waiting_at s place) → HasList s place
@@ -205,7 +230,7 @@ list_again : (place : Listed) → list_from (list_kind place) (list_part place) 
 list_again (Queue queue list) = ap (Queue queue) (part_again list)
 list_again (QueueSet queue_set) = refl
 
-both : (a b : Bool) → (a && b) ≡ true → (a ≡ true) × (b ≡ true)
+pub both : (a b : Bool) → (a && b) ≡ true → (a ≡ true) × (b ≡ true)
 both true b e = (refl, e)
 both false b e = absurd (false≢true e)
 
@@ -244,7 +269,15 @@ task_or_other s p task now P there e here other t h =
       | inr differs ↦ subst (P t) (sym (get_or-set_other s.tasks task t now no_task differs)) (other t differs in_s)
     ])
 
--- Objects change in something else than their shapes and who waits where.
+-- What a task's call says of places, of objects whose places name the same.
+pub HoldersFitCall-objects : (o n : ObjectsSnapshot) (task : ℕ) (phase : Phase) (instr : Instr) → ((held : Held) → holder_in n held ≡ holder_in o held)
+    → HoldersFitCall o task phase instr → HoldersFitCall n task phase instr
+HoldersFitCall-objects o n task phase instr same fit = record {
+  named = λ held is. fit.named held (sym (same held) ∙ is);
+  names = λ held waits. same held ∙ fit.names held waits;
+}
+
+-- Objects change in something else than their shapes, who waits where, and who is named.
 pub IsConsistent-contents : (app : Application) (D : ℕ → Phase → Type 0) (s : Snapshot) (n : ObjectsSnapshot) → ContentsChange s.objects n
     → IsConsistent app D s → IsConsistent app D (with_objects s n)
 IsConsistent-contents app D s n change at = record {
@@ -258,6 +291,7 @@ IsConsistent-contents app D s n change at = record {
     waiting = λ place. subst (IsInOrder (priorities_of app)) (sym (change.waiting place)) (at.waiting_lists.waiting place);
   };
   places = λ place t h. ap (times_in_list t) (change.waiting place) ∙ at.places place t h;
+  holders = λ t h. HoldersFitCall-objects s.objects n t (task_at s t).phase (instr_at app t (task_at s t).pc) change.holders (at.holders t h);
 }
 
 -- Who is seated changes as scheduling changes it.
@@ -279,4 +313,6 @@ IsConsistent-seats app D s z kept tasks objects at =
       places =
           λ place t h. ap (λ o. times_in_list t (waiting_in o place)) objects ∙ at.places place t (in_s t h)
           ∙ ap (λ (x : TaskSnapshot). times_waiting_in place x.phase) (sym (is t));
+      holders = λ t h. subst (λ o. HoldersFitCall o t (task_at z t).phase (instr_at app t (task_at z t).pc)) (sym objects)
+          (subst (λ (x : TaskSnapshot). HoldersFitCall s.objects t x.phase (instr_at app t x.pc)) (sym (is t)) (at.holders t (in_s t h)));
     }

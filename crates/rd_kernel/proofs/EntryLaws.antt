@@ -7,10 +7,12 @@ use Rattle.std.specs.Prelude.{nat_eq}
 use Rattle.std.proofs.lemmas.Bool.{cases_eq, cases_lt, false≢true}
 use Rattle.std.proofs.lemmas.Bool.Decides.{nat_tests}
 use Rattle.std.proofs.lemmas.List.{get_or-set_other, get_or-set_same, length-set, set-set, set_past}
+use Rattle.rd_state.specs.declared.phase.Held.{Held}
 use Rattle.rd_state.specs.declared.phase.Phase.{Phase}
 use Rattle.rd_app.specs.Application.{Application, instr_at, priorities_of}
 use Rattle.rd_state.specs.Snapshot.{Snapshot, TaskSnapshot, core_at, no_task, task_at, with_task}
-use Rattle.rd_state.specs.Valid.{EntriesFitCall, entry_of_call, place_of_call, seats_to_run, state_of_entry}
+use Rattle.rd_state.specs.Objects.{ObjectsSnapshot}
+use Rattle.rd_state.specs.Valid.{EntriesFitCall, HoldersFitCall, entry_of_call, place_of_call, seats_to_run, state_of_entry}
 use Rattle.rd_state.specs.Waiting.{entry_of}
 use Rattle.rd_state.proofs.Offered.{times_in_list-cons}
 use Rattle.rd_state.specs.declared.phase.Place.{Place}
@@ -75,7 +77,7 @@ IsConsistent-with_entry app D s task index entry has not_new still at =
       call = was.call;
       deadline = was.deadline;
       entries = EntriesFitCall-set x.phase (instr_at app task x.pc) x.entries index entry has.1 not_new still was.entries;
-    }) refl (λ list. refl) at
+    }) refl (λ list. refl) (at.holders task has.0) at
 
 -- An entry of each task is there, if one of any is.
 has_entry : (app : Application) (D E : ℕ → Phase → Type 0) (s p : Snapshot) (task index : ℕ) → length p.tasks ≡ length s.tasks → IsConsistent app D s
@@ -149,10 +151,14 @@ StaysThere-with_entry s task index entry there =
 pub told-tick : (priorities : List ℕ) (s : Snapshot) (task index : ℕ) (entry : Entry) → (told priorities s task index entry).tick ≡ s.tick
 told-tick priorities s task index entry = (AfterWaking-woken_all priorities TriesAgain s (if_waiting_for s task index)).tick
 
+-- An entry of its own is no place of a buffer.
+entry_is_held : (index : ℕ) (held : Held) → Some (sort.Entry index) ≡ Some (sort.Held held) → ⊥
+entry_is_held index held e = cc
+
 -- A task waits for an entry of its own.
 pub IsConsistent-waiting_for_entry : (app : Application) (D : ℕ → Phase → Type 0) (s : Snapshot) (core task index : ℕ) (entry : Entry) (deadline : Option ℕ)
     → HasEntry s task index → 1 ≤ seats_to_run (task_at s task).phase → core < length s.cores → core_at s core ≡ Some task
-    → place_of_call (instr_at app task (task_at s task).pc) ≡ Some (sort.Entry index) → IsFree (task_at s task).entries
+    → place_of_call (instr_at app task (task_at s task).pc) ≡ Some (sort.Entry index) → IsFree s.objects task (task_at s task).entries
     → D task (Wait (sort.Entry index) deadline) → IsConsistent app D s
     → IsConsistent app D (stopped (with_entry s task index (entry_waiting entry)) core task (Wait (sort.Entry index) deadline))
 IsConsistent-waiting_for_entry app D s core task index entry deadline has runs has_core e call free asked at =
@@ -178,18 +184,23 @@ IsConsistent-waiting_for_entry app D s core task index entry deadline has runs h
       entries = record {
         in_call = λ i is. elim (cases_eq i index) [
           | inl same ↦ (through ∙ ap Some (sym same), refl)
-          | inr differs ↦ absurd (free i (sym (ap state (get_or-set_other x.entries index i waiting idle_entry differs)) ∙ is))
+          | inr differs ↦ absurd (free.idle i (sym (ap state (get_or-set_other x.entries index i waiting idle_entry differs)) ∙ is))
         ];
         while_waiting = λ i is. let same : index ≡ i = cc in ap (state_of_entry entries) (sym same) ∙ here;
       };
+    })
+    (record {
+      named = λ held is. absurd (free.unnamed held is);
+      names = λ held is. absurd (entry_is_held index held is);
     })
     (SeatsGo-off_core app D s core task phase has.0 runs has_core e refl at)
     (ObjectsGo-stay app D s task phase has.0 (λ list. sym (waits_nowhere list x.phase runs)) at) at
 
 -- Once the entry through which its call waits was looked at, none is waiting.
-pub free_of_entry : (phase : Phase) (instr : Instr) (entries : List Entry) (index : ℕ) (entry : Entry) → index < length entries
-    → entry_of_call instr ≡ Some index → entry.state ≢ Waiting → EntriesFitCall phase instr entries → IsFree (set entries index entry)
-free_of_entry phase instr entries index entry there through not_waiting fit i is =
+pub idle_of_entry : (phase : Phase) (instr : Instr) (entries : List Entry) (index : ℕ) (entry : Entry) → index < length entries
+    → entry_of_call instr ≡ Some index → entry.state ≢ Waiting → EntriesFitCall phase instr entries
+    → (i : ℕ) → state_of_entry (set entries index entry) i ≢ Waiting
+idle_of_entry phase instr entries index entry there through not_waiting fit i is =
     let state : Entry → EntryState = λ e. e.state in
     elim (cases_eq i index) [
       | inl same ↦ not_waiting (sym (ap state (get_or-set_same entries index entry idle_entry there)) ∙ ap (state_of_entry (set entries index entry)) (sym same) ∙ is)
@@ -200,28 +211,54 @@ free_of_entry phase instr entries index entry there through not_waiting fit i is
           differs same
     ]
 
--- ---- what leaves entries as they are
+-- Where that is an entry of its own, no place names the task.
+pub free_of_entry : (o : ObjectsSnapshot) (task : ℕ) (phase : Phase) (instr : Instr) (entries : List Entry) (index : ℕ) (entry : Entry) → index < length entries
+    → place_of_call instr ≡ Some (sort.Entry index) → entry.state ≢ Waiting → EntriesFitCall phase instr entries → HoldersFitCall o task phase instr
+    → IsFree o task (set entries index entry)
+free_of_entry o task phase instr entries index entry there at_entry not_waiting fit places = record {
+  idle = idle_of_entry phase instr entries index entry there (ap (option_and_then entry_of) at_entry) not_waiting fit;
+  unnamed = λ held is. entry_is_held index held (sym at_entry ∙ (places.named held is).0);
+}
 
-abbrev pub EntriesStay : Snapshot → Snapshot → Type 0
-EntriesStay s p = (t : ℕ) → (task_at p t).entries ≡ (task_at s t).entries
+-- ---- what leaves tasks as they are, but for their phases
 
-pub EntriesStay-task : (s : Snapshot) (task : ℕ) (x : TaskSnapshot) → x.entries ≡ (task_at s task).entries → EntriesStay s (with_task s task x)
-EntriesStay-task s task x same t = elim (cases_lt task (length s.tasks)) [
-  | inl there ↦ read_kept (λ (y : TaskSnapshot). y.entries) s.tasks task t x no_task there same
-  | inr past ↦ ap (λ (ts : List TaskSnapshot). (get_or ts t no_task).entries) (set_past s.tasks task x past)
+-- What is read of each task is what it was.
+abbrev pub EachStays : {A : Type 0} → (TaskSnapshot → A) → Snapshot → Snapshot → Type 0
+EachStays f s p = (t : ℕ) → f (task_at p t) ≡ f (task_at s t)
+
+pub EachStays-task : {A : Type 0} (f : TaskSnapshot → A) (s : Snapshot) (task : ℕ) (x : TaskSnapshot) → f x ≡ f (task_at s task)
+    → EachStays f s (with_task s task x)
+EachStays-task f s task x same t = elim (cases_lt task (length s.tasks)) [
+  | inl there ↦ read_kept f s.tasks task t x no_task there same
+  | inr past ↦ ap (λ (ts : List TaskSnapshot). f (get_or ts t no_task)) (set_past s.tasks task x past)
 ]
 
-EntriesStay-woken_at : (priorities : List ℕ) (waking : Waking) (s : Snapshot) (task : ℕ) (o : Option Place)
-    → EntriesStay s (woken_at priorities waking s task o)
-EntriesStay-woken_at priorities waking s task None t = refl
-EntriesStay-woken_at priorities waking s task (Some place) t =
-    EntriesStay-task s task (record (task_at s task) { phase = phase_woken waking (task_at s task).phase }) refl t
+-- It is none of the phase.
+abbrev pub IgnoresPhase : {A : Type 0} → (TaskSnapshot → A) → Type 0
+IgnoresPhase f = (x : TaskSnapshot) (phase : Phase) → f (record x { phase = phase }) ≡ f x
+
+EachStays-woken_at : {A : Type 0} (f : TaskSnapshot → A) → IgnoresPhase f → (priorities : List ℕ) (waking : Waking) (s : Snapshot) (task : ℕ) (o : Option Place)
+    → EachStays f s (woken_at priorities waking s task o)
+EachStays-woken_at f ignores priorities waking s task None t = refl
+EachStays-woken_at f ignores priorities waking s task (Some place) t =
+    let phase = phase_woken waking (task_at s task).phase in
+    EachStays-task f s task (record (task_at s task) { phase = phase }) (ignores (task_at s task) phase) t
+
+pub EachStays-woken_all : {A : Type 0} (f : TaskSnapshot → A) → IgnoresPhase f → (priorities : List ℕ) (waking : Waking) (s : Snapshot) (tasks : List ℕ)
+    → EachStays f s (woken_all priorities waking s tasks)
+EachStays-woken_all f ignores priorities waking s [] t = refl
+EachStays-woken_all f ignores priorities waking s (first ∷ rest) t =
+    EachStays-woken_all f ignores priorities waking (woken priorities waking s first) rest t
+    ∙ EachStays-woken_at f ignores priorities waking s first (waits_at (task_at s first).phase) t
+
+abbrev pub EntriesStay : Snapshot → Snapshot → Type 0
+EntriesStay s p = EachStays (λ (x : TaskSnapshot). x.entries) s p
+
+pub EntriesStay-task : (s : Snapshot) (task : ℕ) (x : TaskSnapshot) → x.entries ≡ (task_at s task).entries → EntriesStay s (with_task s task x)
+EntriesStay-task s task x same = EachStays-task (λ (y : TaskSnapshot). y.entries) s task x same
 
 pub EntriesStay-woken_all : (priorities : List ℕ) (waking : Waking) (s : Snapshot) (tasks : List ℕ) → EntriesStay s (woken_all priorities waking s tasks)
-EntriesStay-woken_all priorities waking s [] t = refl
-EntriesStay-woken_all priorities waking s (first ∷ rest) t =
-    EntriesStay-woken_all priorities waking (woken priorities waking s first) rest t
-    ∙ EntriesStay-woken_at priorities waking s first (waits_at (task_at s first).phase) t
+EntriesStay-woken_all priorities waking s tasks = EachStays-woken_all (λ (y : TaskSnapshot). y.entries) (λ x phase. refl) priorities waking s tasks
 
 EntriesStay-returned : (s : Snapshot) (task value : ℕ) → EntriesStay s (returned s task value)
 EntriesStay-returned s task value t =

@@ -7,13 +7,14 @@ use Rattle.std.proofs.lemmas.Bool.{false≢true}
 use Rattle.std.proofs.lemmas.List.{length-set}
 use Rattle.rd_state.specs.declared.phase.Phase.{Phase}
 use Rattle.rd_state.specs.declared.phase.Listed.{Listed}
-use Rattle.rd_app.specs.Application.{Application, priorities_of}
+use Rattle.rd_app.specs.Application.{Application, instr_at, priorities_of}
+use Rattle.rd_state.specs.declared.phase.Held.{Held}
 use Rattle.rd_wait.specs.Joined.{IsInOrder, joined}
 use Rattle.rd_state.specs.Snapshot.{Snapshot, TaskSnapshot, core_at, task_at, with_task}
 use Rattle.rd_state.specs.Objects.{ObjectsSnapshot, shapes_in}
-use Rattle.rd_state.specs.Valid.{EntriesFitCall, entry_of_call, is_in_list, is_on, seats_to_run, state_of_entry, times_in_list, times_on_cores}
+use Rattle.rd_state.specs.Valid.{EntriesFitCall, HoldersFitCall, entry_of_call, is_in_list, is_on, seats_to_run, state_of_entry, times_in_list, times_on_cores}
 use Rattle.rd_state.specs.Valid.{times_waiting_in, waits_in}
-use Rattle.rd_state.specs.Waiting.{HasList, entry_of, listed_at, objects_then, same_list, waiting_at, waiting_in}
+use Rattle.rd_state.specs.Waiting.{HasHeld, HasList, entry_of, holder_at, holder_in, listed_at, objects_naming, objects_then, same_list, waiting_at, waiting_in}
 use Rattle.rd_state.proofs.Offered.{one_if, times_in_list-joined, times_on_cores-set}
 use Rattle.rd_state.specs.declared.phase.Place.{Place}
 use Rattle.std.proofs.lemmas.List.Sums.{sum_by-remove}
@@ -21,7 +22,8 @@ use Rattle.rd_state.specs.declared.phase.Phase.TheVariants.{Again, Ended, Failed
 use Rattle.rd_wait.proofs.Offered.{IsInOrder-joined, IsInOrder-remove}
 use Rattle.rd_state.specs.Phases.{can_run, waits_at}
 use Rattle.rd_kernel.proofs.ConsistentLaws.{IsConsistent, IsConsistentTask, place_there, same_list-is, same_list-self, shapes_then, task_or_other}
-use Rattle.rd_kernel.proofs.ConsistentLaws.{waiting_then}
+use Rattle.rd_kernel.proofs.ConsistentLaws.{holders_then, waiting_then}
+use Rattle.rd_kernel.proofs.HolderLaws.{HolderGoes-naming, by_held}
 use Rattle.rd_kernel.proofs.TaskListLaws.{FoundInList, other_none, same_one}
 use Rattle.std.specs.Option.{option_and_then}
 use Rattle.rd_app.specs.declared.instr.Instr.{Instr}
@@ -76,23 +78,47 @@ waits_idle place phase = by_place (waits_at phase) refl
 
 -- ---- what a phase says of its task's entries
 
--- None of its entries is waiting.
-abbrev pub IsFree : List Entry → Type 0
-IsFree entries = (index : ℕ) → state_of_entry entries index ≢ Waiting
+-- None of its entries is waiting, and no place names it.
+pub record IsFree (o : ObjectsSnapshot) (task : ℕ) (entries : List Entry) : Type 0 where
+  pub idle : (index : ℕ) → state_of_entry entries index ≢ Waiting
+  pub unnamed : (held : Held) → holder_in o held ≢ Some task
 
 -- So it is of a task that isn't in a call, and of one whose call waits through no entry.
-pub free_in_run : (instr : Instr) (entries : List Entry) → EntriesFitCall Run instr entries → IsFree entries
-free_in_run instr entries fit index waiting = false≢true (fit.in_call index waiting).1
+pub free_in_run : (o : ObjectsSnapshot) (task : ℕ) (instr : Instr) (entries : List Entry) → EntriesFitCall Run instr entries → HoldersFitCall o task Run instr
+    → IsFree o task entries
+free_in_run o task instr entries fit places = record {
+  idle = λ index waiting. false≢true (fit.in_call index waiting).1;
+  unnamed = λ held is. false≢true (places.named held is).1;
+}
 
-pub free_in_call : (phase : Phase) (instr : Instr) (entries : List Entry) → entry_of_call instr ≡ None → EntriesFitCall phase instr entries → IsFree entries
-free_in_call phase instr entries none fit index waiting = none_is_some index (sym none ∙ (fit.in_call index waiting).0)
+pub free_in_call : (o : ObjectsSnapshot) (task : ℕ) (phase : Phase) (instr : Instr) (entries : List Entry) → entry_of_call instr ≡ None
+    → EntriesFitCall phase instr entries → HoldersFitCall o task phase instr → IsFree o task entries
+free_in_call o task phase instr entries none fit places = record {
+  idle = λ index waiting. none_is_some index (sym none ∙ (fit.in_call index waiting).0);
+  unnamed = λ held is. none_is_some 0 (sym none ∙ ap (option_and_then entry_of) (places.named held is).0);
+}
 
--- Where no entry is waiting, they fit any call and any phase that waits through none.
-pub EntriesFitCall-free : (phase : Phase) (instr : Instr) (entries : List Entry) → option_and_then entry_of (waits_at phase) ≡ None → IsFree entries
-    → EntriesFitCall phase instr entries
-EntriesFitCall-free phase instr entries none free = record {
-  in_call = λ index waiting. absurd (free index waiting);
+-- It stays so where other objects are named by the same.
+pub IsFree-objects : (o n : ObjectsSnapshot) (task : ℕ) (entries : List Entry) → ((held : Held) → holder_in n held ≡ holder_in o held)
+    → IsFree o task entries → IsFree n task entries
+IsFree-objects o n task entries same free = record {
+  idle = free.idle;
+  unnamed = λ held is. free.unnamed held (sym (same held) ∙ is);
+}
+
+-- Where no entry is waiting, and no place names it, that fits any call and any phase that waits through no entry.
+pub EntriesFitCall-free : (o : ObjectsSnapshot) (task : ℕ) (phase : Phase) (instr : Instr) (entries : List Entry)
+    → option_and_then entry_of (waits_at phase) ≡ None → IsFree o task entries → EntriesFitCall phase instr entries
+EntriesFitCall-free o task phase instr entries none free = record {
+  in_call = λ index waiting. absurd (free.idle index waiting);
   while_waiting = λ index waits. absurd (none_is_some index (sym none ∙ waits));
+}
+
+pub HoldersFitCall-free : (o : ObjectsSnapshot) (task : ℕ) (phase : Phase) (instr : Instr) (entries : List Entry)
+    → option_and_then entry_of (waits_at phase) ≡ None → IsFree o task entries → HoldersFitCall o task phase instr
+HoldersFitCall-free o task phase instr entries none free = record {
+  named = λ held is. absurd (free.unnamed held is);
+  names = λ held waits. absurd (none_is_some 0 (sym none ∙ ap (option_and_then entry_of) waits));
 }
 
 -- ---- a task that goes elsewhere, in two halves that know nothing of each other
@@ -110,12 +136,22 @@ pub record ObjectsGo (priorities : List ℕ) (o n : ObjectsSnapshot) (task : ℕ
   pub waits : (place : Listed) → times_in_list task (waiting_in n place) ≡ times_waiting_in place phase
   pub others : (place : Listed) (t : ℕ) → t ≢ task → times_in_list t (waiting_in n place) ≡ times_in_list t (waiting_in o place)
   pub order : (place : Listed) → IsInOrder priorities (waiting_in n place)
+  pub named_still : (held : Held) (t : ℕ) → t ≢ task → holder_in o held ≡ Some t → holder_in n held ≡ Some t
+  pub named_before : (held : Held) (t : ℕ) → t ≢ task → holder_in n held ≡ Some t → holder_in o held ≡ Some t
+
+-- Whoever doesn't go is named where it was.
+HoldersFitCall-others : (priorities : List ℕ) (o n : ObjectsSnapshot) (task t : ℕ) (to phase : Phase) (instr : Instr) → ObjectsGo priorities o n task to → t ≢ task
+    → HoldersFitCall o t phase instr → HoldersFitCall n t phase instr
+HoldersFitCall-others priorities o n task t to phase instr objects differs fit = record {
+  named = λ held is. fit.named held (objects.named_before held t differs is);
+  names = λ held waits. objects.named_still held t differs (fit.names held waits);
+}
 
 pub IsConsistent-moves : (app : Application) (D : ℕ → Phase → Type 0) (s p : Snapshot) (task : ℕ) (x : TaskSnapshot) → task < length s.tasks
-    → p.tasks ≡ set s.tasks task x → IsConsistentTask app D task x
+    → p.tasks ≡ set s.tasks task x → IsConsistentTask app D task x → HoldersFitCall p.objects task x.phase (instr_at app task x.pc)
     → SeatsGo (priorities_of app) s.ready p.ready s.cores p.cores task x.phase → ObjectsGo (priorities_of app) s.objects p.objects task x.phase
     → IsConsistent app D s → IsConsistent app D p
-IsConsistent-moves app D s p task x there is consistent seat objects at = record {
+IsConsistent-moves app D s p task x there is consistent places seat objects at = record {
   cores = seat.same_cores ∙ at.cores;
   tasks = ap length is ∙ length-set s.tasks task x ∙ at.tasks;
   each = task_or_other s p task x (IsConsistentTask app D) there is consistent (λ t differs h. at.each t h);
@@ -125,6 +161,9 @@ IsConsistent-moves app D s p task x there is consistent seat objects at = record
   waiting_lists = record { ready = seat.order; waiting = objects.order };
   places = λ place. task_or_other s p task x (λ t y. times_in_list t (waiting_at p place) ≡ times_waiting_in place y.phase) there is (objects.waits place)
       (λ t differs h. objects.others place t differs ∙ at.places place t h);
+  holders = task_or_other s p task x (λ t y. HoldersFitCall p.objects t y.phase (instr_at app t y.pc)) there is places
+      (λ t differs h. HoldersFitCall-others (priorities_of app) s.objects p.objects task t x.phase (task_at s t).phase (instr_at app t (task_at s t).pc) objects differs
+      (at.holders t h));
 }
 
 -- It keeps its seat, or goes on without one.
@@ -175,6 +214,8 @@ ObjectsGo-stay app D s task phase there waits at = record {
   waits = λ place. at.places place task there ∙ sym (waits place);
   others = λ place t differs. refl;
   order = at.waiting_lists.waiting;
+  named_still = λ held t differs is. is;
+  named_before = λ held t differs is. is;
 }
 
 -- what holds where two places are one, and where they aren't
@@ -214,6 +255,8 @@ ObjectsGo-list app D s place waiting task phase there goes at =
       order = λ other. subst (IsInOrder (priorities_of app)) (sym (is_list other))
           (by_place place other (λ b. IsInOrder (priorities_of app) (cond b waiting (waiting_at s other))) (λ same. goes.order)
           (λ differs. at.waiting_lists.waiting other));
+      named_still = λ held t differs is. holders_then s.objects place waiting held ∙ is;
+      named_before = λ held t differs is. sym (holders_then s.objects place waiting held) ∙ is;
     }
 
 -- It comes to wait.
@@ -253,6 +296,25 @@ ListGoes-left app D s place task phase f there waits some runs at =
       order = IsInOrder-remove (priorities_of app) list f.index (at.waiting_lists.waiting place);
     }
 
+-- A place of a buffer comes to name it, or names it no more.
+pub ObjectsGo-holder : (app : Application) (D : ℕ → Phase → Type 0) (s : Snapshot) (held : Held) (who : Option ℕ) (task : ℕ) (phase : Phase) → task < length s.tasks
+    → HasHeld s held → ((t : ℕ) → t ≢ task → who ≢ Some t) → ((t : ℕ) → t ≢ task → holder_at s held ≢ Some t)
+    → ((place : Listed) → times_waiting_in place phase ≡ times_waiting_in place (task_at s task).phase) → IsConsistent app D s
+    → ObjectsGo (priorities_of app) s.objects (objects_naming s.objects held who) task phase
+ObjectsGo-holder app D s held who task phase there has_held no_other no_other_before waits at =
+    let goes = HolderGoes-naming s.objects held who has_held in
+    record {
+      shapes = goes.shapes;
+      waits = λ place. ap (times_in_list task) (goes.waiting place) ∙ at.places place task there ∙ sym (waits place);
+      others = λ place t differs. ap (times_in_list t) (goes.waiting place);
+      order = λ place. subst (IsInOrder (priorities_of app)) (sym (goes.waiting place)) (at.waiting_lists.waiting place);
+      named_still = λ other t differs is. by_held other held (λ same. absurd (no_other_before t differs (ap (holder_at s) (sym same) ∙ is)))
+          (λ apart. goes.others other apart ∙ is);
+      named_before = λ other t differs is. by_held other held
+          (λ same. absurd (no_other t differs (sym goes.here ∙ ap (holder_in (objects_naming s.objects held who)) (sym same) ∙ is)))
+          (λ apart. sym (goes.others other apart) ∙ is);
+    }
+
 -- ---- products
 
 -- A task is replaced by one that stands as often on cores and in lists.
@@ -260,7 +322,7 @@ pub IsConsistent-task_replaced : (app : Application) (D : ℕ → Phase → Type
     → IsConsistentTask app D task x
     → seats_to_run x.phase ≡ seats_to_run (task_at s task).phase
     → ((place : Listed) → times_waiting_in place x.phase ≡ times_waiting_in place (task_at s task).phase)
-    → IsConsistent app D s → IsConsistent app D (with_task s task x)
-IsConsistent-task_replaced app D s task x there consistent runs waits at =
-    IsConsistent-moves app D s (with_task s task x) task x there refl consistent (SeatsGo-stay app D s task x.phase there runs at)
+    → HoldersFitCall s.objects task x.phase (instr_at app task x.pc) → IsConsistent app D s → IsConsistent app D (with_task s task x)
+IsConsistent-task_replaced app D s task x there consistent runs waits places at =
+    IsConsistent-moves app D s (with_task s task x) task x there refl consistent places (SeatsGo-stay app D s task x.phase there runs at)
     (ObjectsGo-stay app D s task x.phase there waits at) at

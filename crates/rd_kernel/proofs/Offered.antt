@@ -1,5 +1,5 @@
 -- The laws of rd_kernel that crates above stand on. No other of its proofs is used there.
-pub use Rattle.rd_kernel.proofs.ConsistentLaws.{ContentsChange, IsConsistent, IsConsistent-contents, IsConsistent-deadlines, IsConsistent-seats}
+pub use Rattle.rd_kernel.proofs.ConsistentLaws.{ContentsChange, HoldersFitCall-objects, IsConsistent, IsConsistent-contents, IsConsistent-deadlines, IsConsistent-seats}
 pub use Rattle.rd_kernel.proofs.ConsistentLaws.{IsConsistent-valid, IsValid-consistent, all_have_time_left, map_kept, place_there, read_kept, task_now}
 pub use Rattle.rd_kernel.proofs.WakingLaws.{AfterWaking-woken_all, TimedOut, TimedOut-so_far, all_looked_at, any_deadline, first_tries_wait, timed_out-next}
 pub use Rattle.rd_kernel.proofs.CallLaws.{IsConsistent-advanced, IsConsistent-returned_alone, IsConsistent-done, IsConsistent-failed}
@@ -8,7 +8,12 @@ pub use Rattle.rd_kernel.proofs.CallLaws.{IsConsistent-with_values, IsDone, Runs
 pub use Rattle.rd_kernel.proofs.CallLaws.{room_in_ready, runs_on_core, runs_outside_calls, waits_is_task, woken_first-tick}
 pub use Rattle.rd_kernel.proofs.TaskListLaws.{first_waits, same_one}
 pub use Rattle.rd_kernel.proofs.CallLaws.{free_at}
-pub use Rattle.rd_kernel.proofs.MovingLaws.{IsFree, free_in_call, free_in_run, has_seat, none_is_some, runner_waits_nowhere}
+pub use Rattle.rd_kernel.proofs.MovingLaws.{IsFree, IsFree-objects, free_in_call, free_in_run, has_seat, none_is_some, runner_waits_nowhere}
 pub use Rattle.rd_kernel.proofs.EntryLaws.{IsConsistent-told, IsConsistent-waiting_for_entry, IsConsistent-with_entry, StaysThere, StaysThere-told}
 pub use Rattle.rd_kernel.proofs.EntryLaws.{StaysThere-with_entry, free_of_entry, told-tick}
-pub use Rattle.rd_kernel.proofs.EntryLaws.{EntriesStay, EntriesStay-concluded, EntriesStay-task, EntriesStay-woken_all, entry_after, not_that}
+pub use Rattle.rd_kernel.proofs.HoldingLaws.{IsOn, IsOn-come_back, IsOn-completed, IsOn-contents, IsOn-fails, IsOn-outside, IsOn-returns, IsOn-values}
+pub use Rattle.rd_kernel.proofs.HoldingLaws.{IsOn-waits_held, NamesTasks, NamesTasks-sized, has_held_still}
+pub use Rattle.rd_kernel.proofs.HeldStepLaws.{CanComplete-task, HasReceived, HasReceived-come_back, HasReceived-completed, HasReceived-waits_held, IsBeside}
+pub use Rattle.rd_kernel.proofs.HeldStepLaws.{PcsStay, PcsStay-come_back, PcsStay-completed, PcsStay-waits_held, come_back-beside, come_back-tick}
+pub use Rattle.rd_kernel.proofs.HeldStepLaws.{completed-beside, completed-tick, waits_held-beside, waits_held-tick}
+pub use Rattle.rd_kernel.proofs.EntryLaws.{EntriesStay, EntriesStay-concluded, EntriesStay-task, EntriesStay-woken_all, EachStays, EachStays-task, entry_after, not_that}

@@ -2,7 +2,9 @@
 use Rattle.rd_state.specs.declared.phase.Place.TheVariants as sort
 use Rattle.std.proofs.Common.{◌+◌, ◌<◌, ◌∙◌, ◌∷◌, ◌≡◌, ◌≢◌, ◌≤◌, Bool, List, None, Option, Some, [], ap, arith, cond, false, get_or, inl, inr, length}
 use Rattle.std.proofs.Common.{refl, set, subst, suc, sym, true, zero, ℕ}
-use Rattle.std.specs.Prelude.{◌&&◌, IfSome, is_some, nat_eq, nat_lt, not, remove, slice_get}
+use Rattle.std.specs.Prelude.{◌&&◌, IfSome, is_some, nat_eq, nat_lt, not, position, remove, slice_get}
+use Rattle.rd_state.specs.declared.phase.Held.{Held}
+use Rattle.rd_state.specs.Objects.{ObjectsSnapshot}
 use Rattle.std.proofs.lemmas.Bool.{cases_eq, cases_lt}
 use Rattle.std.proofs.lemmas.Bool.Decides.{nat_tests}
 use Rattle.std.proofs.lemmas.List.{get_or-set_other, get_or-set_same, length-set}
@@ -11,18 +13,18 @@ use Rattle.rd_state.specs.declared.phase.Listed.{Listed}
 use Rattle.rd_app.specs.Application.{Application, instr_at, max_delay, priorities_of}
 use Rattle.rd_wait.specs.Joined.{joined}
 use Rattle.rd_state.specs.Snapshot.{Snapshot, TaskSnapshot, no_task, task_at}
-use Rattle.rd_state.specs.Valid.{EntriesFitCall, FitsCall, HasTimeLeft, PhaseFitsCall, is_ahead, is_in_list, place_of_call, seats_to_run}
+use Rattle.rd_state.specs.Valid.{EntriesFitCall, FitsCall, HasTimeLeft, HoldersFitCall, PhaseFitsCall, is_ahead, is_in_list, place_of_call, seats_to_run}
 use Rattle.rd_state.specs.Valid.{times_in_list}
-use Rattle.rd_state.specs.Waiting.{listed_at, waiting_at}
+use Rattle.rd_state.specs.Waiting.{holder_at, holder_in, listed_at, waiting_at, waiting_in}
 use Rattle.rd_state.proofs.Offered.{one_if, times_in_list-cons}
 use Rattle.rd_state.specs.declared.phase.Place.{Place}
 use Rattle.std.proofs.lemmas.List.Sums.{fold-append, sum_by-append}
 use Rattle.rd_state.specs.declared.phase.Phase.TheVariants.{Again}
-use Rattle.rd_state.specs.Phases.{is_first, kept_deadline, tries_again, waits_at}
-use Rattle.rd_kernel.proofs.ConsistentLaws.{IsConsistent, IsConsistent-deadlines, all_have_time_left, same_list-self}
+use Rattle.rd_state.specs.Phases.{is_first, is_in_call, kept_deadline, tries_again, waits_at}
+use Rattle.rd_kernel.proofs.ConsistentLaws.{IsConsistent, IsConsistent-deadlines, all_have_time_left, holders_then, same_list-self}
 use Rattle.rd_kernel.proofs.TaskListLaws.{find_in_list, first_is_listed, other_none, same_one}
 use Rattle.std.specs.Option.{option_and_then, option_to_list}
-use Rattle.rd_kernel.specs.Waking.{FirstTriesWait, deadline_after, due_below, if_due, is_due, objects_without, operand_value, phase_woken, timed_out}
+use Rattle.rd_kernel.specs.Waking.{FirstTriesWait, deadline_after, due_below, if_due, is_due, objects_left, objects_without, operand_value, phase_woken, timed_out}
 use Rattle.rd_kernel.specs.Waking.{woken, woken_all, woken_at}
 use Rattle.rd_kernel.proofs.MovingLaws.{IsConsistent-moves, ListGoes-left, ObjectsGo-list, ObjectsGo-stay, SeatsGo-ready, none_is_some}
 use Rattle.rd_kernel.proofs.MovingLaws.{waiter_is_idle, waits_nowhere}
@@ -44,6 +46,7 @@ pub record MayWake (app : Application) (D : ℕ → Phase → Type 0) (waking : 
   pub call : PhaseFitsCall (phase_woken waking x.phase) (instr_at app task x.pc)
   pub deadline : D task (phase_woken waking x.phase)
   pub entries : EntriesFitCall (phase_woken waking x.phase) (instr_at app task x.pc) x.entries
+  pub in_call : (held : Held) → place_of_call (instr_at app task x.pc) ≡ Some (sort.Held held) → is_in_call (phase_woken waking x.phase) ≡ true
 
 abbrev pub MayWakeIfWaiting : Application → (ℕ → Phase → Type 0) → Waking → Snapshot → ℕ → Type 0
 MayWakeIfWaiting app D waking s task = (place : Place) → waits_at (task_at s task).phase ≡ Some place → MayWake app D waking task (task_at s task)
@@ -67,7 +70,17 @@ may_try_again app D s task there asked at place waits =
         in_call = λ index waiting. ((was.entries.in_call index waiting).0, refl);
         while_waiting = λ index nowhere. absurd (none_is_some index nowhere);
       };
+      in_call = λ held there. refl;
     }
+
+-- A place that names it goes on doing so, and it is in its call.
+named_woken : (app : Application) (D : ℕ → Phase → Type 0) (waking : Waking) (o n : ObjectsSnapshot) (task : ℕ) (x : TaskSnapshot)
+    → ((held : Held) → holder_in n held ≡ holder_in o held) → MayWake app D waking task x → HoldersFitCall o task x.phase (instr_at app task x.pc)
+    → HoldersFitCall n task (phase_woken waking x.phase) (instr_at app task x.pc)
+named_woken app D waking o n task x same may fit = record {
+  named = λ held is. let there = (fit.named held (sym (same held) ∙ is)).0 in (there, may.in_call held there);
+  names = λ held waits. absurd (none_is_some (sort.Held held) (sym (woken_nowhere waking x.phase) ∙ waits));
+}
 
 -- How often a task that waits stands in its list.
 waits_there : (app : Application) (D : ℕ → Phase → Type 0) (s : Snapshot) (task : ℕ) (place : Listed) → task < length s.tasks
@@ -78,6 +91,23 @@ waits_there app D s task place there waits at =
 -- what a task is that waited and is woken
 abbrev task_woken : Waking → TaskSnapshot → TaskSnapshot
 task_woken waking x = record x { phase = phase_woken waking x.phase }
+
+-- A task that stands in no list leaves the objects as they are.
+IsConsistent-woken_outside_lists : (app : Application) (D : ℕ → Phase → Type 0) (waking : Waking) (s : Snapshot) (task : ℕ) (place : Place) → task < length s.tasks
+    → waits_at (task_at s task).phase ≡ Some place → listed_at place ≡ None → MayWake app D waking task (task_at s task) → IsConsistent app D s
+    → IsConsistent app D (record s { ready = joined (priorities_of app) s.ready task; tasks = set s.tasks task (task_woken waking (task_at s task)) })
+IsConsistent-woken_outside_lists app D waking s task place there e unlisted wakes at =
+    let was = at.each task there in
+    let phase = phase_woken waking (task_at s task).phase in
+    let x = task_woken waking (task_at s task) in
+    let p = record s { ready = joined (priorities_of app) s.ready task; tasks = set s.tasks task x } in
+    IsConsistent-moves app D s p task x there refl
+    (record { pc = was.pc; entry_count = was.entry_count; call = wakes.call; deadline = wakes.deadline; entries = wakes.entries })
+    (named_woken app D waking s.objects s.objects task (task_at s task) (λ held. refl) wakes (at.holders task there))
+    (SeatsGo-ready app D s task phase there (waiter_is_idle (task_at s task).phase place e) (woken_runs waking (task_at s task).phase) at)
+    (ObjectsGo-stay app D s task phase there
+    (λ list. waits_nowhere list phase (omega (arith, woken_runs waking (task_at s task).phase))
+    ∙ sym (ap (λ o. one_if (is_in_list list (option_and_then listed_at o))) e ∙ ap (λ o. one_if (is_in_list list o)) unlisted)) at) at
 
 IsConsistent-woken_at : (app : Application) (D : ℕ → Phase → Type 0) (waking : Waking) (s : Snapshot) (task : ℕ) (o : Option Place) → task < length s.tasks
     → waits_at (task_at s task).phase ≡ o → MayWakeIfWaiting app D waking s task → IsConsistent app D s
@@ -95,21 +125,15 @@ IsConsistent-woken_at app D waking s task (Some (sort.Listed place)) there e may
     subst (λ (index : Option ℕ). IsConsistent app D (after index)) (sym f.is_at)
     (IsConsistent-moves app D s (after (Some f.index)) task x there refl
     (record { pc = was.pc; entry_count = was.entry_count; call = wakes.call; deadline = wakes.deadline; entries = wakes.entries })
+    (named_woken app D waking s.objects (after (Some f.index)).objects task (task_at s task)
+    (holders_then s.objects place (remove (waiting_at s place) f.index)) wakes (at.holders task there))
     (SeatsGo-ready app D s task phase there (waiter_is_idle (task_at s task).phase (sort.Listed place) e) (woken_runs waking (task_at s task).phase) at)
     (ObjectsGo-list app D s place (remove (waiting_at s place) f.index) task phase there
     (ListGoes-left app D s place task phase f there e some (omega (arith, woken_runs waking (task_at s task).phase)) at) at) at)
+IsConsistent-woken_at app D waking s task (Some (sort.Held held)) there e may at =
+    IsConsistent-woken_outside_lists app D waking s task (sort.Held held) there e refl (may (sort.Held held) e) at
 IsConsistent-woken_at app D waking s task (Some (sort.Entry index)) there e may at =
-    let was = at.each task there in
-    let wakes = may (sort.Entry index) e in
-    let phase = phase_woken waking (task_at s task).phase in
-    let x = task_woken waking (task_at s task) in
-    let p = record s { ready = joined (priorities_of app) s.ready task; tasks = set s.tasks task x } in
-    IsConsistent-moves app D s p task x there refl
-    (record { pc = was.pc; entry_count = was.entry_count; call = wakes.call; deadline = wakes.deadline; entries = wakes.entries })
-    (SeatsGo-ready app D s task phase there (waiter_is_idle (task_at s task).phase (sort.Entry index) e) (woken_runs waking (task_at s task).phase) at)
-    (ObjectsGo-stay app D s task phase there
-    (λ list. waits_nowhere list phase (omega (arith, woken_runs waking (task_at s task).phase))
-    ∙ sym (ap (λ o. one_if (is_in_list list (option_and_then listed_at o))) e)) at) at
+    IsConsistent-woken_outside_lists app D waking s task (sort.Entry index) there e refl (may (sort.Entry index) e) at
 
 IsConsistent-woken : (app : Application) (D : ℕ → Phase → Type 0) (waking : Waking) (s : Snapshot) (task : ℕ) → task < length s.tasks
     → MayWakeIfWaiting app D waking s task → IsConsistent app D s → IsConsistent app D (woken (priorities_of app) waking s task)
@@ -118,10 +142,12 @@ IsConsistent-woken app D waking s task there = IsConsistent-woken_at app D wakin
 -- What stays when tasks are woken: each other one, and whoever waits nowhere. They wait nowhere then.
 pub record AfterWaking (s p : Snapshot) (tasks : List ℕ) : Type 0 where
   pub tick : p.tick ≡ s.tick
+  pub cores : p.cores ≡ s.cores
   pub same_length : length p.tasks ≡ length s.tasks
   pub others : (t : ℕ) → times_in_list t tasks ≡ 0 → task_at p t ≡ task_at s t
   pub idle : (t : ℕ) → waits_at (task_at s t).phase ≡ None → task_at p t ≡ task_at s t
   pub woken : (t : ℕ) → 1 ≤ times_in_list t tasks → t < length s.tasks → waits_at (task_at p t).phase ≡ None
+  pub holders : (held : Held) → holder_at p held ≡ holder_at s held
 
 -- the one of a list of one
 pub only_one : (task t : ℕ) → 1 ≤ times_in_list t (task ∷ []) → t ≡ task
@@ -130,20 +156,33 @@ only_one task t some = elim (cases_eq t task) [
   | inr differs ↦ absurd (omega (arith, some, times_in_list-cons t task [], other_none t task differs))
 ]
 
+-- Who leaves a place is named by a buffer's as before.
+holders_left : (o : ObjectsSnapshot) (place : Place) (task : ℕ) (held : Held) → holder_in (objects_left o place task) held ≡ holder_in o held
+holders_left o (sort.Listed list) task held = without (position (λ member. nat_eq member task) (waiting_in o list))
+  where
+    without : (index : Option ℕ) → holder_in (objects_without o list index) held ≡ holder_in o held
+    without None = refl
+    without (Some index) = holders_then o list (remove (waiting_in o list) index) held
+holders_left o (sort.Held place) task held = refl
+holders_left o (sort.Entry index) task held = refl
+
 AfterWaking-woken_at : (priorities : List ℕ) (waking : Waking) (s : Snapshot) (task : ℕ) (o : Option Place) → waits_at (task_at s task).phase ≡ o
     → AfterWaking s (woken_at priorities waking s task o) (task ∷ [])
 AfterWaking-woken_at priorities waking s task None e = record {
   tick = refl;
+  cores = refl;
   same_length = refl;
   others = λ t none. refl;
   idle = λ t nowhere. refl;
   woken = λ t some there. ap (λ n. waits_at (task_at s n).phase) (only_one task t some) ∙ e;
+  holders = λ held. refl;
 }
 AfterWaking-woken_at priorities waking s task (Some place) e =
     let x = task_woken waking (task_at s task) in
     let other : (t : ℕ) → t ≢ task → get_or (set s.tasks task x) t no_task ≡ task_at s t = λ t differs. get_or-set_other s.tasks task t x no_task differs in
     record {
       tick = refl;
+      cores = refl;
       same_length = length-set s.tasks task x;
       others = λ t none. elim (cases_eq t task) [
         | inl same ↦ absurd (omega (arith, none, times_in_list-cons t task [], ap (λ n. one_if (nat_eq n task)) same, same_one task))
@@ -156,6 +195,7 @@ AfterWaking-woken_at priorities waking s task (Some place) e =
       woken = λ t some there.
           subst (λ n. n < length s.tasks → waits_at (get_or (set s.tasks task x) n no_task).phase ≡ None) (sym (only_one task t some))
           (λ here. ap (λ (y : TaskSnapshot). waits_at y.phase) (get_or-set_same s.tasks task x no_task here) ∙ woken_nowhere waking (task_at s task).phase) there;
+      holders = holders_left s.objects place task;
     }
 
 AfterWaking-woken : (priorities : List ℕ) (waking : Waking) (s : Snapshot) (task : ℕ) → AfterWaking s (woken priorities waking s task) (task ∷ [])
@@ -195,10 +235,12 @@ IsConsistent-woken_all app D waking s (first ∷ rest) may at =
 pub AfterWaking-woken_all : (priorities : List ℕ) (waking : Waking) (s : Snapshot) (tasks : List ℕ) → AfterWaking s (woken_all priorities waking s tasks) tasks
 AfterWaking-woken_all priorities waking s [] = record {
   tick = refl;
+  cores = refl;
   same_length = refl;
   others = λ t none. refl;
   idle = λ t nowhere. refl;
   woken = λ t some there. absurd (omega (arith, some));
+  holders = λ held. refl;
 }
 AfterWaking-woken_all priorities waking s (first ∷ rest) =
     let p = woken priorities waking s first in
@@ -207,6 +249,7 @@ AfterWaking-woken_all priorities waking s (first ∷ rest) =
     let in_one : (t : ℕ) → times_in_list t (first ∷ []) ≡ one_if (nat_eq t first) + 0 = λ t. times_in_list-cons t first [] in
     record {
       tick = all.tick ∙ one.tick;
+      cores = all.cores ∙ one.cores;
       same_length = all.same_length ∙ one.same_length;
       others = λ t none. let counts = times_in_list-cons t first rest in
           all.others t (omega (arith, none, counts)) ∙ one.others t (omega (arith, none, counts, in_one t));
@@ -218,6 +261,7 @@ AfterWaking-woken_all priorities waking s (first ∷ rest) =
             let nowhere = one.woken t (omega (arith, some, none, times_in_list-cons t first rest, in_one t)) there in
             ap (λ (x : TaskSnapshot). waits_at x.phase) (all.idle t nowhere) ∙ nowhere
       ];
+      holders = λ held. all.holders held ∙ one.holders held;
     }
 
 -- The first at a place tries its call again, if anyone waits there.

@@ -26,3 +26,15 @@ returning_cost = 3
 -- what becomes of a caller: at the most it gets a second value too
 abbrev pub ending_cost : ℕ
 ending_cost = returning_cost + 1
+
+-- a task that begins to wait as a reader or writer: its name in the place, and its entry
+abbrev pub beginning_cost : ℕ
+beginning_cost = 2
+
+-- one that tries again: the same, undone
+abbrev pub coming_back_cost : ℕ
+coming_back_cost = 2
+
+-- a reader or writer whose wait is completed: it is told, and its name goes
+abbrev pub completing_cost : ℕ
+completing_cost = telling_cost + 1

@@ -4,6 +4,7 @@ pub mod Tasks
 pub mod Waking
 pub mod Outcomes
 pub mod Telling
+pub mod Holding
 pub use Rattle.rd_state.specs.Snapshot
 pub use Rattle.rd_state.specs.Waiting
 pub use Rattle.rd_state.specs.Change

@@ -18,18 +18,15 @@ use Rattle.rd_kernel.specs.declared.outcome.Outcome.TheVariants.{Returns, Return
 use Rattle.rd_kernel.specs.Tasks.{with_idle_core, with_register, with_pc, with_phase}
 use Rattle.rd_kernel.specs.Waking.{ReadyHasRoom, deadline_of, may_wait, with_waiter, woken_first}
 
--- A task that can run calls the kernel, at a valid state. Wherever it may wait there is room for
--- it, and the ready list has room for whomever it wakes.
+-- A task that runs calls the kernel, at a valid state. Wherever it may wait there is room for it,
+-- and the ready list has room for whomever it wakes.
 pub record IsCalling (app : Application) (s : Snapshot) (task : ℕ) : Type 0 where
   pub valid : IsValid app s
   pub there : task < length s.tasks
   pub runs : 1 ≤ seats_to_run (task_at s task).phase
   pub room_to_wait : (list : Listed) → HasList s list
       → length (waiting_at s list) < length s.tasks
-  pub room_to_wake : (list : Listed) → HasList s list → 0 < length (waiting_at s list)
-      → ReadyHasRoom s
-  pub room_to_tell : (t : ℕ) → t < length s.tasks → IsSome (waits_at (task_at s t).phase)
-      → ReadyHasRoom s
+  pub room_to_wake : ReadyHasRoom s
 
 -- the state that a call leaves, and what becomes of the caller
 pub record Called : Type 0 where

@@ -59,11 +59,12 @@ abbrev pub objects_without : ObjectsSnapshot → Listed → Option ℕ → Objec
 objects_without o list None = o
 objects_without o list (Some index) = objects_then o list (remove (waiting_in o list) index)
 
--- the objects, once the task has left a place: it leaves the list, if it stood there; an entry stays
--- as it is
+-- the objects, once the task has left a place: it leaves the list, if it stood there; a buffer's
+-- place goes on naming it, and an entry stays as it is
 abbrev pub objects_left : ObjectsSnapshot → Place → ℕ → ObjectsSnapshot
 objects_left o (sort.Listed list) task =
     objects_without o list (position (λ member. nat_eq member task) (waiting_in o list))
+objects_left o (sort.Held held) task = o
 objects_left o (sort.Entry index) task = o
 
 abbrev pub left : Snapshot → Place → ℕ → Snapshot

@@ -4,6 +4,7 @@
 pub mod calling;
 pub mod changes;
 pub mod conclude;
+pub mod holding;
 pub mod outcome;
 pub mod telling;
 pub mod waking;

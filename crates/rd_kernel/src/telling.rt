@@ -61,6 +61,7 @@ fn is_waiting_for(phase: Phase, index: usize) -> bool
     ensures { result ≡ is_that_entry index (option_and_then entry_of (waits_at phase)) }
 {
     match phase.waits_at() {
+        Some(Place::Held { .. }) => index == 0,
         Some(Place::Entry { index: other }) => other == index,
         Some(Place::Listed { .. }) | None => false,
     }

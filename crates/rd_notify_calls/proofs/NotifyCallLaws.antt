@@ -28,7 +28,7 @@ use Rattle.rd_notify_calls.specs.NotifyCalls.{answer_to, clear_state_outcome, en
 use Rattle.rd_notify_calls.specs.NotifyCalls.{take_outcome}
 use Rattle.rd_state.specs.Phases.{can_run, is_first}
 use Rattle.rd_state.specs.Snapshot.{Snapshot, TaskSnapshot, no_task, task_at, with_task}
-use Rattle.rd_state.specs.Valid.{EntriesFitCall, IsValid, entry_of_call, place_of_call, seats_to_run}
+use Rattle.rd_state.specs.Valid.{EntriesFitCall, HoldersFitCall, IsValid, entry_of_call, place_of_call, seats_to_run}
 use Rattle.rd_state.specs.Waiting.{entry_of}
 use Rattle.rd_state.specs.declared.phase.Phase.{Phase}
 use Rattle.rd_state.specs.declared.phase.Phase.TheVariants.{Again, Ended, Failed, Run, Wait}
@@ -46,8 +46,9 @@ returns_there : (app : Application) (s p : Snapshot) (core task value : ℕ) (in
 returns_there app s p core task value instr calls none stays at =
     let there : task < length p.tasks = omega (arith, calls.there, stays.same_length) in
     let is : instr_at app task (task_at p task).pc ≡ instr = ap (instr_at app task) stays.pc ∙ calls.at_instr in
-    let free = free_in_call (task_at p task).phase instr (task_at p task).entries none
-    (subst (λ i. EntriesFitCall (task_at p task).phase i (task_at p task).entries) is (at.each task there).entries) in
+    let free = free_in_call p.objects task (task_at p task).phase instr (task_at p task).entries none
+    (subst (λ i. EntriesFitCall (task_at p task).phase i (task_at p task).entries) is (at.each task there).entries)
+    (subst (HoldersFitCall p.objects task (task_at p task).phase) is (at.holders task there)) in
     IsConsistent-returned app (all_have_time_left s.tick) p task value there (subst (λ phase. 1 ≤ seats_to_run phase) (sym stays.phase) calls.runs) free
     (omega (arith, calls.within, stays.pc)) tt at
 
@@ -139,8 +140,9 @@ waits_then app s core task index entry wait instr calls place has once =
     let x = task_at s task in
     let parts = both_true (is_first x.phase) (may_wait s task wait) once in
     let run = first_is_run x.phase parts.0 in
-    let free = free_in_run (instr_at app task x.pc) x.entries
-    (subst (λ phase. EntriesFitCall phase (instr_at app task x.pc) x.entries) run (at.each task has.0).entries) in
+    let free = free_in_run s.objects task (instr_at app task x.pc) x.entries
+    (subst (λ phase. EntriesFitCall phase (instr_at app task x.pc) x.entries) run (at.each task has.0).entries)
+    (subst (λ phase. HoldersFitCall s.objects task phase (instr_at app task x.pc)) run (at.holders task has.0)) in
     IsConsistent-waiting_for_entry app (all_have_time_left s.tick) s core task index entry (deadline_of s task wait) has calls.runs calls.has_core calls.on_core
     (ap place_of_call calls.at_instr ∙ place) free parts.1 at
 
@@ -150,7 +152,7 @@ pub record LooksAt (app : Application) (s p : Snapshot) (core task : ℕ) : Type
   pub gives : (value second : ℕ) → IsConsistent app (all_have_time_left s.tick) (concluded (call_gives p value second) core task)
 
 LooksAt-idle : (app : Application) (s : Snapshot) (core task index : ℕ) (entry : Entry) (instr : Instr) → RunsInstr app s core task instr
-    → entry_of_call instr ≡ Some index → HasEntry s task index → entry.state ≢ Waiting → LooksAt app s (with_entry s task index entry) core task
+    → place_of_call instr ≡ Some (sort.Entry index) → HasEntry s task index → entry.state ≢ Waiting → LooksAt app s (with_entry s task index entry) core task
 LooksAt-idle app s core task index entry instr calls through has idle =
     let D = all_have_time_left s.tick in
     let at = IsConsistent-valid app s calls.valid in
@@ -163,8 +165,10 @@ LooksAt-idle app s core task index entry instr calls through has idle =
     (λ is. absurd (none_is_some index (sym (ap (option_and_then entry_of) nowhere) ∙ is))) at in
     let there : task < length p.tasks = omega (arith, has.0, stays.same_length) in
     let fit = subst (λ i. EntriesFitCall x.phase i x.entries) calls.at_instr (at.each task has.0).entries in
-    let free : IsFree (task_at p task).entries =
-    subst (λ (t : TaskSnapshot). IsFree t.entries) (sym now) (free_of_entry x.phase instr x.entries index entry has.1 through idle fit) in
+    let named = subst (HoldersFitCall s.objects task x.phase) calls.at_instr (at.holders task has.0) in
+    let free : IsFree s.objects task (task_at p task).entries =
+    subst (λ (t : TaskSnapshot). IsFree s.objects task t.entries) (sym now)
+    (free_of_entry s.objects task x.phase instr x.entries index entry has.1 through idle fit named) in
     let runs = subst (λ phase. 1 ≤ seats_to_run phase) (sym stays.phase) calls.runs in
     let within : (task_at p task).pc + 1 < length (code_of app task) = omega (arith, calls.within, stays.pc) in
     record {
@@ -174,7 +178,7 @@ LooksAt-idle app s core task index entry instr calls through has idle =
           let q = with_task p task y in
           let later = task_now p task y there in
           IsConsistent-returned app D q task value (omega (arith, there, length-set p.tasks task y))
-          (subst (λ (t : TaskSnapshot). 1 ≤ seats_to_run t.phase) (sym later) runs) (subst (λ (t : TaskSnapshot). IsFree t.entries) (sym later) free)
+          (subst (λ (t : TaskSnapshot). 1 ≤ seats_to_run t.phase) (sym later) runs) (subst (λ (t : TaskSnapshot). IsFree s.objects task t.entries) (sym later) free)
           (subst (λ (t : TaskSnapshot). t.pc + 1 < length (code_of app task)) (sym later) within) tt
           (IsConsistent-with_values app D p task (set (task_at p task).registers 1 second) (task_at p task).bytes there at_p);
     }
@@ -201,7 +205,7 @@ takes app s core task index exit wait calls within =
         (entry_there app s task index calls.valid calls.there within) idle_is_not_waiting).returns (entry_at s task index).value
 
 closes : (app : Application) (s : Snapshot) (core task index bits : ℕ) (entry : Entry) (instr : Instr) → RunsInstr app s core task instr
-    → entry_of_call instr ≡ Some index → HasEntry s task index
+    → place_of_call instr ≡ Some (sort.Entry index) → HasEntry s task index
     → IsConsistent app (all_have_time_left s.tick) (concluded (entry_closed s task index entry bits) core task)
 closes app s core task index bits entry instr calls through has =
     elim (has_received entry.state) as (λ b. IsConsistent app (all_have_time_left s.tick)

@@ -8,11 +8,13 @@ use Rattle.rd_queue.specs.Queues.{with_items}
 use Rattle.rd_app.specs.Application.{Application}
 use Rattle.rd_app.specs.declared.objects.QueueShape.{QueueShape}
 use Rattle.rd_state.specs.declared.phase.Phase.{Phase}
+use Rattle.rd_state.specs.declared.phase.Held.{Held}
+use Rattle.rd_state.specs.declared.phase.Held.TheVariants.{Stream, Message}
 use Rattle.rd_state.specs.declared.phase.Listed.{Listed}
 use Rattle.rd_state.specs.declared.phase.Listed.TheVariants.{Queue, QueueSet}
 use Rattle.rd_state.specs.Objects.{capacity_of, no_queue, no_queue_set, shape_of, shapes_in}
 use Rattle.rd_state.specs.Snapshot.{Snapshot, queue_at, queue_set_at, with_queue, with_queue_set}
-use Rattle.rd_state.specs.Waiting.{waiting_at}
+use Rattle.rd_state.specs.Waiting.{holder_at, waiting_at}
 use Rattle.rd_kernel.proofs.Offered.{ContentsChange, IsConsistent, IsConsistent-contents, map_kept, read_kept}
 
 -- A queue has the same tasks in its lists.
@@ -28,10 +30,20 @@ waiting_at-with_queue s queue now (Queue other Sending) there kept =
     read_kept (λ (q : QueueSnapshot). q.sending) s.objects.queues queue other now no_queue there kept.sending
 waiting_at-with_queue s queue now place there kept = refl
 
+-- No buffer is one of them.
+pub holder_at-with_queue : (s : Snapshot) (queue : ℕ) (now : QueueSnapshot) (held : Held) → holder_at (with_queue s queue now) held ≡ holder_at s held
+holder_at-with_queue s queue now (Stream stream side) = refl
+holder_at-with_queue s queue now (Message message side) = refl
+
+pub holder_at-with_queue_set : (s : Snapshot) (queue_set : ℕ) (now : QueueSetSnapshot) (held : Held) → holder_at (with_queue_set s queue_set now) held ≡ holder_at s held
+holder_at-with_queue_set s queue_set now (Stream stream side) = refl
+holder_at-with_queue_set s queue_set now (Message message side) = refl
+
 pub ContentsChange-queue : (s : Snapshot) (queue : ℕ) (now : QueueSnapshot) → queue < length s.objects.queues
     → shape_of now ≡ shape_of (queue_at s queue) → IsSameWaiting now (queue_at s queue) → ContentsChange s.objects (with_queue s queue now).objects
 ContentsChange-queue s queue now there shape kept = record {
   waiting = λ place. waiting_at-with_queue s queue now place there kept;
+  holders = λ held. holder_at-with_queue s queue now held;
   shapes = ap (λ (qs : List QueueShape). record (shapes_in s.objects) { queues = qs }) (map_kept shape_of s.objects.queues queue now no_queue shape);
 }
 
@@ -44,6 +56,7 @@ pub ContentsChange-queue_set : (s : Snapshot) (queue_set : ℕ) (now : QueueSetS
     → capacity_of now ≡ capacity_of (queue_set_at s queue_set) → now.waiting ≡ (queue_set_at s queue_set).waiting → ContentsChange s.objects (with_queue_set s queue_set now).objects
 ContentsChange-queue_set s queue_set now there room kept = record {
   waiting = λ place. waiting_at-with_queue_set s queue_set now place there kept;
+  holders = λ held. holder_at-with_queue_set s queue_set now held;
   shapes = ap (λ (rooms : List ℕ). record (shapes_in s.objects) { queue_sets = rooms }) (map_kept capacity_of s.objects.queue_sets queue_set now no_queue_set room);
 }
 

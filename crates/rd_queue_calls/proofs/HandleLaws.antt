@@ -67,6 +67,7 @@ handles_woken_at : (priorities : List ℕ) (waking : Waking) (s : Snapshot) (tas
 handles_woken_at priorities waking s task None = refl
 handles_woken_at priorities waking s task (Some (sort.Listed list)) = handles_without s list (position (λ member. nat_eq member task) (waiting_at s list))
 handles_woken_at priorities waking s task (Some (sort.Entry index)) = refl
+handles_woken_at priorities waking s task (Some (sort.Held held)) = refl
 
 pub handles_woken_all : (priorities : List ℕ) (waking : Waking) (s : Snapshot) (tasks : List ℕ) → handles_in (woken_all priorities waking s tasks) ≡ handles_in s
 handles_woken_all priorities waking s [] = refl

@@ -21,56 +21,28 @@ use Rattle.rd_queue.specs.Queues.{with_items}
 use Rattle.rd_queue.specs.QueueSetSnapshot.{QueueSetSnapshot}
 use Rattle.rd_queue.specs.QueueSets.{with_handles}
 use Rattle.rd_state.specs.declared.phase.Cause.TheVariants.{SetFull}
+use Rattle.rd_state.specs.declared.phase.Held.{Held}
 use Rattle.rd_state.specs.declared.phase.Listed.{Listed}
 use Rattle.rd_state.specs.declared.phase.Listed.TheVariants.{Queue, QueueSet}
 use Rattle.rd_state.specs.Sizes.{IsSized}
 use Rattle.rd_state.specs.Snapshot.{Snapshot, TaskSnapshot, no_task, task_at, queue_at, queue_set_at, with_queue, with_queue_set, items_at}
 use Rattle.rd_state.specs.Valid.{entry_of_call, seats_to_run, times_in_list}
-use Rattle.rd_state.specs.Waiting.{HasList, waiting_at, waiting_in}
+use Rattle.rd_state.specs.Waiting.{HasList, holder_at, waiting_at}
 use Rattle.rd_state.proofs.Offered.{queue_sized}
 use Rattle.rd_kernel.specs.Outcomes.{call_returns, call_fails, call_passes, concluded}
 use Rattle.rd_kernel.specs.Waking.{ReadyHasRoom}
 use Rattle.rd_kernel.proofs.Offered.{IsConsistent, IsConsistent-valid, IsDone, all_have_time_left, place_there, task_now}
 use Rattle.rd_kernel.proofs.Offered.{RunsInstr, IsConsistent-returned_alone, IsConsistent-done, IsConsistent-failed, IsConsistent-or_blocked}
-use Rattle.rd_kernel.proofs.Offered.{IsFree, free_at}
+use Rattle.rd_kernel.proofs.Offered.{IsFree, IsFree-objects, free_at}
 use Rattle.rd_kernel.proofs.Offered.{IsConsistent-returned, IsConsistent-with_values, first_waits, or_blocked-tick, waits_is_task, woken_first-tick}
-use Rattle.rd_queue_calls.proofs.ContentsLaws.{IsConsistent-items, IsConsistent-queue_replaced, IsConsistent-queue_set_replaced, IsSameWaiting}
+use Rattle.rd_queue_calls.proofs.ContentsLaws.{holder_at-with_queue, holder_at-with_queue_set, IsConsistent-items, IsConsistent-queue_replaced, IsConsistent-queue_set_replaced, IsSameWaiting}
 use Rattle.rd_queue_calls.proofs.ContentsLaws.{waiting_at-with_queue, waiting_at-with_queue_set}
-use Rattle.rd_queue_calls.specs.Posts.{HasRoomToWake, call_breaks, is_in_full_queue_set, is_in_no_queue_set, is_in_queue_set, posted, replaced, membership_of}
+use Rattle.rd_queue_calls.specs.Posts.{call_breaks, is_in_full_queue_set, is_in_no_queue_set, is_in_queue_set, posted, replaced, membership_of}
 use Rattle.rd_queue_calls.specs.Posts.{with_handle, with_member}
 use Rattle.rd_queue_calls.specs.QueueCalls.{is_empty, is_full, queue_outcome, sent_item, outcome_with_room, with_item_over, with_item_peeked}
 use Rattle.rd_queue_calls.specs.QueueCalls.{with_item_sent}
 use Rattle.rd_queue_calls.specs.QueueCalls.{with_item_taken, with_no_items}
 use Rattle.rd_queue_calls.specs.QueueSetCalls.{has_no_handle, queue_set_outcome, with_handle_taken}
-
--- ---- room to wake
-
--- Where the same tasks wait, and as many are ready, whoever waits finds room in the ready list.
-pub room_kept : (s p : Snapshot) → ((place : Listed) → waiting_at p place ≡ waiting_at s place) → p.ready ≡ s.ready → length p.tasks ≡ length s.tasks
-    → HasRoomToWake s → (place : Listed) → 0 < length (waiting_at p place) → ReadyHasRoom p
-room_kept s p same ready tasks room place some =
-    let some_before : 0 < length (waiting_at s place) = omega (arith, some, ap length (same place)) in
-    let first = first_waits (waiting_at s place) some_before in
-    omega (arith, room place (place_there s place first.0 first.1) some_before, ap length ready, tasks)
-
--- with other objects, where the same tasks wait
-room_after : (s p q : Snapshot) → p.objects ≡ q.objects → ((place : Listed) → waiting_at q place ≡ waiting_at s place) → HasRoomToWake s
-    → p.ready ≡ s.ready → length p.tasks ≡ length s.tasks → (place : Listed) → 0 < length (waiting_at p place) → ReadyHasRoom p
-room_after s p q objects same room ready tasks = room_kept s p (λ place. ap (λ o. waiting_in o place) objects ∙ same place) ready tasks room
-
--- The same of a queue that has changed in something else.
-pub room_after_queue : (s p : Snapshot) (queue : ℕ) (now : QueueSnapshot) → queue < length s.objects.queues → IsSameWaiting now (queue_at s queue) → HasRoomToWake s
-    → p.objects ≡ (with_queue s queue now).objects → p.ready ≡ s.ready → length p.tasks ≡ length s.tasks
-    → (place : Listed) → 0 < length (waiting_at p place) → ReadyHasRoom p
-room_after_queue s p queue now there kept room objects =
-    room_after s p (with_queue s queue now) objects (λ place. waiting_at-with_queue s queue now place there kept) room
-
--- and of a set
-pub room_after_queue_set : (s p : Snapshot) (number : ℕ) (now : QueueSetSnapshot) → number < length s.objects.queue_sets → now.waiting ≡ (queue_set_at s number).waiting → HasRoomToWake s
-    → p.objects ≡ (with_queue_set s number now).objects → p.ready ≡ s.ready → length p.tasks ≡ length s.tasks
-    → (place : Listed) → 0 < length (waiting_at p place) → ReadyHasRoom p
-room_after_queue_set s p number now there kept room objects =
-    room_after s p (with_queue_set s number now) objects (λ place. waiting_at-with_queue_set s number now place there kept) room
 
 -- Other items, or another set, are none of who waits.
 pub items_keep : (queue : QueueSnapshot) (items : List (List ℕ)) → IsSameWaiting (with_items queue items) queue
@@ -91,14 +63,15 @@ queue_set_there s queue sized there =
 -- The tasks are as they were, and the same wait at a place.
 done_as : (app : Application) (s p : Snapshot) (core task : ℕ) (instr : Instr) (place : Listed) → RunsInstr app s core task instr → entry_of_call instr ≡ None
     → IsConsistent app (all_have_time_left s.tick) p → p.tasks ≡ s.tasks → HasList s place → waiting_at p place ≡ waiting_at s place
-    → IsDone app s p task place
-done_as app s p core task instr place calls none consistent tasks has_place same =
+    → ((held : Held) → holder_at p held ≡ holder_at s held) → IsDone app s p task place
+done_as app s p core task instr place calls none consistent tasks has_place same holders =
     let is : task_at p task ≡ task_at s task = ap (λ (ts : List TaskSnapshot). get_or ts task no_task) tasks in
     record {
       consistent = consistent;
       there = omega (arith, calls.there, ap length tasks);
       runs = subst (λ (t : TaskSnapshot). 1 ≤ seats_to_run t.phase) (sym is) calls.runs;
-      free = subst (λ (t : TaskSnapshot). IsFree t.entries) (sym is) (free_at app s core task instr calls none);
+      free = IsFree-objects s.objects p.objects task (task_at p task).entries holders
+          (subst (λ (t : TaskSnapshot). IsFree s.objects task t.entries) (sym is) (free_at app s core task instr calls none));
       within = subst (λ (t : TaskSnapshot). t.pc + 1 < length (code_of app task)) (sym is) calls.within;
       waiters = λ t some.
           let before = waits_is_task s place t calls.valid.in_limits.sized has_place (omega (arith, some, ap (times_in_list t) same)) in
@@ -114,7 +87,7 @@ with_items_done app s core task queue list instr items calls none there =
     let p = with_queue s queue now in
     done_as app s p core task instr (Queue queue list) calls none
     (IsConsistent-items app (all_have_time_left s.tick) s queue items there (IsConsistent-valid app s calls.valid)) refl there
-    (waiting_at-with_queue s queue now (Queue queue list) there (items_keep (queue_at s queue) items))
+    (waiting_at-with_queue s queue now (Queue queue list) there (items_keep (queue_at s queue) items)) (holder_at-with_queue s queue now)
 
 -- A queue gets other items, and its set a handle.
 with_handle_done : (app : Application) (s : Snapshot) (core task queue number : ℕ) (instr : Instr) (items : List (List ℕ))
@@ -131,6 +104,7 @@ with_handle_done app s core task queue number instr items calls none there has_q
     refl has_queue_set
     (waiting_at-with_queue_set p number handles (QueueSet number) has_queue_set refl
     ∙ waiting_at-with_queue s queue now (QueueSet number) there (items_keep (queue_at s queue) items))
+    (λ held. holder_at-with_queue_set p number handles held ∙ holder_at-with_queue s queue now held)
 
 -- A queue becomes a member of a set, or of none.
 with_member_done : (app : Application) (s : Snapshot) (core task queue : ℕ) (member : Option ℕ) (instr : Instr)
@@ -141,7 +115,7 @@ with_member_done app s core task queue member instr calls none there =
     let kept : IsSameWaiting now (queue_at s queue) = record { receiving = refl; sending = refl } in
     done_as app s p core task instr (Queue queue Receiving) calls none
     (IsConsistent-queue_replaced app (all_have_time_left s.tick) s queue now there refl kept (IsConsistent-valid app s calls.valid)) refl there
-    (waiting_at-with_queue s queue now (Queue queue Receiving) there kept)
+    (waiting_at-with_queue s queue now (Queue queue Receiving) there kept) (holder_at-with_queue s queue now)
 
 -- The first handle leaves a set.
 with_handle_taken_done : (app : Application) (s : Snapshot) (core task number : ℕ) (instr : Instr)
@@ -151,7 +125,7 @@ with_handle_taken_done app s core task number instr calls none has_queue_set =
     let p = with_queue_set s number now in
     done_as app s p core task instr (QueueSet number) calls none
     (IsConsistent-queue_set_replaced app (all_have_time_left s.tick) s number now has_queue_set refl refl (IsConsistent-valid app s calls.valid)) refl has_queue_set
-    (waiting_at-with_queue_set s number now (QueueSet number) has_queue_set refl)
+    (waiting_at-with_queue_set s number now (QueueSet number) has_queue_set refl) (holder_at-with_queue_set s number now)
 
 -- The first item becomes the caller's data, and who else waits for one is woken.
 peeked : (app : Application) (s : Snapshot) (core task queue : ℕ) (instr : Instr) → RunsInstr app s core task instr → entry_of_call instr ≡ None → queue < length s.objects.queues
@@ -166,7 +140,7 @@ peeked app s core task queue instr calls none there =
           (IsConsistent-valid app s calls.valid);
       there = omega (arith, calls.there, same);
       runs = subst (λ (t : TaskSnapshot). 1 ≤ seats_to_run t.phase) (sym is) calls.runs;
-      free = subst (λ (t : TaskSnapshot). IsFree t.entries) (sym is) (free_at app s core task instr calls none);
+      free = subst (λ (t : TaskSnapshot). IsFree s.objects task t.entries) (sym is) (free_at app s core task instr calls none);
       within = subst (λ (t : TaskSnapshot). t.pc + 1 < length (code_of app task)) (sym is) calls.within;
       waiters = λ t some. subst (λ n. t < n) (sym same) (waits_is_task s (Queue queue Receiving) t calls.valid.in_limits.sized there some);
     }
@@ -189,7 +163,8 @@ taken app s core task queue instr calls none there =
           (IsConsistent-items app D s queue items there (IsConsistent-valid app s calls.valid));
       there = omega (arith, calls.there, same);
       runs = subst (λ (t : TaskSnapshot). 1 ≤ seats_to_run t.phase) (sym is) calls.runs;
-      free = subst (λ (t : TaskSnapshot). IsFree t.entries) (sym is) (free_at app s core task instr calls none);
+      free = IsFree-objects s.objects p.objects task (task_at p task).entries (holder_at-with_queue s queue now)
+          (subst (λ (t : TaskSnapshot). IsFree s.objects task t.entries) (sym is) (free_at app s core task instr calls none));
       within = subst (λ (t : TaskSnapshot). t.pc + 1 < length (code_of app task)) (sym is) calls.within;
       waiters = λ t some.
           let before = waiting_at-with_queue s queue now (Queue queue Sending) there (items_keep (queue_at s queue) items) in

@@ -5,13 +5,10 @@ use Rattle.rd_queue.specs.declared.waiting_list.WaitingList.TheVariants.{Receivi
 use Rattle.rd_queue.specs.QueueSetSnapshot.{QueueSetSnapshot}
 use Rattle.rd_queue.specs.QueueSets.{with_handles}
 use Rattle.rd_state.specs.declared.phase.Cause.{Cause}
-use Rattle.rd_state.specs.declared.phase.Listed.{Listed}
 use Rattle.rd_state.specs.declared.phase.Listed.TheVariants.{Queue, QueueSet}
 use Rattle.rd_state.specs.Snapshot.{Snapshot, queue_at, queue_set_at, with_queue, with_queue_set}
-use Rattle.rd_state.specs.Waiting.{HasList, waiting_at}
 use Rattle.rd_kernel.specs.declared.outcome.Outcome.TheVariants.{Fails}
 use Rattle.rd_kernel.specs.Outcomes.{Called, call_passes, passed}
-use Rattle.rd_kernel.specs.Waking.{ReadyHasRoom}
 
 -- the set that a queue is a member of, if it is one of any
 abbrev pub membership_of : Snapshot → ℕ → Option ℕ
@@ -61,8 +58,3 @@ replaced priorities s queue (Some queue_set) = call_passes s
 -- a call that leaves the state, and its task failed
 abbrev pub call_breaks : Snapshot → Cause → Called
 call_breaks s cause = record { state = s; outcome = Fails cause }
-
--- Wherever somebody waits, the ready list has room for one task more.
-abbrev pub HasRoomToWake : Snapshot → Type 0
-HasRoomToWake s =
-    (list : Listed) → HasList s list → 0 < length (waiting_at s list) → ReadyHasRoom s

@@ -4,7 +4,8 @@ ghost use Rattle.std.specs.Prelude.{◌≡◌, ◌+◌, ◌<◌, length, false, 
 ghost use Rattle.rd_app.specs.Application.{priorities_of};
 ghost use Rattle.rd_kernel.specs.Costs.{waking_cost};
 ghost use Rattle.rd_kernel.specs.Outcomes.{DoesCall};
-ghost use Rattle.rd_queue_calls.specs.Posts.{is_in_full_queue_set, posted, HasRoomToWake};
+ghost use Rattle.rd_kernel.specs.Waking.{ReadyHasRoom};
+ghost use Rattle.rd_queue_calls.specs.Posts.{is_in_full_queue_set, posted};
 ghost use Rattle.rd_state.specs.Edit.{GivesUp};
 
 use rd_app::app::App;
@@ -42,7 +43,7 @@ pub fn post(
     requires queue_set { IfSome queue_set
         (λ queue_set. queue_set < length editing.old.now.objects.queue_sets) }
     requires room { is_in_full_queue_set editing.old.now queue_set ≡ false }
-    requires ready { HasRoomToWake editing.old.now }
+    requires ready { ReadyHasRoom editing.old.now }
     requires priorities { length (priorities_of app.now) ≡ length editing.old.now.tasks }
     ensures ok { IfOk result (DoesCall editing.old editing.new
         (posted (priorities_of app.now) editing.old.now queue queue_set) (1 + waking_cost)) }

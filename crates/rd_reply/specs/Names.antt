@@ -4,6 +4,7 @@ use Rattle.std.specs.Prelude.{Option, Some, None, IfSome}
 use Rattle.rd_app.specs.Application.{Application}
 use Rattle.rd_queue.specs.QueueSnapshot.{QueueSnapshot}
 use Rattle.rd_queue.specs.QueueSetSnapshot.{QueueSetSnapshot}
+use Rattle.rd_stream.specs.Holders.{HoldersView}
 use Rattle.rd_state.specs.declared.phase.Phase.{Phase}
 use Rattle.rd_state.specs.Phases.{waits_at}
 use Rattle.rd_state.specs.Snapshot.{Snapshot}
@@ -35,6 +36,11 @@ pub record QueueIsNamed (app : Application) (queue : QueueSnapshot) : Type 0 whe
 pub record QueueSetIsNamed (app : Application) (queue_set : QueueSetSnapshot) : Type 0 where
   pub handles : All (IsNamed app.objects.queues.names) queue_set.handles
   pub waiting : All (IsNamed app.tasks.names) queue_set.waiting
+
+-- Those whom the places of a buffer name have a name.
+pub record HoldersAreNamed (app : Application) (holders : HoldersView) : Type 0 where
+  pub reader : IsNamedOrNone app.tasks.names holders.reader
+  pub writer : IsNamedOrNone app.tasks.names holders.writer
 
 -- The place where a task waits, if it waits, has a name.
 abbrev pub PlaceIsNamed : Application → Phase → Type 0

@@ -16,7 +16,10 @@ use Rattle.rd_queue.specs.declared.waiting_list.WaitingList.TheVariants.{Receivi
 use Rattle.rd_queue.specs.QueueSnapshot.{QueueSnapshot}
 use Rattle.rd_queue.specs.QueueSetSnapshot.{QueueSetSnapshot}
 use Rattle.rd_state.specs.declared.phase.Cause.{Cause}
-use Rattle.rd_state.specs.declared.phase.Cause.TheVariants.{SetFull}
+use Rattle.rd_state.specs.declared.phase.Cause.TheVariants.{SetFull, TwoReaders, TwoWriters}
+use Rattle.rd_state.specs.declared.phase.Cause.TheVariants.{EmptyData}
+use Rattle.rd_state.specs.declared.phase.Held.{Held}
+use Rattle.rd_state.specs.declared.phase.Held.TheVariants as held
 use Rattle.rd_state.specs.declared.phase.Phase.{Phase}
 use Rattle.rd_state.specs.declared.phase.Phase.TheVariants.{Run, Again, Wait, Ended, Failed}
 use Rattle.rd_state.specs.declared.phase.Listed.{Listed}
@@ -24,6 +27,11 @@ use Rattle.rd_state.specs.declared.phase.Listed.TheVariants.{Queue, QueueSet}
 use Rattle.rd_state.specs.declared.phase.Place.{Place}
 use Rattle.rd_state.specs.declared.phase.Place.TheVariants as sort
 use Rattle.rd_state.specs.Snapshot.{Snapshot, TaskSnapshot}
+use Rattle.rd_stream.specs.declared.side.Side.{Side}
+use Rattle.rd_stream.specs.declared.side.Side.TheVariants.{Reader, Writer}
+use Rattle.rd_stream.specs.MessageSnapshot.{MessageSnapshot}
+use Rattle.rd_stream.specs.Messages.{bytes_held}
+use Rattle.rd_stream.specs.StreamSnapshot.{StreamSnapshot}
 use Rattle.rd_reply.specs.Names.{name_at, name_or_dash}
 use Rattle.rd_reply.specs.declared.reply.Reply.{Reply}
 use Rattle.rd_reply.specs.declared.reply.Reply.TheVariants.{Done, Refused}
@@ -86,14 +94,34 @@ listed_text app (Queue queue list) =
     list_name list ++ codes ":" ++ name_at app.objects.queues.names queue
 listed_text app (QueueSet queue_set) = codes "set:" ++ name_at app.objects.queue_sets.names queue_set
 
--- a place where tasks wait: its list, or the index of an entry
+-- what the place at a side of a stream buffer is called, and of a message buffer
+abbrev pub stream_side_name : Side → List ℕ
+stream_side_name Reader = codes "sread"
+stream_side_name Writer = codes "swrite"
+
+abbrev pub message_side_name : Side → List ℕ
+message_side_name Reader = codes "mread"
+message_side_name Writer = codes "mwrite"
+
+-- a place of a buffer, by the buffer's name
+abbrev pub held_text : Application → Held → List ℕ
+held_text app (held.Stream stream side) =
+    stream_side_name side ++ codes ":" ++ name_at app.objects.streams.names stream
+held_text app (held.Message message side) =
+    message_side_name side ++ codes ":" ++ name_at app.objects.messages.names message
+
+-- a place where tasks wait: its list, the place of a buffer, or the index of an entry
 abbrev pub place_text : Application → Place → List ℕ
 place_text app (sort.Listed list) = listed_text app list
+place_text app (sort.Held held) = held_text app held
 place_text app (sort.Entry index) = codes "note:" ++ decimal index
 
 -- why a call failed
 abbrev pub cause_text : Cause → List ℕ
 cause_text SetFull = codes "SetFull"
+cause_text TwoReaders = codes "TwoReaders"
+cause_text TwoWriters = codes "TwoWriters"
+cause_text EmptyData = codes "EmptyData"
 
 abbrev pub phase_text : Application → Phase → List ℕ
 phase_text app Run = codes "run"
@@ -165,6 +193,36 @@ selecting_text app queue_set =
 abbrev pub queue_set_text : Application → List ℕ → QueueSetSnapshot → List ℕ
 queue_set_text app name queue_set =
     codes "set " ++ name ++ codes " " ++ handles_text app queue_set ++ selecting_text app queue_set
+
+-- whom the reader's and the writer's place of a buffer name, by the tasks' names; `-` for nobody
+abbrev pub holders_text : Application → Option ℕ → Option ℕ → List ℕ
+holders_text app reader writer =
+    codes " reader " ++ name_or_dash app.tasks.names reader
+    ++ codes " writer " ++ name_or_dash app.tasks.names writer
+
+-- what is in a stream buffer, and how many bytes have to be there to complete a reader's wait
+abbrev pub stream_contents_text : StreamSnapshot → List ℕ
+stream_contents_text stream =
+    counts_text (length stream.bytes) stream.capacity
+    ++ codes " trigger " ++ decimal stream.trigger ++ codes " bytes " ++ bytes_text stream.bytes
+
+-- a stream buffer of that name
+abbrev pub stream_text : Application → List ℕ → StreamSnapshot → List ℕ
+stream_text app name stream =
+    codes "stream " ++ name ++ codes " " ++ stream_contents_text stream
+    ++ holders_text app stream.holders.reader stream.holders.writer
+
+-- what is in a message buffer, where each message takes four bytes more than it has
+abbrev pub message_contents_text : MessageSnapshot → List ℕ
+message_contents_text buffer =
+    counts_text (bytes_held buffer.messages) buffer.capacity ++ codes " messages "
+    ++ list_text bytes_text buffer.messages
+
+-- a message buffer of that name
+abbrev pub message_text : Application → List ℕ → MessageSnapshot → List ℕ
+message_text app name buffer =
+    codes "message " ++ name ++ codes " " ++ message_contents_text buffer
+    ++ holders_text app buffer.holders.reader buffer.holders.writer
 
 abbrev pub ticks_text : Snapshot → List ℕ
 ticks_text s = codes " tick " ++ decimal s.tick ++ codes " turn " ++ decimal s.turn

@@ -1,5 +1,6 @@
 //! The texts of replies and views.
 #![tactic(auto)]
 
+pub mod buffers;
 mod page;
 pub mod reply;

@@ -21,6 +21,7 @@ ghost use Rattle.rd_reply.specs.Replies.{running_core_text, state_text, task_tex
 ghost use Rattle.rd_reply.specs.Replies.{ticks_text, cores_text};
 ghost use Rattle.rd_reply.specs.Pages.{Appends, LacksRoom, KeepsFront};
 
+use crate::buffers::append_held;
 use crate::page::Page;
 use itoa::{Buffer, Integer};
 use rd_app::app::App;
@@ -52,10 +53,10 @@ pub const MAX_REPLY: usize = 31;
 const MAX_DIGITS: usize = 20;
 
 // Whether there was memory for what is appended to a page.
-type Appended = Result<(), AllocError>;
+pub(crate) type Appended = Result<(), AllocError>;
 
 // The functions below append to a page what their name says.
-fn append_number<I: Integer>(page: &mut Page<'_>, number: I)
+pub(crate) fn append_number<I: Integer>(page: &mut Page<'_>, number: I)
     ensures { Appends page.old page.new (I.text number) }
 {
     page.append(Buffer::new().format(number));
@@ -147,7 +148,7 @@ fn append_bytes(page: &mut Page<'_>, bytes: &[u8])
 }
 
 // A `,` before each member but the first, which has the index 0.
-fn append_comma(page: &mut Page<'_>, index: usize)
+pub(crate) fn append_comma(page: &mut Page<'_>, index: usize)
     ensures { Appends page.old page.new (comma_at index) }
 {
     if index > 0 {
@@ -156,7 +157,7 @@ fn append_comma(page: &mut Page<'_>, index: usize)
 }
 
 // The name of an object or a task.
-fn append_name(page: &mut Page<'_>, app: &App, kind: Kind, number: usize)
+pub(crate) fn append_name(page: &mut Page<'_>, app: &App, kind: Kind, number: usize)
     requires { IsNamed (names_of kind app.now) number }
     ensures { Appends page.old page.new (name_at (names_of kind app.now) number) }
 {
@@ -217,7 +218,7 @@ fn append_handle_names(page: &mut Page<'_>, app: &App, queue_set: &QueueSet)
 }
 
 // The name of an object or a task; `-` for none.
-fn append_name_or_dash(page: &mut Page<'_>, app: &App, kind: Kind, number: Option<usize>)
+pub(crate) fn append_name_or_dash(page: &mut Page<'_>, app: &App, kind: Kind, number: Option<usize>)
     requires { IsNamedOrNone (names_of kind app.now) number }
     ensures { Appends page.old page.new (name_or_dash (names_of kind app.now) number) }
 {
@@ -309,6 +310,7 @@ fn append_place(page: &mut Page<'_>, app: &App, place: Place)
 {
     match place {
         Place::Listed { list } => append_listed(page, app, list),
+        Place::Held { held } => append_held(page, app, held),
         Place::Entry { index } => {
             page.append("note:");
             append_number(page, index);
@@ -322,6 +324,9 @@ fn append_cause(page: &mut Page<'_>, cause: Cause)
 {
     match cause {
         Cause::SetFull => page.append("SetFull"),
+        Cause::TwoReaders => page.append("TwoReaders"),
+        Cause::TwoWriters => page.append("TwoWriters"),
+        Cause::EmptyData => page.append("EmptyData"),
     }
 }
 
@@ -390,7 +395,7 @@ fn append_queue(page: &mut Page<'_>, app: &App, name: &str, queue: &Queue)
 }
 
 // How many there are, and how many there is room for.
-fn append_counts(page: &mut Page<'_>, count: usize, capacity: usize)
+pub(crate) fn append_counts(page: &mut Page<'_>, count: usize, capacity: usize)
     ensures { Appends page.old page.new (counts_text count capacity) }
 {
     append_number(page, count);

@@ -216,3 +216,15 @@ piece_at memory start at size len is there fits whole begins =
           ∙ sym (take-take size (len - at) (drop at seen) (omega arith))
           ∙ ap (λ (x : List ℕ). take size x) (sym (drop-take at (len - at) seen) ∙ ap (λ (n : ℕ). drop at (take n seen)) len_is),
     )
+
+-- bytes from an offset on, seen from there
+pub range_at : (memory : List ℕ) (start at count len : ℕ) → IsOffset (length memory) start → at + count ≤ len → len ≤ length memory
+    → take count (seen_from (offset_after (length memory) start at) memory) ≡ take count (drop at (take len (seen_from start memory)))
+range_at memory start at count len is there fits =
+    let seen = seen_from start memory in
+    let len_is : at + (len - at) ≡ len = omega (arith, there) in
+    let rest : length (drop at seen) ≡ length memory - at = omega (arith, length-drop at seen, length-seen_from start memory) in
+    ap (λ (x : List ℕ). take count x) (sym (seen_from-offset_after memory start at is (omega (arith, there, fits))))
+    ∙ take-append-le count (drop at seen) (take at seen) (omega (arith, rest, there, fits))
+    ∙ sym (take-take count (len - at) (drop at seen) (omega (arith, there)))
+    ∙ ap (λ (x : List ℕ). take count x) (sym (drop-take at (len - at) seen) ∙ ap (λ (n : ℕ). drop at (take n seen)) len_is)

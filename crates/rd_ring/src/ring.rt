@@ -206,6 +206,15 @@ impl ByteRing {
         memory::write_from(self.memory.as_mut_slice(), offset, bytes);
     }
 
+    /// `count` bytes from `at` on, 0 the front, in two pieces that follow one another.
+    pub fn range(&self, at: usize, count: usize) -> (&[u8], &[u8])
+        requires { at + count ≤ length self.now.bytes }
+        ensures { result.0.now ++ result.1.now ≡ take count (drop at self.now.bytes) }
+    {
+        let offset = memory::offset_after(self.memory.len(), self.start, at);
+        memory::halves_from(self.memory.as_slice(), offset, count)
+    }
+
     /// All bytes, in two pieces that follow one another.
     pub fn halves(&self) -> (&[u8], &[u8])
         ensures { result.0.now ++ result.1.now ≡ self.now.bytes }

@@ -6,7 +6,11 @@ mod applications;
 #[cfg(test)]
 mod asserts;
 #[cfg(test)]
+mod buffers;
+#[cfg(test)]
 mod memory;
+#[cfg(test)]
+mod messages;
 #[cfg(test)]
 mod notifications;
 #[cfg(test)]

@@ -9,7 +9,7 @@ use Rattle.std.proofs.lemmas.Slice.Eq.{bytes_eq-Decides}
 use Rattle.rd_app.specs.Application.{Application, IsOperand, IsWithin}
 use Rattle.rd_app.specs.Objects.{AreObjects, names_in}
 use Rattle.rd_script.specs.declared.keyword.Parameter.{Parameter}
-use Rattle.rd_script.specs.declared.keyword.Parameter.TheVariants.{Register, Number, Target, Data, Time, Operand, Index, Action, OnExit, Name}
+use Rattle.rd_script.specs.declared.keyword.Parameter.TheVariants.{Register, Number, Target, Data, Time, Operand, Index, Room, Action, OnExit, Name}
 use Rattle.rd_script.specs.declared.keyword.Keyword.{Keyword}
 use Rattle.rd_script.specs.declared.keyword.Keyword.TheVariants as keyword
 use Rattle.rd_script.specs.declared.keyword.LocalKeyword.{LocalKeyword}
@@ -18,9 +18,13 @@ use Rattle.rd_script.specs.declared.keyword.QueueKeyword.{QueueKeyword}
 use Rattle.rd_script.specs.declared.keyword.QueueKeyword.TheVariants.{Send, Front, Receive, Peek, Overwrite, Reset, Count, Spaces, AddToSet, RemoveFromSet}
 use Rattle.rd_script.specs.declared.keyword.QueueSetKeyword.{QueueSetKeyword}
 use Rattle.rd_script.specs.declared.keyword.QueueSetKeyword.TheVariants.{Select}
+use Rattle.rd_script.specs.declared.keyword.StreamKeyword.{StreamKeyword}
+use Rattle.rd_script.specs.declared.keyword.StreamKeyword.TheVariants as stream_keyword
+use Rattle.rd_script.specs.declared.keyword.MessageKeyword.{MessageKeyword}
+use Rattle.rd_script.specs.declared.keyword.MessageKeyword.TheVariants as message_keyword
 use Rattle.rd_script.specs.declared.keyword.NotifyKeyword.{NotifyKeyword}
 use Rattle.rd_script.specs.declared.keyword.NotifyKeyword.TheVariants as told
-use Rattle.rd_script.specs.Keywords.{Makes, Row, Value, Written, first_written, keyword_of, local_row, notify_row, operands_of, queue_row, row_of, queue_set_row, text_of, texts_of}
+use Rattle.rd_script.specs.Keywords.{Makes, Row, Value, Written, first_written, keyword_of, local_row, message_row, notify_row, operands_of, queue_row, row_of, queue_set_row, stream_row, text_of, texts_of}
 use Rattle.rd_script.specs.Spelling.{IsForQueue}
 
 same_bytes : (xs ys : List ℕ) → bytes_eq xs ys ≡ true → xs ≡ ys
@@ -95,6 +99,21 @@ queue_again RemoveFromSet = refl
 queue_set_again : (k : QueueSetKeyword) → keyword_of (text_of (queue_set_row k)) ≡ Some (keyword.QueueSet k)
 queue_set_again Select = refl
 
+stream_again : (k : StreamKeyword) → keyword_of (text_of (stream_row k)) ≡ Some (keyword.Stream k)
+stream_again stream_keyword.Write = refl
+stream_again stream_keyword.Read = refl
+stream_again stream_keyword.Reset = refl
+stream_again stream_keyword.SetTrigger = refl
+stream_again stream_keyword.Count = refl
+stream_again stream_keyword.Spaces = refl
+
+message_again : (k : MessageKeyword) → keyword_of (text_of (message_row k)) ≡ Some (keyword.Message k)
+message_again message_keyword.Write = refl
+message_again message_keyword.Read = refl
+message_again message_keyword.Reset = refl
+message_again message_keyword.Spaces = refl
+message_again message_keyword.NextLength = refl
+
 notify_again : (k : NotifyKeyword) → keyword_of (text_of (notify_row k)) ≡ Some (keyword.Notify k)
 notify_again told.Notify = refl
 notify_again told.Query = refl
@@ -107,6 +126,8 @@ pub keyword_again : (k : Keyword) → keyword_of (text_of (row_of k)) ≡ Some k
 keyword_again (keyword.Local k) = local_again k
 keyword_again (keyword.Queue k) = queue_again k
 keyword_again (keyword.QueueSet k) = queue_set_again k
+keyword_again (keyword.Stream k) = stream_again k
+keyword_again (keyword.Message k) = message_again k
 keyword_again (keyword.Notify k) = notify_again k
 
 -- The objects of an application are within the limits, and each of its tasks has its name.
@@ -123,6 +144,7 @@ IsValue app len Data bytes = length bytes ≤ 256
 IsValue app len Time wait = IsOperand wait
 IsValue app len Operand value = IsOperand value
 IsValue app len Index index = index < app.entries
+IsValue app len Room room = (0 < room) × (room ≤ 256)
 IsValue app len Action action = Unit {0}
 IsValue app len OnExit exit = Unit {0}
 IsValue app len (Name kind) number = number < length (names_in app.objects app.tasks.names kind)
@@ -161,6 +183,21 @@ queue_within app len there RemoveFromSet = λ queue named queue_set also_named f
 queue_set_within : (app : Application) (len : ℕ) → AreThere app → (k : QueueSetKeyword) → RowWithin app len (queue_set_row k)
 queue_set_within app len there Select = λ queue_set named wait read fits. (rw (← there.objects.named_queue_sets.paired) named, read)
 
+stream_within : (app : Application) (len : ℕ) → AreThere app → (k : StreamKeyword) → RowWithin app len (stream_row k)
+stream_within app len there stream_keyword.Write = λ stream named wait read fits. (rw (← there.objects.named_streams.paired) named, read)
+stream_within app len there stream_keyword.Read = λ stream named room takes wait read fits. (rw (← there.objects.named_streams.paired) named, (takes.0, takes.1, read))
+stream_within app len there stream_keyword.Reset = λ stream named fits. (rw (← there.objects.named_streams.paired) named, tt)
+stream_within app len there stream_keyword.SetTrigger = λ stream named trigger read fits. (rw (← there.objects.named_streams.paired) named, read)
+stream_within app len there stream_keyword.Count = λ stream named fits. (rw (← there.objects.named_streams.paired) named, tt)
+stream_within app len there stream_keyword.Spaces = λ stream named fits. (rw (← there.objects.named_streams.paired) named, tt)
+
+message_within : (app : Application) (len : ℕ) → AreThere app → (k : MessageKeyword) → RowWithin app len (message_row k)
+message_within app len there message_keyword.Write = λ message named wait read fits. (rw (← there.objects.named_messages.paired) named, read)
+message_within app len there message_keyword.Read = λ message named room takes wait read fits. (rw (← there.objects.named_messages.paired) named, (takes.0, takes.1, read))
+message_within app len there message_keyword.Reset = λ message named fits. (rw (← there.objects.named_messages.paired) named, tt)
+message_within app len there message_keyword.Spaces = λ message named fits. (rw (← there.objects.named_messages.paired) named, tt)
+message_within app len there message_keyword.NextLength = λ message named fits. (rw (← there.objects.named_messages.paired) named, tt)
+
 notify_within : (app : Application) (len : ℕ) → AreThere app → (k : NotifyKeyword) → RowWithin app len (notify_row k)
 notify_within app len there told.Notify = λ task named index few value read action _ fits. (rw (← there.tasks) named, few, read)
 notify_within app len there told.Query = λ task named index few value read action _ fits. (rw (← there.tasks) named, few, read)
@@ -173,4 +210,6 @@ pub row_within : (app : Application) (len : ℕ) → AreThere app → (k : Keywo
 row_within app len there (keyword.Local k) = local_within app len k
 row_within app len there (keyword.Queue k) = queue_within app len there k
 row_within app len there (keyword.QueueSet k) = queue_set_within app len there k
+row_within app len there (keyword.Stream k) = stream_within app len there k
+row_within app len there (keyword.Message k) = message_within app len there k
 row_within app len there (keyword.Notify k) = notify_within app len there k

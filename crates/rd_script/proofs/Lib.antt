@@ -7,6 +7,8 @@ pub mod ValueLaws
 pub mod NamedLaws
 pub mod QueueLaws
 pub mod QueueSetLaws
+pub mod StreamLaws
+pub mod MessageLaws
 pub mod ObjectLaws
 pub mod ScriptLaws
 pub mod TaskLaws

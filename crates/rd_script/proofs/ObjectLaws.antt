@@ -6,15 +6,17 @@ use Rattle.serde_json.specs.Data.{Data, Items, no_items}
 use Rattle.serde_json.specs.Events.{items_len}
 use Rattle.serde_json.specs.Find.{get}
 use Rattle.rd_app.specs.Named.{AreNamed, Named}
-use Rattle.rd_app.specs.Objects.{AreObjects, IsQueueShape, IsQueueSetShape, NamedObjects}
+use Rattle.rd_app.specs.Objects.{AreObjects, IsMessageShape, IsQueueShape, IsQueueSetShape, IsStreamShape, NamedObjects}
 use Rattle.rd_text.proofs.Offered.{IsNewName}
 use Rattle.rd_script.specs.declared.error.AppError.{AppError}
-use Rattle.rd_script.specs.Objects.{IsQueue, objects_of, queue_of, SaysObjects, SaysQueueSet, queue_set_of}
+use Rattle.rd_script.specs.Objects.{IsMessage, IsQueue, IsStream, message_of, objects_of, queue_of, SaysObjects, SaysQueueSet, queue_set_of, stream_of}
 use Rattle.rd_script.specs.Values.{array_or_empty, IsArrayOrEmpty, named_at, nothing_named, SaysNamed}
+use Rattle.rd_script.proofs.MessageLaws as message
 use Rattle.rd_script.proofs.NamedLaws.{AllByRecursion-first, each_again, each_takes, length_named, named_again, named_take, no_names, said_named}
 use Rattle.rd_script.proofs.QueueLaws as queue
 use Rattle.rd_script.proofs.QueueSetLaws as queue_set
 use Rattle.rd_script.proofs.Steps.{bind_ok, then_is}
+use Rattle.rd_script.proofs.StreamLaws as stream
 use Rattle.rd_script.proofs.ValueLaws.{array_again, array_ok}
 
 array_or_ok : (most : ℕ) (o : Option Data) (ds : Items) → array_or_empty most o ≡ Ok ds → IsArrayOrEmpty o ds × (items_len ds ≤ most)
@@ -66,13 +68,25 @@ named_read read Is InLimits first again most key d named are =
 -- ---- all kinds
 
 objects_made : (d : Data) (o : NamedObjects) → named_at (λ before. queue_of before.names) 32 (codes "queues") d ≡ Ok o.queues
-    → named_at (queue_set_of o.queues.names) 32 (codes "sets") d ≡ Ok o.queue_sets → SaysObjects d o × AreObjects o
-objects_made d o queues_read queue_sets_read =
+    → named_at (queue_set_of o.queues.names) 32 (codes "sets") d ≡ Ok o.queue_sets
+    → named_at (λ before. stream_of before.names) 32 (codes "streams") d ≡ Ok o.streams
+    → named_at (λ before. message_of before.names) 32 (codes "messages") d ≡ Ok o.messages → SaysObjects d o × AreObjects o
+objects_made d o queues_read queue_sets_read streams_read messages_read =
     let queues = named_taken (λ before. queue_of before.names) IsQueue (AllByRecursion IsQueueShape)
     (each_takes queue_of IsQueue IsQueueShape queue.queue_takes) tt 32 (codes "queues") d o.queues queues_read in
     let queue_sets = named_taken (queue_set_of o.queues.names) (SaysQueueSet o.queues.names) (queue_set.AreQueueSetsOf (length o.queues.names)) (queue_set.queue_set_takes o.queues.names)
-    (queue_set.no_queue_sets (length o.queues.names)) 32 (codes "sets") d o.queue_sets queue_sets_read in (
-      record { queues = queues.said; queue_sets = queue_sets.said; one_queue_set_each = queue_sets.in_limits.one_each },
+    (queue_set.no_queue_sets (length o.queues.names)) 32 (codes "sets") d o.queue_sets queue_sets_read in
+    let streams = named_taken (λ before. stream_of before.names) IsStream (AllByRecursion IsStreamShape)
+    (each_takes stream_of IsStream IsStreamShape stream.stream_takes) tt 32 (codes "streams") d o.streams streams_read in
+    let messages = named_taken (λ before. message_of before.names) IsMessage (AllByRecursion IsMessageShape)
+    (each_takes message_of IsMessage IsMessageShape message.message_takes) tt 32 (codes "messages") d o.messages messages_read in (
+      record {
+        queues = queues.said;
+        queue_sets = queue_sets.said;
+        one_queue_set_each = queue_sets.in_limits.one_each;
+        streams = streams.said;
+        messages = messages.said;
+      },
       record {
         named_queues = queues.named_each;
         few_queues = queues.few;
@@ -82,6 +96,12 @@ objects_made d o queues_read queue_sets_read =
         queue_sets = All-from_recursion (IsQueueSetShape o) o.queue_sets.things
             (queue_set.queue_sets_in_limits o (length o.queues.names) o.queue_sets.things (sym queues.named_each.paired) queue_sets.in_limits.shapes);
         one_queue_set_each = queue_sets.in_limits.one_each;
+        named_streams = streams.named_each;
+        few_streams = streams.few;
+        streams = All-from_recursion IsStreamShape o.streams.things streams.in_limits;
+        named_messages = messages.named_each;
+        few_messages = messages.few;
+        messages = All-from_recursion IsMessageShape o.messages.things messages.in_limits;
       },
     )
 
@@ -89,9 +109,11 @@ pub objects_take : (d : Data) (o : NamedObjects) → objects_of d ≡ Ok o → S
 objects_take d o e =
     let queues = bind_ok (named_at (λ before. queue_of before.names) 32 (codes "queues") d) _ o e in
     let queue_sets = bind_ok (named_at (queue_set_of queues.0.names) 32 (codes "sets") d) _ o queues.2 in
-    let made : NamedObjects = record { queues = queues.0; queue_sets = queue_sets.0 } in
+    let streams = bind_ok (named_at (λ before. stream_of before.names) 32 (codes "streams") d) _ o queue_sets.2 in
+    let messages = bind_ok (named_at (λ before. message_of before.names) 32 (codes "messages") d) _ o streams.2 in
+    let made : NamedObjects = record { queues = queues.0; queue_sets = queue_sets.0; streams = streams.0; messages = messages.0 } in
     let is : made ≡ o = cc in
-    subst (λ (o : NamedObjects). SaysObjects d o × AreObjects o) {x = made} is (objects_made d made queues.1 queue_sets.1)
+    subst (λ (o : NamedObjects). SaysObjects d o × AreObjects o) {x = made} is (objects_made d made queues.1 queue_sets.1 streams.1 messages.1)
 
 pub objects_again : (d : Data) (o : NamedObjects) → SaysObjects d o → AreObjects o → objects_of d ≡ Ok o
 objects_again d o says limits =
@@ -113,4 +135,20 @@ objects_again d o says limits =
       few = limits.few_queue_sets;
       in_limits = record { shapes = of_queues; one_each = limits.one_queue_set_each };
     }))
-    refl)
+    (then_is (named_at (λ before. stream_of before.names) 32 (codes "streams") d) _ o.streams _
+    (named_read (λ before. stream_of before.names) IsStream (AllByRecursion IsStreamShape) (AllByRecursion-first IsStreamShape)
+    (each_again stream_of IsStream IsStreamShape stream.stream_again) 32 (codes "streams") d o.streams (record {
+      said = says.streams;
+      named_each = limits.named_streams;
+      few = limits.few_streams;
+      in_limits = recursion_from_All IsStreamShape o.streams.things limits.streams;
+    }))
+    (then_is (named_at (λ before. message_of before.names) 32 (codes "messages") d) _ o.messages _
+    (named_read (λ before. message_of before.names) IsMessage (AllByRecursion IsMessageShape) (AllByRecursion-first IsMessageShape)
+    (each_again message_of IsMessage IsMessageShape message.message_again) 32 (codes "messages") d o.messages (record {
+      said = says.messages;
+      named_each = limits.named_messages;
+      few = limits.few_messages;
+      in_limits = recursion_from_All IsMessageShape o.messages.things limits.messages;
+    }))
+    refl)))

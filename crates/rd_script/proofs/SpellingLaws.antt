@@ -20,12 +20,12 @@ use Rattle.rd_app.specs.Objects.{NamedObjects, names_in, shape_at}
 use Rattle.rd_script.specs.Scope.{Scope, scope_of}
 use Rattle.rd_script.specs.declared.error.AppError.TheVariants as fault
 use Rattle.rd_script.specs.declared.keyword.Parameter.{Parameter}
-use Rattle.rd_script.specs.declared.keyword.Parameter.TheVariants.{Register, Number, Target, Data, Time, Operand, Index, Action, OnExit, Name}
+use Rattle.rd_script.specs.declared.keyword.Parameter.TheVariants.{Register, Number, Target, Data, Time, Operand, Index, Room, Action, OnExit, Name}
 use Rattle.rd_script.specs.Keywords.{Makes, Row, Value, keywords, keyword_of, operands_of, row_of, text_of, Written}
-use Rattle.rd_script.specs.Spelling.{register_of, number_below, operand_of, time_of, index_named, index_of, value_of, is_formed, are_formed}
+use Rattle.rd_script.specs.Spelling.{register_of, number_below, room_of, operand_of, time_of, index_named, index_of, value_of, is_formed, are_formed}
 use Rattle.rd_script.specs.Spelling.{made_of, instr_made, is_call_for, is_for_queue, instr_named, instr_of, next_value, Reading, AreOperands, IsForQueue, Spells, SpellsRow}
 use Rattle.rd_text.specs.Words.{bytes_of, is_name, is_some_word, name_of, number_of}
-use Rattle.rd_text.proofs.Offered.{and_right}
+use Rattle.rd_text.proofs.Offered.{and_left, and_right}
 use Rattle.rd_script.proofs.KeywordLaws.{AreThere, IsValue, MakesWithin, RowWithin, keyword_again, row_within, text_found}
 use Rattle.rd_script.proofs.Steps.{bind_ok, chosen, guard_ok, ok_or_ok, then_is}
 
@@ -152,6 +152,7 @@ formed_again scope len Data word value e = ap is_some e
 formed_again scope len Time word value e = ap is_some e
 formed_again scope len Operand word value e = ap is_some e
 formed_again scope len Index word value e = ap is_some e
+formed_again scope len Room word value e = ap is_some e
 formed_again scope len Action word value e = ap is_some e
 formed_again scope len OnExit word value e = ap is_some e
 formed_again scope len (Name kind) word value e = name_formed (names_in scope.objects scope.tasks kind) word value e
@@ -222,6 +223,16 @@ below_small len word target e =
     let below : n.0 < len = grind (arith, nat_tests) in
     omega (arith, h.1)
 
+room_small : (word : List ℕ) (room : ℕ) → room_of word ≡ Some room → (0 < room) × (room ≤ 256)
+room_small word room e =
+    let n = then_some (λ room. cond (nat_le 1 room && nat_le room 256) (Some room) None) (number_of word) room e in
+    let h = some_if (nat_le 1 n.0 && nat_le n.0 256) n.0 room n.2 in
+    let some : nat_le 1 n.0 ≡ true = and_left (nat_le 1 n.0) (nat_le n.0 256) h.0 in
+    let few : nat_le n.0 256 ≡ true = and_right (nat_le 1 n.0) (nat_le n.0 256) h.0 in
+    let least : 1 ≤ n.0 = grind (arith, nat_tests) in
+    let most : n.0 ≤ 256 = grind (arith, nat_tests) in
+    (omega (arith, h.1, least), omega (arith, h.1, most))
+
 pub index_there : (names : List (List ℕ)) (word : List ℕ) (number : ℕ) → index_named names word ≡ Some number → number < length names
 index_there names word number e =
     let name = then_some (λ name. position (bytes_eq name) names) (name_of word) number e in
@@ -283,6 +294,7 @@ value_there app len Data word value e = bytes_few word value e
 value_there app len Time word value e = time_there word value e
 value_there app len Operand word value e = operand_there word value e
 value_there app len Index word value e = below_small app.entries word value e
+value_there app len Room word value e = room_small word value e
 value_there app len Action word value e = tt
 value_there app len OnExit word value e = tt
 value_there app len (Name kind) word value e = index_there (names_in app.objects app.tasks.names kind) word value e

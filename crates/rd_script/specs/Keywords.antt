@@ -14,11 +14,13 @@ use Rattle.rd_app.specs.declared.instr.Instr.TheVariants as instruction
 use Rattle.rd_app.specs.declared.instr.LocalInstr.TheVariants as local
 use Rattle.rd_app.specs.declared.instr.QueueCall.TheVariants as call
 use Rattle.rd_app.specs.declared.instr.QueueSetCall.TheVariants as queue_set_call
+use Rattle.rd_app.specs.declared.instr.StreamCall.TheVariants as stream_call
+use Rattle.rd_app.specs.declared.instr.MessageCall.TheVariants as message_call
 use Rattle.rd_app.specs.declared.instr.NotifyCall.TheVariants as notify
 use Rattle.rd_script.specs.declared.keyword.Parameter.{Parameter}
 use Rattle.rd_script.specs.declared.keyword.Parameter.TheVariants.{Register, Number, Target}
 use Rattle.rd_script.specs.declared.keyword.Parameter.TheVariants.{Data, Time, Operand, Index}
-use Rattle.rd_script.specs.declared.keyword.Parameter.TheVariants.{Action, OnExit, Name}
+use Rattle.rd_script.specs.declared.keyword.Parameter.TheVariants.{Room, Action, OnExit, Name}
 use Rattle.rd_script.specs.declared.keyword.Keyword.{Keyword}
 use Rattle.rd_script.specs.declared.keyword.Keyword.TheVariants as keyword
 use Rattle.rd_script.specs.declared.keyword.LocalKeyword.{LocalKeyword}
@@ -30,6 +32,10 @@ use Rattle.rd_script.specs.declared.keyword.QueueKeyword.TheVariants.{Spaces, Ad
 use Rattle.rd_script.specs.declared.keyword.QueueKeyword.TheVariants.{RemoveFromSet}
 use Rattle.rd_script.specs.declared.keyword.QueueSetKeyword.{QueueSetKeyword}
 use Rattle.rd_script.specs.declared.keyword.QueueSetKeyword.TheVariants.{Select}
+use Rattle.rd_script.specs.declared.keyword.StreamKeyword.{StreamKeyword}
+use Rattle.rd_script.specs.declared.keyword.StreamKeyword.TheVariants as stream_keyword
+use Rattle.rd_script.specs.declared.keyword.MessageKeyword.{MessageKeyword}
+use Rattle.rd_script.specs.declared.keyword.MessageKeyword.TheVariants as message_keyword
 use Rattle.rd_script.specs.declared.keyword.NotifyKeyword.{NotifyKeyword}
 use Rattle.rd_script.specs.declared.keyword.NotifyKeyword.TheVariants as told
 
@@ -42,6 +48,7 @@ Value Data = List ℕ
 Value Time = operands.Operand
 Value Operand = operands.Operand
 Value Index = ℕ
+Value Room = ℕ
 Value Action = notified.Action
 Value OnExit = taken.OnExit
 Value (Name kind) = ℕ
@@ -66,6 +73,12 @@ queue_name = Name kind.Queue
 
 abbrev queue_set_name : Parameter
 queue_set_name = Name kind.QueueSet
+
+abbrev stream_name : Parameter
+stream_name = Name kind.Stream
+
+abbrev message_name : Parameter
+message_name = Name kind.Message
 
 abbrev task_name : Parameter
 task_name = Name kind.Task
@@ -128,6 +141,43 @@ queue_set_row Select =
     Written (codes "select") (queue_set_name ∷ Time ∷ [])
     (λ queue_set wait. instruction.QueueSet queue_set (queue_set_call.Select wait))
 
+abbrev pub stream_row : StreamKeyword → Row
+stream_row stream_keyword.Write =
+    Written (codes "swrite") (stream_name ∷ Time ∷ [])
+    (λ stream wait. instruction.Stream stream (stream_call.Write wait))
+stream_row stream_keyword.Read =
+    Written (codes "sread") (stream_name ∷ Room ∷ Time ∷ [])
+    (λ stream room wait. instruction.Stream stream (stream_call.Read room wait))
+stream_row stream_keyword.Reset =
+    Written (codes "sreset") (stream_name ∷ [])
+    (λ stream. instruction.Stream stream stream_call.Reset)
+stream_row stream_keyword.SetTrigger =
+    Written (codes "strig") (stream_name ∷ Operand ∷ [])
+    (λ stream trigger. instruction.Stream stream (stream_call.SetTrigger trigger))
+stream_row stream_keyword.Count =
+    Written (codes "scount") (stream_name ∷ [])
+    (λ stream. instruction.Stream stream stream_call.Count)
+stream_row stream_keyword.Spaces =
+    Written (codes "sspaces") (stream_name ∷ [])
+    (λ stream. instruction.Stream stream stream_call.Spaces)
+
+abbrev pub message_row : MessageKeyword → Row
+message_row message_keyword.Write =
+    Written (codes "mwrite") (message_name ∷ Time ∷ [])
+    (λ message wait. instruction.Message message (message_call.Write wait))
+message_row message_keyword.Read =
+    Written (codes "mread") (message_name ∷ Room ∷ Time ∷ [])
+    (λ message room wait. instruction.Message message (message_call.Read room wait))
+message_row message_keyword.Reset =
+    Written (codes "mreset") (message_name ∷ [])
+    (λ message. instruction.Message message message_call.Reset)
+message_row message_keyword.Spaces =
+    Written (codes "mspaces") (message_name ∷ [])
+    (λ message. instruction.Message message message_call.Spaces)
+message_row message_keyword.NextLength =
+    Written (codes "mnext") (message_name ∷ [])
+    (λ message. instruction.Message message message_call.NextLength)
+
 abbrev pub notify_row : NotifyKeyword → Row
 notify_row told.Notify =
     Written (codes "notify") (task_name ∷ Index ∷ Operand ∷ Action ∷ [])
@@ -153,6 +203,8 @@ abbrev pub row_of : Keyword → Row
 row_of (keyword.Local of) = local_row of
 row_of (keyword.Queue of) = queue_row of
 row_of (keyword.QueueSet of) = queue_set_row of
+row_of (keyword.Stream of) = stream_row of
+row_of (keyword.Message of) = message_row of
 row_of (keyword.Notify of) = notify_row of
 
 abbrev pub local_keywords : List LocalKeyword
@@ -167,6 +219,19 @@ queue_keywords =
 abbrev pub queue_set_keywords : List QueueSetKeyword
 queue_set_keywords = Select ∷ []
 
+abbrev pub stream_keywords : List StreamKeyword
+stream_keywords =
+    stream_keyword.Write ∷ stream_keyword.Read ∷ stream_keyword.Reset ∷ stream_keyword.SetTrigger
+    ∷ stream_keyword.Count
+    ∷ stream_keyword.Spaces
+    ∷ []
+
+abbrev pub message_keywords : List MessageKeyword
+message_keywords =
+    message_keyword.Write ∷ message_keyword.Read ∷ message_keyword.Reset ∷ message_keyword.Spaces
+    ∷ message_keyword.NextLength
+    ∷ []
+
 abbrev pub notify_keywords : List NotifyKeyword
 notify_keywords =
     told.Notify ∷ told.Query ∷ told.Take ∷ told.Wait ∷ told.ClearState ∷ told.ClearValue ∷ []
@@ -176,6 +241,8 @@ keywords =
     map keyword.Local local_keywords
     ++ map keyword.Queue queue_keywords
     ++ map keyword.QueueSet queue_set_keywords
+    ++ map keyword.Stream stream_keywords
+    ++ map keyword.Message message_keywords
     ++ map keyword.Notify notify_keywords
 
 -- the keyword that is written so

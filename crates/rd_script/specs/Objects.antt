@@ -7,8 +7,14 @@ use Rattle.serde_json.specs.Find.{get, as_str, as_array}
 use Rattle.rd_queue.specs.declared.item.TheConstants.{MAX_ITEM_SIZE}
 use Rattle.rd_queue.specs.declared.queue.TheConstants.{MAX_ITEMS}
 use Rattle.rd_queue.specs.declared.queue_set.TheConstants.{MAX_HANDLES}
+use Rattle.rd_stream.specs.declared.message_buf.TheConstants.{MIN_MESSAGE_BUFFER_SIZE}
+use Rattle.rd_stream.specs.declared.message_buf.TheConstants.{MAX_MESSAGE_BUFFER_SIZE}
+use Rattle.rd_stream.specs.declared.stream_buf.TheConstants.{MAX_STREAM_SIZE}
+use Rattle.rd_app.specs.declared.objects.MessageShape.{MessageShape}
 use Rattle.rd_app.specs.declared.objects.QueueShape.{QueueShape}
-use Rattle.rd_app.specs.declared.objects.TheConstants.{MAX_QUEUES, MAX_QUEUE_SETS}
+use Rattle.rd_app.specs.declared.objects.StreamShape.{StreamShape}
+use Rattle.rd_app.specs.declared.objects.TheConstants.{MAX_QUEUES, MAX_QUEUE_SETS, MAX_STREAMS}
+use Rattle.rd_app.specs.declared.objects.TheConstants.{MAX_MESSAGE_BUFFERS}
 use Rattle.rd_app.specs.Named.{Named}
 use Rattle.rd_app.specs.Objects.{NamedObjects, members_of}
 use Rattle.rd_app.specs.QueueSetShapeView.{QueueSetShapeView}
@@ -28,12 +34,18 @@ abbrev pub array_view : {X : Type 0} {N : ℕ} → NamedArray X N → Named X
 array_view named = record { names = texts named.names.items; things = named.things.items }
 
 abbrev pub drafts_view : ObjectDrafts → NamedObjects
-drafts_view drafts =
-    record { queues = array_view drafts.queues; queue_sets = array_view drafts.queue_sets }
+drafts_view drafts = record {
+  queues = array_view drafts.queues;
+  queue_sets = array_view drafts.queue_sets;
+  streams = array_view drafts.streams;
+  messages = array_view drafts.messages;
+}
 
 abbrev pub file_keys : List (List ℕ)
 file_keys =
     codes "profile" ∷ codes "cores" ∷ codes "notes" ∷ codes "tick" ∷ codes "queues" ∷ codes "sets"
+    ∷ codes "streams"
+    ∷ codes "messages"
     ∷ codes "tasks"
     ∷ []
 
@@ -128,6 +140,53 @@ pub record IsQueueSet
 abbrev pub SaysQueueSet : List (List ℕ) → Data → List ℕ → QueueSetShapeView → Type 0
 SaysQueueSet queues d name queue_set = (texts : Items) × IsQueueSet queues d name queue_set texts
 
+-- ---- stream buffers
+
+abbrev pub stream_keys : List (List ℕ)
+stream_keys = codes "name" ∷ codes "size" ∷ codes "trigger" ∷ []
+
+unfoldable pub stream_of : List (List ℕ) → Data → Result (List ℕ × StreamShape) AppError
+stream_of names d = do
+  _ ← object_with stream_keys d
+  name ← field (codes "name") d
+  capacity ← field (codes "size") d
+  trigger ← field (codes "trigger") d
+  name ← new_name names name
+  capacity ← number_in 1 MAX_STREAM_SIZE capacity
+  trigger ← number_in 0 capacity trigger
+  Ok (name, record { capacity = capacity; trigger = trigger })
+
+abbrev pub streams_after : Named StreamShape → Items → Result (Named StreamShape) AppError
+streams_after before ds = named_after (λ before. stream_of before.names) before ds
+
+pub record IsStream (d : Data) (name : List ℕ) (shape : StreamShape) : Type 0 where
+  pub keys : is_object_with stream_keys d ≡ true
+  pub name_at : get (codes "name") d ≡ Some (string name)
+  pub size_at : get (codes "size") d ≡ Some (number (unsigned shape.capacity))
+  pub trigger_at : get (codes "trigger") d ≡ Some (number (unsigned shape.trigger))
+
+-- ---- message buffers
+
+abbrev pub message_keys : List (List ℕ)
+message_keys = codes "name" ∷ codes "size" ∷ []
+
+unfoldable pub message_of : List (List ℕ) → Data → Result (List ℕ × MessageShape) AppError
+message_of names d = do
+  _ ← object_with message_keys d
+  name ← field (codes "name") d
+  capacity ← field (codes "size") d
+  name ← new_name names name
+  capacity ← number_in MIN_MESSAGE_BUFFER_SIZE MAX_MESSAGE_BUFFER_SIZE capacity
+  Ok (name, record { capacity = capacity })
+
+abbrev pub messages_after : Named MessageShape → Items → Result (Named MessageShape) AppError
+messages_after before ds = named_after (λ before. message_of before.names) before ds
+
+pub record IsMessage (d : Data) (name : List ℕ) (shape : MessageShape) : Type 0 where
+  pub keys : is_object_with message_keys d ≡ true
+  pub name_at : get (codes "name") d ≡ Some (string name)
+  pub size_at : get (codes "size") d ≡ Some (number (unsigned shape.capacity))
+
 -- ---- all kinds
 
 -- the objects of a file's value, or the first fault that is met
@@ -135,10 +194,19 @@ abbrev pub objects_of : Data → Result NamedObjects AppError
 objects_of d = do
   queues ← named_at (λ before. queue_of before.names) MAX_QUEUES (codes "queues") d
   queue_sets ← named_at (queue_set_of queues.names) MAX_QUEUE_SETS (codes "sets") d
-  Ok (record { queues = queues; queue_sets = queue_sets })
+  streams ← named_at (λ before. stream_of before.names) MAX_STREAMS (codes "streams") d
+  messages ← named_at (λ before. message_of before.names) MAX_MESSAGE_BUFFERS (codes "messages") d
+  Ok (record {
+    queues = queues;
+    queue_sets = queue_sets;
+    streams = streams;
+    messages = messages;
+  })
 
 -- what a value says of its objects
 pub record SaysObjects (d : Data) (o : NamedObjects) : Type 0 where
   pub queues : SaysNamed IsQueue (codes "queues") d o.queues
   pub queue_sets : SaysNamed (SaysQueueSet o.queues.names) (codes "sets") d o.queue_sets
   pub one_queue_set_each : IsDistinct nat_eq (members_of o.queue_sets.things)
+  pub streams : SaysNamed IsStream (codes "streams") d o.streams
+  pub messages : SaysNamed IsMessage (codes "messages") d o.messages

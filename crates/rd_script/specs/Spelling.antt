@@ -7,6 +7,7 @@ use Rattle.std.specs.Prelude.{position}
 use Rattle.std.specs.Prelude.{Result, Ok, Err, ok_or}
 use Rattle.std.specs.Option.{option_map_or, option_or}
 use Rattle.std.specs.Str.{bytes_eq}
+use Rattle.rd_bytes.specs.declared.bytes.TheConstants.{MAX_BYTES}
 use Rattle.rd_text.specs.Words.{number_of, bytes_of, is_name, name_of}
 use Rattle.rd_notify.specs.declared.action.Action as notified
 use Rattle.rd_notify.specs.declared.action.Action.TheVariants as act
@@ -25,7 +26,7 @@ use Rattle.rd_script.specs.declared.error.AppError.TheVariants as fault
 use Rattle.rd_script.specs.declared.keyword.Parameter.{Parameter}
 use Rattle.rd_script.specs.declared.keyword.Parameter.TheVariants.{Register, Number, Target}
 use Rattle.rd_script.specs.declared.keyword.Parameter.TheVariants.{Data, Time, Operand, Index}
-use Rattle.rd_script.specs.declared.keyword.Parameter.TheVariants.{Action, OnExit, Name}
+use Rattle.rd_script.specs.declared.keyword.Parameter.TheVariants.{Room, Action, OnExit, Name}
 use Rattle.rd_script.specs.declared.keyword.Keyword.{Keyword}
 use Rattle.rd_script.specs.Scope.{Scope}
 use Rattle.rd_script.specs.Keywords.{Makes, Row, Value, keyword_of, operands_of, row_of, Written}
@@ -58,6 +59,12 @@ abbrev pub time_of : List ℕ → Option operands.Operand
 time_of word =
     if bytes_eq word (codes "max") then Some (operand.Number max_delay) else operand_of word
 
+-- how many bytes are read at the most
+abbrev pub room_of : List ℕ → Option ℕ
+room_of word =
+    option_and_then (λ room. if nat_le 1 room && nat_le room MAX_BYTES then Some room else None)
+    (number_of word)
+
 -- what a notification does (eNotifyAction)
 abbrev pub action_of : List ℕ → Option notified.Action
 action_of word =
@@ -89,6 +96,7 @@ value_of scope len Data word = bytes_of word
 value_of scope len Time word = time_of word
 value_of scope len Operand word = operand_of word
 value_of scope len Index word = number_below scope.entries word
+value_of scope len Room word = room_of word
 value_of scope len Action word = action_of word
 value_of scope len OnExit word = on_exit_of word
 value_of scope len (Name kind) word = index_named (names_in scope.objects scope.tasks kind) word
@@ -102,6 +110,7 @@ is_formed scope len Data word = is_some (bytes_of word)
 is_formed scope len Time word = is_some (time_of word)
 is_formed scope len Operand word = is_some (operand_of word)
 is_formed scope len Index word = is_some (number_below scope.entries word)
+is_formed scope len Room word = is_some (room_of word)
 is_formed scope len Action word = is_some (action_of word)
 is_formed scope len OnExit word = is_some (on_exit_of word)
 is_formed scope len (Name kind) word = is_name word

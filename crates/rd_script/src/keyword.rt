@@ -4,7 +4,7 @@ ghost use Rattle.std.specs.Prelude.{◌≡◌, IfSome, option_map};
 ghost use Rattle.rd_script.specs.Keywords.{keyword_of, row_of, operands_of};
 ghost use Rattle.rd_script.specs.Keywords.{first_written, texts_view};
 
-use Keyword::{Local, Notify, Queue, QueueSet};
+use Keyword::{Local, Message, Notify, Queue, QueueSet, Stream};
 use rd_text::kind::Kind;
 
 /// What an operand of an instruction is.
@@ -24,6 +24,8 @@ pub(crate) enum Parameter {
     Operand,
     /// The index of a notification entry that each task has.
     Index,
+    /// How many bytes are read at the most, 1 to 256.
+    Room,
     /// What a notification does to the value: `none`, `bits`, `inc`, `set` or `setif`.
     Action,
     /// What is left of a value that is taken: `clear` or `dec`.
@@ -67,6 +69,27 @@ pub(crate) enum QueueSetKeyword {
     Select,
 }
 
+/// The first word of a call of a stream buffer.
+#[derive(Clone, Copy, Debug, PartialEq, Eq)]
+pub(crate) enum StreamKeyword {
+    Write,
+    Read,
+    Reset,
+    SetTrigger,
+    Count,
+    Spaces,
+}
+
+/// The first word of a call of a message buffer.
+#[derive(Clone, Copy, Debug, PartialEq, Eq)]
+pub(crate) enum MessageKeyword {
+    Write,
+    Read,
+    Reset,
+    Spaces,
+    NextLength,
+}
+
 /// The first word of a call that notifies a task, or looks at an entry.
 #[derive(Clone, Copy, Debug, PartialEq, Eq)]
 pub(crate) enum NotifyKeyword {
@@ -84,6 +107,8 @@ pub(crate) enum Keyword {
     Local(LocalKeyword),
     Queue(QueueKeyword),
     QueueSet(QueueSetKeyword),
+    Stream(StreamKeyword),
+    Message(MessageKeyword),
     Notify(NotifyKeyword),
 }
 
@@ -101,6 +126,8 @@ const OPERAND: Parameter = Parameter::Operand;
 
 const INDEX: Parameter = Parameter::Index;
 
+const ROOM: Parameter = Parameter::Room;
+
 const ACTION: Parameter = Parameter::Action;
 
 const ON_EXIT: Parameter = Parameter::OnExit;
@@ -111,8 +138,12 @@ const QUEUE: Parameter = Parameter::Name(Kind::Queue);
 
 const QUEUE_SET: Parameter = Parameter::Name(Kind::QueueSet);
 
+const STREAM: Parameter = Parameter::Name(Kind::Stream);
+
+const MESSAGE: Parameter = Parameter::Name(Kind::Message);
+
 // Each keyword: as it is written, and its operands.
-const KEYWORDS: [(&str, &[Parameter], Keyword); 26] = [
+const KEYWORDS: [(&str, &[Parameter], Keyword); 37] = [
     ("set", &[REGISTER, NUMBER], Local(LocalKeyword::Set)),
     ("add", &[REGISTER, NUMBER], Local(LocalKeyword::Add)),
     ("move", &[REGISTER, REGISTER], Local(LocalKeyword::Move)),
@@ -141,6 +172,25 @@ const KEYWORDS: [(&str, &[Parameter], Keyword); 26] = [
         &[QUEUE_SET, TIME],
         QueueSet(QueueSetKeyword::Select),
     ),
+    ("swrite", &[STREAM, TIME], Stream(StreamKeyword::Write)),
+    ("sread", &[STREAM, ROOM, TIME], Stream(StreamKeyword::Read)),
+    ("sreset", &[STREAM], Stream(StreamKeyword::Reset)),
+    (
+        "strig",
+        &[STREAM, OPERAND],
+        Stream(StreamKeyword::SetTrigger),
+    ),
+    ("scount", &[STREAM], Stream(StreamKeyword::Count)),
+    ("sspaces", &[STREAM], Stream(StreamKeyword::Spaces)),
+    ("mwrite", &[MESSAGE, TIME], Message(MessageKeyword::Write)),
+    (
+        "mread",
+        &[MESSAGE, ROOM, TIME],
+        Message(MessageKeyword::Read),
+    ),
+    ("mreset", &[MESSAGE], Message(MessageKeyword::Reset)),
+    ("mspaces", &[MESSAGE], Message(MessageKeyword::Spaces)),
+    ("mnext", &[MESSAGE], Message(MessageKeyword::NextLength)),
     (
         "notify",
         &[TASK, INDEX, OPERAND, ACTION],

@@ -8,6 +8,7 @@ ghost use Rattle.rd_app.specs.Objects.{members_of, objects_view, AreObjects};
 ghost use Rattle.rd_script.specs.Objects.{array_view, drafts_view, file_keys, objects_of};
 ghost use Rattle.rd_script.specs.Objects.{queue_of, queues_after};
 ghost use Rattle.rd_script.specs.Objects.{member_of, members_after, queue_set_of, queue_sets_after};
+ghost use Rattle.rd_script.specs.Objects.{message_of, messages_after, stream_of, streams_after};
 ghost use Rattle.rd_script.specs.Values.{Gives, nothing_named};
 ghost use Rattle.rd_text.specs.Words.{texts};
 
@@ -15,10 +16,15 @@ use crate::error::AppError;
 use crate::reader::index_of;
 use crate::values::{array_or_empty, field, new_name, number, object_with};
 use arrayvec::ArrayVec;
-use rd_app::objects::{MAX_QUEUE_SETS, MAX_QUEUES, Named, NamedObjects, QueueSetShape, QueueShape};
+use rd_app::objects::{
+    MAX_MESSAGE_BUFFERS, MAX_QUEUE_SETS, MAX_QUEUES, MAX_STREAMS, MessageShape, Named,
+    NamedObjects, QueueSetShape, QueueShape, StreamShape,
+};
 use rd_queue::item::MAX_ITEM_SIZE;
 use rd_queue::queue::MAX_ITEMS;
 use rd_queue::queue_set::MAX_HANDLES;
+use rd_stream::message_buf::{MAX_MESSAGE_BUFFER_SIZE, MIN_MESSAGE_BUFFER_SIZE};
+use rd_stream::stream_buf::MAX_STREAM_SIZE;
 use rd_text::names::Names;
 use rd_text::words::is_name;
 use serde_json::Value;
@@ -26,8 +32,8 @@ use std::alloc::{AllocError, Global};
 use std::marker::Model;
 
 /// The keys of a file, among them one for each kind of object.
-pub(crate) const FILE_KEYS: [&str; 7] = [
-    "profile", "cores", "notes", "tick", "queues", "sets", "tasks",
+pub(crate) const FILE_KEYS: [&str; 9] = [
+    "profile", "cores", "notes", "tick", "queues", "sets", "streams", "messages", "tasks",
 ];
 
 /// Things of one kind in a file, with their names, which lie in its value. They go by number: the
@@ -58,6 +64,8 @@ impl Model for QueueSetDraft {
 pub(crate) struct ObjectDrafts<'a> {
     pub(crate) queues: NamedArray<'a, QueueShape, MAX_QUEUES>,
     pub(crate) queue_sets: NamedArray<'a, QueueSetDraft, MAX_QUEUE_SETS>,
+    pub(crate) streams: NamedArray<'a, StreamShape, MAX_STREAMS>,
+    pub(crate) messages: NamedArray<'a, MessageShape, MAX_MESSAGE_BUFFERS>,
 }
 
 #[tactic(auto, unfolding(crate::specs::Objects::queue_of))]
@@ -193,6 +201,65 @@ fn read_queue_sets<'a>(
     Ok(NamedArray { names, things })
 }
 
+#[tactic(auto, unfolding(crate::specs::Objects::stream_of))]
+fn read_stream<'a>(value: &'a Value, names: &[&str]) -> Result<(&'a str, StreamShape), AppError>
+    ensures { Gives (λ stream. (stream.0.now, stream.1))
+        result (stream_of (texts names.now) (view value.now)) }
+{
+    object_with(value, &["name", "size", "trigger"])?;
+    let name = field(value, "name")?;
+    let capacity = field(value, "size")?;
+    let trigger = field(value, "trigger")?;
+    let name = new_name(name, names)?;
+    let capacity = number(capacity, 1, MAX_STREAM_SIZE as u64)? as usize;
+    let trigger = number(trigger, 0, capacity as u64)? as usize;
+    Ok((name, StreamShape { capacity, trigger }))
+}
+
+fn read_streams(values: &[Value]) -> Result<NamedArray<'_, StreamShape, MAX_STREAMS>, AppError>
+    requires { length values.now ≤ MAX_STREAMS }
+    ensures { Gives array_view result (streams_after nothing_named (items_view values.now)) }
+{
+    let mut names = ArrayVec::new();
+    let mut things = ArrayVec::new();
+    for value in values {
+        let (name, shape) = read_stream(value, names.as_slice())?;
+        names.push(name);
+        things.push(shape);
+    }
+    Ok(NamedArray { names, things })
+}
+
+#[tactic(auto, unfolding(crate::specs::Objects::message_of))]
+fn read_message<'a>(value: &'a Value, names: &[&str]) -> Result<(&'a str, MessageShape), AppError>
+    ensures { Gives (λ buffer. (buffer.0.now, buffer.1))
+        result (message_of (texts names.now) (view value.now)) }
+{
+    object_with(value, &["name", "size"])?;
+    let name = field(value, "name")?;
+    let capacity = field(value, "size")?;
+    let name = new_name(name, names)?;
+    let (least, most) = (MIN_MESSAGE_BUFFER_SIZE, MAX_MESSAGE_BUFFER_SIZE);
+    let capacity = number(capacity, least as u64, most as u64)? as usize;
+    Ok((name, MessageShape { capacity }))
+}
+
+fn read_messages(
+    values: &[Value],
+) -> Result<NamedArray<'_, MessageShape, MAX_MESSAGE_BUFFERS>, AppError>
+    requires { length values.now ≤ MAX_MESSAGE_BUFFERS }
+    ensures { Gives array_view result (messages_after nothing_named (items_view values.now)) }
+{
+    let mut names = ArrayVec::new();
+    let mut things = ArrayVec::new();
+    for value in values {
+        let (name, shape) = read_message(value, names.as_slice())?;
+        names.push(name);
+        things.push(shape);
+    }
+    Ok(NamedArray { names, things })
+}
+
 /// The objects of a file, the queues before the sets, whose members they are.
 pub(crate) fn read_objects(file: &Value) -> Result<ObjectDrafts<'_>, AppError>
     ensures { Gives drafts_view result (objects_of (view file.now)) }
@@ -200,7 +267,14 @@ pub(crate) fn read_objects(file: &Value) -> Result<ObjectDrafts<'_>, AppError>
     let queues = read_queues(array_or_empty(file.get("queues"), MAX_QUEUES)?)?;
     let queue_sets = array_or_empty(file.get("sets"), MAX_QUEUE_SETS)?;
     let queue_sets = read_queue_sets(queue_sets, queues.names.as_slice())?;
-    Ok(ObjectDrafts { queues, queue_sets })
+    let streams = read_streams(array_or_empty(file.get("streams"), MAX_STREAMS)?)?;
+    let messages = read_messages(array_or_empty(file.get("messages"), MAX_MESSAGE_BUFFERS)?)?;
+    Ok(ObjectDrafts {
+        queues,
+        queue_sets,
+        streams,
+        messages,
+    })
 }
 
 // The queue sets of drafts.
@@ -227,7 +301,12 @@ pub(crate) fn keep_objects(
     requires { AreObjects (drafts_view drafts.now) }
     ensures { IfOk result (λ objects. objects_view objects ≡ drafts_view drafts.now) }
 {
-    let ObjectDrafts { queues, queue_sets } = drafts;
+    let ObjectDrafts {
+        queues,
+        queue_sets,
+        streams,
+        messages,
+    } = drafts;
     Ok(NamedObjects {
         queues: Named {
             names: Names::new(alloc, queues.names.as_slice())?,
@@ -236,6 +315,14 @@ pub(crate) fn keep_objects(
         queue_sets: Named {
             names: Names::new(alloc, queue_sets.names.as_slice())?,
             things: keep_queue_sets(alloc, queue_sets.things.as_slice())?,
+        },
+        streams: Named {
+            names: Names::new(alloc, streams.names.as_slice())?,
+            things: streams.things.as_slice().to_vec(alloc)?,
+        },
+        messages: Named {
+            names: Names::new(alloc, messages.names.as_slice())?,
+            things: messages.things.as_slice().to_vec(alloc)?,
         },
     })
 }

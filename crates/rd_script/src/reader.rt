@@ -4,7 +4,7 @@ ghost use Rattle.std.specs.Prelude.{◌≡◌};
 ghost use Rattle.rd_script.specs.declared.keyword.Parameter.TheVariants as parameter;
 ghost use Rattle.rd_script.specs.Draft.{scope_view};
 ghost use Rattle.rd_script.specs.Spelling.{register_of, number_below, operand_of, time_of};
-ghost use Rattle.rd_script.specs.Spelling.{action_of, on_exit_of};
+ghost use Rattle.rd_script.specs.Spelling.{action_of, on_exit_of, room_of};
 ghost use Rattle.rd_script.specs.Spelling.{index_named, index_of, is_formed, are_formed};
 ghost use Rattle.rd_script.specs.Spelling.{Takes};
 ghost use Rattle.rd_text.specs.Words.{texts};
@@ -13,7 +13,7 @@ use crate::error::AppError;
 use crate::keyword::Parameter;
 use crate::scope::Scope;
 use rd_app::instr::{MAX_DELAY, Operand};
-use rd_bytes::bytes::Bytes;
+use rd_bytes::bytes::{Bytes, MAX_BYTES};
 use rd_notify::action::{Action, OnExit};
 use rd_text::kind::Kind;
 use rd_text::words::{Words, bytes, name, number};
@@ -57,6 +57,18 @@ fn number_below(word: &[u8], limit: usize) -> Option<usize>
 {
     let number = number(word)? as usize;
     if number < limit { Some(number) } else { None }
+}
+
+// How many bytes are read at the most: 1 to 256.
+fn room_of(word: &[u8]) -> Option<usize>
+    ensures { result ≡ room_of word.now }
+{
+    let room = number(word)? as usize;
+    if 1 <= room && room <= MAX_BYTES {
+        Some(room)
+    } else {
+        None
+    }
 }
 
 // What a notification does (`eNotifyAction`).
@@ -115,6 +127,7 @@ fn is_formed(parameter: Parameter, word: &[u8], scope: Scope<'_>, len: usize) ->
         Parameter::Time => time_of(word).is_some(),
         Parameter::Operand => operand_of(word).is_some(),
         Parameter::Index => number_below(word, scope.entries).is_some(),
+        Parameter::Room => room_of(word).is_some(),
         Parameter::Action => action_of(word).is_some(),
         Parameter::OnExit => on_exit_of(word).is_some(),
         Parameter::Name(_) => name(word).is_some(),
@@ -224,6 +237,14 @@ impl<'a> Reader<'a> {
         ensures { Takes parameter.Index self.old result self.new }
     {
         number_below(self.words.next()?, self.scope.entries)
+    }
+
+    /// The next word, as how many bytes are read at the most.
+    #[tactic(auto, unfolding(crate::specs::Spelling::next_value))]
+    pub(crate) fn room(&mut self) -> Option<usize>
+        ensures { Takes parameter.Room self.old result self.new }
+    {
+        room_of(self.words.next()?)
     }
 
     /// The next word, as what a notification does.

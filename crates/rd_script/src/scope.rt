@@ -26,6 +26,8 @@ impl<'a> Scope<'a> {
         match kind {
             Kind::Queue => self.objects.queues.names.as_slice(),
             Kind::QueueSet => self.objects.queue_sets.names.as_slice(),
+            Kind::Stream => self.objects.streams.names.as_slice(),
+            Kind::Message => self.objects.messages.names.as_slice(),
             Kind::Task => self.tasks,
         }
     }

@@ -3,19 +3,22 @@
 ghost use Rattle.std.specs.Prelude.{◌≡◌};
 ghost use Rattle.rd_text.specs.Words.{words_of};
 ghost use Rattle.rd_script.specs.Keywords.{local_row, notify_row, queue_row, row_of};
-ghost use Rattle.rd_script.specs.Keywords.{queue_set_row};
+ghost use Rattle.rd_script.specs.Keywords.{message_row, queue_set_row, stream_row};
 ghost use Rattle.rd_script.specs.Objects.{drafts_view};
 ghost use Rattle.rd_script.specs.Draft.{scope_view};
 ghost use Rattle.rd_script.specs.Spelling.{instr_made, is_call_for, is_for_queue, instr_of};
 
 use crate::error::AppError;
 use crate::keyword::{
-    Keyword, LocalKeyword, NotifyKeyword, QueueKeyword, QueueSetKeyword, keyword_of,
+    Keyword, LocalKeyword, MessageKeyword, NotifyKeyword, QueueKeyword, QueueSetKeyword,
+    StreamKeyword, keyword_of,
 };
 use crate::objects::ObjectDrafts;
 use crate::reader::Reader;
 use crate::scope::Scope;
-use rd_app::instr::{Instr, LocalInstr, NotifyCall, QueueCall, QueueSetCall};
+use rd_app::instr::{
+    Instr, LocalInstr, MessageCall, NotifyCall, QueueCall, QueueSetCall, StreamCall,
+};
 use rd_app::objects::QueueShape;
 use rd_queue::end::End;
 use rd_text::kind::Kind;
@@ -106,6 +109,49 @@ fn queue_set_instr(keyword: QueueSetKeyword, reader: &mut Reader<'_>) -> Option<
     Some(Instr::QueueSet { queue_set, call })
 }
 
+// A call of a stream buffer, of the words after its keyword.
+fn stream_instr(keyword: StreamKeyword, reader: &mut Reader<'_>) -> Option<Instr>
+    ensures { result ≡ instr_made (stream_row keyword) reader.old }
+{
+    let stream = reader.named(Kind::Stream)?;
+    let call = match keyword {
+        StreamKeyword::Write => StreamCall::Write {
+            wait: reader.time()?,
+        },
+        StreamKeyword::Read => StreamCall::Read {
+            room: reader.room()?,
+            wait: reader.time()?,
+        },
+        StreamKeyword::Reset => StreamCall::Reset,
+        StreamKeyword::SetTrigger => StreamCall::SetTrigger {
+            trigger: reader.operand()?,
+        },
+        StreamKeyword::Count => StreamCall::Count,
+        StreamKeyword::Spaces => StreamCall::Spaces,
+    };
+    Some(Instr::Stream { stream, call })
+}
+
+// A call of a message buffer, of the words after its keyword.
+fn message_instr(keyword: MessageKeyword, reader: &mut Reader<'_>) -> Option<Instr>
+    ensures { result ≡ instr_made (message_row keyword) reader.old }
+{
+    let message = reader.named(Kind::Message)?;
+    let call = match keyword {
+        MessageKeyword::Write => MessageCall::Write {
+            wait: reader.time()?,
+        },
+        MessageKeyword::Read => MessageCall::Read {
+            room: reader.room()?,
+            wait: reader.time()?,
+        },
+        MessageKeyword::Reset => MessageCall::Reset,
+        MessageKeyword::Spaces => MessageCall::Spaces,
+        MessageKeyword::NextLength => MessageCall::NextLength,
+    };
+    Some(Instr::Message { message, call })
+}
+
 // A call that notifies a task, or looks at an entry, of the words after its keyword.
 fn notify_instr(keyword: NotifyKeyword, reader: &mut Reader<'_>) -> Option<Instr>
     ensures { result ≡ instr_made (notify_row keyword) reader.old }
@@ -155,6 +201,8 @@ fn instr_made(keyword: Keyword, reader: &mut Reader<'_>) -> Option<Instr>
         Keyword::Local(keyword) => local_instr(keyword, reader),
         Keyword::Queue(keyword) => queue_instr(keyword, reader),
         Keyword::QueueSet(keyword) => queue_set_instr(keyword, reader),
+        Keyword::Stream(keyword) => stream_instr(keyword, reader),
+        Keyword::Message(keyword) => message_instr(keyword, reader),
         Keyword::Notify(keyword) => notify_instr(keyword, reader),
     }
 }

@@ -12,15 +12,17 @@ use Rattle.rd_notify.specs.Entries.{idle_entry}
 use Rattle.rd_app.specs.Application.{Application, IsApplication, IsScript, instr_at, priorities_of}
 use Rattle.rd_wait.specs.Joined.{IsInOrder}
 use Rattle.rd_wait.proofs.Offered.{IsInOrder-joined}
+use Rattle.rd_state.specs.declared.phase.Place.{Place}
+use Rattle.rd_state.specs.declared.phase.Place.TheVariants as sort
 use Rattle.rd_state.specs.Boot.{all_joined, before_scheduling, boot_of, fresh_task}
 use Rattle.rd_state.specs.Settled.{seating_of, IsSettled}
 use Rattle.rd_state.specs.Sizes.{IsSized}
 use Rattle.rd_state.specs.Snapshot.{Snapshot, TaskSnapshot, no_task, task_at}
-use Rattle.rd_state.specs.Valid.{EntriesFitCall, IsValid, PhaseFitsCall, HasTimeLeft, is_on, seats_to_run}
+use Rattle.rd_state.specs.Valid.{EntriesFitCall, HoldersFitCall, IsValid, PhaseFitsCall, HasTimeLeft, is_on, seats_to_run}
 use Rattle.rd_state.specs.Valid.{times_in_list, times_on_cores, times_waiting_in}
 use Rattle.rd_state.proofs.EndLaws.{scheduling_settles}
 use Rattle.rd_state.proofs.ObjectLaws.{AreShaped-new}
-use Rattle.rd_state.proofs.PlaceLaws.{waiting_at-before_scheduling}
+use Rattle.rd_state.proofs.PlaceLaws.{holder_at-before_scheduling, waiting_at-before_scheduling}
 use Rattle.rd_state.proofs.ScheduleLaws.{SeatsKept, SeatsKept-settled, one_if, times_in_list-joined}
 
 -- Each of the tasks so far stands once in the list of all that joined, and no other does.
@@ -58,6 +60,19 @@ EntriesFitCall-fresh count instr = record {
 
     none_is_some : (n : ℕ) → None ≡ Some n → ⊥
     none_is_some n e = cc
+
+-- At boot no place of a buffer names anybody.
+HoldersFitCall-fresh : (app : Application) (task : ℕ) → HoldersFitCall (before_scheduling app).objects task (fresh_task app.entries).phase (instr_at app task 0)
+HoldersFitCall-fresh app task = record {
+  named = λ held is. absurd (none_is_some task (sym (holder_at-before_scheduling app held) ∙ is));
+  names = λ held waits. absurd (nowhere (sort.Held held) waits);
+}
+  where
+    none_is_some : (n : ℕ) → None ≡ Some n → ⊥
+    none_is_some n e = cc
+
+    nowhere : (place : Place) → None ≡ Some place → ⊥
+    nowhere place e = cc
 
 pub IsValid-boot : (app : Application) (s : Snapshot) → IsApplication app → IsSized s → s ≡ boot_of app → IsValid app s
 IsValid-boot app s limits sized e =
@@ -100,6 +115,8 @@ IsValid-boot app s limits sized e =
       deadlines = λ task h. subst (λ (t : TaskSnapshot). HasTimeLeft app.tick t.phase) (sym (there task h)) tt;
       entries = λ task h. subst (λ (t : TaskSnapshot). EntriesFitCall t.phase (instr_at app task t.pc) t.entries) (sym (there task h))
           (EntriesFitCall-fresh app.entries (instr_at app task 0));
+      holders = λ task h. subst (λ (t : TaskSnapshot). HoldersFitCall before.objects task t.phase (instr_at app task t.pc)) (sym (there task h))
+          (HoldersFitCall-fresh app task);
     } in
     subst (λ (t : Snapshot). IsSized t → IsValid app t) (sym e) valid sized
 

@@ -4,6 +4,7 @@ use Rattle.std.proofs.Common.{◌≡◌, ◌∙◌, ℕ, zero, suc, ◌+◌, ◌
 use Rattle.std.proofs.Common.{refl, ap, sym, subst, arith}
 use Rattle.std.specs.Prelude.{All, IfSome, nat_eq}
 use Rattle.std.specs.List.{list_any}
+use Rattle.std.proofs.lemmas.Bool.Decides.{nat_tests}
 use Rattle.std.proofs.lemmas.List.Quantifiers.{position-Some}
 use Rattle.std.proofs.lemmas.List.{get_or-set_same, length-map, length_push, length-set, map-append, take_all, take_more}
 use Rattle.std.proofs.lemmas.List.Elements.{All-get_or, All-nil, All-push, All-set, All-map, All-weaker}
@@ -12,14 +13,23 @@ use Rattle.rd_queue.specs.QueueSnapshot.{QueueSnapshot}
 use Rattle.rd_queue.specs.QueueSetChanges.{queue_set_applied, queue_set_inverse_of, QueueSetFits}
 use Rattle.rd_queue.specs.QueueSetSnapshot.{QueueSetSnapshot}
 use Rattle.rd_queue.proofs.Offered.{queue_change_is_undone, queue_set_change_is_undone}
+use Rattle.rd_stream.specs.Holders.{no_holders}
+use Rattle.rd_stream.specs.MessageChanges.{message_applied, message_inverse_of, MessageFits}
+use Rattle.rd_stream.specs.MessageSnapshot.{MessageSnapshot}
+use Rattle.rd_stream.specs.StreamChanges.{stream_applied, stream_inverse_of, StreamFits}
+use Rattle.rd_stream.specs.StreamSnapshot.{StreamSnapshot}
+use Rattle.rd_stream.proofs.Offered.{message_change_is_undone, stream_change_is_undone}
+use Rattle.rd_app.specs.declared.objects.MessageShape.{MessageShape}
+use Rattle.rd_app.specs.declared.objects.StreamShape.{StreamShape}
 use Rattle.rd_app.specs.QueueSetShapeView.{QueueSetShapeView}
 use Rattle.rd_app.specs.declared.objects.QueueShape.{QueueShape}
 use Rattle.rd_app.specs.Application.{Application, IsApplication}
-use Rattle.rd_app.specs.Objects.{IsQueueShape, IsQueueSetShape, queue_set_at_boot, shape_at}
+use Rattle.rd_app.specs.Objects.{IsMessageShape, IsQueueShape, IsQueueSetShape, IsStreamShape, queue_set_at_boot, shape_at}
 use Rattle.rd_wait.proofs.Offered.{replaced_back}
 use Rattle.rd_state.specs.Objects.{ObjectChange}
-use Rattle.rd_state.specs.Objects.{Queue, QueueSet}
-use Rattle.rd_state.specs.Objects.{ObjectsSnapshot, no_queue, no_queue_set, numbers_in, queue_in, queue_set_in}
+use Rattle.rd_state.specs.Objects.{Queue, QueueSet, Stream, Message}
+use Rattle.rd_state.specs.Objects.{ObjectsSnapshot, no_message_buffer, no_queue, no_queue_set, no_stream, numbers_in, message_in, queue_in, queue_set_in, stream_in}
+use Rattle.rd_state.specs.Objects.{IsMessageBufferFor, IsStreamFor, new_message_buffer, new_stream, size_of_message_buffer, size_of_stream, trigger_taken}
 use Rattle.rd_state.specs.Objects.{AreShaped, AreSizedObjects, Shapes, shapes_in, shapes_named, IsQueueFor, IsQueueSetFor, first_queues, new_objects, new_queue, new_queue_set, capacity_of, shape_of}
 use Rattle.rd_state.specs.Objects.{object_applied, object_inverse_of, ObjectFits}
 
@@ -31,6 +41,14 @@ queue_in_sized task_count o queue sized there = All-get_or (IsQueueFor task_coun
 pub queue_set_in_sized : (task_count : ℕ) (o : ObjectsSnapshot) (queue_set : ℕ) → AreSizedObjects task_count o → queue_set < length o.queue_sets
     → IsQueueSetFor task_count (length o.queues) (queue_set_in o queue_set)
 queue_set_in_sized task_count o queue_set sized there = All-get_or (IsQueueSetFor task_count (length o.queues)) o.queue_sets queue_set no_queue_set there sized.queue_sets
+
+pub stream_in_sized : (task_count : ℕ) (o : ObjectsSnapshot) (stream : ℕ) → AreSizedObjects task_count o → stream < length o.streams
+    → IsStreamFor task_count (stream_in o stream)
+stream_in_sized task_count o stream sized there = All-get_or (IsStreamFor task_count) o.streams stream no_stream there sized.streams
+
+pub message_in_sized : (task_count : ℕ) (o : ObjectsSnapshot) (message : ℕ) → AreSizedObjects task_count o → message < length o.messages
+    → IsMessageBufferFor task_count (message_in o message)
+message_in_sized task_count o message sized there = All-get_or (IsMessageBufferFor task_count) o.messages message no_message_buffer there sized.messages
 
 -- A change is undone by its inverse,
 pub object_back : (task_count : ℕ) (o : ObjectsSnapshot) (change : ObjectChange) → AreSizedObjects task_count o → ObjectFits o change
@@ -45,6 +63,16 @@ object_back task_count o (QueueSet number change) sized fits =
     let back = (queue_set_change_is_undone was change (queue_set_in_sized task_count o number sized fits.0).0 fits.1).back in
     ap (λ (queue_sets : List QueueSetSnapshot). record o { queue_sets = queue_sets })
     (replaced_back o.queue_sets number no_queue_set (queue_set_applied was change) (λ q. queue_set_applied q (queue_set_inverse_of was change)) fits.0 back)
+object_back task_count o (Stream number change) sized fits =
+    let was = stream_in o number in
+    let back = (stream_change_is_undone was change (stream_in_sized task_count o number sized fits.0).0 fits.1).back in
+    ap (λ (streams : List StreamSnapshot). record o { streams = streams })
+    (replaced_back o.streams number no_stream (stream_applied was change) (λ b. stream_applied b (stream_inverse_of was change)) fits.0 back)
+object_back task_count o (Message number change) sized fits =
+    let was = message_in o number in
+    let back = (message_change_is_undone was change (message_in_sized task_count o number sized fits.0).0 fits.1).back in
+    ap (λ (messages : List MessageSnapshot). record o { messages = messages })
+    (replaced_back o.messages number no_message_buffer (message_applied was change) (λ b. message_applied b (message_inverse_of was change)) fits.0 back)
 
 -- which fits: it finds what stands in the place of what was there.
 replaced_fits : {X : Type 0} (xs : List X) (i : ℕ) (d y : X) (FitsNext : X → Type 0) → i < length xs → FitsNext y
@@ -62,6 +90,14 @@ object_fits task_count o (QueueSet number change) sized fits =
     let was = queue_set_in o number in
     replaced_fits o.queue_sets number no_queue_set (queue_set_applied was change) (λ q. QueueSetFits q (queue_set_inverse_of was change)) fits.0
     (queue_set_change_is_undone was change (queue_set_in_sized task_count o number sized fits.0).0 fits.1).fits
+object_fits task_count o (Stream number change) sized fits =
+    let was = stream_in o number in
+    replaced_fits o.streams number no_stream (stream_applied was change) (λ b. StreamFits b (stream_inverse_of was change)) fits.0
+    (stream_change_is_undone was change (stream_in_sized task_count o number sized fits.0).0 fits.1).fits
+object_fits task_count o (Message number change) sized fits =
+    let was = message_in o number in
+    replaced_fits o.messages number no_message_buffer (message_applied was change) (λ b. MessageFits b (message_inverse_of was change)) fits.0
+    (message_change_is_undone was change (message_in_sized task_count o number sized fits.0).0 fits.1).fits
 
 -- keeps the sizes,
 pub object_sized : (task_count : ℕ) (o : ObjectsSnapshot) (change : ObjectChange) → AreSizedObjects task_count o → ObjectFits o change
@@ -75,6 +111,10 @@ object_sized task_count o (Queue queue change) sized fits =
       few_queues = omega (arith, length-set o.queues queue now, sized.few_queues);
       queue_sets = subst (λ n. All (IsQueueSetFor task_count n) o.queue_sets) (sym (length-set o.queues queue now)) sized.queue_sets;
       few_queue_sets = sized.few_queue_sets;
+      streams = sized.streams;
+      few_streams = sized.few_streams;
+      messages = sized.messages;
+      few_messages = sized.few_messages;
     }
 object_sized task_count o (QueueSet number change) sized fits =
     let was = queue_set_in_sized task_count o number sized fits.0 in
@@ -85,12 +125,46 @@ object_sized task_count o (QueueSet number change) sized fits =
       few_queues = sized.few_queues;
       queue_sets = All-set (IsQueueSetFor task_count (length o.queues)) o.queue_sets number now (law.sized, law.task_count ∙ was.1, law.queue_count ∙ was.2) sized.queue_sets;
       few_queue_sets = omega (arith, length-set o.queue_sets number now, sized.few_queue_sets);
+      streams = sized.streams;
+      few_streams = sized.few_streams;
+      messages = sized.messages;
+      few_messages = sized.few_messages;
+    }
+object_sized task_count o (Stream number change) sized fits =
+    let was = stream_in_sized task_count o number sized fits.0 in
+    let law = stream_change_is_undone (stream_in o number) change was.0 fits.1 in
+    let now = stream_applied (stream_in o number) change in
+    record {
+      queues = sized.queues;
+      few_queues = sized.few_queues;
+      queue_sets = sized.queue_sets;
+      few_queue_sets = sized.few_queue_sets;
+      streams = All-set (IsStreamFor task_count) o.streams number now (law.sized, law.task_count ∙ was.1) sized.streams;
+      few_streams = omega (arith, length-set o.streams number now, sized.few_streams);
+      messages = sized.messages;
+      few_messages = sized.few_messages;
+    }
+object_sized task_count o (Message number change) sized fits =
+    let was = message_in_sized task_count o number sized fits.0 in
+    let law = message_change_is_undone (message_in o number) change was.0 fits.1 in
+    let now = message_applied (message_in o number) change in
+    record {
+      queues = sized.queues;
+      few_queues = sized.few_queues;
+      queue_sets = sized.queue_sets;
+      few_queue_sets = sized.few_queue_sets;
+      streams = sized.streams;
+      few_streams = sized.few_streams;
+      messages = All-set (IsMessageBufferFor task_count) o.messages number now (law.sized, law.task_count ∙ was.1) sized.messages;
+      few_messages = omega (arith, length-set o.messages number now, sized.few_messages);
     }
 
 -- and the numbers of objects.
 pub object_numbers : (o : ObjectsSnapshot) (change : ObjectChange) → numbers_in (object_applied o change) ≡ numbers_in o
 object_numbers o (Queue queue change) = ap (λ (count : ℕ). record (numbers_in o) { queue_count = count }) (length-set o.queues queue _)
 object_numbers o (QueueSet number change) = ap (λ (count : ℕ). record (numbers_in o) { queue_set_count = count }) (length-set o.queue_sets number _)
+object_numbers o (Stream number change) = ap (λ (count : ℕ). record (numbers_in o) { stream_count = count }) (length-set o.streams number _)
+object_numbers o (Message number change) = ap (λ (count : ℕ). record (numbers_in o) { message_count = count }) (length-set o.messages number _)
 
 -- The set of a queue is there.
 no_shape : QueueSetShapeView
@@ -150,6 +224,34 @@ IsQueueSetFor-new_queue_set app n queue_count task_count shape same limits = (
   refl,
 )
 
+-- Nobody is named by the places of a new buffer, and it has nothing in it.
+trigger_taken-fits : (trigger capacity : ℕ) → 0 < capacity → trigger ≤ capacity → (0 < trigger_taken trigger) × (trigger_taken trigger ≤ capacity)
+trigger_taken-fits trigger capacity some within = (grind (arith, nat_tests), grind (arith, nat_tests, some, within))
+
+IsStreamFor-new_stream : (n task_count : ℕ) (shape : StreamShape) → n ≡ task_count → IsStreamShape shape → IsStreamFor task_count (new_stream n shape)
+IsStreamFor-new_stream n task_count shape same limits =
+    let trigger = trigger_taken-fits shape.trigger shape.capacity limits.0 limits.2 in (
+      record {
+        room = omega arith;
+        few = limits.1;
+        some_trigger = trigger.0;
+        trigger = trigger.1;
+        holders = record { reader = tt; writer = tt };
+      },
+      same,
+    )
+
+IsMessageBufferFor-new : (n task_count : ℕ) (shape : MessageShape) → n ≡ task_count → IsMessageShape shape → IsMessageBufferFor task_count (new_message_buffer n shape)
+IsMessageBufferFor-new n task_count shape same limits = (
+  record {
+    room = omega arith;
+    messages = All-nil (λ (message : List ℕ). 0 < length message);
+    few = limits.1;
+    holders = record { reader = tt; writer = tt };
+  },
+  same,
+)
+
 -- the objects of a new state, at which so many tasks can wait
 pub AreSizedObjects-new : (app : Application) (task_count : ℕ) → IsApplication app → task_count ≡ length app.tasks.things
     → AreSizedObjects task_count (new_objects app)
@@ -161,11 +263,21 @@ AreSizedObjects-new app task_count limits same =
     All-map IsMade made app.objects.queue_sets.things
     (All-weaker (IsQueueSetShape app.objects) (λ q. IsMade (made q)) (λ q h. IsQueueSetFor-new_queue_set app (length app.tasks.things) n task_count q (sym same) h)
     app.objects.queue_sets.things limits.objects.queue_sets) in
+    let stream = new_stream (length app.tasks.things) in
+    let message = new_message_buffer (length app.tasks.things) in
     record {
       queues = IsQueueFor-first_queues app n task_count (length (map made app.objects.queue_sets.things)) limits (omega arith) same (length-map app.objects.queue_sets.things made);
       few_queues = omega (arith, length-first_queues app n, limits.objects.few_queues);
       queue_sets = subst (λ q. All (IsQueueSetFor task_count q) (map made app.objects.queue_sets.things)) (sym (length-first_queues app n)) queue_sets;
       few_queue_sets = omega (arith, length-map app.objects.queue_sets.things made, limits.objects.few_queue_sets);
+      streams = All-map (IsStreamFor task_count) stream app.objects.streams.things
+          (All-weaker IsStreamShape (λ b. IsStreamFor task_count (stream b)) (λ b h. IsStreamFor-new_stream (length app.tasks.things) task_count b (sym same) h)
+          app.objects.streams.things limits.objects.streams);
+      few_streams = omega (arith, length-map app.objects.streams.things stream, limits.objects.few_streams);
+      messages = All-map (IsMessageBufferFor task_count) message app.objects.messages.things
+          (All-weaker IsMessageShape (λ b. IsMessageBufferFor task_count (message b))
+          (λ b h. IsMessageBufferFor-new (length app.tasks.things) task_count b (sym same) h) app.objects.messages.things limits.objects.messages);
+      few_messages = omega (arith, length-map app.objects.messages.things message, limits.objects.few_messages);
     }
 
 -- the shapes of the queues so far
@@ -182,6 +294,16 @@ capacity_of-new_queue_sets : (task_count queue_count : ℕ) (shapes : List Queue
 capacity_of-new_queue_sets task_count queue_count [] = refl
 capacity_of-new_queue_sets task_count queue_count (shape ∷ shapes) = ap (λ rest. shape.capacity ∷ rest) (capacity_of-new_queue_sets task_count queue_count shapes)
 
+size-new_streams : (task_count : ℕ) (shapes : List StreamShape)
+    → map size_of_stream (map (new_stream task_count) shapes) ≡ map (λ (shape : StreamShape). shape.capacity) shapes
+size-new_streams task_count [] = refl
+size-new_streams task_count (shape ∷ shapes) = ap (λ rest. shape.capacity ∷ rest) (size-new_streams task_count shapes)
+
+size-new_message_buffers : (task_count : ℕ) (shapes : List MessageShape)
+    → map size_of_message_buffer (map (new_message_buffer task_count) shapes) ≡ map (λ (shape : MessageShape). shape.capacity) shapes
+size-new_message_buffers task_count [] = refl
+size-new_message_buffers task_count (shape ∷ shapes) = ap (λ rest. shape.capacity ∷ rest) (size-new_message_buffers task_count shapes)
+
 -- There are as many as the application names.
 pub queue_count_shaped : (app : Application) (o : ObjectsSnapshot) → AreShaped app o → length o.queues ≡ length app.objects.queues.things
 queue_count_shaped app o shaped = sym (length-map o.queues shape_of) ∙ ap (λ (shapes : Shapes). length shapes.queues) shaped
@@ -191,6 +313,16 @@ queue_set_count_shaped app o shaped =
     sym (length-map o.queue_sets capacity_of) ∙ ap (λ (shapes : Shapes). length shapes.queue_sets) shaped
     ∙ length-map app.objects.queue_sets.things (λ (queue_set : QueueSetShapeView). queue_set.capacity)
 
+pub stream_count_shaped : (app : Application) (o : ObjectsSnapshot) → AreShaped app o → length o.streams ≡ length app.objects.streams.things
+stream_count_shaped app o shaped =
+    sym (length-map o.streams size_of_stream) ∙ ap (λ (shapes : Shapes). length shapes.streams) shaped
+    ∙ length-map app.objects.streams.things (λ (stream : StreamShape). stream.capacity)
+
+pub message_count_shaped : (app : Application) (o : ObjectsSnapshot) → AreShaped app o → length o.messages ≡ length app.objects.messages.things
+message_count_shaped app o shaped =
+    sym (length-map o.messages size_of_message_buffer) ∙ ap (λ (shapes : Shapes). length shapes.messages) shaped
+    ∙ length-map app.objects.messages.things (λ (message : MessageShape). message.capacity)
+
 -- The objects of boot have the sizes that the application gives them.
 pub AreShaped-new : (app : Application) → AreShaped app (new_objects app)
 AreShaped-new app =
@@ -198,5 +330,9 @@ AreShaped-new app =
     let asked = shapes_named app.objects in
     let queues = shape_of-first_queues app (length asked.queues) (omega arith) ∙ take_all (length asked.queues) asked.queues (omega arith) in
     let queue_sets = capacity_of-new_queue_sets (length app.tasks.things) (length asked.queues) app.objects.queue_sets.things in
+    let streams = size-new_streams (length app.tasks.things) app.objects.streams.things in
+    let messages = size-new_message_buffers (length app.tasks.things) app.objects.messages.things in
     ap (λ (qs : List QueueShape). record made { queues = qs }) queues
-    ∙ ap (λ (rooms : List ℕ). record { queues = asked.queues; queue_sets = rooms }) queue_sets
+    ∙ ap (λ (rooms : List ℕ). record made { queues = asked.queues; queue_sets = rooms }) queue_sets
+    ∙ ap (λ (sizes : List ℕ). record asked { streams = sizes; messages = made.messages }) streams
+    ∙ ap (λ (sizes : List ℕ). record asked { messages = sizes }) messages

@@ -8,12 +8,21 @@ use Rattle.std.proofs.lemmas.Nat.{from_le_bytes-to_le_bytes_4}
 use Rattle.rd_bytes.proofs.Offered.{end_byte_of, end_word_of, all_but_end, length-all_but, number_again}
 use Rattle.rd_bytes.specs.Ends.{all_but, byte_of_number, end_byte, end_word}
 use Rattle.rd_bytes.specs.Tags.{last_kind}
-use Rattle.rd_bytes.specs.declared.tag.TheConstants.{SET_TICK, SET_TURN, SET_CORE, INS_READY, DEL_READY, INS_WAIT, DEL_WAIT, OF_QUEUE}
+use Rattle.rd_bytes.specs.declared.tag.TheConstants.{SET_TICK, SET_TURN, SET_CORE, INS_READY, DEL_READY, INS_WAIT, DEL_WAIT, OF_QUEUE, OF_QUEUE_SET, OF_STREAM, OF_MESSAGE, SELECTING_LIST}
+use Rattle.rd_bytes.specs.declared.tag.TheConstants.{SET_READER, SET_WRITER, STREAM_HOLDER}
 use Rattle.rd_queue.proofs.Offered.{queue_change_is_read_back, queue_set_change_is_read_back, queue_inverse_has_bytes, queue_set_inverse_has_bytes}
 use Rattle.rd_queue.specs.Changes.{QueueChange}
 use Rattle.rd_queue.specs.declared.queue_set_change.QueueSetChange.{QueueSetChange}
 use Rattle.rd_queue.specs.PackedChanges.{last_queue_change, queue_change_length, QueueChangeIsAtEnd}
 use Rattle.rd_queue.specs.PackedQueueSetChanges.{last_queue_set_change, queue_set_change_length, QueueSetChangeIsAtEnd}
+use Rattle.rd_stream.proofs.Offered.{message_change_is_read_back, message_inverse_has_bytes, stream_change_is_read_back, stream_inverse_has_bytes}
+use Rattle.rd_stream.specs.MessageChanges.{MessageChange}
+use Rattle.rd_stream.specs.MessageChanges as of_message
+use Rattle.rd_stream.specs.PackedMessageChanges.{last_message_buffer, last_message_change, message_change_length, message_fields, MessageChangeIsAtEnd}
+use Rattle.rd_stream.specs.PackedStreamChanges.{last_stream_change, stream_change_length, stream_fields, StreamChangeIsAtEnd}
+use Rattle.rd_stream.specs.StreamChanges.{StreamChange}
+use Rattle.rd_stream.specs.StreamChanges as of_stream
+use Rattle.rd_stream.specs.declared.side.Side.TheVariants.{Reader, Writer}
 use Rattle.std.proofs.Common.{◌*◌, ◌≢◌, nat_lt}
 use Rattle.std.proofs.lemmas.List.Sums.{sum_by-cons}
 use Rattle.rd_queue.specs.Changes.{InsWait, DelWait, PutBack, TakeBack, PutFront, TakeFront, SetItem, Clear, Fill, SetMember}
@@ -23,15 +32,15 @@ use Rattle.rd_state.specs.Change.{cost_of, saved_bytes, weight_of}
 use Rattle.rd_state.specs.TaskChanges.{SetPc, SetReg, SetPhase, SetEntry, SetData}
 use Rattle.rd_state.specs.PackedTaskChanges.{task_fields}
 use Rattle.rd_state.specs.Change.{Change, SetTick, SetTurn, SetCore, InsReady, DelReady, Task, Object, inverse_of, Fits}
-use Rattle.rd_state.specs.Objects.{ObjectChange, ObjectsSnapshot, Queue, QueueSet, queue_in, queue_set_in, object_inverse_of, AreSizedObjects, ObjectFits}
+use Rattle.rd_state.specs.Objects.{ObjectChange, ObjectsSnapshot, numbers_in, Queue, QueueSet, Stream, Message, message_in, queue_in, queue_set_in, stream_in, object_inverse_of, AreSizedObjects, ObjectFits}
 use Rattle.rd_state.specs.TaskChanges.{TaskChange}
 use Rattle.rd_state.specs.PackedTaskChanges.{last_task, last_task_change, task_change_length, TaskChangeIsAtEnd}
 use Rattle.rd_state.specs.PackedChanges.{packed, last_object_change, object_change_length, last_change, change_length, before_last}
 use Rattle.rd_state.specs.PackedChanges.{all_packed, changes_in, AreChanges, EndsInChange, HasBytes, IsAtEnd, ObjectHasBytes, EachIsReadBack}
 use Rattle.rd_state.specs.Sizes.{IsSized, IsTaskOrIdle}
 use Rattle.rd_state.specs.Snapshot.{Snapshot, core_at, numbers_of, task_at}
-use Rattle.rd_state.proofs.ObjectLaws.{queue_in_sized, queue_set_in_sized}
-use Rattle.rd_state.proofs.TaskPackingLaws.{task_change_is_read_back, task_inverse_has_bytes}
+use Rattle.rd_state.proofs.ObjectLaws.{message_in_sized, queue_in_sized, queue_set_in_sized, stream_in_sized}
+use Rattle.rd_state.proofs.TaskPackingLaws.{AreFew, task_change_is_read_back, task_inverse_has_bytes}
 use Rattle.rd_state.proofs.UndoLaws.{phase_sized, task_sized}
 
 -- ---- one change
@@ -127,6 +136,26 @@ queue_set_read bytes rest n change there =
     })
     there.ends.whole there.before
 
+stream_read : (bytes rest : List ℕ) (n : ℕ) (change : StreamChange) → StreamChangeIsAtEnd bytes rest n change → IsAtEnd bytes rest (Object (Stream n change))
+stream_read bytes rest n change there =
+    let by = by_object_tag bytes (omega (arith, there.tag)) in
+    at_end bytes rest (Object (Stream n change)) (stream_change_length bytes) there.ends.some
+    (record {
+      same = by.same ∙ ap Object (rw there.kind (ap (λ k. Stream k (last_stream_change bytes)) there.stream ∙ ap (Stream n) there.same));
+      length = by.length ∙ rw there.kind refl;
+    })
+    there.ends.whole there.before
+
+message_read : (bytes rest : List ℕ) (n : ℕ) (change : MessageChange) → MessageChangeIsAtEnd bytes rest n change → IsAtEnd bytes rest (Object (Message n change))
+message_read bytes rest n change there =
+    let by = by_object_tag bytes (omega (arith, there.tag)) in
+    at_end bytes rest (Object (Message n change)) (message_change_length bytes) there.ends.some
+    (record {
+      same = by.same ∙ ap Object (rw there.kind (ap (λ k. Message k (last_message_change bytes)) there.buffer ∙ ap (Message n) there.same));
+      length = by.length ∙ rw there.kind refl;
+    })
+    there.ends.whole there.before
+
 pub change_is_read_back : EachIsReadBack
 change_is_read_back b (SetTick tick) fits = set_tick_read b tick fits
 change_is_read_back b (SetTurn turn) fits = set_turn_read b turn
@@ -136,6 +165,8 @@ change_is_read_back b (DelReady index) fits = del_ready_read b index
 change_is_read_back b (Task task change) fits = task_read _ b task change (task_change_is_read_back b task change fits)
 change_is_read_back b (Object (Queue queue change)) fits = queue_read _ b queue change (queue_change_is_read_back b queue change fits)
 change_is_read_back b (Object (QueueSet n change)) fits = queue_set_read _ b n change (queue_set_change_is_read_back b n change fits)
+change_is_read_back b (Object (Stream n change)) fits = stream_read _ b n change (stream_change_is_read_back b n change fits)
+change_is_read_back b (Object (Message n change)) fits = message_read _ b n change (message_change_is_read_back b n change fits)
 
 -- ---- What undoes a change has room in its bytes.
 
@@ -155,6 +186,21 @@ object_inverse_has_bytes task_count o (QueueSet n change) sized fits few =
       omega (arith, fits.0, sized.few_queue_sets),
       queue_set_inverse_has_bytes (queue_set_in o n) change here.0 fits.1 (omega (arith, here.1, few)) (omega (arith, here.2, sized.few_queues)),
     )
+object_inverse_has_bytes task_count o (Stream n change) sized fits few =
+    let here = stream_in_sized task_count o n sized fits.0 in
+    (omega (arith, fits.0, sized.few_streams), stream_inverse_has_bytes (stream_in o n) change here.0 fits.1 (omega (arith, here.1, few)))
+object_inverse_has_bytes task_count o (Message n change) sized fits few =
+    let here = message_in_sized task_count o n sized fits.0 in
+    (omega (arith, fits.0, sized.few_messages), message_inverse_has_bytes (message_in o n) change here.0 fits.1 (omega (arith, here.1, few)))
+
+-- There are so few objects that each has a number of one byte.
+few_numbers : (task_count : ℕ) (o : ObjectsSnapshot) → AreSizedObjects task_count o → AreFew (numbers_in o)
+few_numbers task_count o sized = record {
+  queues = omega (arith, sized.few_queues);
+  queue_sets = omega (arith, sized.few_queue_sets);
+  streams = omega (arith, sized.few_streams);
+  messages = omega (arith, sized.few_messages);
+}
 
 pub inverse_has_bytes : (s : Snapshot) (change : Change) → IsSized s → Fits s change → HasBytes (inverse_of s change)
 inverse_has_bytes s (SetTick tick) sized fits = sized.scheduling.tick
@@ -172,25 +218,58 @@ inverse_has_bytes s (DelReady index) sized fits = (
 inverse_has_bytes s (Task task change) sized fits = (
   omega (arith, fits.0, sized.tasks.few),
   task_inverse_has_bytes (numbers_of s) (task_at s task) change (task_sized s task sized fits.0) (phase_sized s task sized fits.0) fits.1
-      (omega (arith, sized.objects.few_queues)) (omega (arith, sized.objects.few_queue_sets)),
+      (few_numbers (length s.tasks) s.objects sized.objects),
 )
 inverse_has_bytes s (Object change) sized fits = object_inverse_has_bytes (length s.tasks) s.objects change sized.objects fits (omega (arith, sized.tasks.few))
 
 -- ---- The bytes of tasks that wait are as many, whatever they wait at.
 
+abbrev length_of_kind : ℕ → List ℕ → ℕ
+length_of_kind kind bytes =
+    if kind == OF_QUEUE then queue_change_length bytes
+    else (if kind == OF_QUEUE_SET then queue_set_change_length bytes
+    else (if kind == OF_STREAM then stream_change_length bytes else message_change_length bytes))
+
 pub insertion_length : (bytes : List ℕ) → end_byte 1 bytes ≡ INS_WAIT → object_change_length bytes ≡ 5
-insertion_length bytes tag = by_kind (last_kind bytes == OF_QUEUE)
+insertion_length bytes tag = ap (λ kind. length_of_kind kind bytes) kind ∙ by_list (nat_lt (end_byte 5 bytes) SELECTING_LIST)
   where
-    by_kind : (is : Bool) → (if is then queue_change_length bytes else queue_set_change_length bytes) ≡ 5
-    by_kind true = rw tag refl
-    by_kind false = rw tag refl
+    kind : last_kind bytes ≡ if nat_lt (end_byte 5 bytes) SELECTING_LIST then OF_QUEUE else OF_QUEUE_SET
+    kind = rw tag refl
+
+    by_list : (is : Bool) → length_of_kind (if is then OF_QUEUE else OF_QUEUE_SET) bytes ≡ 5
+    by_list true = rw tag refl
+    by_list false = rw tag refl
 
 pub deletion_length : (bytes : List ℕ) → end_byte 1 bytes ≡ DEL_WAIT → object_change_length bytes ≡ 4
-deletion_length bytes tag = by_kind (last_kind bytes == OF_QUEUE)
+deletion_length bytes tag = ap (λ kind. length_of_kind kind bytes) kind ∙ by_list (nat_lt (end_byte 4 bytes) SELECTING_LIST)
   where
-    by_kind : (is : Bool) → (if is then queue_change_length bytes else queue_set_change_length bytes) ≡ 4
-    by_kind true = rw tag refl
-    by_kind false = rw tag refl
+    kind : last_kind bytes ≡ if nat_lt (end_byte 4 bytes) SELECTING_LIST then OF_QUEUE else OF_QUEUE_SET
+    kind = rw tag refl
+
+    by_list : (is : Bool) → length_of_kind (if is then OF_QUEUE else OF_QUEUE_SET) bytes ≡ 4
+    by_list true = rw tag refl
+    by_list false = rw tag refl
+
+-- So are those of a place of a buffer.
+pub reader_length : (bytes : List ℕ) → end_byte 1 bytes ≡ SET_READER → object_change_length bytes ≡ 4
+reader_length bytes tag = ap (λ kind. length_of_kind kind bytes) kind ∙ by_holder (end_byte 4 bytes == STREAM_HOLDER)
+  where
+    kind : last_kind bytes ≡ if end_byte 4 bytes == STREAM_HOLDER then OF_STREAM else OF_MESSAGE
+    kind = rw tag refl
+
+    by_holder : (is : Bool) → length_of_kind (if is then OF_STREAM else OF_MESSAGE) bytes ≡ 4
+    by_holder true = rw tag refl
+    by_holder false = rw tag refl
+
+pub writer_length : (bytes : List ℕ) → end_byte 1 bytes ≡ SET_WRITER → object_change_length bytes ≡ 4
+writer_length bytes tag = ap (λ kind. length_of_kind kind bytes) kind ∙ by_holder (end_byte 4 bytes == STREAM_HOLDER)
+  where
+    kind : last_kind bytes ≡ if end_byte 4 bytes == STREAM_HOLDER then OF_STREAM else OF_MESSAGE
+    kind = rw tag refl
+
+    by_holder : (is : Bool) → length_of_kind (if is then OF_STREAM else OF_MESSAGE) bytes ≡ 4
+    by_holder true = rw tag refl
+    by_holder false = rw tag refl
 
 -- ---- changes one after the other
 
@@ -242,8 +321,25 @@ peeled (suc n) bytes some are =
     }
 
 -- Each change takes a byte at least.
+some_by_kind : (kind a b c d : ℕ) → 1 ≤ a → 1 ≤ b → 1 ≤ c → 1 ≤ d
+    → 1 ≤ (if kind == OF_QUEUE then a else (if kind == OF_QUEUE_SET then b else (if kind == OF_STREAM then c else d)))
+some_by_kind kind a b c d a1 b1 c1 d1 = grind (arith, nat_tests, a1, b1, c1, d1)
+
+object_length_some : (bytes : List ℕ) → 1 ≤ object_change_length bytes
+object_length_some bytes =
+    some_by_kind (last_kind bytes) (queue_change_length bytes) (queue_set_change_length bytes) (stream_change_length bytes) (message_change_length bytes)
+    (grind (arith, nat_tests)) (grind (arith, nat_tests)) (grind (arith, nat_tests)) (grind (arith, nat_tests))
+
+task_length_some : (bytes : List ℕ) → 1 ≤ task_change_length bytes
+task_length_some bytes = grind (arith, nat_tests)
+
+some_by_tag : (tag task object : ℕ) → 1 ≤ task → 1 ≤ object
+    → 1 ≤ (if tag == SET_TICK then 5 else (if tag == SET_TURN then 2 else (if tag == SET_CORE then 3 else (if tag == INS_READY then 3
+    else (if tag == DEL_READY then 2 else (if nat_lt tag INS_READY then task else object))))))
+some_by_tag tag task object t1 o1 = grind (arith, nat_tests, t1, o1)
+
 length_some : (bytes : List ℕ) → 1 ≤ change_length bytes
-length_some bytes = grind (arith, nat_tests)
+length_some bytes = some_by_tag (end_byte 1 bytes) (task_change_length bytes) (object_change_length bytes) (task_length_some bytes) (object_length_some bytes)
 
 pub count-le : (n : ℕ) (bytes : List ℕ) → AreChanges n bytes → n ≤ length bytes
 count-le zero bytes are = omega arith
@@ -280,6 +376,24 @@ packed_short (Object (QueueSet n (in_set.PushHandle queue))) = omega arith
 packed_short (Object (QueueSet n in_set.DropHandle)) = omega arith
 packed_short (Object (QueueSet n in_set.TakeHandle)) = omega arith
 packed_short (Object (QueueSet n (in_set.UntakeHandle queue))) = omega arith
+packed_short (Object (Stream n (of_stream.PushBytes bytes))) = omega (arith, length-append bytes (stream_fields n (of_stream.PushBytes bytes)))
+packed_short (Object (Stream n (of_stream.DropBytes count))) = omega arith
+packed_short (Object (Stream n (of_stream.TakeBytes count))) = omega arith
+packed_short (Object (Stream n (of_stream.UntakeBytes bytes))) = omega (arith, length-append bytes (stream_fields n (of_stream.UntakeBytes bytes)))
+packed_short (Object (Stream n (of_stream.SetByte index value))) = omega arith
+packed_short (Object (Stream n (of_stream.SetTrigger trigger))) = omega arith
+packed_short (Object (Stream n (of_stream.SetHolder Reader task))) = omega arith
+packed_short (Object (Stream n (of_stream.SetHolder Writer task))) = omega arith
+packed_short (Object (Stream n of_stream.Clear)) = omega arith
+packed_short (Object (Stream n (of_stream.Fill bytes))) = omega (arith, length-append bytes (stream_fields n (of_stream.Fill bytes)))
+packed_short (Object (Message n (of_message.Push message))) = omega (arith, length-append message (message_fields n (of_message.Push message)))
+packed_short (Object (Message n of_message.Drop)) = omega arith
+packed_short (Object (Message n of_message.Take)) = omega arith
+packed_short (Object (Message n (of_message.Untake message))) = omega (arith, length-append message (message_fields n (of_message.Untake message)))
+packed_short (Object (Message n (of_message.SetHolder Reader task))) = omega arith
+packed_short (Object (Message n (of_message.SetHolder Writer task))) = omega arith
+packed_short (Object (Message n of_message.Clear)) = omega arith
+packed_short (Object (Message n (of_message.Fill bytes))) = omega (arith, length-append bytes (message_fields n (of_message.Fill bytes)))
 
 -- So a list of changes takes no more than 16 bytes a change and those that they carry.
 pub weight_bounds_bytes : (changes : List Change) → length (all_packed changes) ≤ 15 * length changes + weight_of changes
@@ -308,3 +422,43 @@ change_length-task bytes tick turn core below =
     let no_left : (end_byte 1 bytes == DEL_READY) ≡ false = grind (arith, nat_tests, below) in
     let task : nat_lt (end_byte 1 bytes) INS_READY ≡ true = grind (arith, nat_tests, below) in
     rw (no_tick, no_turn, no_core, no_ready, no_left, task) refl
+
+-- So does a change of an object.
+pub record IsObjectTag (tag : ℕ) : Type 0 where
+  pub tick : tag ≢ SET_TICK
+  pub turn : tag ≢ SET_TURN
+  pub core : tag ≢ SET_CORE
+  pub ready : tag ≢ INS_READY
+  pub left : tag ≢ DEL_READY
+  pub above : INS_READY ≤ tag
+
+by_other_tag : (bytes : List ℕ) → IsObjectTag (end_byte 1 bytes) → IsByTag bytes (Object (last_object_change bytes)) (object_change_length bytes)
+by_other_tag bytes is =
+    let no_tick : (end_byte 1 bytes == SET_TICK) ≡ false = grind (arith, nat_tests, is.tick) in
+    let no_turn : (end_byte 1 bytes == SET_TURN) ≡ false = grind (arith, nat_tests, is.turn) in
+    let no_core : (end_byte 1 bytes == SET_CORE) ≡ false = grind (arith, nat_tests, is.core) in
+    let no_ready : (end_byte 1 bytes == INS_READY) ≡ false = grind (arith, nat_tests, is.ready) in
+    let no_left : (end_byte 1 bytes == DEL_READY) ≡ false = grind (arith, nat_tests, is.left) in
+    let no_task : nat_lt (end_byte 1 bytes) INS_READY ≡ false = grind (arith, nat_tests, is.above) in
+    record {
+      same = rw (no_tick, no_turn, no_core, no_ready, no_left, no_task) refl;
+      length = rw (no_tick, no_turn, no_core, no_ready, no_left, no_task) refl;
+    }
+
+pub change_length-object : (bytes : List ℕ) → IsObjectTag (end_byte 1 bytes) → change_length bytes ≡ object_change_length bytes
+change_length-object bytes is = (by_other_tag bytes is).length
+
+pub last_change-object : (bytes : List ℕ) → IsObjectTag (end_byte 1 bytes) → last_change bytes ≡ Object (last_object_change bytes)
+last_change-object bytes is = (by_other_tag bytes is).same
+
+-- A change of an object whose kind is none of the first three is one of a message buffer.
+pub record IsMessageKind (bytes : List ℕ) : Type 0 where
+  pub length : object_change_length bytes ≡ message_change_length bytes
+  pub change : last_object_change bytes ≡ Message (last_message_buffer bytes) (last_message_change bytes)
+
+pub IsMessageKind-other : (bytes : List ℕ) → last_kind bytes ≢ OF_QUEUE → last_kind bytes ≢ OF_QUEUE_SET → last_kind bytes ≢ OF_STREAM → IsMessageKind bytes
+IsMessageKind-other bytes queue queue_set stream =
+    let no_queue : (last_kind bytes == OF_QUEUE) ≡ false = grind (arith, nat_tests, queue) in
+    let no_set : (last_kind bytes == OF_QUEUE_SET) ≡ false = grind (arith, nat_tests, queue_set) in
+    let no_stream : (last_kind bytes == OF_STREAM) ≡ false = grind (arith, nat_tests, stream) in
+    record { length = rw (no_queue, no_set, no_stream) refl; change = rw (no_queue, no_set, no_stream) refl }

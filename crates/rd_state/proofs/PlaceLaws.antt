@@ -1,5 +1,6 @@
--- The lists in which tasks wait: who waits in one is a task, and at boot nobody does.
-use Rattle.std.proofs.Common.{◌≡◌, ◌∙◌, ℕ, zero, suc, ◌<◌, List, [], ◌∷◌, length, get_or, map, refl, ap, subst}
+-- The lists in which tasks wait: who waits in one is a task, and at boot nobody does. Nor does a place of a buffer name anybody
+-- then.
+use Rattle.std.proofs.Common.{◌≡◌, ◌∙◌, ℕ, zero, suc, ◌<◌, List, [], ◌∷◌, None, length, get_or, map, refl, ap, subst}
 use Rattle.std.proofs.Common.{inl, inr}
 use Rattle.std.specs.Prelude.{All}
 use Rattle.std.proofs.lemmas.Bool.{cases_lt}
@@ -10,14 +11,22 @@ use Rattle.rd_queue.specs.declared.waiting_list.WaitingList.TheVariants.{Receivi
 use Rattle.rd_queue.specs.Queues.{tasks_in_list}
 use Rattle.rd_queue.specs.Sizes.{IsSizedList}
 use Rattle.rd_app.specs.QueueSetShapeView.{QueueSetShapeView}
+use Rattle.rd_app.specs.declared.objects.MessageShape.{MessageShape}
+use Rattle.rd_app.specs.declared.objects.StreamShape.{StreamShape}
+use Rattle.rd_stream.specs.Holders.{holder_of, no_holders}
+use Rattle.rd_stream.specs.declared.side.Side.{Side}
+use Rattle.rd_stream.specs.declared.side.Side.TheVariants.{Reader, Writer}
+use Rattle.rd_state.specs.declared.phase.Held.{Held}
+use Rattle.rd_state.specs.declared.phase.Held.TheVariants.{Stream, Message}
 use Rattle.rd_app.specs.Application.{Application}
 use Rattle.rd_state.specs.declared.phase.Listed.{Listed}
 use Rattle.rd_state.specs.declared.phase.Listed.TheVariants.{Queue, QueueSet}
 use Rattle.rd_state.specs.Boot.{before_scheduling}
-use Rattle.rd_state.specs.Objects.{IsQueueFor, first_queues, new_queue, new_queue_set, no_queue, no_queue_set}
+use Rattle.rd_state.specs.Objects.{IsQueueFor, first_queues, new_message_buffer, new_queue, new_queue_set, new_stream, no_message_buffer, no_queue}
+use Rattle.rd_state.specs.Objects.{no_queue_set, no_stream}
 use Rattle.rd_state.specs.Sizes.{IsSized}
 use Rattle.rd_state.specs.Snapshot.{Snapshot, queue_at, queue_set_at}
-use Rattle.rd_state.specs.Waiting.{HasList, waiting_at}
+use Rattle.rd_state.specs.Waiting.{HasList, holder_at, waiting_at}
 use Rattle.rd_state.proofs.ObjectLaws.{queue_in_sized, queue_set_in_sized}
 
 -- A queue of the state has its sizes.
@@ -64,3 +73,24 @@ nobody_selects task_count queue_count (shape ∷ shapes) (suc queue_set) = nobod
 pub waiting_at-before_scheduling : (app : Application) (place : Listed) → waiting_at (before_scheduling app) place ≡ []
 waiting_at-before_scheduling app (Queue queue list) = nobody_waits_at app list queue (length app.objects.queues.things)
 waiting_at-before_scheduling app (QueueSet queue_set) = nobody_selects (length app.tasks.things) (length app.objects.queues.things) app.objects.queue_sets.things queue_set
+
+-- Nobody is named by the places of a new buffer, whichever side.
+nobody_named : (side : Side) (task_count : ℕ) → holder_of side (no_holders task_count) ≡ None
+nobody_named Reader task_count = refl
+nobody_named Writer task_count = refl
+
+nobody_at_stream : (side : Side) (task_count : ℕ) (shapes : List StreamShape) (stream : ℕ)
+    → holder_of side (get_or (map (new_stream task_count) shapes) stream no_stream).holders ≡ None
+nobody_at_stream side task_count [] stream = nobody_named side 0
+nobody_at_stream side task_count (shape ∷ shapes) zero = nobody_named side task_count
+nobody_at_stream side task_count (shape ∷ shapes) (suc stream) = nobody_at_stream side task_count shapes stream
+
+nobody_at_message_buffer : (side : Side) (task_count : ℕ) (shapes : List MessageShape) (message : ℕ)
+    → holder_of side (get_or (map (new_message_buffer task_count) shapes) message no_message_buffer).holders ≡ None
+nobody_at_message_buffer side task_count [] message = nobody_named side 0
+nobody_at_message_buffer side task_count (shape ∷ shapes) zero = nobody_named side task_count
+nobody_at_message_buffer side task_count (shape ∷ shapes) (suc message) = nobody_at_message_buffer side task_count shapes message
+
+pub holder_at-before_scheduling : (app : Application) (held : Held) → holder_at (before_scheduling app) held ≡ None
+holder_at-before_scheduling app (Stream stream side) = nobody_at_stream side (length app.tasks.things) app.objects.streams.things stream
+holder_at-before_scheduling app (Message message side) = nobody_at_message_buffer side (length app.tasks.things) app.objects.messages.things message

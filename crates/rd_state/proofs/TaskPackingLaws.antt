@@ -11,7 +11,12 @@ use Rattle.rd_notify.specs.declared.entries.Entry.{Entry}
 use Rattle.rd_notify.specs.declared.entries.EntryState.{EntryState}
 use Rattle.rd_notify.specs.declared.entries.EntryState.TheVariants.{Idle, Waiting, Received}
 use Rattle.rd_state.specs.PackedTaskChanges.{byte_of_entry_state, entry_state_of_byte}
-use Rattle.rd_state.specs.declared.phase.Cause.TheVariants.{SetFull}
+use Rattle.rd_state.specs.declared.phase.Cause.{Cause}
+use Rattle.rd_state.specs.declared.phase.Cause.TheVariants.{SetFull, TwoReaders, TwoWriters, EmptyData}
+use Rattle.rd_state.specs.declared.phase.Held.{Held}
+use Rattle.rd_state.specs.declared.phase.Held.TheVariants.{Stream, Message}
+use Rattle.rd_stream.specs.declared.side.Side.TheVariants.{Reader, Writer}
+use Rattle.rd_state.specs.PackedTaskChanges.{cause_of_number, number_of_cause}
 use Rattle.rd_state.specs.declared.phase.Phase.{Phase}
 use Rattle.rd_state.specs.declared.phase.Phase.TheVariants.{Run, Again, Wait, Ended, Failed}
 use Rattle.rd_state.specs.declared.phase.Place.{Place}
@@ -38,7 +43,23 @@ place_again : (place : Place) → place_of_bytes (list_of_place place) (object_o
 place_again (sort.Listed (Queue queue Receiving)) = refl
 place_again (sort.Listed (Queue queue Sending)) = refl
 place_again (sort.Listed (QueueSet queue_set)) = refl
+place_again (sort.Held (Stream stream Reader)) = refl
+place_again (sort.Held (Stream stream Writer)) = refl
+place_again (sort.Held (Message message Reader)) = refl
+place_again (sort.Held (Message message Writer)) = refl
 place_again (sort.Entry index) = refl
+
+cause_again : (cause : Cause) → cause_of_number (number_of_cause cause) ≡ cause
+cause_again SetFull = refl
+cause_again TwoReaders = refl
+cause_again TwoWriters = refl
+cause_again EmptyData = refl
+
+cause_number_fits : (cause : Cause) → number_of_cause cause < 2 ^ 64
+cause_number_fits SetFull = omega arith
+cause_number_fits TwoReaders = omega arith
+cause_number_fits TwoWriters = omega arith
+cause_number_fits EmptyData = omega arith
 
 phase_again : (phase : Phase) → PhaseFitsBytes phase → phase_of_bytes (phase_kind phase) (phase_list phase) (phase_object phase) (phase_number phase) ≡ phase
 phase_again Run fits = refl
@@ -46,7 +67,7 @@ phase_again (Again deadline) fits = ap Again (deadline_again deadline fits)
 phase_again (Wait place deadline) fits =
     ap (λ p. Wait p (deadline_of_number (number_of_deadline deadline))) (place_again place) ∙ ap (Wait place) (deadline_again deadline fits.1)
 phase_again Ended fits = refl
-phase_again (Failed SetFull) fits = refl
+phase_again (Failed cause) fits = ap Failed (cause_again cause)
 
 number_fits : (deadline : Option ℕ) → DeadlineFitsBytes deadline → number_of_deadline deadline < 2 ^ 64
 number_fits None fits = omega arith
@@ -57,7 +78,7 @@ phase_number_fits Run fits = omega arith
 phase_number_fits (Again deadline) fits = number_fits deadline fits
 phase_number_fits (Wait place deadline) fits = number_fits deadline fits.1
 phase_number_fits Ended fits = omega arith
-phase_number_fits (Failed SetFull) fits = omega arith
+phase_number_fits (Failed cause) fits = cause_number_fits cause
 
 -- ---- changes
 
@@ -157,26 +178,35 @@ deadline_fits : (deadline : Option ℕ) → IsDeadline deadline → DeadlineFits
 deadline_fits None sized = tt
 deadline_fits (Some tick) sized = omega (arith, sized)
 
-place_fits : (numbers : Numbers) (place : Place) → IsPlace numbers place → numbers.queue_count ≤ 255 → numbers.queue_set_count ≤ 255 → PlaceFitsBytes place
-place_fits numbers (sort.Listed (Queue queue list)) there few few_sets = omega (arith, there, few)
-place_fits numbers (sort.Listed (QueueSet queue_set)) there few few_sets = omega (arith, there, few_sets)
-place_fits numbers (sort.Entry index) there few few_sets = omega (arith, there)
+-- There are few objects of each kind.
+pub record AreFew (numbers : Numbers) : Type 0 where
+  pub queues : numbers.queue_count ≤ 255
+  pub queue_sets : numbers.queue_set_count ≤ 255
+  pub streams : numbers.stream_count ≤ 255
+  pub messages : numbers.message_count ≤ 255
 
-phase_fits : (numbers : Numbers) (phase : Phase) → IsSizedPhase numbers phase → numbers.queue_count ≤ 255 → numbers.queue_set_count ≤ 255 → PhaseFitsBytes phase
-phase_fits numbers Run sized few few_sets = tt
-phase_fits numbers (Again deadline) sized few few_sets = deadline_fits deadline sized
-phase_fits numbers (Wait place deadline) sized few few_sets = (place_fits numbers place sized.0 few few_sets, deadline_fits deadline sized.1)
-phase_fits numbers Ended sized few few_sets = tt
-phase_fits numbers (Failed cause) sized few few_sets = tt
+place_fits : (numbers : Numbers) (place : Place) → IsPlace numbers place → AreFew numbers → PlaceFitsBytes place
+place_fits numbers (sort.Listed (Queue queue list)) there few = omega (arith, there, few.queues)
+place_fits numbers (sort.Listed (QueueSet queue_set)) there few = omega (arith, there, few.queue_sets)
+place_fits numbers (sort.Held (Stream stream side)) there few = omega (arith, there, few.streams)
+place_fits numbers (sort.Held (Message message side)) there few = omega (arith, there, few.messages)
+place_fits numbers (sort.Entry index) there few = omega (arith, there)
+
+phase_fits : (numbers : Numbers) (phase : Phase) → IsSizedPhase numbers phase → AreFew numbers → PhaseFitsBytes phase
+phase_fits numbers Run sized few = tt
+phase_fits numbers (Again deadline) sized few = deadline_fits deadline sized
+phase_fits numbers (Wait place deadline) sized few = (place_fits numbers place sized.0 few, deadline_fits deadline sized.1)
+phase_fits numbers Ended sized few = tt
+phase_fits numbers (Failed cause) sized few = tt
 
 pub task_inverse_has_bytes : (numbers : Numbers) (task : TaskSnapshot) (change : TaskChange) → IsSizedTask task → IsSizedPhase numbers task.phase
-    → TaskFits task change → numbers.queue_count ≤ 255 → numbers.queue_set_count ≤ 255 → TaskFitsBytes (task_inverse_of task change)
-task_inverse_has_bytes numbers task (SetPc pc) sized phase fits few few_sets = omega (arith, sized.pc)
-task_inverse_has_bytes numbers task (SetReg register value) sized phase fits few few_sets =
+    → TaskFits task change → AreFew numbers → TaskFitsBytes (task_inverse_of task change)
+task_inverse_has_bytes numbers task (SetPc pc) sized phase fits few = omega (arith, sized.pc)
+task_inverse_has_bytes numbers task (SetReg register value) sized phase fits few =
     let back = (task_law.each_is_undone task (SetReg register value) sized fits).fits in
     (omega (arith, fits.0), back.1)
-task_inverse_has_bytes numbers task (SetPhase p) sized phase fits few few_sets = phase_fits numbers task.phase phase few few_sets
-task_inverse_has_bytes numbers task (SetEntry index entry) sized phase fits few few_sets =
+task_inverse_has_bytes numbers task (SetPhase p) sized phase fits few = phase_fits numbers task.phase phase few
+task_inverse_has_bytes numbers task (SetEntry index entry) sized phase fits few =
     let back = (task_law.each_is_undone task (SetEntry index entry) sized fits).fits in
     (omega (arith, fits.0, sized.few_entries), back.1)
-task_inverse_has_bytes numbers task (SetData bytes) sized phase fits few few_sets = omega (arith, sized.bytes)
+task_inverse_has_bytes numbers task (SetData bytes) sized phase fits few = omega (arith, sized.bytes)

@@ -9,12 +9,12 @@ use Rattle.rd_queue.specs.Changes.{put_at, QueueFits}
 use Rattle.rd_queue.specs.QueueSnapshot.{QueueSnapshot}
 use Rattle.rd_queue.specs.Queues.{fitted}
 use Rattle.rd_state.specs.declared.transfer.Sink.{Sink}
-use Rattle.rd_state.specs.declared.transfer.Sink.TheVariants.{QueueEnd, OverFront}
+use Rattle.rd_state.specs.declared.transfer.Sink.TheVariants.{QueueEnd, OverFront, StreamBack, MessageBack}
 use Rattle.rd_state.specs.declared.transfer.Source.{Source}
-use Rattle.rd_state.specs.declared.transfer.Source.TheVariants.{QueueFront}
+use Rattle.rd_state.specs.declared.transfer.Source.TheVariants.{QueueFront, StreamFront, MessageFront}
 use Rattle.rd_state.specs.declared.transfer.Transfer.{Transfer}
 use Rattle.rd_state.specs.declared.transfer.Transfer.TheVariants.{FromData, ToData}
-use Rattle.rd_state.specs.Objects.{ObjectsSnapshot, queue_in, AreSizedObjects, ObjectFits}
+use Rattle.rd_state.specs.Objects.{ObjectsSnapshot, queue_in, stream_in, AreSizedObjects, ObjectFits}
 use Rattle.rd_state.specs.Change.{applied, cost_of, inverse_of, Fits}
 use Rattle.rd_state.specs.Edit.{Edit, Reaches, edit_of, room_for}
 use Rattle.rd_state.specs.PackedChanges.{all_packed, packed, ChangeListView}
@@ -36,9 +36,11 @@ pub put_fits : (queue : QueueSnapshot) (end : End) (size : ℕ) (bytes : List �
 put_fits queue Back size bytes room same = (room, length-fitted size bytes ∙ same)
 put_fits queue Front size bytes room same = (room, length-fitted size bytes ∙ same)
 
-pub sink_fits : (o : ObjectsSnapshot) (sink : Sink) (bytes : List ℕ) → HasSink o sink → ObjectFits o (sunk o sink bytes)
+pub sink_fits : (o : ObjectsSnapshot) (sink : Sink) (bytes : List ℕ) → HasSink o sink bytes → ObjectFits o (sunk o sink bytes)
 sink_fits o (QueueEnd queue end) bytes can = (can.0, put_fits (queue_in o queue) end (queue_in o queue).item_size bytes can.1 refl)
 sink_fits o (OverFront queue) bytes can = (can.0, (can.1, length-fitted (queue_in o queue).item_size bytes))
+sink_fits o (StreamBack stream count) bytes can = (can.0, omega (arith, can.1, length-take-le count bytes can.2))
+sink_fits o (MessageBack message) bytes can = can
 
 -- the item at a queue's front
 first_is_short : (task_count : ℕ) (o : ObjectsSnapshot) (queue : ℕ) → AreSizedObjects task_count o → queue < length o.queues → 0 < length (queue_in o queue).items
@@ -49,6 +51,8 @@ first_is_short task_count o queue sized there some =
 
 source_is_short : (task_count : ℕ) (o : ObjectsSnapshot) (source : Source) → AreSizedObjects task_count o → HasSource o source → length (bytes_at o source) ≤ 256
 source_is_short task_count o (QueueFront queue) sized can = omega (arith, first_is_short task_count o queue sized can.0 can.1)
+source_is_short task_count o (StreamFront stream count) sized can = omega (arith, can.2, length-take-le count (stream_in o stream).bytes can.1)
+source_is_short task_count o (MessageFront message) sized can = can.2
 
 pub transfer_fits : (s : Snapshot) (transfer : Transfer) → IsSized s → CanTransfer s transfer → Fits s (change_of s transfer)
 transfer_fits s (FromData task sink) sized can = sink_fits s.objects sink (task_at s task).bytes can.1

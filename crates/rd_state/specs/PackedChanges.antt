@@ -5,14 +5,20 @@ use Rattle.std.specs.Int.{w32, to_le_bytes}
 use Rattle.rd_bytes.specs.Ends.{all_but, byte_of_number, end_byte, end_word, number_of_byte}
 use Rattle.rd_bytes.specs.Tags.{last_kind}
 use Rattle.rd_bytes.specs.declared.tag.TheConstants.{SET_TICK, SET_TURN, SET_CORE, INS_READY}
-use Rattle.rd_bytes.specs.declared.tag.TheConstants.{DEL_READY, OF_QUEUE}
+use Rattle.rd_bytes.specs.declared.tag.TheConstants.{DEL_READY, OF_QUEUE, OF_QUEUE_SET, OF_STREAM}
 use Rattle.rd_queue.specs.PackedChanges.{last_queue, last_queue_change, queue_change_length}
 use Rattle.rd_queue.specs.PackedChanges.{queue_packed, QueueHasBytes}
 use Rattle.rd_queue.specs.PackedQueueSetChanges.{last_queue_set, last_queue_set_change}
 use Rattle.rd_queue.specs.PackedQueueSetChanges.{queue_set_change_length, queue_set_packed}
 use Rattle.rd_queue.specs.PackedQueueSetChanges.{QueueSetHasBytes}
 use Rattle.rd_state.specs.Change.{Change, SetTick, SetTurn, SetCore, InsReady, DelReady, Task, Object}
-use Rattle.rd_state.specs.Objects.{ObjectChange, Queue, QueueSet}
+use Rattle.rd_state.specs.Objects.{ObjectChange, Queue, QueueSet, Stream, Message}
+use Rattle.rd_stream.specs.PackedMessageChanges.{last_message_buffer, last_message_change}
+use Rattle.rd_stream.specs.PackedMessageChanges.{message_change_length, message_packed}
+use Rattle.rd_stream.specs.PackedMessageChanges.{MessageHasBytes}
+use Rattle.rd_stream.specs.PackedStreamChanges.{last_stream, last_stream_change}
+use Rattle.rd_stream.specs.PackedStreamChanges.{stream_change_length, stream_packed}
+use Rattle.rd_stream.specs.PackedStreamChanges.{StreamHasBytes}
 use Rattle.rd_state.specs.PackedTaskChanges.{last_task, last_task_change, task_change_length}
 use Rattle.rd_state.specs.PackedTaskChanges.{task_packed, TaskHasBytes}
 
@@ -22,6 +28,8 @@ use Rattle.rd_state.specs.PackedTaskChanges.{task_packed, TaskHasBytes}
 abbrev pub object_packed : ObjectChange → List ℕ
 object_packed (Queue queue change) = queue_packed queue change
 object_packed (QueueSet queue_set change) = queue_set_packed queue_set change
+object_packed (Stream stream change) = stream_packed stream change
+object_packed (Message message change) = message_packed message change
 
 -- the bytes of a change: those that it carries, its fields, and its tag
 abbrev pub packed : Change → List ℕ
@@ -37,6 +45,8 @@ packed (Object change) = object_packed change
 abbrev pub ObjectHasBytes : ObjectChange → Type 0
 ObjectHasBytes (Queue queue change) = QueueHasBytes queue change
 ObjectHasBytes (QueueSet queue_set change) = QueueSetHasBytes queue_set change
+ObjectHasBytes (Stream stream change) = StreamHasBytes stream change
+ObjectHasBytes (Message message change) = MessageHasBytes message change
 
 abbrev pub HasBytes : Change → Type 0
 HasBytes (SetTick tick) = tick < 2 ^ 32
@@ -51,12 +61,18 @@ HasBytes (Object change) = ObjectHasBytes change
 abbrev pub last_object_change : List ℕ → ObjectChange
 last_object_change bytes =
     if last_kind bytes == OF_QUEUE then Queue (last_queue bytes) (last_queue_change bytes)
-    else QueueSet (last_queue_set bytes) (last_queue_set_change bytes)
+    else (if last_kind bytes == OF_QUEUE_SET
+    then QueueSet (last_queue_set bytes) (last_queue_set_change bytes)
+    else (if last_kind bytes == OF_STREAM
+    then Stream (last_stream bytes) (last_stream_change bytes)
+    else Message (last_message_buffer bytes) (last_message_change bytes)))
 
 abbrev pub object_change_length : List ℕ → ℕ
 object_change_length bytes =
     if last_kind bytes == OF_QUEUE then queue_change_length bytes
-    else queue_set_change_length bytes
+    else (if last_kind bytes == OF_QUEUE_SET then queue_set_change_length bytes
+    else (if last_kind bytes == OF_STREAM then stream_change_length bytes
+    else message_change_length bytes))
 
 -- the change at the end of bytes, and how many bytes it takes
 abbrev pub last_change : List ℕ → Change

@@ -1,22 +1,29 @@
 -- The bytes of a change of a task, and the change that stands at the end of bytes.
 use Rattle.std.specs.Prelude.{ℕ, ◌≡◌, ◌+◌, ◌^◌, ◌<◌, ◌≤◌, ◌==◌, if◌then◌else◌, Option, Some, None}
-use Rattle.std.specs.Prelude.{IfSome, List, [], ◌∷◌, ◌++◌, length}
+use Rattle.std.specs.Prelude.{IfSome, List, [], ◌∷◌, ◌++◌, length, nat_lt}
 use Rattle.std.specs.Int.{w16, w32, w64, to_le_bytes}
 use Rattle.rd_bytes.specs.Ends.{all_but, bytes_before, end_byte, end_long, end_short, end_word}
 use Rattle.rd_bytes.specs.declared.tag.TheConstants.{SET_PC, SET_REG, SET_PHASE, SET_ENTRY, SET_DATA}
-use Rattle.rd_bytes.specs.declared.tag.TheConstants.{OWN_ENTRY, SELECTING_LIST}
+use Rattle.rd_bytes.specs.declared.tag.TheConstants.{OWN_ENTRY, SELECTING_LIST, READING_STREAM}
+use Rattle.rd_bytes.specs.declared.tag.TheConstants.{WRITING_STREAM, READING_MESSAGES}
+use Rattle.rd_bytes.specs.declared.tag.TheConstants.{WRITING_MESSAGES}
+use Rattle.rd_stream.specs.declared.side.Side.TheVariants.{Reader, Writer}
 use Rattle.rd_queue.specs.PackedChanges.{byte_of_list, list_of_byte}
 use Rattle.rd_state.specs.TaskChanges.{TaskChange, SetPc, SetReg, SetPhase, SetEntry, SetData}
 use Rattle.rd_notify.specs.declared.entries.EntryState.{EntryState}
 use Rattle.rd_notify.specs.declared.entries.EntryState.TheVariants.{Idle, Waiting, Received}
 use Rattle.rd_state.specs.declared.phase.Cause.{Cause}
-use Rattle.rd_state.specs.declared.phase.Cause.TheVariants.{SetFull}
+use Rattle.rd_state.specs.declared.phase.Cause.TheVariants.{SetFull, TwoReaders, TwoWriters}
+use Rattle.rd_state.specs.declared.phase.Cause.TheVariants.{EmptyData}
+use Rattle.rd_state.specs.declared.phase.Held.{Held}
+use Rattle.rd_state.specs.declared.phase.Held.TheVariants.{Stream, Message}
 use Rattle.rd_state.specs.declared.phase.Phase.{Phase}
 use Rattle.rd_state.specs.declared.phase.Phase.TheVariants.{Run, Again, Wait, Ended, Failed}
 use Rattle.rd_state.specs.declared.phase.Place.{Place}
 use Rattle.rd_state.specs.declared.phase.Place.TheVariants as sort
 use Rattle.rd_state.specs.declared.phase.Listed.TheVariants.{Queue, QueueSet}
 use Rattle.rd_state.specs.declared.phase.Listed.{Listed}
+use Rattle.rd_state.specs.Waiting.{held_object}
 
 -- a deadline as a number, the largest for none; and the deadline of such a number
 abbrev pub number_of_deadline : Option ℕ → ℕ
@@ -29,9 +36,16 @@ deadline_of_number number = if number == 18446744073709551615 then None else Som
 -- a cause as a number, and the cause of such a number
 abbrev pub number_of_cause : Cause → ℕ
 number_of_cause SetFull = 0
+number_of_cause TwoReaders = 1
+number_of_cause TwoWriters = 2
+number_of_cause EmptyData = 3
 
 abbrev pub cause_of_number : ℕ → Cause
-cause_of_number number = SetFull
+cause_of_number number =
+    if number == 0 then SetFull
+    else (if number == 1 then TwoReaders
+    else (if number == 2 then TwoWriters
+    else EmptyData))
 
 -- a list as two bytes, its kind and its object; and the list of such bytes
 abbrev pub kind_of_listed : Listed → ℕ
@@ -46,18 +60,35 @@ abbrev pub listed_of_bytes : ℕ → ℕ → Listed
 listed_of_bytes kind object =
     if kind == SELECTING_LIST then QueueSet object else Queue object (list_of_byte kind)
 
--- a place, likewise
+-- a buffer's place, and any place, likewise
+abbrev pub kind_of_held : Held → ℕ
+kind_of_held (Stream stream Reader) = READING_STREAM
+kind_of_held (Stream stream Writer) = WRITING_STREAM
+kind_of_held (Message message Reader) = READING_MESSAGES
+kind_of_held (Message message Writer) = WRITING_MESSAGES
+
+abbrev pub held_of_bytes : ℕ → ℕ → Held
+held_of_bytes kind object =
+    if kind == READING_STREAM then Stream object Reader
+    else (if kind == WRITING_STREAM then Stream object Writer
+    else (if kind == READING_MESSAGES then Message object Reader
+    else Message object Writer))
+
 abbrev pub list_of_place : Place → ℕ
 list_of_place (sort.Listed list) = kind_of_listed list
+list_of_place (sort.Held held) = kind_of_held held
 list_of_place (sort.Entry index) = OWN_ENTRY
 
 abbrev pub object_of_place : Place → ℕ
 object_of_place (sort.Listed list) = object_of_listed list
+object_of_place (sort.Held held) = held_object held
 object_of_place (sort.Entry index) = index
 
 abbrev pub place_of_bytes : ℕ → ℕ → Place
 place_of_bytes list object =
-    if list == OWN_ENTRY then sort.Entry object else sort.Listed (listed_of_bytes list object)
+    if list == OWN_ENTRY then sort.Entry object
+    else (if nat_lt list READING_STREAM then sort.Listed (listed_of_bytes list object)
+    else sort.Held (held_of_bytes list object))
 
 -- A phase is its kind, its place and a number; what it lacks is 0.
 abbrev pub phase_kind : Phase → ℕ

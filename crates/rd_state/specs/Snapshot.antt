@@ -3,11 +3,14 @@ use Rattle.std.specs.Prelude.{ℕ, ◌≡◌, List, [], Option, None, slice_inde
 use Rattle.rd_notify.specs.declared.entries.Entry.{Entry}
 use Rattle.rd_queue.specs.QueueSnapshot.{QueueSnapshot}
 use Rattle.rd_queue.specs.QueueSetSnapshot.{QueueSetSnapshot}
+use Rattle.rd_stream.specs.MessageSnapshot.{MessageSnapshot}
+use Rattle.rd_stream.specs.StreamSnapshot.{StreamSnapshot}
 use Rattle.rd_state.specs.declared.phase.Phase.{Phase}
 use Rattle.rd_state.specs.declared.phase.Phase.TheVariants.{Run}
 use Rattle.rd_state.specs.Objects.{Numbers, ObjectsSnapshot, numbers_in, no_objects}
-use Rattle.rd_state.specs.Objects.{objects_with_queue, objects_with_queue_set, queue_in}
-use Rattle.rd_state.specs.Objects.{queue_set_in}
+use Rattle.rd_state.specs.Objects.{message_in, objects_with_message, objects_with_queue}
+use Rattle.rd_state.specs.Objects.{objects_with_queue_set, objects_with_stream, queue_in}
+use Rattle.rd_state.specs.Objects.{queue_set_in, stream_in}
 
 -- a task: the number of the instruction that comes next, its 8 registers, its data, what it does,
 -- its notification entries
@@ -56,11 +59,17 @@ queue_at s queue = queue_in s.objects queue
 abbrev pub queue_set_at : Snapshot → ℕ → QueueSetSnapshot
 queue_set_at s queue_set = queue_set_in s.objects queue_set
 
+abbrev pub stream_at : Snapshot → ℕ → StreamSnapshot
+stream_at s stream = stream_in s.objects stream
+
+abbrev pub message_at : Snapshot → ℕ → MessageSnapshot
+message_at s message = message_in s.objects message
+
 -- the items of a queue
 abbrev pub items_at : Snapshot → ℕ → List (List ℕ)
 items_at s queue = (queue_at s queue).items
 
--- the state with other objects, and with another task, another queue and another set of that number
+-- the state with other objects, with another task, and with another object of a kind and number
 abbrev pub with_objects : Snapshot → ObjectsSnapshot → Snapshot
 with_objects s now = record s { objects = now }
 
@@ -73,6 +82,12 @@ with_queue s queue now = with_objects s (objects_with_queue s.objects queue now)
 abbrev pub with_queue_set : Snapshot → ℕ → QueueSetSnapshot → Snapshot
 with_queue_set s queue_set now =
     with_objects s (objects_with_queue_set s.objects queue_set now)
+
+abbrev pub with_stream : Snapshot → ℕ → StreamSnapshot → Snapshot
+with_stream s stream now = with_objects s (objects_with_stream s.objects stream now)
+
+abbrev pub with_message : Snapshot → ℕ → MessageSnapshot → Snapshot
+with_message s message now = with_objects s (objects_with_message s.objects message now)
 
 -- the task on a core
 abbrev pub core_at : Snapshot → ℕ → Option ℕ

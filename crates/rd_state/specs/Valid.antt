@@ -13,17 +13,19 @@ use Rattle.rd_app.specs.declared.instr.Instr.{Instr}
 use Rattle.rd_app.specs.declared.instr.Instr.TheVariants as instr
 use Rattle.rd_app.specs.declared.instr.QueueSetCall.{QueueSetCall}
 use Rattle.rd_app.specs.declared.instr.QueueSetCall.TheVariants.{Select}
+use Rattle.rd_state.specs.declared.phase.Held.{Held}
+use Rattle.rd_state.specs.declared.phase.Held.TheVariants as held
 use Rattle.rd_state.specs.declared.phase.Place.{Place}
 use Rattle.rd_state.specs.declared.phase.Place.TheVariants as sort
 use Rattle.rd_state.specs.declared.phase.Listed.{Listed}
 use Rattle.rd_state.specs.declared.phase.Listed.TheVariants.{Queue, QueueSet}
 use Rattle.rd_app.specs.Application.{Application, code_of, index_of_call, instr_at, list_of_call}
-use Rattle.rd_app.specs.Application.{priorities_of}
+use Rattle.rd_app.specs.Application.{priorities_of, side_of_message_call, side_of_stream_call}
 use Rattle.rd_wait.specs.Joined.{IsInOrder}
-use Rattle.rd_state.specs.Objects.{AreShaped}
+use Rattle.rd_state.specs.Objects.{AreShaped, ObjectsSnapshot}
 use Rattle.rd_state.specs.Snapshot.{Snapshot, task_at}
 use Rattle.rd_state.specs.Sizes.{IsSized}
-use Rattle.rd_state.specs.Waiting.{entry_of, listed_at, same_list, waiting_at}
+use Rattle.rd_state.specs.Waiting.{entry_of, holder_in, listed_at, same_list, waiting_at}
 
 -- Numbers and lengths are the application's, and each task stands at an instruction of its script.
 pub record InLimits (app : Application) (s : Snapshot) : Type 0 where
@@ -83,6 +85,10 @@ place_of_call (instr.Local instr) = None
 place_of_call (instr.Queue queue call) =
     option_map (λ list. sort.Listed (Queue queue list)) (list_of_call call)
 place_of_call (instr.QueueSet queue_set call) = place_of_queue_set_call queue_set call
+place_of_call (instr.Stream stream call) =
+    option_map (λ side. sort.Held (held.Stream stream side)) (side_of_stream_call call)
+place_of_call (instr.Message message call) =
+    option_map (λ side. sort.Held (held.Message message side)) (side_of_message_call call)
 place_of_call (instr.Notify call) = option_map sort.Entry (index_of_call call)
 
 -- A task that waits stands at the call of its place. One that tries again stands at a call with a
@@ -140,6 +146,21 @@ EntriesFitScripts app s =
     → EntriesFitCall (task_at s task).phase (instr_at app task (task_at s task).pc)
     (task_at s task).entries
 
+-- A place of a buffer that names a task: it is in the call that waits there, woken or not. Whoever
+-- waits there is named.
+pub record HoldersFitCall (o : ObjectsSnapshot) (task : ℕ) (phase : Phase) (instr : Instr)
+    : Type 0 where
+  pub named : (held : Held) → holder_in o held ≡ Some task
+      → (place_of_call instr ≡ Some (sort.Held held)) × (is_in_call phase ≡ true)
+  pub names : (held : Held) → waits_at phase ≡ Some (sort.Held held)
+      → holder_in o held ≡ Some task
+
+abbrev pub HoldersFitScripts : Application → Snapshot → Type 0
+HoldersFitScripts app s =
+    (task : ℕ) → task < length s.tasks
+    → HoldersFitCall s.objects task (task_at s task).phase
+    (instr_at app task (task_at s task).pc)
+
 pub record IsValid (app : Application) (s : Snapshot) : Type 0 where
   pub in_limits : InLimits app s
   pub seated_once : SeatedOnce s
@@ -148,3 +169,4 @@ pub record IsValid (app : Application) (s : Snapshot) : Type 0 where
   pub calls : PhasesFitScripts app s
   pub deadlines : WaitersHaveTimeLeft s
   pub entries : EntriesFitScripts app s
+  pub holders : HoldersFitScripts app s

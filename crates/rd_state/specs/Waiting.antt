@@ -1,16 +1,24 @@
 -- The places where tasks can wait, and the lists that have those who do.
 use Rattle.std.specs.Prelude.{ℕ, ◌<◌, ◌&&◌, Bool, List, Option, None, Some, nat_eq}
+use Rattle.rd_stream.specs.Holders.{holder_of, with_holder_of}
+use Rattle.rd_stream.specs.Messages.{with_message_holders}
+use Rattle.rd_stream.specs.Streams.{with_stream_holders}
+use Rattle.rd_stream.specs.declared.side.Side.{Side}
+use Rattle.rd_stream.specs.declared.side.Side.TheVariants.{Reader, Writer}
 use Rattle.rd_notify.specs.declared.entries.TheConstants.{MAX_ENTRIES}
 use Rattle.rd_queue.specs.declared.waiting_list.WaitingList.{WaitingList}
 use Rattle.rd_queue.specs.declared.waiting_list.WaitingList.TheVariants.{Receiving, Sending}
 use Rattle.rd_queue.specs.QueueSets.{with_waiting_tasks}
 use Rattle.rd_queue.specs.Queues.{tasks_in_list, with_waiting}
+use Rattle.rd_state.specs.declared.phase.Held.{Held}
+use Rattle.rd_state.specs.declared.phase.Held.TheVariants.{Stream, Message}
 use Rattle.rd_state.specs.declared.phase.Listed.{Listed}
 use Rattle.rd_state.specs.declared.phase.Listed.TheVariants.{Queue, QueueSet}
 use Rattle.rd_state.specs.declared.phase.Place.{Place}
 use Rattle.rd_state.specs.declared.phase.Place.TheVariants as sort
-use Rattle.rd_state.specs.Objects.{Numbers, ObjectsSnapshot, objects_with_queue}
-use Rattle.rd_state.specs.Objects.{objects_with_queue_set, queue_in, queue_set_in}
+use Rattle.rd_state.specs.Objects.{Numbers, ObjectsSnapshot, message_in, objects_with_message}
+use Rattle.rd_state.specs.Objects.{objects_with_queue, objects_with_queue_set, objects_with_stream}
+use Rattle.rd_state.specs.Objects.{queue_in, queue_set_in, stream_in}
 use Rattle.rd_state.specs.Snapshot.{Snapshot, numbers_of, with_objects}
 
 -- ---- what a place is
@@ -19,11 +27,13 @@ use Rattle.rd_state.specs.Snapshot.{Snapshot, numbers_of, with_objects}
 -- lists, who joins them and who leaves, is said of these places alone.
 abbrev pub listed_at : Place → Option Listed
 listed_at (sort.Listed list) = Some list
+listed_at (sort.Held held) = None
 listed_at (sort.Entry index) = None
 
 -- The entry of its own through which a task is told there.
 abbrev pub entry_of : Place → Option ℕ
 entry_of (sort.Listed list) = None
+entry_of (sort.Held held) = Some 0
 entry_of (sort.Entry index) = Some index
 
 -- The list is there, where there are so many objects.
@@ -34,9 +44,18 @@ IsList numbers (QueueSet queue_set) = queue_set < numbers.queue_set_count
 abbrev pub HasList : Snapshot → Listed → Type 0
 HasList s list = IsList (numbers_of s) list
 
+-- The buffer of the place is there.
+abbrev pub IsHeld : Numbers → Held → Type 0
+IsHeld numbers (Stream stream side) = stream < numbers.stream_count
+IsHeld numbers (Message message side) = message < numbers.message_count
+
+abbrev pub HasHeld : Snapshot → Held → Type 0
+HasHeld s held = IsHeld (numbers_of s) held
+
 -- The place is there.
 abbrev pub IsPlace : Numbers → Place → Type 0
 IsPlace numbers (sort.Listed list) = IsList numbers list
+IsPlace numbers (sort.Held held) = IsHeld numbers held
 IsPlace numbers (sort.Entry index) = index < MAX_ENTRIES
 
 -- ---- lists
@@ -83,3 +102,52 @@ objects_then o (QueueSet queue_set) tasks =
 -- the state with these tasks in a list, and none of those that waited there
 abbrev pub with_waiting_at : Snapshot → Listed → List ℕ → Snapshot
 with_waiting_at s list tasks = with_objects s (objects_then s.objects list tasks)
+
+-- ---- places that name one task
+
+-- Such a place by numbers, likewise: the kind of its buffer, which of that kind, and which side.
+abbrev pub held_kind : Held → ℕ
+held_kind (Stream stream side) = 0
+held_kind (Message message side) = 1
+
+abbrev pub held_object : Held → ℕ
+held_object (Stream stream side) = stream
+held_object (Message message side) = message
+
+abbrev pub side_number : Side → ℕ
+side_number Reader = 0
+side_number Writer = 1
+
+abbrev pub held_side : Held → Side
+held_side (Stream stream side) = side
+held_side (Message message side) = side
+
+-- Are they one place?
+abbrev pub same_held : Held → Held → Bool
+same_held held other =
+    nat_eq (held_kind held) (held_kind other)
+    && (nat_eq (side_number (held_side held)) (side_number (held_side other))
+    && nat_eq (held_object held) (held_object other))
+
+-- whom a place names
+abbrev pub holder_in : ObjectsSnapshot → Held → Option ℕ
+holder_in o (Stream stream side) = holder_of side (stream_in o stream).holders
+holder_in o (Message message side) = holder_of side (message_in o message).holders
+
+abbrev pub holder_at : Snapshot → Held → Option ℕ
+holder_at s held = holder_in s.objects held
+
+-- the objects, once a place names this task, or nobody
+abbrev pub objects_naming : ObjectsSnapshot → Held → Option ℕ → ObjectsSnapshot
+objects_naming o (Stream stream side) task =
+    objects_with_stream o stream
+    (with_stream_holders (stream_in o stream)
+    (with_holder_of side task (stream_in o stream).holders))
+objects_naming o (Message message side) task =
+    objects_with_message o message
+    (with_message_holders (message_in o message)
+    (with_holder_of side task (message_in o message).holders))
+
+-- the state with a place that names this task, or nobody
+abbrev pub with_holder : Snapshot → Held → Option ℕ → Snapshot
+with_holder s held task = with_objects s (objects_naming s.objects held task)

@@ -1,25 +1,28 @@
 //! A move in the middle: the state and the record of what was changed.
 
 ghost use Rattle.std.specs.Prelude.{◌≡◌, ◌<◌, ◌≤◌, length, drop, insert, remove, take};
-ghost use Rattle.std.specs.Prelude.{IsOk, OnOk, OnErr};
+ghost use Rattle.std.specs.Prelude.{IfSome, IsOk, OnOk, OnErr};
 ghost use Rattle.rd_state.specs.Change.{applied, cost_of, inverse_of, the_change, Fits};
 ghost use Rattle.rd_state.specs.Edit.{begun_at, capacity_of, room_for, GoesOn, Reaches};
 ghost use Rattle.rd_state.specs.PackedChanges.{all_packed};
 ghost use Rattle.rd_state.specs.Sizes.{IsSized};
 ghost use Rattle.rd_state.specs.Transfers.{change_of, CanTransfer};
 ghost use Rattle.rd_state.specs.Undoing.{undone, CanUndo};
-ghost use Rattle.rd_state.specs.Waiting.{HasList, waiting_at, with_waiting_at};
+ghost use Rattle.rd_state.specs.Waiting.{waiting_at, with_holder, with_waiting_at};
+ghost use Rattle.rd_state.specs.Waiting.{HasHeld, HasList};
 
 use crate::change::Change;
 use crate::change_list::ChangeList;
 use crate::objects::ObjectChange;
-use crate::phase::Listed;
+use crate::phase::{Held, Listed};
 use crate::state::State;
 use crate::transfer::Transfer;
 use crate::undo::Undo;
 use rd_bytes::no_memory::NoMemory;
 use rd_queue::change::QueueChange;
 use rd_queue::queue_set_change::QueueSetChange;
+use rd_stream::message_change::MessageChange;
+use rd_stream::stream_change::StreamChange;
 use std::marker::Model;
 
 /// A state that is changed move by move, with a record, to which each change adds what undoes it.
@@ -204,6 +207,31 @@ impl Editing {
             Listed::QueueSet { queue_set } => {
                 let change = QueueSetChange::DelWait { index };
                 let change = ObjectChange::QueueSet { queue_set, change };
+                self.change(Change::Object { change })
+            }
+        }
+    }
+
+    /// Has the place of a buffer name this task, or nobody.
+    #[inline(always)]
+    pub fn set_holder(&mut self, held: Held, task: Option<usize>) -> Result<(), NoMemory>
+        requires held { HasHeld self.old.now held }
+        requires task { IfSome task (λ t. t < length self.old.now.tasks) }
+        ensures ok { OnOk result
+            (Reaches self.old self.new (with_holder self.old.now held task) 1) }
+        ensures short { OnErr result (self.old.room < room_for 1) }
+        ensures err { OnErr result (self.new ≡ self.old) }
+    {
+        self.state.sizes();
+        match held {
+            Held::Stream { stream, side } => {
+                let change = StreamChange::SetHolder { side, task };
+                let change = ObjectChange::Stream { stream, change };
+                self.change(Change::Object { change })
+            }
+            Held::Message { message, side } => {
+                let change = MessageChange::SetHolder { side, task };
+                let change = ObjectChange::Message { message, change };
                 self.change(Change::Object { change })
             }
         }

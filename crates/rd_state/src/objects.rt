@@ -1,29 +1,39 @@
 //! The objects of the target, and their changes. A kind has a row or a field in each of these.
 
-ghost use Rattle.std.specs.Prelude.{◌≡◌, ◌↔◌, ◌+◌, ◌<◌, ◌≤◌, ℕ, List, length, map, All, IfOk};
-ghost use Rattle.std.specs.Prelude.{IsTrue};
+ghost use Rattle.std.specs.Prelude.{◌≡◌, ◌↔◌, ◌+◌, ◌++◌, ◌<◌, ◌≤◌, length, map, All, IfOk};
+ghost use Rattle.std.specs.Prelude.{take, IsTrue};
 ghost use Rattle.rd_bytes.specs.declared.bytes.TheConstants.{MAX_BYTES};
 ghost use Rattle.rd_queue.specs.Changes.{put_at, queue_applied, the_queue_change, QueueFits, SetItem};
 ghost use Rattle.rd_queue.specs.Queues.{fitted};
 ghost use Rattle.rd_queue.specs.QueueSetChanges.{queue_set_applied, QueueSetFits};
-ghost use Rattle.rd_state.specs.Objects.{first_queues, new_objects, new_queue, new_queue_set};
-ghost use Rattle.rd_state.specs.Objects.{no_objects};
+ghost use Rattle.rd_stream.specs.MessageChanges.{message_applied, the_message_change, Push};
+ghost use Rattle.rd_stream.specs.MessageChanges.{HasRoomForMessage, MessageFits};
+ghost use Rattle.rd_stream.specs.StreamChanges.{stream_applied, the_stream_change, PushBytes};
+ghost use Rattle.rd_stream.specs.StreamChanges.{StreamFits};
+ghost use Rattle.rd_state.specs.Objects.{first_queues, new_message_buffer, new_objects, new_queue};
+ghost use Rattle.rd_state.specs.Objects.{new_queue_set, new_stream, no_objects, trigger_taken};
 ghost use Rattle.rd_state.specs.Objects.{object_applied, object_inverse_of, object_saved_bytes};
-ghost use Rattle.rd_state.specs.Objects.{objects_with_queue, objects_with_queue_set, queue_in};
-ghost use Rattle.rd_state.specs.Objects.{queue_set_in};
-ghost use Rattle.rd_state.specs.Objects.{the_object_change, IsHandleCapacity, ObjectFits};
+ghost use Rattle.rd_state.specs.Objects.{message_in, objects_with_message, objects_with_queue};
+ghost use Rattle.rd_state.specs.Objects.{objects_with_queue_set, objects_with_stream, queue_in};
+ghost use Rattle.rd_state.specs.Objects.{queue_set_in, stream_in, the_object_change};
+ghost use Rattle.rd_state.specs.Objects.{IsHandleCapacity, IsMessageBufferSize, IsStreamSize};
+ghost use Rattle.rd_state.specs.Objects.{ObjectFits};
 ghost use Rattle.rd_state.specs.Transfers.{bytes_at, sunk, HasSink, HasSource};
 
 use crate::transfer::{Sink, Source};
 use crate::whole::{Whole, all_same, copy_all};
 use rd_app::app::App;
-use rd_app::objects::QueueSetShape;
+use rd_app::objects::{MessageShape, QueueSetShape, StreamShape};
 use rd_bytes::no_memory::NoMemory;
 use rd_queue::change::QueueChange;
 use rd_queue::end::End;
 use rd_queue::queue::Queue;
 use rd_queue::queue_set::QueueSet;
 use rd_queue::queue_set_change::QueueSetChange;
+use rd_stream::message_buf::MessageBuf;
+use rd_stream::message_change::MessageChange;
+use rd_stream::stream_buf::StreamBuf;
+use rd_stream::stream_change::StreamChange;
 use std::alloc::{AllocError, Global};
 use std::marker::Model;
 
@@ -40,6 +50,16 @@ pub enum ObjectChange<'a> {
         queue_set: usize,
         change: QueueSetChange,
     },
+    /// The stream buffer changes so.
+    Stream {
+        stream: usize,
+        change: StreamChange<'a>,
+    },
+    /// The message buffer changes so.
+    Message {
+        message: usize,
+        change: MessageChange<'a>,
+    },
 }
 
 impl ObjectChange<'_> {
@@ -50,6 +70,8 @@ impl ObjectChange<'_> {
         match self {
             ObjectChange::Queue { change, .. } => change.cost(),
             ObjectChange::QueueSet { .. } => 1,
+            ObjectChange::Stream { change, .. } => change.cost(),
+            ObjectChange::Message { change, .. } => change.cost(),
         }
     }
 }
@@ -59,6 +81,8 @@ impl ObjectChange<'_> {
 pub struct Objects {
     queues: Vec<Queue>,
     queue_sets: Vec<QueueSet>,
+    streams: Vec<StreamBuf>,
+    messages: Vec<MessageBuf>,
 }
 
 impl Model for Objects {
@@ -66,7 +90,12 @@ impl Model for Objects {
 
     ghost Value = { ObjectsSnapshot };
 
-    ghost view = { λ o. record { queues = o.queues.items; queue_sets = o.queue_sets.items } };
+    ghost view = { λ o. record {
+      queues = o.queues.items;
+      queue_sets = o.queue_sets.items;
+      streams = o.streams.items;
+      messages = o.messages.items;
+    } };
 }
 
 impl Whole for Queue {
@@ -85,6 +114,26 @@ impl Whole for QueueSet {
     }
 
     fn is_same(&self, other: &QueueSet) -> bool {
+        self.same(other)
+    }
+}
+
+impl Whole for StreamBuf {
+    fn copied(&self, alloc: Global) -> Result<StreamBuf, AllocError> {
+        self.copy(alloc)
+    }
+
+    fn is_same(&self, other: &StreamBuf) -> bool {
+        self.same(other)
+    }
+}
+
+impl Whole for MessageBuf {
+    fn copied(&self, alloc: Global) -> Result<MessageBuf, AllocError> {
+        self.copy(alloc)
+    }
+
+    fn is_same(&self, other: &MessageBuf) -> bool {
         self.same(other)
     }
 }
@@ -142,6 +191,49 @@ fn new_queue_sets(
     Ok(queue_sets)
 }
 
+// The trigger level of a new stream buffer: 0 is taken as 1.
+fn trigger_taken(trigger: usize) -> usize
+    ensures { result ≡ trigger_taken trigger }
+{
+    if trigger == 0 { 1 } else { trigger }
+}
+
+// Stream buffers of these shapes with nothing in them, for so many tasks.
+fn new_streams(
+    alloc: Global,
+    shapes: &[StreamShape],
+    task_count: usize,
+) -> Result<Vec<StreamBuf>, NoMemory>
+    requires { All IsStreamSize shapes.now }
+    ensures { IfOk result (λ streams. streams.items ≡ map (new_stream task_count) shapes.now) }
+{
+    let mut streams = Vec::with_capacity(alloc, shapes.len())?;
+    for shape in shapes {
+        let shape: &StreamShape = shape;
+        let trigger = trigger_taken(shape.trigger);
+        streams.push(StreamBuf::new(alloc, shape.capacity, trigger, task_count)?)?;
+    }
+    Ok(streams)
+}
+
+// Message buffers of these shapes with nothing in them, for so many tasks.
+fn new_message_buffers(
+    alloc: Global,
+    shapes: &[MessageShape],
+    task_count: usize,
+) -> Result<Vec<MessageBuf>, NoMemory>
+    requires { All IsMessageBufferSize shapes.now }
+    ensures { IfOk result (λ messages.
+        messages.items ≡ map (new_message_buffer task_count) shapes.now) }
+{
+    let mut messages = Vec::with_capacity(alloc, shapes.len())?;
+    for shape in shapes {
+        let shape: &MessageShape = shape;
+        messages.push(MessageBuf::new(alloc, shape.capacity, task_count)?)?;
+    }
+    Ok(messages)
+}
+
 impl Objects {
     /// No objects, which takes no memory.
     pub(crate) fn none(alloc: Global) -> Objects
@@ -150,6 +242,8 @@ impl Objects {
         Objects {
             queues: Vec::new(alloc),
             queue_sets: Vec::new(alloc),
+            streams: Vec::new(alloc),
+            messages: Vec::new(alloc),
         }
     }
 
@@ -167,6 +261,8 @@ impl Objects {
                 app.objects().queues().len(),
                 task_count,
             )?,
+            streams: new_streams(alloc, app.objects().streams(), task_count)?,
+            messages: new_message_buffers(alloc, app.objects().messages(), task_count)?,
         })
     }
 
@@ -177,6 +273,8 @@ impl Objects {
         Ok(Objects {
             queues: copy_all(alloc, self.queues.as_slice())?,
             queue_sets: copy_all(alloc, self.queue_sets.as_slice())?,
+            streams: copy_all(alloc, self.streams.as_slice())?,
+            messages: copy_all(alloc, self.messages.as_slice())?,
         })
     }
 
@@ -186,6 +284,8 @@ impl Objects {
     {
         all_same(self.queues.as_slice(), other.queues.as_slice())
             && all_same(self.queue_sets.as_slice(), other.queue_sets.as_slice())
+            && all_same(self.streams.as_slice(), other.streams.as_slice())
+            && all_same(self.messages.as_slice(), other.messages.as_slice())
     }
 
     /// How many queues there are.
@@ -209,6 +309,22 @@ impl Objects {
         ensures { result.now ≡ queue_set_in self.now queue_set }
     {
         &self.queue_sets[queue_set]
+    }
+
+    /// A stream buffer.
+    pub fn stream(&self, stream: usize) -> &StreamBuf
+        requires { stream < length self.now.streams }
+        ensures { result.now ≡ stream_in self.now stream }
+    {
+        &self.streams[stream]
+    }
+
+    /// A message buffer.
+    pub fn message(&self, message: usize) -> &MessageBuf
+        requires { message < length self.now.messages }
+        ensures { result.now ≡ message_in self.now message }
+    {
+        &self.messages[message]
     }
 
     // Changes a queue.
@@ -235,6 +351,30 @@ impl Objects {
         target.apply(change);
     }
 
+    // Changes a stream buffer.
+    #[inline(always)]
+    fn change_stream(&mut self, stream: usize, change: StreamChange<'_>)
+        requires there { stream < length self.old.streams }
+        requires fits { StreamFits (stream_in self.old stream) (the_stream_change change) }
+        ensures { self.new ≡ objects_with_stream self.old stream
+            (stream_applied (stream_in self.old stream) (the_stream_change change.entry)) }
+    {
+        let target = &mut self.streams[stream];
+        target.apply(change);
+    }
+
+    // Changes a message buffer.
+    #[inline(always)]
+    fn change_message(&mut self, message: usize, change: MessageChange<'_>)
+        requires there { message < length self.old.messages }
+        requires fits { MessageFits (message_in self.old message) (the_message_change change) }
+        ensures { self.new ≡ objects_with_message self.old message
+            (message_applied (message_in self.old message) (the_message_change change.entry)) }
+    {
+        let target = &mut self.messages[message];
+        target.apply(change);
+    }
+
     /// Makes a change of an object. It takes no memory.
     #[inline(always)]
     pub(crate) fn apply(&mut self, change: ObjectChange<'_>)
@@ -246,6 +386,8 @@ impl Objects {
             ObjectChange::QueueSet { queue_set, change } => {
                 self.change_queue_set(queue_set, change);
             }
+            ObjectChange::Stream { stream, change } => self.change_stream(stream, change),
+            ObjectChange::Message { message, change } => self.change_message(message, change),
         }
     }
 
@@ -266,40 +408,54 @@ impl Objects {
                 queue_set,
                 change: self.queue_set(queue_set).inverse_of(change),
             },
+            ObjectChange::Stream { stream, change } => ObjectChange::Stream {
+                stream,
+                change: self.stream(stream).inverse_of(change),
+            },
+            ObjectChange::Message { message, change } => ObjectChange::Message {
+                message,
+                change: self.message(message).inverse_of(change),
+            },
         }
     }
 
-    /// The bytes at a source.
+    /// The bytes at a source, in two pieces that follow one another.
     #[inline(always)]
-    pub(crate) fn bytes_at(&self, source: Source) -> &[u8]
+    pub(crate) fn bytes_at(&self, source: Source) -> (&[u8], &[u8])
         requires { HasSource self.now source }
-        ensures bytes { result.now ≡ bytes_at self.now source }
-        ensures few { length result.now ≤ MAX_BYTES }
+        ensures bytes { result.0.now ++ result.1.now ≡ bytes_at self.now source }
+        ensures few { length (result.0.now ++ result.1.now) ≤ MAX_BYTES }
     {
         match source {
-            Source::QueueFront { queue } => self.queue(queue).first(),
+            Source::QueueFront { queue } => (self.queue(queue).first(), &[]),
+            Source::StreamFront { stream, count } => self.stream(stream).first(count),
+            Source::MessageFront { message } => self.message(message).first(),
         }
     }
 
     /// Brings bytes to a sink. It takes no memory.
     #[inline(always)]
     pub(crate) fn sink(&mut self, sink: Sink, bytes: &[u8])
-        requires { HasSink self.old sink }
+        requires { HasSink self.old sink bytes.now }
         ensures { self.new ≡ object_applied self.old (sunk self.old sink bytes.now) }
     {
         match sink {
             Sink::QueueEnd { queue, end } => self.put_fitted(queue, end, bytes),
             Sink::OverFront { queue } => self.set_first_fitted(queue, bytes),
+            Sink::StreamBack { stream, count } => self.write_stream(stream, &bytes[..count]),
+            Sink::MessageBack { message } => self.write_message(message, bytes),
         }
     }
 
-    /// The change that undoes what comes to a sink of these objects, which lend it its bytes.
+    /// The change that undoes what comes of these bytes to a sink of these objects, which lend it
+    /// its own.
     #[inline(always)]
-    pub(crate) fn inverse_of_sink(&self, sink: Sink) -> ObjectChange<'_>
-        requires { HasSink self.now sink }
-        ensures { (bytes : List ℕ) → the_object_change result
-            ≡ object_inverse_of self.now (sunk self.now sink bytes) }
+    pub(crate) fn inverse_of_sink(&self, sink: Sink, bytes: &[u8]) -> ObjectChange<'_>
+        requires { HasSink self.now sink bytes.now }
+        ensures { the_object_change result
+            ≡ object_inverse_of self.now (sunk self.now sink bytes.now) }
     {
+        let _ = bytes;
         match sink {
             Sink::QueueEnd { queue, end } => {
                 let change = match end {
@@ -313,7 +469,40 @@ impl Objects {
                 let change = QueueChange::SetItem { index: 0, item };
                 ObjectChange::Queue { queue, change }
             }
+            Sink::StreamBack { stream, count } => {
+                let change = StreamChange::DropBytes { count };
+                ObjectChange::Stream { stream, change }
+            }
+            Sink::MessageBack { message } => {
+                let change = MessageChange::Drop;
+                ObjectChange::Message { message, change }
+            }
         }
+    }
+
+    // Puts bytes at the back of a stream buffer that has room.
+    #[inline(always)]
+    fn write_stream(&mut self, stream: usize, bytes: &[u8])
+        requires there { stream < length self.old.streams }
+        requires room { length (stream_in self.old stream).bytes + length bytes.now
+            ≤ (stream_in self.old stream).capacity }
+        ensures { self.new ≡ objects_with_stream self.old stream
+            (stream_applied (stream_in self.old stream) (PushBytes bytes.now)) }
+    {
+        let target = &mut self.streams[stream];
+        target.write(bytes);
+    }
+
+    // Puts a message at the back of a message buffer that has room.
+    #[inline(always)]
+    fn write_message(&mut self, message: usize, bytes: &[u8])
+        requires there { message < length self.old.messages }
+        requires room { HasRoomForMessage (message_in self.old message) bytes.now }
+        ensures { self.new ≡ objects_with_message self.old message
+            (message_applied (message_in self.old message) (Push bytes.now)) }
+    {
+        let target = &mut self.messages[message];
+        target.write(bytes);
     }
 
     // Puts the item that these bytes make at an end of a queue that has room.

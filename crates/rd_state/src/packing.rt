@@ -15,9 +15,14 @@ use crate::task_packing::{LastTaskChange, last_task_change};
 use rd_bytes::byte_stack::ByteStack;
 use rd_bytes::ends::{all_but, byte_of_number, end_byte, end_word, number_of_byte};
 use rd_bytes::no_memory::NoMemory;
-use rd_bytes::tag::{DEL_READY, INS_READY, OF_QUEUE, SET_CORE, SET_TICK, SET_TURN, last_kind};
+use rd_bytes::tag::{
+    DEL_READY, INS_READY, OF_QUEUE, OF_QUEUE_SET, OF_STREAM, SET_CORE, SET_TICK, SET_TURN,
+    last_kind,
+};
 use rd_queue::packing::{LastQueueChange, last_queue_change};
 use rd_queue::queue_set_packing::{LastQueueSetChange, last_queue_set_change};
+use rd_stream::message_packing::{LastMessageChange, last_message_change};
+use rd_stream::stream_packing::{LastStreamChange, last_stream_change};
 
 impl ObjectChange<'_> {
     // Puts the bytes of this change behind the others.
@@ -35,6 +40,8 @@ impl ObjectChange<'_> {
         match self {
             ObjectChange::Queue { queue, change } => change.pack(queue, bytes),
             ObjectChange::QueueSet { queue_set, change } => change.pack(queue_set, bytes),
+            ObjectChange::Stream { stream, change } => change.pack(stream, bytes),
+            ObjectChange::Message { message, change } => change.pack(message, bytes),
         }
     }
 }
@@ -97,13 +104,33 @@ fn last_object_change(bytes: &[u8]) -> (ObjectChange<'_>, &[u8])
             } = last_queue_change(bytes);
             (ObjectChange::Queue { queue, change }, rest)
         }
-        _ => {
+        OF_QUEUE_SET => {
             let LastQueueSetChange {
                 queue_set,
                 change,
                 rest,
             } = last_queue_set_change(bytes);
             (ObjectChange::QueueSet { queue_set, change }, rest)
+        }
+        OF_STREAM => {
+            let LastStreamChange {
+                stream,
+                change,
+                rest,
+            } = last_stream_change(bytes);
+            (ObjectChange::Stream { stream, change }, rest)
+        }
+        _ => {
+            let LastMessageChange {
+                buffer,
+                change,
+                rest,
+            } = last_message_change(bytes);
+            let change = ObjectChange::Message {
+                message: buffer,
+                change,
+            };
+            (change, rest)
         }
     }
 }

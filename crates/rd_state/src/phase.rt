@@ -1,9 +1,10 @@
 //! What a task is doing, and where it can wait.
 
 ghost use Rattle.std.specs.Prelude.{◌≡◌};
-ghost use Rattle.rd_state.specs.Phases.{is_first, kept_deadline, waits_at};
+ghost use Rattle.rd_state.specs.Phases.{is_first, kept_deadline, tries_again, waits_at};
 
 use rd_queue::waiting_list::WaitingList;
+use rd_stream::side::Side;
 
 /// What a task is doing.
 #[derive(Clone, Copy, Debug, PartialEq, Eq)]
@@ -26,6 +27,12 @@ pub enum Phase {
 pub enum Cause {
     /// An item was to be put into a member of a set that has no room for its handle.
     SetFull,
+    /// It was to wait as the reader of a buffer, where another task does.
+    TwoReaders,
+    /// It was to wait as the writer of a buffer, where another task does.
+    TwoWriters,
+    /// Data of no bytes was to be written to a buffer.
+    EmptyData,
 }
 
 impl Phase {
@@ -36,6 +43,16 @@ impl Phase {
         match self {
             Phase::Run => true,
             Phase::Again { .. } | Phase::Wait { .. } | Phase::Ended | Phase::Failed { .. } => false,
+        }
+    }
+
+    /// Whether the task was woken from a call, which it tries again.
+    pub fn tries_again(self) -> bool
+        ensures { result ≡ tries_again self }
+    {
+        match self {
+            Phase::Again { .. } => true,
+            Phase::Run | Phase::Wait { .. } | Phase::Ended | Phase::Failed { .. } => false,
         }
     }
 
@@ -65,6 +82,9 @@ impl Phase {
 pub enum Place {
     /// In a list of tasks, which is in the order of their priorities.
     Listed { list: Listed },
+    /// As the reader or the writer of a buffer, which has a place for one of each. It is told
+    /// through its entry 0.
+    Held { held: Held },
     /// For a notification that comes to its own entry of that index. No list has it.
     Entry { index: usize },
 }
@@ -76,4 +96,13 @@ pub enum Listed {
     Queue { queue: usize, list: WaitingList },
     /// For a handle of the set.
     QueueSet { queue_set: usize },
+}
+
+/// The places of buffers, each of which names one task or nobody.
+#[derive(Clone, Copy, Debug, PartialEq, Eq)]
+pub enum Held {
+    /// Of a stream buffer.
+    Stream { stream: usize, side: Side },
+    /// Of a message buffer.
+    Message { message: usize, side: Side },
 }

@@ -4,23 +4,22 @@ ghost use Rattle.std.specs.Prelude.{◌≡◌, ◌<◌, ◌≤◌, ◌↔◌, le
 ghost use Rattle.rd_state.specs.Boot.{before_scheduling};
 ghost use Rattle.rd_state.specs.Change as changes;
 ghost use Rattle.rd_state.specs.Change.{applied, inverse_of, the_change, Fits};
-ghost use Rattle.rd_state.specs.Objects.{the_object_change, AreSizedObjects, IsQueueFor};
-ghost use Rattle.rd_state.specs.Objects.{IsQueueSetFor};
+ghost use Rattle.rd_state.specs.Objects.{the_object_change, AreSizedObjects, IsMessageBufferFor};
+ghost use Rattle.rd_state.specs.Objects.{IsQueueFor, IsQueueSetFor, IsStreamFor};
 ghost use Rattle.rd_state.specs.Settled.{weakest_of, rank_of};
 ghost use Rattle.rd_state.specs.Sizes.{IsSized, IsSizedPhase, IsTaskOrIdle};
 ghost use Rattle.rd_state.specs.Snapshot.{hollow_state, numbers_of, task_at, queue_at};
-ghost use Rattle.rd_state.specs.Snapshot.{queue_set_at};
-ghost use Rattle.rd_state.specs.Snapshot.{core_at};
+ghost use Rattle.rd_state.specs.Snapshot.{core_at, message_at, queue_set_at, stream_at};
 ghost use Rattle.rd_state.specs.Snapshot.{SameScheduling, SameObjects};
 ghost use Rattle.rd_state.specs.TaskChanges.{the_task_change};
 ghost use Rattle.rd_state.specs.Transfers.{change_of, CanTransfer, HasSink, HasSource};
 ghost use Rattle.rd_state.specs.declared.transfer.Transfer.TheVariants as transfer;
-ghost use Rattle.rd_state.specs.Waiting.{HasList, waiting_at};
+ghost use Rattle.rd_state.specs.Waiting.{holder_at, waiting_at, HasHeld, HasList};
 
 use crate::boot::{all_ready, new_tasks};
 use crate::change::Change;
 use crate::objects::{ObjectChange, Objects};
-use crate::phase::{Listed, Phase};
+use crate::phase::{Held, Listed, Phase};
 use crate::task::Task;
 use crate::task_change::TaskChange;
 use crate::transfer::{Sink, Source, Transfer};
@@ -29,6 +28,8 @@ use rd_app::app::App;
 use rd_bytes::no_memory::NoMemory;
 use rd_queue::queue::Queue;
 use rd_queue::queue_set::QueueSet;
+use rd_stream::message_buf::MessageBuf;
+use rd_stream::stream_buf::StreamBuf;
 use rd_wait::prio_list::PrioList;
 use std::alloc::Global;
 use std::marker::Model;
@@ -241,6 +242,36 @@ impl State {
         self.objects.queue_set(queue_set)
     }
 
+    /// A stream buffer.
+    pub fn stream(&self, stream: usize) -> &StreamBuf
+        requires { stream < length self.now.objects.streams }
+        ensures stream { result.now ≡ stream_at self.now stream }
+        ensures sized { IsStreamFor (length self.now.tasks) result.now }
+    {
+        self.objects.stream(stream)
+    }
+
+    /// A message buffer.
+    pub fn message(&self, message: usize) -> &MessageBuf
+        requires { message < length self.now.objects.messages }
+        ensures message { result.now ≡ message_at self.now message }
+        ensures sized { IsMessageBufferFor (length self.now.tasks) result.now }
+    {
+        self.objects.message(message)
+    }
+
+    /// Whom the place of a buffer names, if anybody.
+    pub fn holder(&self, held: Held) -> Option<usize>
+        requires { HasHeld self.now held }
+        ensures holder { result ≡ holder_at self.now held }
+        ensures task { IsTaskOrIdle (length self.now.tasks) result }
+    {
+        match held {
+            Held::Stream { stream, side } => self.stream(stream).holder(side),
+            Held::Message { message, side } => self.message(message).holder(side),
+        }
+    }
+
     /// The tasks that wait in a list, the first to be served first.
     pub fn waiting(&self, place: Listed) -> &PrioList
         requires { HasList self.now place }
@@ -343,9 +374,9 @@ impl State {
         requires { CanTransfer self.old (transfer.ToData source task) }
         ensures { self.new ≡ applied self.old (change_of self.old (transfer.ToData source task)) }
     {
-        let bytes = self.objects.bytes_at(source);
+        let (front, back) = self.objects.bytes_at(source);
         let target = &mut self.tasks[task];
-        target.set_bytes(bytes);
+        target.set_halves(front, back);
     }
 
     /// Makes the change that a transfer stands for, with no copy of the bytes but the one that
@@ -369,9 +400,11 @@ impl State {
         ensures { the_change result ≡ inverse_of self.now (change_of self.now transfer) }
     {
         match transfer {
-            Transfer::FromData { sink, .. } => Change::Object {
-                change: self.objects.inverse_of_sink(sink),
-            },
+            Transfer::FromData { task, sink } => {
+                let bytes = self.task(task).bytes();
+                let change = self.objects.inverse_of_sink(sink, bytes);
+                Change::Object { change }
+            }
             Transfer::ToData { task, .. } => {
                 let bytes = self.task(task).bytes();
                 let change = TaskChange::SetData { bytes };

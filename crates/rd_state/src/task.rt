@@ -1,6 +1,6 @@
 //! A task of the target.
 
-ghost use Rattle.std.specs.Prelude.{◌≡◌, ◌↔◌, IsTrue, ◌<◌, ◌≤◌, [], length, replicate};
+ghost use Rattle.std.specs.Prelude.{◌≡◌, ◌↔◌, ◌++◌, IsTrue, ◌<◌, ◌≤◌, [], length, replicate};
 ghost use Rattle.std.specs.Prelude.{slice_index, slice_set, Some, IfOk};
 ghost use Rattle.rd_bytes.specs.declared.bytes.TheConstants.{MAX_BYTES};
 ghost use Rattle.rd_notify.specs.declared.entries.TheConstants.{MAX_ENTRIES};
@@ -142,6 +142,14 @@ impl Task {
         ensures { self.new ≡ record self.old { bytes = bytes.now } }
     {
         self.bytes.replace(bytes);
+    }
+
+    /// Replaces the data with bytes in two pieces that follow one another.
+    pub fn set_halves(&mut self, front: &[u8], back: &[u8])
+        requires { length (front.now ++ back.now) ≤ MAX_BYTES }
+        ensures { self.new ≡ record self.old { bytes = front.now ++ back.now } }
+    {
+        self.bytes.replace_halves(front, back);
     }
 
     /// Puts an entry in the place of its notification entry at `index`.

@@ -7,6 +7,10 @@ use rd_queue::end::End;
 pub enum Source {
     /// The item at a queue's front. The queue keeps it.
     QueueFront { queue: usize },
+    /// So many bytes at a stream buffer's front. The buffer keeps them.
+    StreamFront { stream: usize, count: usize },
+    /// The message at a message buffer's front. The buffer keeps it.
+    MessageFront { message: usize },
 }
 
 /// Where the bytes of a task's data can go.
@@ -16,6 +20,10 @@ pub enum Sink {
     QueueEnd { queue: usize, end: End },
     /// The place of the item at a queue's front, made to fit likewise.
     OverFront { queue: usize },
+    /// The back of a stream buffer, for the first so many of the bytes.
+    StreamBack { stream: usize, count: usize },
+    /// The back of a message buffer, as one message.
+    MessageBack { message: usize },
 }
 
 /// Bytes that go between a task's data and another part of the state, straight to where they stay.

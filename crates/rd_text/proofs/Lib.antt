@@ -1,5 +1,6 @@
 -- The lemmas of this crate.
 pub mod WordLemmas
+pub mod KindLaws
 pub mod NameLemmas
 pub mod NameLaws
 pub mod IndexLemmas

@@ -10,6 +10,10 @@ pub enum Kind {
     Queue,
     /// `set`: a queue set
     QueueSet,
+    /// `stream`: a stream buffer
+    Stream,
+    /// `message`: a message buffer
+    Message,
     /// `task`
     Task,
 }
@@ -22,6 +26,8 @@ impl Kind {
         match word {
             b"queue" => Some(Kind::Queue),
             b"set" => Some(Kind::QueueSet),
+            b"stream" => Some(Kind::Stream),
+            b"message" => Some(Kind::Message),
             b"task" => Some(Kind::Task),
             _ => None,
         }

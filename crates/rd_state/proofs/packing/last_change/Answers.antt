@@ -1,7 +1,8 @@
 -- The goals of `last_change` that the check left open.
-use Rattle.std.proofs.Common.{◌∙◌, ap, rules, sym}
-use Rattle.rd_bytes.specs.Ends.{all_but}
-use Rattle.rd_state.proofs.PackingLaws.{change_length-task}
+use Rattle.std.proofs.Common.{◌∙◌, ap, arith, rules, sym}
+use Rattle.rd_bytes.specs.Ends.{all_but, end_byte}
+use Rattle.rd_state.specs.Change.{Object}
+use Rattle.rd_state.proofs.PackingLaws.{IsObjectTag, change_length-object, change_length-task, last_change-object}
 use Rattle.rd_state.proofs.packing.last_change.Goals as goal
 
 pub returns-then-tag-lt-INS_READY-clause-rest : goal.returns-then-tag-lt-INS_READY-clause-rest
@@ -9,3 +10,39 @@ returns-then-tag-lt-INS_READY-clause-rest c =
     let bytes = c.args.bytes.now in
     c.last_task_change-task.ensures.rest
     ∙ ap (λ n. all_but n bytes) (sym (change_length-task bytes (search rules) (search rules) (search rules) (search rules)))
+
+pub last_object_change-requires-clause-whole : goal.last_object_change-requires-clause-whole
+last_object_change-requires-clause-whole c =
+    let is : IsObjectTag (end_byte 1 c.args.bytes.now) = record {
+      tick = search rules;
+      turn = search rules;
+      core = search rules;
+      ready = search rules;
+      left = search rules;
+      above = search rules;
+    } in
+    omega (arith, change_length-object c.args.bytes.now is, c.requires.whole)
+
+pub returns-else-tag-lt-INS_READY-clause-change : goal.returns-else-tag-lt-INS_READY-clause-change
+returns-else-tag-lt-INS_READY-clause-change c =
+    let is : IsObjectTag (end_byte 1 c.args.bytes.now) = record {
+      tick = search rules;
+      turn = search rules;
+      core = search rules;
+      ready = search rules;
+      left = search rules;
+      above = search rules;
+    } in
+    ap Object c.last_object_change.ensures.change ∙ sym (last_change-object c.args.bytes.now is)
+
+pub returns-else-tag-lt-INS_READY-clause-rest : goal.returns-else-tag-lt-INS_READY-clause-rest
+returns-else-tag-lt-INS_READY-clause-rest c =
+    let is : IsObjectTag (end_byte 1 c.args.bytes.now) = record {
+      tick = search rules;
+      turn = search rules;
+      core = search rules;
+      ready = search rules;
+      left = search rules;
+      above = search rules;
+    } in
+    c.last_object_change.ensures.rest ∙ ap (λ n. all_but n c.args.bytes.now) (sym (change_length-object c.args.bytes.now is))

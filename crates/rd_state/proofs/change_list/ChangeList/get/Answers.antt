@@ -37,3 +37,9 @@ returns c =
     c.last_change-2.ensures.change
     ∙ sym (ap (λ all. get_or all c.args.index no_change) peel.is ∙ get_or_at before (last_change rest) [] no_change c.args.index at)
     ∙ c.loop-left.invariant.same
+
+pub last_change-requires : goal.last_change-requires
+last_change-requires c = (peeled c.loop-left.left c.loop-left.rest.now (omega arith) c.loop-left.invariant.are).ends
+
+pub last_change-requires-2 : goal.last_change-requires-2
+last_change-requires-2 c = (peeled c.loop-left.left c.loop-left.rest.now (omega (arith, c.loop-left.invariant.within)) c.loop-left.invariant.are).ends

@@ -26,3 +26,6 @@ loop-left-preserved c =
       are = peel.rest;
       sum = omega (arith, ap weight_of peel.is, sum_by_push cost_of before (last_change rest), cost, c.loop-left.invariant.sum);
     })
+
+pub last_change-last-requires : goal.last_change-last-requires
+last_change-last-requires c = (peeled c.loop-left.left c.loop-left.rest.now (omega arith) c.loop-left.invariant.are).ends

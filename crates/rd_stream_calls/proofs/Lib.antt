@@ -1,0 +1,6 @@
+-- The files of lemmas of rd_stream_calls.
+pub mod BufferLaws
+pub mod StreamCallLaws
+pub mod MessageCallLaws
+pub mod WaitLaws
+pub mod Offered
