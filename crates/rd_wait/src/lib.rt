@@ -1,4 +1,5 @@
 //! Lists of waiting tasks.
 #![tactic(auto)]
 
+pub mod fifo_list;
 pub mod prio_list;

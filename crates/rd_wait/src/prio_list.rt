@@ -29,6 +29,20 @@ impl Model for PrioList {
     ghost invariant = { λ l. (vec_len l.tasks ≤ l.capacity) × (l.capacity ≤ vec_capacity l.tasks) };
 }
 
+/// The index at which a task of priority `priority` joins tasks that are in priority order: after
+/// every one of at least that priority that stands before a lower one. `priorities` are the tasks'
+/// priorities by number.
+pub fn index_for(priorities: &[u8], tasks: &[usize], priority: u8) -> usize
+    requires { HavePriorities priorities.now tasks.now }
+    ensures index { result ≡ index_for priorities.now tasks.now priority }
+    ensures within { result ≤ length tasks.now }
+{
+    tasks
+        .iter()
+        .take_while(|task| priorities[**task] >= priority)
+        .count()
+}
+
 impl PrioList {
     /// An empty list with room for `capacity` tasks.
     pub fn new(alloc: Global, capacity: usize) -> Result<PrioList, AllocError>
@@ -75,17 +89,13 @@ impl PrioList {
         self.tasks.as_slice()
     }
 
-    /// The index at which a task of priority `priority` joins: after every member of at least that
-    /// priority that stands before a lower one. `priorities` are the tasks' priorities by number.
+    /// The index at which a task of priority `priority` joins.
     pub fn index_for(&self, priorities: &[u8], priority: u8) -> usize
         requires { HavePriorities priorities.now self.now.tasks }
         ensures index { result ≡ index_for priorities.now self.now.tasks priority }
         ensures within { result ≤ length self.now.tasks }
     {
-        self.tasks
-            .iter()
-            .take_while(|task| priorities[**task] >= priority)
-            .count()
+        index_for(priorities, self.tasks.as_slice(), priority)
     }
 
     /// Puts `task` in at `index`. Those from there on move back by one.
