@@ -11,7 +11,7 @@ use Rattle.rd_app.specs.declared.instr.Operand.{Operand}
 use Rattle.rd_app.specs.declared.instr.Operand.TheVariants.{Number, Register}
 use Rattle.rd_app.specs.declared.instr.Instr.{Instr}
 use Rattle.rd_app.specs.declared.instr.Instr.TheVariants.{Local, Queue, QueueSet, Stream}
-use Rattle.rd_app.specs.declared.instr.Instr.TheVariants.{Message, Notify}
+use Rattle.rd_app.specs.declared.instr.Instr.TheVariants.{Message, Group, Notify}
 use Rattle.rd_app.specs.declared.instr.LocalInstr.{LocalInstr}
 use Rattle.rd_app.specs.declared.instr.LocalInstr.TheVariants as local
 use Rattle.rd_app.specs.declared.instr.QueueCall.{QueueCall}
@@ -24,6 +24,8 @@ use Rattle.rd_app.specs.declared.instr.StreamCall.{StreamCall}
 use Rattle.rd_app.specs.declared.instr.StreamCall.TheVariants as stream_call
 use Rattle.rd_app.specs.declared.instr.MessageCall.{MessageCall}
 use Rattle.rd_app.specs.declared.instr.MessageCall.TheVariants as message_call
+use Rattle.rd_app.specs.declared.instr.GroupCall.{GroupCall}
+use Rattle.rd_app.specs.declared.instr.GroupCall.TheVariants as group_call
 use Rattle.rd_app.specs.declared.instr.NotifyCall.{NotifyCall}
 use Rattle.rd_app.specs.declared.instr.NotifyCall.TheVariants as notify
 use Rattle.rd_queue.specs.declared.waiting_list.WaitingList.{WaitingList}
@@ -116,6 +118,14 @@ IsMessageCall message_call.Reset = Unit {0}
 IsMessageCall message_call.Spaces = Unit {0}
 IsMessageCall message_call.NextLength = Unit {0}
 
+-- The registers that a call of an event group names are there.
+abbrev pub IsGroupCall : GroupCall → Type 0
+IsGroupCall (group_call.Set bits) = IsOperand bits
+IsGroupCall (group_call.Clear bits) = IsOperand bits
+IsGroupCall group_call.Get = Unit {0}
+IsGroupCall (group_call.Wait bits wait_for on_met wait) = IsOperand bits × IsOperand wait
+IsGroupCall (group_call.Sync set bits wait) = IsOperand set × IsOperand bits × IsOperand wait
+
 -- The registers that a call names are there, and of so many tasks, each with so many entries, the one
 -- that it names.
 abbrev pub IsNotifyCall : ℕ → ℕ → NotifyCall → Type 0
@@ -180,6 +190,14 @@ side_of_message_call message_call.Reset = None
 side_of_message_call message_call.Spaces = None
 side_of_message_call message_call.NextLength = None
 
+-- Does a task wait in its event group's list for a call, if it has to wait?
+abbrev pub waits_in_group : GroupCall → Bool
+waits_in_group (group_call.Set bits) = false
+waits_in_group (group_call.Clear bits) = false
+waits_in_group group_call.Get = false
+waits_in_group (group_call.Wait bits wait_for on_met wait) = true
+waits_in_group (group_call.Sync set bits wait) = true
+
 -- Registers, instructions of the script, objects, tasks and their entries are there.
 abbrev pub IsWithin : Application → ℕ → Instr → Type 0
 IsWithin app len (Local instr) = IsLocalWithin len instr
@@ -193,6 +211,8 @@ IsWithin app len (Stream stream call) =
     (stream < length app.objects.streams.things) × IsStreamCall call
 IsWithin app len (Message message call) =
     (message < length app.objects.messages.things) × IsMessageCall call
+IsWithin app len (Group group call) =
+    (group < length app.objects.groups.things) × IsGroupCall call
 IsWithin app len (Notify call) = IsNotifyCall (length app.tasks.things) app.entries call
 
 -- does the script never go on at the next instruction?
@@ -213,6 +233,7 @@ is_final (Queue queue call) = false
 is_final (QueueSet queue_set call) = false
 is_final (Stream stream call) = false
 is_final (Message message call) = false
+is_final (Group group call) = false
 is_final (Notify call) = false
 
 -- the queue and the call, where the instruction is a call of a queue
@@ -222,6 +243,7 @@ queue_call_of (Queue queue call) = Some (queue, call)
 queue_call_of (QueueSet queue_set call) = None
 queue_call_of (Stream stream call) = None
 queue_call_of (Message message call) = None
+queue_call_of (Group group call) = None
 queue_call_of (Notify call) = None
 
 pub record IsScript (app : Application) (script : TaskScript) : Type 0 where

@@ -11,7 +11,8 @@ use Rattle.rd_stream.specs.declared.message_buf.TheConstants.{MIN_MESSAGE_BUFFER
 use Rattle.rd_stream.specs.declared.message_buf.TheConstants.{MAX_MESSAGE_BUFFER_SIZE}
 use Rattle.rd_stream.specs.declared.stream_buf.TheConstants.{MAX_STREAM_SIZE}
 use Rattle.rd_app.specs.declared.objects.TheConstants.{MAX_QUEUES, MAX_QUEUE_SETS, MAX_STREAMS}
-use Rattle.rd_app.specs.declared.objects.TheConstants.{MAX_MESSAGE_BUFFERS}
+use Rattle.rd_app.specs.declared.objects.TheConstants.{MAX_MESSAGE_BUFFERS, MAX_GROUPS}
+use Rattle.rd_app.specs.declared.objects.GroupShape.{GroupShape}
 use Rattle.rd_app.specs.declared.objects.QueueShape.{QueueShape}
 use Rattle.rd_app.specs.declared.objects.StreamShape.{StreamShape}
 use Rattle.rd_app.specs.declared.objects.MessageShape.{MessageShape}
@@ -24,6 +25,7 @@ pub record NamedObjects : Type 0 where
   pub queue_sets : Named QueueSetShapeView
   pub streams : Named StreamShape
   pub messages : Named MessageShape
+  pub groups : Named GroupShape
 
 abbrev pub no_named_objects : NamedObjects
 no_named_objects = record {
@@ -31,6 +33,7 @@ no_named_objects = record {
   queue_sets = record { names = []; things = [] };
   streams = record { names = []; things = [] };
   messages = record { names = []; things = [] };
+  groups = record { names = []; things = [] };
 }
 
 -- what a contract sees of the code's
@@ -40,6 +43,7 @@ objects_view objects = record {
   queue_sets = named_view objects.queue_sets;
   streams = named_view objects.streams;
   messages = named_view objects.messages;
+  groups = named_view objects.groups;
 }
 
 -- the names of a kind, among these objects and the tasks of these names
@@ -48,6 +52,7 @@ names_in o tasks kind.Queue = o.queues.names
 names_in o tasks kind.QueueSet = o.queue_sets.names
 names_in o tasks kind.Stream = o.streams.names
 names_in o tasks kind.Message = o.messages.names
+names_in o tasks kind.Group = o.groups.names
 names_in o tasks kind.Task = tasks
 
 -- the shape of a queue
@@ -102,3 +107,5 @@ pub record AreObjects (o : NamedObjects) : Type 0 where
   pub named_messages : AreNamed o.messages
   pub few_messages : length o.messages.things ≤ MAX_MESSAGE_BUFFERS
   pub messages : All IsMessageShape o.messages.things
+  pub named_groups : AreNamed o.groups
+  pub few_groups : length o.groups.things ≤ MAX_GROUPS

@@ -4,6 +4,7 @@ ghost use Rattle.std.specs.Prelude.{◌≡◌};
 ghost use Rattle.rd_app.specs.Application.{is_final, is_local_final, queue_call_of};
 
 use rd_bytes::bytes::Bytes;
+use rd_group::wish::{OnMet, WaitFor};
 use rd_notify::action::{Action, OnExit};
 use rd_queue::end::End;
 
@@ -117,6 +118,37 @@ pub enum MessageCall {
     NextLength,
 }
 
+/// A call of an event group. Its bits are 24, 0 to 16,777,215 as a number.
+#[derive(Clone, Copy, Debug, PartialEq, Eq)]
+pub enum GroupCall {
+    /// `gset G V`: sets bits, and gives them to all whose wishes they meet
+    /// (`xEventGroupSetBits`).
+    Set {
+        bits: Operand,
+    },
+    /// `gclear G V`: clears bits (`xEventGroupClearBits`).
+    Clear {
+        bits: Operand,
+    },
+    /// `gget G`: the bits (`xEventGroupGetBits`).
+    Get,
+    /// `gwait G V any|all keep|clear T`: waits for any or for all of some bits up to the block
+    /// time, and clears them then or keeps them (`xEventGroupWaitBits`).
+    Wait {
+        bits: Operand,
+        wait_for: WaitFor,
+        on_met: OnMet,
+        wait: Operand,
+    },
+    /// `gsync G V V T`: sets bits, waits for all of others up to the block time, and clears those
+    /// (`xEventGroupSync`).
+    Sync {
+        set: Operand,
+        bits: Operand,
+        wait: Operand,
+    },
+}
+
 /// A call that notifies a task, or looks at an entry of a task. Tasks and the entries of each are
 /// counted from 0.
 #[derive(Clone, Copy, Debug, PartialEq, Eq)]
@@ -191,6 +223,11 @@ pub enum Instr {
         message: usize,
         call: MessageCall,
     },
+    /// A call of an event group.
+    Group {
+        group: usize,
+        call: GroupCall,
+    },
     /// A call that notifies a task, or looks at an entry.
     Notify {
         call: NotifyCall,
@@ -226,6 +263,7 @@ impl Instr {
             | Instr::QueueSet { .. }
             | Instr::Stream { .. }
             | Instr::Message { .. }
+            | Instr::Group { .. }
             | Instr::Notify { .. } => false,
         }
     }
@@ -240,6 +278,7 @@ impl Instr {
             | Instr::QueueSet { .. }
             | Instr::Stream { .. }
             | Instr::Message { .. }
+            | Instr::Group { .. }
             | Instr::Notify { .. } => None,
         }
     }

@@ -22,6 +22,9 @@ pub const MAX_STREAMS: usize = 32;
 /// How many message buffers an application has at the most.
 pub const MAX_MESSAGE_BUFFERS: usize = 32;
 
+/// How many event groups an application has at the most.
+pub const MAX_GROUPS: usize = 32;
+
 /// A queue to be made: room for 1 to 64 items of 1 to 64 bytes each.
 #[derive(Clone, Copy, Debug, Default, PartialEq, Eq)]
 pub struct QueueShape {
@@ -83,6 +86,10 @@ pub struct MessageShape {
     pub capacity: usize,
 }
 
+/// An event group to be made (`xEventGroupCreate`): there is nothing to choose.
+#[derive(Clone, Copy, Debug, Default, PartialEq, Eq)]
+pub struct GroupShape {}
+
 /// Things of one kind, with their names. They go by number: the index in both.
 #[derive(Debug, Drop)]
 pub struct Named<T> {
@@ -103,6 +110,8 @@ pub struct NamedObjects {
     pub streams: Named<StreamShape>,
     /// The message buffers, at most 32.
     pub messages: Named<MessageShape>,
+    /// The event groups, at most 32.
+    pub groups: Named<GroupShape>,
 }
 
 impl NamedObjects {
@@ -124,6 +133,10 @@ impl NamedObjects {
                 things: Vec::new(alloc),
             },
             messages: Named {
+                names: Names::new(alloc, &[])?,
+                things: Vec::new(alloc),
+            },
+            groups: Named {
                 names: Names::new(alloc, &[])?,
                 things: Vec::new(alloc),
             },
@@ -168,6 +181,13 @@ impl NamedObjects {
         self.messages.things.as_slice()
     }
 
+    /// The event groups, by number.
+    pub fn groups(&self) -> &[GroupShape]
+        ensures { result.now ≡ (objects_view self.now).groups.things }
+    {
+        self.groups.things.as_slice()
+    }
+
     /// The set that the queue is a member of at boot, if it is one of any.
     pub fn set_of(&self, queue: usize) -> Option<usize>
         ensures queue_set { result ≡ queue_set_at_boot (objects_view self.now) queue }
@@ -189,6 +209,7 @@ impl NamedObjects {
             Kind::QueueSet => &self.queue_sets.names,
             Kind::Stream => &self.streams.names,
             Kind::Message => &self.messages.names,
+            Kind::Group => &self.groups.names,
             Kind::Task => tasks,
         }
     }
@@ -200,4 +221,5 @@ pub fn limits_of_objects()
     ensures queue_sets { MAX_QUEUE_SETS ≡ 32 }
     ensures streams { MAX_STREAMS ≡ 32 }
     ensures messages { MAX_MESSAGE_BUFFERS ≡ 32 }
+    ensures groups { MAX_GROUPS ≡ 32 }
 {}

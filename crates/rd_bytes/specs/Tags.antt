@@ -4,18 +4,20 @@ use Rattle.rd_bytes.specs.Ends.{end_byte}
 use Rattle.rd_bytes.specs.declared.tag.TheConstants.{INS_WAIT, DEL_WAIT, PUSH_HANDLE, PUSH_BYTES}
 use Rattle.rd_bytes.specs.declared.tag.TheConstants.{SET_READER, SET_WRITER}
 use Rattle.rd_bytes.specs.declared.tag.TheConstants.{CLEAR_BYTES, FILL_BYTES}
+use Rattle.rd_bytes.specs.declared.tag.TheConstants.{INS_GROUP, DEL_GROUP, SET_BITS}
 use Rattle.rd_bytes.specs.declared.tag.TheConstants.{SELECTING_LIST, STREAM_HOLDER, OF_QUEUE}
-use Rattle.rd_bytes.specs.declared.tag.TheConstants.{OF_QUEUE_SET, OF_STREAM, OF_MESSAGE}
+use Rattle.rd_bytes.specs.declared.tag.TheConstants.{OF_QUEUE_SET, OF_STREAM, OF_MESSAGE, OF_GROUP}
 
 abbrev pub kind_of_list : ℕ → ℕ
 kind_of_list list = if nat_lt list SELECTING_LIST then OF_QUEUE else OF_QUEUE_SET
 
 abbrev pub kind_of_tag : ℕ → ℕ
 kind_of_tag tag =
-    if nat_lt tag PUSH_HANDLE then OF_QUEUE
+    if tag == INS_GROUP || (tag == DEL_GROUP || tag == SET_BITS) then OF_GROUP
+    else (if nat_lt tag PUSH_HANDLE then OF_QUEUE
     else (if nat_lt tag PUSH_BYTES then OF_QUEUE_SET
     else (if nat_lt tag SET_READER || (tag == CLEAR_BYTES || tag == FILL_BYTES) then OF_STREAM
-    else OF_MESSAGE))
+    else OF_MESSAGE)))
 
 -- the kind of buffer whose place changes, by its byte
 abbrev pub kind_of_holder : ℕ → ℕ

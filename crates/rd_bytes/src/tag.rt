@@ -1,5 +1,4 @@
-//! The numbers that stand for changes and for the places where tasks wait in packed bytes. Those of kinds
-//! of objects that are still to come are left free.
+//! The numbers that stand for changes and for the places where tasks wait in packed bytes.
 
 ghost use Rattle.std.specs.Prelude.{◌≡◌, ◌≤◌, length};
 ghost use Rattle.rd_bytes.specs.Ends.{end_byte};
@@ -43,7 +42,11 @@ pub const INS_WAIT: u8 = 11;
 /// `DelWait`: a task leaves those that wait in a list.
 pub const DEL_WAIT: u8 = 12;
 
-// 13 and 14 are for those that wait at an event group.
+/// `InsWait`: a task is put among those that wait at an event group.
+pub const INS_GROUP: u8 = 13;
+
+/// `DelWait`: a task leaves those that wait at an event group.
+pub const DEL_GROUP: u8 = 14;
 
 /// `PutBack`: an item goes to the back of a queue.
 pub const PUT_BACK: u8 = 15;
@@ -129,7 +132,8 @@ pub const FILL_BYTES: u8 = 41;
 /// `Fill`: an empty message buffer gets messages.
 pub const FILL_MESSAGES: u8 = 42;
 
-// 43 is for event groups.
+/// `SetBits`: an event group has other bits.
+pub const SET_BITS: u8 = 43;
 
 /// The list of those that wait to receive from a queue.
 pub const RECEIVING_LIST: u8 = 0;
@@ -152,10 +156,11 @@ pub const READING_MESSAGES: u8 = 5;
 /// That of its writer.
 pub const WRITING_MESSAGES: u8 = 6;
 
-// 8 is for event groups.
-
 /// No list: a notification entry of the task itself.
 pub const OWN_ENTRY: u8 = 7;
+
+/// The list of those that wait at an event group.
+pub const WAITING_GROUP: u8 = 8;
 
 /// The kinds of objects, as `last_kind` tells them apart: a queue.
 pub const OF_QUEUE: u8 = 0;
@@ -168,6 +173,9 @@ pub const OF_STREAM: u8 = 2;
 
 /// A message buffer.
 pub const OF_MESSAGE: u8 = 3;
+
+/// An event group.
+pub const OF_GROUP: u8 = 4;
 
 /// The kind of buffer whose place changes: a stream buffer.
 pub const STREAM_HOLDER: u8 = 0;
@@ -190,7 +198,9 @@ fn kind_of_list(list: u8) -> u8
 fn kind_of_tag(tag: u8) -> u8
     ensures { result ≡ kind_of_tag tag }
 {
-    if tag < PUSH_HANDLE {
+    if tag == INS_GROUP || tag == DEL_GROUP || tag == SET_BITS {
+        OF_GROUP
+    } else if tag < PUSH_HANDLE {
         OF_QUEUE
     } else if tag < PUSH_BYTES {
         OF_QUEUE_SET

@@ -4,7 +4,7 @@ use Rattle.std.proofs.Common.{set, map, Some, None, Option, refl, ap, sym, subst
 use Rattle.std.specs.Prelude.{◌^◌, nat_eq}
 use Rattle.std.specs.Int.{w32, to_le_bytes}
 use Rattle.rd_app.specs.declared.instr.Instr.{Instr}
-use Rattle.rd_app.specs.declared.instr.Instr.TheVariants.{Local, Queue, QueueSet, Stream, Message, Notify}
+use Rattle.rd_app.specs.declared.instr.Instr.TheVariants.{Group, Local, Queue, QueueSet, Stream, Message, Notify}
 use Rattle.rd_app.specs.declared.instr.LocalInstr.TheVariants.{Add, Move, Data, Pack, Unpack, Jump, JumpZero, End}
 use Rattle.rd_app.specs.declared.instr.LocalInstr.TheVariants as local
 use Rattle.rd_state.specs.declared.phase.Phase.TheVariants.{Run, Ended}
@@ -13,7 +13,9 @@ use Rattle.rd_state.specs.Snapshot.{Snapshot, task_at, core_at, with_task}
 use Rattle.rd_kernel.proofs.Offered.{IsFree, free_in_run}
 use Rattle.rd_state.specs.Valid.{EntriesFitCall, HoldersFitCall, IsValid, PhaseFitsCall, place_of_call, seats_to_run}
 use Rattle.rd_state.specs.Objects.{AreShaped}
-use Rattle.rd_state.proofs.Offered.{message_count_shaped, queue_count_shaped, queue_set_count_shaped, stream_count_shaped}
+use Rattle.rd_group_calls.proofs.Offered.{IsBesideGroups, IsConsistent-group_call, group_call-beside, group_call-tick}
+use Rattle.rd_group_calls.specs.GroupCalls.{group_outcome}
+use Rattle.rd_state.proofs.Offered.{group_count_shaped, message_count_shaped, queue_count_shaped, queue_set_count_shaped, stream_count_shaped}
 use Rattle.rd_calls.specs.Local.{unpacked}
 use Rattle.rd_calls.specs.Step.{performed}
 use Rattle.rd_kernel.specs.Tasks.{register_at, with_pc, advanced}
@@ -37,7 +39,7 @@ use Rattle.rd_state.specs.declared.phase.Held.{Held}
 use Rattle.rd_state.specs.declared.phase.Held.TheVariants as held
 use Rattle.rd_state.specs.Waiting.{objects_naming}
 use Rattle.rd_notify_calls.proofs.Offered.{IsConsistent-notify_call, by_waking}
-use Rattle.rd_kernel.specs.declared.waking.Waking.TheVariants.{TriesAgain}
+use Rattle.rd_kernel.specs.declared.waking.Waking.TheVariants.{IsGiven, TriesAgain}
 use Rattle.rd_queue.specs.QueueSetSnapshot.{QueueSetSnapshot}
 use Rattle.rd_state.specs.Objects.{ObjectsSnapshot}
 use Rattle.rd_calls.specs.Local.{local_step}
@@ -110,6 +112,8 @@ IsConsistent-performed app s core task instr entries valid there runs has_core e
     by_instr (Message message call) shaped within next calls further jumps free =
         IsConsistent-message_call app s core task message call (calls refl)
         (omega (arith, within.0, message_count_shaped app s.objects shaped)) entries
+    by_instr (Group group call) shaped within next calls further jumps free =
+        IsConsistent-group_call app s core task group call (calls refl) (omega (arith, within.0, group_count_shaped app s.objects shaped))
     by_instr (Notify call) shaped within next calls further jumps free =
         IsConsistent-notify_call app s core task call (calls refl)
         (subst (λ n. IsNotifyCall n app.entries call) (sym valid.in_limits.tasks) within)
@@ -129,6 +133,7 @@ performed-tick priorities s core task (Queue queue call) = queue_call-tick prior
 performed-tick priorities s core task (QueueSet queue_set call) = queue_set_call-tick priorities s core task queue_set call
 performed-tick priorities s core task (Stream stream call) = stream_call-tick priorities s core task stream call
 performed-tick priorities s core task (Message message call) = message_call-tick priorities s core task message call
+performed-tick priorities s core task (Group group call) = group_call-tick priorities s core task group call
 performed-tick priorities s core task (Notify call) = (by_waking priorities s core task call).tick
 
 -- and the handles of queue sets, but for those that a call adds or takes.
@@ -179,6 +184,11 @@ handles_performed-is priorities s core task (Stream stream call) =
 handles_performed-is priorities s core task (Message message call) =
     let called = message_outcome priorities s task message call in
     handles_concluded called.state called.outcome core task ∙ message_call-beside handles_of priorities s task message call (handles_beside priorities)
+handles_performed-is priorities s core task (Group group call) =
+    let called = group_outcome priorities s task group call in
+    handles_concluded called.state called.outcome core task
+    ∙ group_call-beside handles_of priorities s task group call
+    (record { waking = λ p bits tasks. handles_woken_all priorities (IsGiven bits) p tasks; groups = λ o number now. refl })
 handles_performed-is priorities s core task (Notify call) =
     let by = by_waking priorities s core task call in
     ap (λ (o : ObjectsSnapshot). map (λ (q : QueueSetSnapshot). q.handles) o.queue_sets) by.objects ∙ handles_woken_all priorities TriesAgain s by.tasks

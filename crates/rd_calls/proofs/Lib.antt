@@ -2,6 +2,7 @@
 pub mod InstrLaws
 pub mod HandleMoveLaws
 pub mod ReceivedLaws
+pub mod SleepingLaws
 pub mod StepLaws
 pub mod PlayLaws
 pub mod Offered

@@ -8,7 +8,10 @@ use Rattle.std.proofs.lemmas.List.{get_or_past}
 use Rattle.std.specs.List.{concat}
 use Rattle.rd_app.specs.Application.{Application, IsApplication, priorities_of}
 use Rattle.rd_app.specs.declared.instr.Instr.{Instr}
-use Rattle.rd_app.specs.declared.instr.Instr.TheVariants.{Local, Queue, QueueSet, Stream, Message, Notify}
+use Rattle.rd_app.specs.declared.instr.Instr.TheVariants.{Group, Local, Queue, QueueSet, Stream, Message, Notify}
+use Rattle.rd_app.specs.declared.instr.GroupCall.{GroupCall}
+use Rattle.rd_app.specs.declared.instr.GroupCall.TheVariants as on_group
+use Rattle.rd_group_calls.specs.GroupCalls.{group_call_cost}
 use Rattle.rd_app.specs.declared.instr.NotifyCall.{NotifyCall}
 use Rattle.rd_app.specs.declared.instr.NotifyCall.TheVariants as notify
 use Rattle.rd_app.specs.declared.instr.NotifyCall.TheVariants.{Query, Take, ClearState, ClearValue}
@@ -91,6 +94,7 @@ dropped_by_instr_few s (Queue queue call) sized = dropped_by_few s queue call si
 dropped_by_instr_few s (QueueSet queue_set call) sized = omega arith
 dropped_by_instr_few s (Stream stream call) sized = dropped_by_stream_few s stream call sized
 dropped_by_instr_few s (Message message call) sized = dropped_by_message_few s message call sized
+dropped_by_instr_few s (Group group call) sized = omega arith
 dropped_by_instr_few s (Notify call) sized = omega arith
 
 dropped_by_task_few : (app : Application) (s : Snapshot) (running : Option ℕ) → IsSized s → dropped_by_task app s running ≤ 4096
@@ -196,12 +200,20 @@ message_call_cost_few s message on_message.Reset = omega arith
 message_call_cost_few s message on_message.Spaces = omega arith
 message_call_cost_few s message on_message.NextLength = omega arith
 
-instr_cost_few : (s : Snapshot) (instr : Instr) → instr_cost s instr ≤ 525 + dropped_by_instr s instr
+group_call_cost_few : (s : Snapshot) (call : GroupCall) → group_call_cost s call ≤ 2 + 3 * length s.tasks
+group_call_cost_few s (on_group.Set bits) = omega arith
+group_call_cost_few s (on_group.Clear bits) = omega arith
+group_call_cost_few s on_group.Get = omega arith
+group_call_cost_few s (on_group.Wait bits wait_for on_met wait) = omega arith
+group_call_cost_few s (on_group.Sync set bits wait) = omega arith
+
+instr_cost_few : (s : Snapshot) (instr : Instr) → instr_cost s instr ≤ 525 + 3 * length s.tasks + dropped_by_instr s instr
 instr_cost_few s (Local instr) = omega arith
 instr_cost_few s (Queue queue call) = omega (arith, queue_call_cost_few s queue call)
 instr_cost_few s (QueueSet queue_set call) = omega arith
 instr_cost_few s (Stream stream call) = omega (arith, stream_call_cost_few s stream call)
 instr_cost_few s (Message message call) = omega (arith, message_call_cost_few s message call)
+instr_cost_few s (Group group call) = omega (arith, group_call_cost_few s call)
 instr_cost_few s (Notify call) = omega (arith, notify_call_cost_few call)
 
 pub Leads-core : (app : Application) (s : Snapshot) (core task : ℕ) → IsApplication app → IsValid app s → core < length s.cores → core_at s core ≡ Some task

@@ -6,7 +6,9 @@ use Rattle.std.proofs.Common.{true, ℕ}
 use Rattle.std.specs.Prelude.{◌^◌, Err, Ok, is_some, nat_eq, nat_lt, not}
 use Rattle.std.specs.Int.{to_le_bytes, w32}
 use Rattle.rd_app.specs.declared.instr.Instr.{Instr}
-use Rattle.rd_app.specs.declared.instr.Instr.TheVariants.{Local, Message, Notify, Queue, QueueSet, Stream}
+use Rattle.rd_app.specs.declared.instr.Instr.TheVariants.{Group, Local, Message, Notify, Queue, QueueSet, Stream}
+use Rattle.rd_group_calls.proofs.Offered.{EntriesStay-group_call}
+use Rattle.rd_group_calls.specs.GroupCalls.{group_outcome}
 use Rattle.rd_app.specs.declared.instr.LocalInstr.TheVariants.{Add, Data, End, Jump, JumpZero, Move, Pack, Unpack}
 use Rattle.rd_state.specs.declared.phase.Phase.TheVariants.{Ended}
 use Rattle.rd_app.specs.Application.{Application, priorities_of, side_of_message_call, side_of_stream_call}
@@ -160,6 +162,10 @@ instr_come priorities s core task (Message message call) target index come looks
     let called = message_outcome priorities s task message call in
     stays_come called.state (concluded called core task) target index (EntriesStay-concluded called.state called.outcome core task)
     (message_call-received priorities s task message target index call (another_entry (is_some (side_of_message_call call)) task target index looks) come)
+instr_come priorities s core task (Group group call) target index come looks =
+    let called = group_outcome priorities s task group call in
+    stays_come called.state (concluded called core task) target index (EntriesStay-concluded called.state called.outcome core task)
+    (stays_come s called.state target index (EntriesStay-group_call priorities s task group call) come)
 instr_come priorities s core task (Notify call) target index come looks =
     let called = notify_call_outcome priorities s task call in
     stays_come called.state (concluded called core task) target index (EntriesStay-concluded called.state called.outcome core task)

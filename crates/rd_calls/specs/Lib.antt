@@ -2,6 +2,7 @@
 pub mod HandleMoves
 pub mod Local
 pub mod Received
+pub mod Sleeping
 pub mod Step
 pub use Rattle.rd_state.specs.Snapshot
 pub use Rattle.rd_state.specs.Waiting

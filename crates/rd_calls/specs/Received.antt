@@ -39,6 +39,7 @@ looks_at task (instr.Stream stream call) target index =
     is_some (side_of_stream_call call) && is_entry task 0 target index
 looks_at task (instr.Message message call) target index =
     is_some (side_of_message_call call) && is_entry task 0 target index
+looks_at task (instr.Group group call) target index = false
 looks_at task (instr.Notify call) target index = call_looks_at task call target index
 
 -- a move, by the instruction of its core's task

@@ -3,9 +3,11 @@ use Rattle.std.specs.Prelude.{ℕ, ◌≡◌, ◌+◌, ◌*◌, ◌%◌, ◌<◌
 use Rattle.std.specs.Prelude.{if◌then◌else◌, Option, None, Some, is_some, Result, Ok, Err}
 use Rattle.rd_app.specs.declared.instr.Instr.{Instr}
 use Rattle.rd_app.specs.declared.instr.Instr.TheVariants.{Local, Queue, QueueSet, Stream, Message}
-use Rattle.rd_app.specs.declared.instr.Instr.TheVariants.{Notify}
-use Rattle.rd_app.specs.Application.{Application, IsMessageCall, IsNotifyCall, IsQueueCall}
-use Rattle.rd_app.specs.Application.{IsQueueSetCall, IsStreamCall, instr_at, priorities_of}
+use Rattle.rd_app.specs.declared.instr.Instr.TheVariants.{Group, Notify}
+use Rattle.rd_app.specs.Application.{Application, IsGroupCall, IsMessageCall, IsNotifyCall}
+use Rattle.rd_app.specs.Application.{IsQueueCall, IsQueueSetCall, IsStreamCall, instr_at}
+use Rattle.rd_app.specs.Application.{priorities_of}
+use Rattle.rd_group_calls.specs.GroupCalls.{group_call_cost, group_outcome}
 use Rattle.rd_text.specs.declared.refusal.Refusal.{Refusal}
 use Rattle.rd_text.specs.declared.refusal.Refusal.TheVariants.{NoTask, TickLimit}
 use Rattle.rd_state.specs.Change.{Change}
@@ -41,6 +43,8 @@ performed priorities s core task (Stream stream call) =
     concluded (stream_outcome priorities s task stream call) core task
 performed priorities s core task (Message message call) =
     concluded (message_outcome priorities s task message call) core task
+performed priorities s core task (Group group call) =
+    concluded (group_outcome priorities s task group call) core task
 performed priorities s core task (Notify call) =
     concluded (notify_call_outcome priorities s task call) core task
 
@@ -52,6 +56,7 @@ handles_performed s (Queue queue call) = handles_after s queue call
 handles_performed s (QueueSet queue_set call) = handles_selected s queue_set call
 handles_performed s (Stream stream call) = handles_in s
 handles_performed s (Message message call) = handles_in s
+handles_performed s (Group group call) = handles_in s
 handles_performed s (Notify call) = handles_in s
 
 -- the instruction that a task stands at
@@ -115,6 +120,7 @@ dropped_by_instr s (Queue queue call) = dropped_by s queue call
 dropped_by_instr s (QueueSet queue_set call) = 0
 dropped_by_instr s (Stream stream call) = dropped_by_stream_call s stream call
 dropped_by_instr s (Message message call) = dropped_by_message_call s message call
+dropped_by_instr s (Group group call) = 0
 dropped_by_instr s (Notify call) = 0
 
 abbrev pub dropped_by_task : Application → Snapshot → Option ℕ → ℕ
@@ -159,6 +165,7 @@ NamesParts entries s (Stream stream call) =
     (stream < length s.objects.streams) × IsStreamCall call
 NamesParts entries s (Message message call) =
     (message < length s.objects.messages) × IsMessageCall call
+NamesParts entries s (Group group call) = (group < length s.objects.groups) × IsGroupCall call
 NamesParts entries s (Notify call) = IsNotifyCall (length s.tasks) entries call
 
 -- What an instruction takes in a record at the most: a call, and what becomes of its caller.
@@ -168,4 +175,5 @@ instr_cost s (Queue queue call) = queue_call_cost s queue call + ending_cost
 instr_cost s (QueueSet queue_set call) = queue_set_call_cost + ending_cost
 instr_cost s (Stream stream call) = stream_call_cost s stream call + ending_cost
 instr_cost s (Message message call) = message_call_cost s message call + ending_cost
+instr_cost s (Group group call) = group_call_cost s call + ending_cost
 instr_cost s (Notify call) = notify_call_cost call + ending_cost

@@ -14,6 +14,7 @@ use crate::local::do_local;
 use rd_app::app::App;
 use rd_app::instr::Instr;
 use rd_bytes::no_memory::NoMemory;
+use rd_group_calls::calls::call_group;
 use rd_kernel::changes::set_turn;
 use rd_kernel::conclude::conclude;
 use rd_notify_calls::calls::call_notify;
@@ -57,6 +58,10 @@ fn perform(
         }
         Instr::Message { message, call } => {
             let outcome = call_message(app, editing, task, *message, *call)?;
+            conclude(editing, core, task, outcome)
+        }
+        Instr::Group { group, call } => {
+            let outcome = call_group(app, editing, task, *group, *call)?;
             conclude(editing, core, task, outcome)
         }
         Instr::Notify { call } => {

@@ -1,6 +1,6 @@
 -- What calls keep of what makes a state valid: those that return, those that wait, and those that wake somebody.
 use Rattle.rd_state.specs.declared.phase.Place.TheVariants as sort
-use Rattle.std.proofs.Common.{◌+◌, ◌<◌, ◌∙◌, ◌≡◌, ◌≤◌, Bool, IsSome, List, None, Option, Some, ap, arith, cond, false, length, refl, set, subst, sym}
+use Rattle.std.proofs.Common.{◌+◌, ◌<◌, ◌∙◌, ◌≡◌, ◌≤◌, ◌++◌, ◌∷◌, [], Bool, IsSome, List, None, Option, Some, ap, arith, cond, false, length, refl, set, subst, sym}
 use Rattle.std.proofs.Common.{true, ℕ}
 use Rattle.std.specs.Prelude.{◌&&◌, IfSome, is_some, nat_eq, not, slice_get}
 use Rattle.std.proofs.lemmas.Bool.{false≢true}
@@ -14,12 +14,14 @@ use Rattle.rd_wait.specs.Joined.{joined}
 use Rattle.rd_state.specs.Sizes.{IsSized, IsTaskOrIdle}
 use Rattle.rd_state.specs.Snapshot.{Snapshot, TaskSnapshot, core_at, task_at, with_task}
 use Rattle.rd_state.specs.Valid.{EntriesFitCall, HoldersFitCall, IsValid, PhaseFitsCall, entry_of_call, is_ahead, is_in_list, is_on, place_of_call, seats_to_run}
-use Rattle.rd_state.specs.Valid.{times_in_list, times_on_cores}
-use Rattle.rd_state.specs.Waiting.{HasList, entry_of, listed_at, waiting_at}
+use Rattle.rd_state.specs.Valid.{is_in_group, times_in_list, times_on_cores}
+use Rattle.rd_state.specs.Waiting.{HasList, entry_of, listed_at, waiting_at, with_waiting_at}
+use Rattle.rd_state.specs.declared.phase.Listed.TheVariants.{Group}
+use Rattle.rd_group.specs.declared.wish.Wish.{Wish}
 use Rattle.rd_state.proofs.Offered.{IsSizedList-waiting_at, one_if}
 use Rattle.rd_state.specs.declared.phase.Place.{Place}
 use Rattle.std.proofs.lemmas.List.Sums.{get_or-le-sum_by}
-use Rattle.rd_state.specs.declared.phase.Phase.TheVariants.{Again, Ended, Failed, Run, Wait}
+use Rattle.rd_state.specs.declared.phase.Phase.TheVariants.{Again, Ended, Failed, Given, Run, Wait}
 use Rattle.rd_state.specs.Phases.{can_run, kept_deadline, waits_at}
 use Rattle.rd_kernel.proofs.ConsistentLaws.{HoldersFitCall-objects, IsConsistent, IsConsistent-valid, all_have_time_left, holders_then, task_now}
 use Rattle.rd_kernel.proofs.TaskListLaws.{first_waits, member_has, room_for}
@@ -27,7 +29,7 @@ use Rattle.std.specs.Option.{option_and_then, option_to_list}
 use Rattle.rd_app.specs.declared.instr.Instr.{Instr}
 use Rattle.rd_kernel.specs.Waking.{deadline_of, is_due, may_wait, with_waiter, woken_first}
 use Rattle.rd_kernel.proofs.MovingLaws.{EntriesFitCall-free, HoldersFitCall-free, IsConsistent-moves, IsConsistent-task_replaced, IsFree, IsFree-objects}
-use Rattle.rd_kernel.proofs.MovingLaws.{ListGoes-joined, ObjectsGo-list}
+use Rattle.rd_kernel.proofs.MovingLaws.{ListGoes, ListGoes-appended, ListGoes-joined, ObjectsGo-list}
 use Rattle.rd_kernel.proofs.MovingLaws.{ObjectsGo-stay, SeatsGo-off_core, free_in_call, free_in_run, has_seat, runner_waits_nowhere}
 use Rattle.rd_kernel.proofs.MovingLaws.{seats_to_run-at_most_one, seats_to_run-one, times_waiting_in-at_most_one, waiter_is_idle, waits_idle}
 use Rattle.rd_kernel.proofs.MovingLaws.{waits_nowhere}
@@ -62,6 +64,7 @@ runs_on_core app s core task valid there e =
 pub runs_outside_calls : (phase : Phase) (instr : Instr) → 1 ≤ seats_to_run phase → place_of_call instr ≡ None → PhaseFitsCall phase instr → phase ≡ Run
 runs_outside_calls Run instr runs none at = refl
 runs_outside_calls (Again deadline) instr runs none at = absurd (false≢true (sym (ap is_some none) ∙ at))
+runs_outside_calls (Given bits) instr runs none at = absurd (false≢true (sym (ap is_in_group none) ∙ at))
 runs_outside_calls (Wait place deadline) instr runs none at = absurd (omega (arith, runs))
 runs_outside_calls Ended instr runs none at = absurd (omega (arith, runs))
 runs_outside_calls (Failed cause) instr runs none at = absurd (omega (arith, runs))
@@ -175,16 +178,17 @@ IsConsistent-stopped app D s core task phase there runs has_core e idle nowhere 
     (ObjectsGo-stay app D s task phase there
     (λ place. ap (λ o. one_if (is_in_list place (option_and_then listed_at o))) nowhere ∙ sym (waits_nowhere place (task_at s task).phase runs)) at) at
 
--- It waits.
-pub IsConsistent-waiting : (app : Application) (D : ℕ → Phase → Type 0) (s : Snapshot) (core task : ℕ) (place : Listed) (deadline : Option ℕ)
-    → task < length s.tasks → 1 ≤ seats_to_run (task_at s task).phase → core < length s.cores → core_at s core ≡ Some task
-    → HasList s place → place_of_call (instr_at app task (task_at s task).pc) ≡ Some (sort.Listed place) → IsFree s.objects task (task_at s task).entries
+-- It waits in a list, which has it then.
+IsConsistent-waiting_in : (app : Application) (D : ℕ → Phase → Type 0) (s : Snapshot) (core task : ℕ) (place : Listed) (deadline : Option ℕ)
+    (waiting : List ℕ) (wishes : List Wish) → task < length s.tasks → 1 ≤ seats_to_run (task_at s task).phase → core < length s.cores → core_at s core ≡ Some task
+    → ListGoes (priorities_of app) s place waiting task (Wait (sort.Listed place) deadline)
+    → place_of_call (instr_at app task (task_at s task).pc) ≡ Some (sort.Listed place) → IsFree s.objects task (task_at s task).entries
     → D task (Wait (sort.Listed place) deadline) → IsConsistent app D s
-    → IsConsistent app D (with_idle_core (with_phase (with_waiter (priorities_of app) s place task) task (Wait (sort.Listed place) deadline)) core)
-IsConsistent-waiting app D s core task place deadline there runs has_core e has_place call free asked at =
+    → IsConsistent app D (with_idle_core (with_phase (with_waiting_at s place waiting wishes) task (Wait (sort.Listed place) deadline)) core)
+IsConsistent-waiting_in app D s core task place deadline waiting wishes there runs has_core e goes call free asked at =
     let was = at.each task there in
     let phase = Wait (sort.Listed place) deadline in
-    let p = with_idle_core (with_phase (with_waiter (priorities_of app) s place task) task phase) core in
+    let p = with_idle_core (with_phase (with_waiting_at s place waiting wishes) task phase) core in
     IsConsistent-moves app D s p task (record (task_at s task) { phase = phase }) there refl
     (record {
       pc = was.pc;
@@ -193,12 +197,32 @@ IsConsistent-waiting app D s core task place deadline there runs has_core e has_
       deadline = asked;
       entries = EntriesFitCall-free s.objects task phase (instr_at app task (task_at s task).pc) (task_at s task).entries refl free;
     })
-    (HoldersFitCall-objects s.objects p.objects task phase (instr_at app task (task_at s task).pc)
-    (holders_then s.objects place (joined (priorities_of app) (waiting_at s place) task))
+    (HoldersFitCall-objects s.objects p.objects task phase (instr_at app task (task_at s task).pc) (holders_then s.objects place waiting wishes)
     (HoldersFitCall-free s.objects task phase (instr_at app task (task_at s task).pc) (task_at s task).entries refl free))
     (SeatsGo-off_core app D s core task phase there runs has_core e refl at)
-    (ObjectsGo-list app D s place (joined (priorities_of app) (waiting_at s place) task) task phase there
-    (ListGoes-joined app D s place task phase there has_place runs refl at) at) at
+    (ObjectsGo-list app D s place waiting wishes task phase there goes at) at
+
+-- It waits in one that is in the order of priorities;
+pub IsConsistent-waiting : (app : Application) (D : ℕ → Phase → Type 0) (s : Snapshot) (core task : ℕ) (place : Listed) (deadline : Option ℕ)
+    → task < length s.tasks → 1 ≤ seats_to_run (task_at s task).phase → core < length s.cores → core_at s core ≡ Some task
+    → HasList s place → place_of_call (instr_at app task (task_at s task).pc) ≡ Some (sort.Listed place) → IsFree s.objects task (task_at s task).entries
+    → D task (Wait (sort.Listed place) deadline) → IsConsistent app D s
+    → IsConsistent app D (with_idle_core (with_phase (with_waiter (priorities_of app) s place task) task (Wait (sort.Listed place) deadline)) core)
+IsConsistent-waiting app D s core task place deadline there runs has_core e has_place call free asked at =
+    IsConsistent-waiting_in app D s core task place deadline (joined (priorities_of app) (waiting_at s place) task) [] there runs has_core e
+    (ListGoes-joined app D s place task (Wait (sort.Listed place) deadline) there has_place runs refl at) call free asked at
+
+-- or behind all others at an event group, with a wish.
+pub IsConsistent-waiting_in_group : (app : Application) (D : ℕ → Phase → Type 0) (s : Snapshot) (core task group : ℕ) (deadline : Option ℕ) (wishes : List Wish)
+    → task < length s.tasks → 1 ≤ seats_to_run (task_at s task).phase → core < length s.cores → core_at s core ≡ Some task
+    → group < length s.objects.groups → place_of_call (instr_at app task (task_at s task).pc) ≡ Some (sort.Listed (Group group))
+    → IsFree s.objects task (task_at s task).entries → D task (Wait (sort.Listed (Group group)) deadline) → IsConsistent app D s
+    → IsConsistent app D (with_idle_core (with_phase (with_waiting_at s (Group group) (waiting_at s (Group group) ++ task ∷ []) wishes) task
+    (Wait (sort.Listed (Group group)) deadline)) core)
+IsConsistent-waiting_in_group app D s core task group deadline wishes there runs has_core e has_group call free asked at =
+    let place = Group group in
+    IsConsistent-waiting_in app D s core task place deadline (waiting_at s place ++ task ∷ []) wishes there runs has_core e
+    (ListGoes-appended app D s group task (Wait (sort.Listed place) deadline) there has_group runs refl at) call free asked at
 
 -- ---- calls
 
@@ -328,12 +352,12 @@ or_blocked-tick priorities s core task place wait cannot called same =
 
 -- ---- room
 
-pub room_in_list : (app : Application) (s : Snapshot) (task : ℕ) (place : Listed) → IsValid app s → task < length s.tasks
-    → 1 ≤ seats_to_run (task_at s task).phase → HasList s place → length (waiting_at s place) < length s.tasks
-room_in_list app s task place valid there runs has_place =
-    room_for (waiting_at s place) (length s.tasks) task (IsSizedList-waiting_at s place valid.in_limits.sized has_place).0
-    (λ t h. omega (arith, valid.places place t h, times_waiting_in-at_most_one place (task_at s t).phase)) there
-    (valid.places place task there ∙ waits_nowhere place (task_at s task).phase runs)
+pub room_in_list : (app : Application) (D : ℕ → Phase → Type 0) (s : Snapshot) (task : ℕ) (place : Listed) → IsConsistent app D s → IsSized s
+    → task < length s.tasks → 1 ≤ seats_to_run (task_at s task).phase → HasList s place → length (waiting_at s place) < length s.tasks
+room_in_list app D s task place at sized there runs has_place =
+    room_for (waiting_at s place) (length s.tasks) task (IsSizedList-waiting_at s place sized has_place).0
+    (λ t h. omega (arith, at.places place t h, times_waiting_in-at_most_one place (task_at s t).phase)) there
+    (at.places place task there ∙ waits_nowhere place (task_at s task).phase runs)
 
 -- The ready list has room for a task that can't run.
 pub room_in_ready : (app : Application) (D : ℕ → Phase → Type 0) (s : Snapshot) (task : ℕ) → IsConsistent app D s → IsSized s → task < length s.tasks
@@ -371,6 +395,6 @@ calls_from app s core (Some task) valid has_core e =
       valid = valid;
       there = there;
       runs = runs;
-      room_to_wait = λ place has_place. room_in_list app s task place valid there runs has_place;
+      room_to_wait = λ place has_place. room_in_list app (all_have_time_left s.tick) s task place (IsConsistent-valid app s valid) valid.in_limits.sized there runs has_place;
       room_to_wake = room_beside_core app s core task valid has_core (sym e);
     }

@@ -6,6 +6,9 @@ use Rattle.std.proofs.lemmas.Bool.{cases_eq, cases_lt, false≢true}
 use Rattle.std.proofs.lemmas.Bool.Decides.{nat_tests}
 use Rattle.std.proofs.lemmas.List.{get_or-set_other, get_or-set_same, get_or_past, length-set}
 use Rattle.std.proofs.lemmas.List.Elements.{All-from_get_or, All-get_or}
+use Rattle.rd_group.specs.GroupSnapshot.{GroupSnapshot}
+use Rattle.rd_group.specs.Groups.{with_waiters}
+use Rattle.rd_group.specs.declared.wish.Wish.{Wish}
 use Rattle.rd_queue.specs.declared.waiting_list.WaitingList.{WaitingList}
 use Rattle.rd_queue.specs.declared.waiting_list.WaitingList.TheVariants.{Receiving, Sending}
 use Rattle.rd_queue.specs.QueueSnapshot.{QueueSnapshot}
@@ -14,14 +17,14 @@ use Rattle.rd_queue.specs.QueueSets.{with_waiting_tasks}
 use Rattle.rd_queue.specs.Queues.{tasks_in_list, with_waiting}
 use Rattle.rd_state.specs.declared.phase.Phase.{Phase}
 use Rattle.rd_state.specs.declared.phase.Listed.{Listed}
-use Rattle.rd_state.specs.declared.phase.Listed.TheVariants.{Queue, QueueSet}
+use Rattle.rd_state.specs.declared.phase.Listed.TheVariants.{Queue, QueueSet, Group}
 use Rattle.rd_app.specs.Application.{Application, code_of, instr_at, priorities_of}
 use Rattle.rd_app.specs.declared.objects.QueueShape.{QueueShape}
 use Rattle.rd_wait.specs.Joined.{IsInOrder}
 use Rattle.rd_state.specs.Settled.{seating_of}
 use Rattle.rd_state.specs.Sizes.{IsSized}
 use Rattle.rd_state.specs.Snapshot.{Snapshot, TaskSnapshot, no_task, task_at, with_objects, with_task}
-use Rattle.rd_state.specs.Objects.{AreShaped, ObjectsSnapshot, capacity_of, no_message_buffer, no_queue, no_queue_set, no_stream, numbers_in, shape_of, shapes_in}
+use Rattle.rd_state.specs.Objects.{AreShaped, ObjectsSnapshot, capacity_of, no_group, no_message_buffer, no_queue, no_queue_set, no_stream, numbers_in, shape_of, shapes_in}
 use Rattle.rd_state.specs.Objects.{size_of_message_buffer, size_of_stream}
 use Rattle.rd_state.specs.declared.phase.Held.{Held}
 use Rattle.rd_state.specs.declared.phase.Held.TheVariants.{Stream, Message}
@@ -37,7 +40,7 @@ use Rattle.rd_state.specs.Valid.{EntriesFitCall, HasTimeLeft, HoldersFitCall, Ho
 use Rattle.rd_state.specs.Valid.{seats_to_run}
 use Rattle.rd_state.specs.Valid.{times_in_list, times_waiting_in}
 use Rattle.rd_state.specs.Waiting.{HasList, IsHeld, IsList, held_kind, held_object, held_side, holder_in, list_kind, list_object, list_part, objects_naming}
-use Rattle.rd_state.specs.Waiting.{objects_then, part_number, same_held, same_list, side_number, waiting_at, waiting_in}
+use Rattle.rd_state.specs.Waiting.{is_by_priority, objects_then, part_number, same_held, same_list, side_number, waiting_at, waiting_in}
 use Rattle.rd_state.proofs.Offered.{SeatsKept}
 
 -- What holds of a task by itself. What is asked of its deadline is a parameter: in the middle of a tick it holds of
@@ -164,18 +167,20 @@ pub same_number : (a b : ℕ) → nat_eq a b ≡ true → a ≡ b
 same_number a b e = grind (arith, nat_tests, e)
 
 -- Who waits in each list, once these wait in one: a row for each kind, and one for lists of two kinds.
-pub waiting_then : (o : ObjectsSnapshot) (place other : Listed) (tasks : List ℕ) → IsList (numbers_in o) place
-    → waiting_in (objects_then o place tasks) other ≡ cond (same_list other place) tasks (waiting_in o other)
-waiting_then o (Queue queue list) (Queue number other) tasks there =
+pub waiting_then : (o : ObjectsSnapshot) (place other : Listed) (tasks : List ℕ) (wishes : List Wish) → IsList (numbers_in o) place
+    → waiting_in (objects_then o place tasks wishes) other ≡ cond (same_list other place) tasks (waiting_in o other)
+waiting_then o (Queue queue list) (Queue number other) tasks wishes there =
     let was = get_or o.queues queue no_queue in
     let old = tasks_in_list other (get_or o.queues number no_queue) in
     read_changed (tasks_in_list other) o.queues queue number (with_waiting list tasks was) no_queue there
     ∙ ap (λ m. cond (nat_eq number queue) m old) (tasks_in_list-with list other tasks was)
     ∙ by_number (nat_eq (part_number other) (part_number list)) (nat_eq number queue) tasks (tasks_in_list other was) old
     (λ e. ap (λ n. tasks_in_list other (get_or o.queues n no_queue)) (sym (same_number number queue e)))
-waiting_then o (QueueSet queue_set) (QueueSet number) tasks there =
+waiting_then o (QueueSet queue_set) (QueueSet number) tasks wishes there =
     read_changed (λ (q : QueueSetSnapshot). q.waiting) o.queue_sets queue_set number (with_waiting_tasks (get_or o.queue_sets queue_set no_queue_set) tasks) no_queue_set there
-waiting_then o place other tasks there = refl
+waiting_then o (Group group) (Group number) tasks wishes there =
+    read_changed (λ (g : GroupSnapshot). g.waiting) o.groups group number (with_waiters (get_or o.groups group no_group) tasks wishes) no_group there
+waiting_then o place other tasks wishes there = refl
 
 -- Objects that have changed in something else than their shapes, who waits where, and who is named.
 pub record ContentsChange (o n : ObjectsSnapshot) : Type 0 where
@@ -184,19 +189,24 @@ pub record ContentsChange (o n : ObjectsSnapshot) : Type 0 where
   pub shapes : shapes_in n ≡ shapes_in o
 
 -- Who waits where is none of an object's shape.
-pub shapes_then : (o : ObjectsSnapshot) (place : Listed) (tasks : List ℕ) → shapes_in (objects_then o place tasks) ≡ shapes_in o
-shapes_then o (Queue queue list) tasks =
+pub shapes_then : (o : ObjectsSnapshot) (place : Listed) (tasks : List ℕ) (wishes : List Wish) → shapes_in (objects_then o place tasks wishes) ≡ shapes_in o
+shapes_then o (Queue queue list) tasks wishes =
     ap (λ (qs : List QueueShape). record (shapes_in o) { queues = qs }) (map_kept shape_of o.queues queue (with_waiting list tasks (get_or o.queues queue no_queue)) no_queue refl)
-shapes_then o (QueueSet queue_set) tasks =
+shapes_then o (QueueSet queue_set) tasks wishes =
     ap (λ (rooms : List ℕ). record (shapes_in o) { queue_sets = rooms })
     (map_kept capacity_of o.queue_sets queue_set (with_waiting_tasks (get_or o.queue_sets queue_set no_queue_set) tasks) no_queue_set refl)
+shapes_then o (Group group) tasks wishes =
+    ap (λ (count : ℕ). record (shapes_in o) { groups = count }) (length-set o.groups group (with_waiters (get_or o.groups group no_group) tasks wishes))
 
 -- Nor is it whom a buffer's place names.
-pub holders_then : (o : ObjectsSnapshot) (place : Listed) (tasks : List ℕ) (held : Held) → holder_in (objects_then o place tasks) held ≡ holder_in o held
-holders_then o (Queue queue list) tasks (Stream stream side) = refl
-holders_then o (Queue queue list) tasks (Message message side) = refl
-holders_then o (QueueSet queue_set) tasks (Stream stream side) = refl
-holders_then o (QueueSet queue_set) tasks (Message message side) = refl
+pub holders_then : (o : ObjectsSnapshot) (place : Listed) (tasks : List ℕ) (wishes : List Wish) (held : Held)
+    → holder_in (objects_then o place tasks wishes) held ≡ holder_in o held
+holders_then o (Queue queue list) tasks wishes (Stream stream side) = refl
+holders_then o (Queue queue list) tasks wishes (Message message side) = refl
+holders_then o (QueueSet queue_set) tasks wishes (Stream stream side) = refl
+holders_then o (QueueSet queue_set) tasks wishes (Message message side) = refl
+holders_then o (Group group) tasks wishes (Stream stream side) = refl
+holders_then o (Group group) tasks wishes (Message message side) = refl
 
 -- A list in which somebody waits is there.
 pub place_there : (s : Snapshot) (place : Listed) (task : ℕ) → 1 ≤ times_in_list task (waiting_at s place) → HasList s place
@@ -212,6 +222,10 @@ place_there s (QueueSet queue_set) task some = elim (cases_lt queue_set (length 
   | inl lt ↦ lt
   | inr ge ↦ absurd (omega (arith, some, ap (λ (q : QueueSetSnapshot). times_in_list task q.waiting) (get_or_past s.objects.queue_sets queue_set no_queue_set ge)))
 ]
+place_there s (Group group) task some = elim (cases_lt group (length s.objects.groups)) [
+  | inl lt ↦ lt
+  | inr ge ↦ absurd (omega (arith, some, ap (λ (g : GroupSnapshot). times_in_list task g.waiting) (get_or_past s.objects.groups group no_group ge)))
+]
 
 -- A list is known by its numbers.
 abbrev part_from : ℕ → WaitingList
@@ -224,11 +238,13 @@ part_again Sending = refl
 
 abbrev list_from : ℕ → ℕ → ℕ → Listed
 list_from zero list number = Queue number (part_from list)
-list_from (suc kind) list number = QueueSet number
+list_from (suc zero) list number = QueueSet number
+list_from (suc (suc kind)) list number = Group number
 
 list_again : (place : Listed) → list_from (list_kind place) (list_part place) (list_object place) ≡ place
 list_again (Queue queue list) = ap (Queue queue) (part_again list)
 list_again (QueueSet queue_set) = refl
+list_again (Group group) = refl
 
 pub both : (a b : Bool) → (a && b) ≡ true → (a ≡ true) × (b ≡ true)
 both true b e = (refl, e)
@@ -288,7 +304,7 @@ IsConsistent-contents app D s n change at = record {
   seated_once = at.seated_once;
   waiting_lists = record {
     ready = at.waiting_lists.ready;
-    waiting = λ place. subst (IsInOrder (priorities_of app)) (sym (change.waiting place)) (at.waiting_lists.waiting place);
+    waiting = λ place by. subst (IsInOrder (priorities_of app)) (sym (change.waiting place)) (at.waiting_lists.waiting place by);
   };
   places = λ place t h. ap (times_in_list t) (change.waiting place) ∙ at.places place t h;
   holders = λ t h. HoldersFitCall-objects s.objects n t (task_at s t).phase (instr_at app t (task_at s t).pc) change.holders (at.holders t h);
@@ -308,7 +324,7 @@ IsConsistent-seats app D s z kept tasks objects at =
       seated_once = λ t h. kept.seats t ∙ at.seated_once t (in_s t h) ∙ ap (λ (x : TaskSnapshot). seats_to_run x.phase) (sym (is t));
       waiting_lists = record {
         ready = kept.order at.waiting_lists.ready;
-        waiting = λ place. subst (λ o. IsInOrder (priorities_of app) (waiting_in o place)) (sym objects) (at.waiting_lists.waiting place);
+        waiting = λ place by. subst (λ o. IsInOrder (priorities_of app) (waiting_in o place)) (sym objects) (at.waiting_lists.waiting place by);
       };
       places =
           λ place t h. ap (λ o. times_in_list t (waiting_in o place)) objects ∙ at.places place t (in_s t h)

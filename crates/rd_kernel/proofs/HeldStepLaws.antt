@@ -1,8 +1,7 @@
 -- The steps of a call of a buffer, and what each of them leaves as it was: instructions, the tick, entries that have received, and
 -- what objects have besides.
-use Rattle.std.proofs.Common.{◌<◌, ◌∙◌, ◌≡◌, Bool, List, None, Option, Some, ap, arith, cond, false, length, refl, set, subst, sym, true, ℕ}
+use Rattle.std.proofs.Common.{◌∙◌, ◌≡◌, Bool, List, None, Option, Some, ap, arith, cond, false, length, refl, set, true, ℕ}
 use Rattle.std.proofs.lemmas.List.{length-set}
-use Rattle.rd_app.specs.Application.{Application}
 use Rattle.rd_app.specs.declared.instr.Operand.{Operand}
 use Rattle.rd_notify.specs.Entries.{entry_idle, entry_notified, entry_waiting, idle_entry}
 use Rattle.std.specs.Prelude.{slice_index_or}
@@ -15,12 +14,10 @@ use Rattle.rd_state.specs.Phases.{tries_again}
 use Rattle.rd_state.specs.Snapshot.{Snapshot, TaskSnapshot, task_at, with_task}
 use Rattle.rd_state.specs.Waiting.{holder_at, objects_naming, with_holder}
 use Rattle.rd_kernel.specs.Holding.{CanComplete, come_back, completed, completed_for, is_named, name_gone, waits_held, waits_where}
-use Rattle.rd_kernel.specs.Outcomes.{IsCalling}
 use Rattle.rd_kernel.specs.Tasks.{entry_at, with_entry}
 use Rattle.rd_kernel.specs.Telling.{if_waiting_for}
 use Rattle.rd_kernel.specs.Waking.{woken_all}
 use Rattle.rd_kernel.specs.declared.waking.Waking.TheVariants.{TriesAgain}
-use Rattle.rd_kernel.proofs.ConsistentLaws.{IsConsistent-valid}
 use Rattle.rd_kernel.proofs.EntryLaws.{EachStays, EachStays-task, EachStays-woken_all, EntriesStay-woken_all, entry_after}
 use Rattle.rd_kernel.proofs.WakingLaws.{AfterWaking-woken_all}
 
@@ -91,13 +88,6 @@ CanComplete-come_back s task held can =
     gone : (b : Bool) → CanComplete (cond b (with_holder s held None) s)
     gone true = record { room = can.room; entries = can.entries }
     gone false = can
-
--- Whoever calls can complete one.
-pub CanComplete-calling : (app : Application) (s : Snapshot) (task : ℕ) → IsCalling app s task → 0 < app.entries → CanComplete s
-CanComplete-calling app s task calls some = record {
-  room = calls.room_to_wake;
-  entries = λ t there. omega (arith, ((IsConsistent-valid app s calls.valid).each t there).entry_count, some);
-}
 
 -- ---- the tick
 

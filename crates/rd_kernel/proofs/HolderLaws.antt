@@ -13,7 +13,7 @@ use Rattle.rd_stream.specs.declared.side.Side.TheVariants.{Reader, Writer}
 use Rattle.rd_state.specs.declared.phase.Held.{Held}
 use Rattle.rd_state.specs.declared.phase.Held.TheVariants.{Stream, Message}
 use Rattle.rd_state.specs.declared.phase.Listed.{Listed}
-use Rattle.rd_state.specs.declared.phase.Listed.TheVariants.{Queue, QueueSet}
+use Rattle.rd_state.specs.declared.phase.Listed.TheVariants.{Queue, QueueSet, Group}
 use Rattle.rd_state.specs.Objects.{ObjectsSnapshot, no_message_buffer, no_stream, numbers_in, shapes_in, size_of_message_buffer, size_of_stream}
 use Rattle.rd_state.specs.Waiting.{IsHeld, held_kind, held_object, held_side, holder_in, objects_naming, same_held, side_number, waiting_in}
 use Rattle.rd_kernel.proofs.ConsistentLaws.{both, by_number, map_kept, read_changed, same_number}
@@ -21,8 +21,10 @@ use Rattle.rd_kernel.proofs.ConsistentLaws.{both, by_number, map_kept, read_chan
 waiting_naming : (o : ObjectsSnapshot) (held : Held) (who : Option ℕ) (place : Listed) → waiting_in (objects_naming o held who) place ≡ waiting_in o place
 waiting_naming o (Stream stream side) who (Queue queue list) = refl
 waiting_naming o (Stream stream side) who (QueueSet queue_set) = refl
+waiting_naming o (Stream stream side) who (Group group) = refl
 waiting_naming o (Message message side) who (Queue queue list) = refl
 waiting_naming o (Message message side) who (QueueSet queue_set) = refl
+waiting_naming o (Message message side) who (Group group) = refl
 
 shapes_naming : (o : ObjectsSnapshot) (held : Held) (who : Option ℕ) → shapes_in (objects_naming o held who) ≡ shapes_in o
 shapes_naming o (Stream stream side) who =

@@ -26,12 +26,12 @@ use Rattle.rd_notify.specs.declared.entries.EntryState.TheVariants.{Idle, Receiv
 use Rattle.rd_state.specs.declared.phase.Cause.{Cause}
 use Rattle.rd_state.specs.declared.phase.Held.{Held}
 use Rattle.rd_state.specs.declared.phase.Phase.{Phase}
-use Rattle.rd_state.specs.declared.phase.Phase.TheVariants.{Again, Ended, Failed, Run, Wait}
+use Rattle.rd_state.specs.declared.phase.Phase.TheVariants.{Again, Ended, Failed, Given, Run, Wait}
 use Rattle.rd_state.specs.declared.phase.Place.{Place}
 use Rattle.rd_state.specs.Objects.{ObjectsSnapshot, message_in, no_message_buffer, no_stream, numbers_in, stream_in}
-use Rattle.rd_state.specs.Phases.{can_run, is_in_call, tries_again, waits_at}
+use Rattle.rd_state.specs.Phases.{can_run, is_in_call, tries_again, waits_at, was_given}
 use Rattle.rd_state.specs.Snapshot.{Snapshot, TaskSnapshot, core_at, no_task, task_at, with_objects, with_task}
-use Rattle.rd_state.specs.Valid.{EntriesFitCall, FitsCall, HoldersFitCall, entry_of_call, is_ahead, place_of_call, seats_to_run, state_of_entry, times_in_list}
+use Rattle.rd_state.specs.Valid.{EntriesFitCall, FitsCall, HoldersFitCall, PhaseFitsCall, entry_of_call, is_ahead, is_in_group, place_of_call, seats_to_run, state_of_entry, times_in_list}
 use Rattle.rd_state.specs.Waiting.{HasHeld, entry_of, held_side, holder_at, holder_in, objects_naming, with_holder}
 use Rattle.rd_state.specs.declared.phase.Held.TheVariants.{Stream, Message}
 use Rattle.rd_state.specs.Objects.{AreShaped}
@@ -241,12 +241,14 @@ NameGone-name_gone app s task held there has_held call nowhere names at = by_nam
           (stays (λ other is. differs (some_is holder task (sym e ∙ ap (holder_at s) (sym (named_at_call app s task held other there call at is)) ∙ is))))
     ]
 
-first_runs : (phase : Phase) → 1 ≤ seats_to_run phase → tries_again phase ≡ false → phase ≡ Run
-first_runs Run runs first = refl
-first_runs (Again deadline) runs first = absurd (false≢true (sym first))
-first_runs (Wait place deadline) runs first = absurd (omega (arith, runs))
-first_runs Ended runs first = absurd (omega (arith, runs))
-first_runs (Failed cause) runs first = absurd (omega (arith, runs))
+first_runs : (phase : Phase) (instr : Instr) → 1 ≤ seats_to_run phase → tries_again phase ≡ false → is_in_group (place_of_call instr) ≡ false
+    → PhaseFitsCall phase instr → phase ≡ Run
+first_runs Run instr runs first none at = refl
+first_runs (Again deadline) instr runs first none at = absurd (false≢true (sym first))
+first_runs (Given bits) instr runs first none at = absurd (false≢true (sym none ∙ at))
+first_runs (Wait place deadline) instr runs first none at = absurd (omega (arith, runs))
+first_runs Ended instr runs first none at = absurd (omega (arith, runs))
+first_runs (Failed cause) instr runs first none at = absurd (omega (arith, runs))
 
 -- So a call of a buffer begins, at whichever try.
 pub IsOn-come_back : (app : Application) (s : Snapshot) (core task : ℕ) (held : Held) (instr : Instr) → RunsInstr app s core task instr
@@ -258,7 +260,7 @@ IsOn-come_back app s core task held instr calls at_place has_held entries names 
     by_try false first =
         let x = task_at s task in
         let at = IsConsistent-valid app s calls.valid in
-        let run = first_runs x.phase calls.runs first in
+        let run = first_runs x.phase instr calls.runs first (ap is_in_group at_place) (subst (PhaseFitsCall x.phase) calls.at_instr (at.each task calls.there).call) in
         record {
           consistent = at;
           stays = record { same_length = refl; pc = refl; phase = refl };
@@ -395,7 +397,7 @@ told_waits_nowhere app D s held t there named at = by_place (waits_at (task_at s
     by_place (Some place) e =
         let x = task_at s t in
         let instr = instr_at app t x.pc in
-        let call : place_of_call instr ≡ Some place = subst (λ o. FitsCall instr o (tries_again x.phase)) e (at.each t there).call in
+        let call : place_of_call instr ≡ Some place = subst (λ o. FitsCall instr o (tries_again x.phase) (was_given x.phase)) e (at.each t there).call in
         let one : waits_at x.phase ≡ Some (sort.Held held) = e ∙ sym call ∙ ((at.holders t there).named held named).0 in
         let tasks : if_waiting_for s t 0 ≡ t ∷ [] = ap (λ o. cond (is_that_entry 0 (option_and_then entry_of o)) (t ∷ []) []) one in
         subst (λ ts. waits_at (task_at (woken_all (priorities_of app) TriesAgain s ts) t).phase ≡ None) (sym tasks)

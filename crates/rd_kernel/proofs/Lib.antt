@@ -8,4 +8,6 @@ pub mod CallLaws
 pub mod EntryLaws
 pub mod HoldingLaws
 pub mod HeldStepLaws
+pub mod GivingLaws
+pub mod SleepingLaws
 pub mod Offered

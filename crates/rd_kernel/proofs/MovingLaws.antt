@@ -14,11 +14,15 @@ use Rattle.rd_state.specs.Snapshot.{Snapshot, TaskSnapshot, core_at, task_at, wi
 use Rattle.rd_state.specs.Objects.{ObjectsSnapshot, shapes_in}
 use Rattle.rd_state.specs.Valid.{EntriesFitCall, HoldersFitCall, entry_of_call, is_in_list, is_on, seats_to_run, state_of_entry, times_in_list, times_on_cores}
 use Rattle.rd_state.specs.Valid.{times_waiting_in, waits_in}
-use Rattle.rd_state.specs.Waiting.{HasHeld, HasList, entry_of, holder_at, holder_in, listed_at, objects_naming, objects_then, same_list, waiting_at, waiting_in}
-use Rattle.rd_state.proofs.Offered.{one_if, times_in_list-joined, times_on_cores-set}
+use Rattle.rd_state.specs.Waiting.{HasHeld, HasList, entry_of, holder_at, holder_in, is_by_priority, listed_at, objects_naming, objects_then, same_list, waiting_at}
+use Rattle.rd_state.specs.Waiting.{waiting_in}
+use Rattle.rd_state.specs.declared.phase.Listed.TheVariants.{Group}
+use Rattle.rd_group.specs.declared.wish.Wish.{Wish}
+use Rattle.std.proofs.Common.{◌++◌, ◌∷◌, []}
+use Rattle.rd_state.proofs.Offered.{one_if, times_in_list-cons, times_in_list-joined, times_on_cores-set}
 use Rattle.rd_state.specs.declared.phase.Place.{Place}
-use Rattle.std.proofs.lemmas.List.Sums.{sum_by-remove}
-use Rattle.rd_state.specs.declared.phase.Phase.TheVariants.{Again, Ended, Failed, Run, Wait}
+use Rattle.std.proofs.lemmas.List.Sums.{sum_by-append, sum_by-remove}
+use Rattle.rd_state.specs.declared.phase.Phase.TheVariants.{Again, Ended, Failed, Given, Run, Wait}
 use Rattle.rd_wait.proofs.Offered.{IsInOrder-joined, IsInOrder-remove}
 use Rattle.rd_state.specs.Phases.{can_run, waits_at}
 use Rattle.rd_kernel.proofs.ConsistentLaws.{IsConsistent, IsConsistentTask, place_there, same_list-is, same_list-self, shapes_then, task_or_other}
@@ -39,6 +43,7 @@ none_is_some x e = cc
 pub runner_waits_nowhere : (phase : Phase) → can_run phase ≡ true → waits_at phase ≡ None
 runner_waits_nowhere Run e = refl
 runner_waits_nowhere (Again deadline) e = refl
+runner_waits_nowhere (Given bits) e = refl
 runner_waits_nowhere (Wait place deadline) e = absurd (false≢true e)
 runner_waits_nowhere Ended e = refl
 runner_waits_nowhere (Failed cause) e = refl
@@ -135,7 +140,7 @@ pub record ObjectsGo (priorities : List ℕ) (o n : ObjectsSnapshot) (task : ℕ
   pub shapes : shapes_in n ≡ shapes_in o
   pub waits : (place : Listed) → times_in_list task (waiting_in n place) ≡ times_waiting_in place phase
   pub others : (place : Listed) (t : ℕ) → t ≢ task → times_in_list t (waiting_in n place) ≡ times_in_list t (waiting_in o place)
-  pub order : (place : Listed) → IsInOrder priorities (waiting_in n place)
+  pub order : (place : Listed) → is_by_priority place ≡ true → IsInOrder priorities (waiting_in n place)
   pub named_still : (held : Held) (t : ℕ) → t ≢ task → holder_in o held ≡ Some t → holder_in n held ≡ Some t
   pub named_before : (held : Held) (t : ℕ) → t ≢ task → holder_in n held ≡ Some t → holder_in o held ≡ Some t
 
@@ -233,17 +238,17 @@ pub record ListGoes (priorities : List ℕ) (s : Snapshot) (place : Listed) (wai
   pub waits : times_in_list task waiting ≡ times_waiting_in place phase
   pub elsewhere : (other : Listed) → same_list other place ≡ false → times_waiting_in other phase ≡ times_waiting_in other (task_at s task).phase
   pub others : (t : ℕ) → t ≢ task → times_in_list t waiting ≡ times_in_list t (waiting_at s place)
-  pub order : IsInOrder priorities waiting
+  pub order : is_by_priority place ≡ true → IsInOrder priorities waiting
 
-pub ObjectsGo-list : (app : Application) (D : ℕ → Phase → Type 0) (s : Snapshot) (place : Listed) (waiting : List ℕ) (task : ℕ) (phase : Phase)
-    → task < length s.tasks → ListGoes (priorities_of app) s place waiting task phase → IsConsistent app D s
-    → ObjectsGo (priorities_of app) s.objects (objects_then s.objects place waiting) task phase
-ObjectsGo-list app D s place waiting task phase there goes at =
-    let n = objects_then s.objects place waiting in
+pub ObjectsGo-list : (app : Application) (D : ℕ → Phase → Type 0) (s : Snapshot) (place : Listed) (waiting : List ℕ) (wishes : List Wish) (task : ℕ)
+    (phase : Phase) → task < length s.tasks → ListGoes (priorities_of app) s place waiting task phase → IsConsistent app D s
+    → ObjectsGo (priorities_of app) s.objects (objects_then s.objects place waiting wishes) task phase
+ObjectsGo-list app D s place waiting wishes task phase there goes at =
+    let n = objects_then s.objects place waiting wishes in
     let list : (other : Listed) → List ℕ = λ other. cond (same_list other place) waiting (waiting_at s other) in
-    let is_list : (other : Listed) → waiting_in n other ≡ list other = λ other. waiting_then s.objects place other waiting goes.there in
+    let is_list : (other : Listed) → waiting_in n other ≡ list other = λ other. waiting_then s.objects place other waiting wishes goes.there in
     record {
-      shapes = shapes_then s.objects place waiting;
+      shapes = shapes_then s.objects place waiting wishes;
       waits = λ other. ap (times_in_list task) (is_list other)
           ∙ by_place place other (λ b. times_in_list task (cond b waiting (waiting_at s other)) ≡ times_waiting_in other phase)
           (λ same. goes.waits ∙ ap (λ q. times_waiting_in q phase) (sym same))
@@ -252,11 +257,11 @@ ObjectsGo-list app D s place waiting task phase there goes at =
           ∙ by_place place other (λ b. times_in_list t (cond b waiting (waiting_at s other)) ≡ times_in_list t (waiting_at s other))
           (λ same. goes.others t differs ∙ ap (λ q. times_in_list t (waiting_at s q)) (sym same))
           (λ apart. refl);
-      order = λ other. subst (IsInOrder (priorities_of app)) (sym (is_list other))
-          (by_place place other (λ b. IsInOrder (priorities_of app) (cond b waiting (waiting_at s other))) (λ same. goes.order)
-          (λ differs. at.waiting_lists.waiting other));
-      named_still = λ held t differs is. holders_then s.objects place waiting held ∙ is;
-      named_before = λ held t differs is. sym (holders_then s.objects place waiting held) ∙ is;
+      order = λ other by. subst (IsInOrder (priorities_of app)) (sym (is_list other))
+          (by_place place other (λ b. IsInOrder (priorities_of app) (cond b waiting (waiting_at s other)))
+          (λ same. goes.order (ap is_by_priority (sym same) ∙ by)) (λ differs. at.waiting_lists.waiting other by));
+      named_still = λ held t differs is. holders_then s.objects place waiting wishes held ∙ is;
+      named_before = λ held t differs is. sym (holders_then s.objects place waiting wishes held) ∙ is;
     }
 
 -- It comes to wait.
@@ -274,7 +279,26 @@ ListGoes-joined app D s place task phase there has_place runs waits at =
       waits = times task ∙ omega (arith, none, same_one task) ∙ sym (times_then place ∙ ap one_if (same_list-self place));
       elsewhere = λ other differs. times_then other ∙ ap one_if differs ∙ sym (waits_nowhere other (task_at s task).phase runs);
       others = λ t differs. omega (arith, times t, other_none t task differs);
-      order = IsInOrder-joined (priorities_of app) list task (at.waiting_lists.waiting place);
+      order = λ by. IsInOrder-joined (priorities_of app) list task (at.waiting_lists.waiting place by);
+    }
+
+-- It comes to wait at an event group, behind all others.
+pub ListGoes-appended : (app : Application) (D : ℕ → Phase → Type 0) (s : Snapshot) (group task : ℕ) (phase : Phase) → task < length s.tasks
+    → HasList s (Group group) → 1 ≤ seats_to_run (task_at s task).phase → waits_at phase ≡ Some (sort.Listed (Group group)) → IsConsistent app D s
+    → ListGoes (priorities_of app) s (Group group) (waiting_at s (Group group) ++ task ∷ []) task phase
+ListGoes-appended app D s group task phase there has_place runs waits at =
+    let place = Group group in
+    let list = waiting_at s place in
+    let times : (t : ℕ) → times_in_list t (list ++ task ∷ []) ≡ times_in_list t list + one_if (nat_eq t task) =
+    λ t. omega (arith, sum_by-append (λ m. one_if (nat_eq t m)) list (task ∷ []), times_in_list-cons t task []) in
+    let none : times_in_list task list ≡ 0 = at.places place task there ∙ waits_nowhere place (task_at s task).phase runs in
+    let times_then : (other : Listed) → times_waiting_in other phase ≡ one_if (same_list other place) = λ other. ap (λ o. one_if (is_in_list other (option_and_then listed_at o))) waits in
+    record {
+      there = has_place;
+      waits = times task ∙ omega (arith, none, same_one task) ∙ sym (times_then place ∙ ap one_if (same_list-self place));
+      elsewhere = λ other differs. times_then other ∙ ap one_if differs ∙ sym (waits_nowhere other (task_at s task).phase runs);
+      others = λ t differs. omega (arith, times t, other_none t task differs);
+      order = λ by. absurd (false≢true by);
     }
 
 -- It has waited, and can run.
@@ -293,7 +317,7 @@ ListGoes-left app D s place task phase f there waits some runs at =
       waits = omega (arith, times task, same_one task, once, some, waits_nowhere place phase runs);
       elsewhere = λ other differs. waits_nowhere other phase runs ∙ sym (ap (λ o. one_if (is_in_list other (option_and_then listed_at o))) waits ∙ ap one_if differs);
       others = λ t differs. omega (arith, times t, other_none t task differs);
-      order = IsInOrder-remove (priorities_of app) list f.index (at.waiting_lists.waiting place);
+      order = λ by. IsInOrder-remove (priorities_of app) list f.index (at.waiting_lists.waiting place by);
     }
 
 -- A place of a buffer comes to name it, or names it no more.
@@ -307,7 +331,7 @@ ObjectsGo-holder app D s held who task phase there has_held no_other no_other_be
       shapes = goes.shapes;
       waits = λ place. ap (times_in_list task) (goes.waiting place) ∙ at.places place task there ∙ sym (waits place);
       others = λ place t differs. ap (times_in_list t) (goes.waiting place);
-      order = λ place. subst (IsInOrder (priorities_of app)) (sym (goes.waiting place)) (at.waiting_lists.waiting place);
+      order = λ place by. subst (IsInOrder (priorities_of app)) (sym (goes.waiting place)) (at.waiting_lists.waiting place by);
       named_still = λ other t differs is. by_held other held (λ same. absurd (no_other_before t differs (ap (holder_at s) (sym same) ∙ is)))
           (λ apart. goes.others other apart ∙ is);
       named_before = λ other t differs is. by_held other held

@@ -113,3 +113,9 @@ room_for tasks n task all once there none =
     let few =
     length-le_from_distinct_below (task ∷ tasks) n with_task (λ q has. is_below (task ∷ tasks) n q (All-cons (λ t. t < n) task tasks there all) has) in
     omega (arith, few)
+
+-- A list in which each of n tasks stands once at the most is no longer than that.
+pub all_once : (tasks : List ℕ) (n : ℕ) → All (λ t. t < n) tasks → ((t : ℕ) → t < n → times_in_list t tasks ≤ 1) → length tasks ≤ n
+all_once tasks n all once =
+    let once_at : (t : ℕ) → 1 ≤ times_in_list t tasks → times_in_list t tasks ≤ 1 = λ t some. once t (member_has (λ t. t < n) tasks t all some) in
+    length-le_from_distinct_below tasks n (IsDistinct-once tasks once_at) (λ q has. is_below tasks n q all has)

@@ -1,13 +1,13 @@
 -- Waking keeps what makes a state valid.
 use Rattle.rd_state.specs.declared.phase.Place.TheVariants as sort
 use Rattle.std.proofs.Common.{◌+◌, ◌<◌, ◌∙◌, ◌∷◌, ◌≡◌, ◌≢◌, ◌≤◌, Bool, List, None, Option, Some, [], ap, arith, cond, false, get_or, inl, inr, length}
-use Rattle.std.proofs.Common.{refl, set, subst, suc, sym, true, zero, ℕ}
+use Rattle.std.proofs.Common.{refl, set, subst, suc, sym, take, true, zero, ℕ}
 use Rattle.std.specs.Prelude.{◌&&◌, IfSome, is_some, nat_eq, nat_lt, not, position, remove, slice_get}
 use Rattle.rd_state.specs.declared.phase.Held.{Held}
 use Rattle.rd_state.specs.Objects.{ObjectsSnapshot}
 use Rattle.std.proofs.lemmas.Bool.{cases_eq, cases_lt}
 use Rattle.std.proofs.lemmas.Bool.Decides.{nat_tests}
-use Rattle.std.proofs.lemmas.List.{get_or-set_other, get_or-set_same, length-set}
+use Rattle.std.proofs.lemmas.List.{get_or-set_other, get_or-set_same, length-set, length-take-le}
 use Rattle.rd_state.specs.declared.phase.Phase.{Phase}
 use Rattle.rd_state.specs.declared.phase.Listed.{Listed}
 use Rattle.rd_app.specs.Application.{Application, instr_at, max_delay, priorities_of}
@@ -15,12 +15,12 @@ use Rattle.rd_wait.specs.Joined.{joined}
 use Rattle.rd_state.specs.Snapshot.{Snapshot, TaskSnapshot, no_task, task_at}
 use Rattle.rd_state.specs.Valid.{EntriesFitCall, FitsCall, HasTimeLeft, HoldersFitCall, PhaseFitsCall, is_ahead, is_in_list, place_of_call, seats_to_run}
 use Rattle.rd_state.specs.Valid.{times_in_list}
-use Rattle.rd_state.specs.Waiting.{holder_at, holder_in, listed_at, waiting_at, waiting_in}
-use Rattle.rd_state.proofs.Offered.{one_if, times_in_list-cons}
+use Rattle.rd_state.specs.Waiting.{holder_at, holder_in, listed_at, waiting_at, waiting_in, wishes_in}
+use Rattle.rd_state.proofs.Offered.{length-joined, one_if, times_in_list-cons}
 use Rattle.rd_state.specs.declared.phase.Place.{Place}
 use Rattle.std.proofs.lemmas.List.Sums.{fold-append, sum_by-append}
 use Rattle.rd_state.specs.declared.phase.Phase.TheVariants.{Again}
-use Rattle.rd_state.specs.Phases.{is_first, is_in_call, kept_deadline, tries_again, waits_at}
+use Rattle.rd_state.specs.Phases.{is_first, is_in_call, kept_deadline, tries_again, waits_at, was_given}
 use Rattle.rd_kernel.proofs.ConsistentLaws.{IsConsistent, IsConsistent-deadlines, all_have_time_left, holders_then, same_list-self}
 use Rattle.rd_kernel.proofs.TaskListLaws.{find_in_list, first_is_listed, other_none, same_one}
 use Rattle.std.specs.Option.{option_and_then, option_to_list}
@@ -29,7 +29,7 @@ use Rattle.rd_kernel.specs.Waking.{woken, woken_all, woken_at}
 use Rattle.rd_kernel.proofs.MovingLaws.{IsConsistent-moves, ListGoes-left, ObjectsGo-list, ObjectsGo-stay, SeatsGo-ready, none_is_some}
 use Rattle.rd_kernel.proofs.MovingLaws.{waiter_is_idle, waits_nowhere}
 use Rattle.rd_kernel.specs.declared.waking.Waking.{Waking}
-use Rattle.rd_kernel.specs.declared.waking.Waking.TheVariants.{TriesAgain}
+use Rattle.rd_kernel.specs.declared.waking.Waking.TheVariants.{IsGiven, TriesAgain}
 use Rattle.rd_notify.specs.declared.entries.Entry.{Entry}
 
 -- ---- waking
@@ -37,9 +37,11 @@ use Rattle.rd_notify.specs.declared.entries.Entry.{Entry}
 -- Whoever is woken can run, and waits nowhere.
 woken_runs : (waking : Waking) (phase : Phase) → seats_to_run (phase_woken waking phase) ≡ 1
 woken_runs TriesAgain phase = refl
+woken_runs (IsGiven bits) phase = refl
 
 woken_nowhere : (waking : Waking) (phase : Phase) → waits_at (phase_woken waking phase) ≡ None
 woken_nowhere TriesAgain phase = refl
+woken_nowhere (IsGiven bits) phase = refl
 
 -- What a waking asks of a task that waits: its phase fits its call then, and has its deadline.
 pub record MayWake (app : Application) (D : ℕ → Phase → Type 0) (waking : Waking) (task : ℕ) (x : TaskSnapshot) : Type 0 where
@@ -62,7 +64,7 @@ pub may_try_again : (app : Application) (D : ℕ → Phase → Type 0) (s : Snap
 may_try_again app D s task there asked at place waits =
     let was = at.each task there in
     let instr = instr_at app task (task_at s task).pc in
-    let call : place_of_call instr ≡ Some place = subst (λ o. FitsCall instr o (tries_again (task_at s task).phase)) waits was.call in
+    let call : place_of_call instr ≡ Some place = subst (λ o. FitsCall instr o (tries_again (task_at s task).phase) (was_given (task_at s task).phase)) waits was.call in
     record {
       call = ap is_some call;
       deadline = asked (kept_deadline (task_at s task).phase);
@@ -126,9 +128,9 @@ IsConsistent-woken_at app D waking s task (Some (sort.Listed place)) there e may
     (IsConsistent-moves app D s (after (Some f.index)) task x there refl
     (record { pc = was.pc; entry_count = was.entry_count; call = wakes.call; deadline = wakes.deadline; entries = wakes.entries })
     (named_woken app D waking s.objects (after (Some f.index)).objects task (task_at s task)
-    (holders_then s.objects place (remove (waiting_at s place) f.index)) wakes (at.holders task there))
+    (holders_then s.objects place (remove (waiting_at s place) f.index) (remove (wishes_in s.objects place) f.index)) wakes (at.holders task there))
     (SeatsGo-ready app D s task phase there (waiter_is_idle (task_at s task).phase (sort.Listed place) e) (woken_runs waking (task_at s task).phase) at)
-    (ObjectsGo-list app D s place (remove (waiting_at s place) f.index) task phase there
+    (ObjectsGo-list app D s place (remove (waiting_at s place) f.index) (remove (wishes_in s.objects place) f.index) task phase there
     (ListGoes-left app D s place task phase f there e some (omega (arith, woken_runs waking (task_at s task).phase)) at) at) at)
 IsConsistent-woken_at app D waking s task (Some (sort.Held held)) there e may at =
     IsConsistent-woken_outside_lists app D waking s task (sort.Held held) there e refl (may (sort.Held held) e) at
@@ -162,7 +164,7 @@ holders_left o (sort.Listed list) task held = without (position (λ member. nat_
   where
     without : (index : Option ℕ) → holder_in (objects_without o list index) held ≡ holder_in o held
     without None = refl
-    without (Some index) = holders_then o list (remove (waiting_in o list) index) held
+    without (Some index) = holders_then o list (remove (waiting_in o list) index) (remove (wishes_in o list) index) held
 holders_left o (sort.Held place) task held = refl
 holders_left o (sort.Entry index) task held = refl
 
@@ -264,6 +266,29 @@ AfterWaking-woken_all priorities waking s (first ∷ rest) =
       holders = λ held. all.holders held ∙ one.holders held;
     }
 
+-- Each that is woken takes a place in the ready list at the most.
+ready_after_one : (priorities : List ℕ) (waking : Waking) (s : Snapshot) (task : ℕ) → length (woken priorities waking s task).ready ≤ length s.ready + 1
+ready_after_one priorities waking s task = by_place (waits_at (task_at s task).phase)
+  where
+    by_place : (o : Option Place) → length (woken_at priorities waking s task o).ready ≤ length s.ready + 1
+    by_place None = omega arith
+    by_place (Some place) = omega (arith, length-joined priorities s.ready task)
+
+ready_after : (priorities : List ℕ) (waking : Waking) (s : Snapshot) (tasks : List ℕ)
+    → length (woken_all priorities waking s tasks).ready ≤ length s.ready + length tasks
+ready_after priorities waking s [] = omega arith
+ready_after priorities waking s (first ∷ rest) =
+    omega (arith, ready_after priorities waking (woken priorities waking s first) rest, ready_after_one priorities waking s first)
+
+-- So where there is room for all of them there is room for the next.
+pub room_for_next : (priorities : List ℕ) (waking : Waking) (s p : Snapshot) (tasks : List ℕ) (index : ℕ) → length s.ready + length tasks ≤ length s.tasks
+    → index < length tasks → p ≡ woken_all priorities waking s (take index tasks) → length p.ready < length p.tasks
+room_for_next priorities waking s p tasks index room next is =
+    let woken_now = take index tasks in
+    let count : length woken_now ≡ index = length-take-le index tasks (omega (arith, next)) in
+    subst (λ (q : Snapshot). length q.ready < length q.tasks) (sym is)
+    (omega (arith, ready_after priorities waking s woken_now, count, room, next, (AfterWaking-woken_all priorities waking s woken_now).same_length))
+
 -- The first at a place tries its call again, if anyone waits there.
 pub MayWakeAll-first : (app : Application) (D : ℕ → Phase → Type 0) (s : Snapshot) (place : Listed)
     → ((t : ℕ) → 1 ≤ times_in_list t (waiting_at s place) → t < length s.tasks) → ((t : ℕ) (deadline : Option ℕ) → D t (Again deadline)) → IsConsistent app D s
@@ -316,7 +341,7 @@ not_past s (suc n) t past =
     omega (arith, times_due s n t, not_past s n t (omega (arith, past)), here)
 
 -- below it, whose time is up and no other
-due_is_listed : (s : Snapshot) (n t : ℕ) → t < n → times_in_list t (due_below s n) ≡ one_if (is_due s.tick (task_at s t).phase)
+pub due_is_listed : (s : Snapshot) (n t : ℕ) → t < n → times_in_list t (due_below s n) ≡ one_if (is_due s.tick (task_at s t).phase)
 due_is_listed s zero t below = absurd (omega (arith, below))
 due_is_listed s (suc n) t below = elim (cases_eq t n) [
   | inl same ↦

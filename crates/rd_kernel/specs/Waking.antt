@@ -1,14 +1,15 @@
 -- Block times: tasks that begin to wait, and tasks that are woken.
-use Rattle.std.specs.Prelude.{ℕ, ◌≡◌, zero, suc, ◌+◌, ◌<◌, ◌++◌, ◌∷◌, ◌&&◌, [], Bool, true, List}
+use Rattle.std.specs.Prelude.{ℕ, ◌≡◌, zero, suc, ◌+◌, ◌<◌, ◌≤◌, ◌++◌, ◌∷◌, ◌&&◌, [], Bool, true, List}
 use Rattle.std.specs.Prelude.{is_some}
 use Rattle.std.specs.Prelude.{length, nat_eq, nat_lt, not, position, remove, slice_get}
 use Rattle.std.specs.Prelude.{if◌then◌else◌, Option, None, Some}
 use Rattle.std.specs.List.{fold}
 use Rattle.std.specs.Option.{option_to_list}
+use Rattle.rd_group.specs.declared.wish.TheConstants.{MAX_BITS}
 use Rattle.rd_app.specs.declared.instr.Operand.{Operand}
 use Rattle.rd_app.specs.declared.instr.Operand.TheVariants.{Number, Register}
 use Rattle.rd_state.specs.declared.phase.Phase.{Phase}
-use Rattle.rd_state.specs.declared.phase.Phase.TheVariants.{Again}
+use Rattle.rd_state.specs.declared.phase.Phase.TheVariants.{Again, Given}
 use Rattle.rd_state.specs.declared.phase.Listed.{Listed}
 use Rattle.rd_state.specs.declared.phase.Place.{Place}
 use Rattle.rd_state.specs.declared.phase.Place.TheVariants as sort
@@ -18,9 +19,10 @@ use Rattle.rd_state.specs.Phases.{is_first, kept_deadline, waits_at}
 use Rattle.rd_state.specs.Snapshot.{Snapshot, task_at}
 use Rattle.rd_state.specs.Objects.{ObjectsSnapshot}
 use Rattle.rd_state.specs.Valid.{is_ahead}
-use Rattle.rd_state.specs.Waiting.{objects_then, waiting_at, waiting_in, with_waiting_at}
+use Rattle.rd_state.specs.Waiting.{objects_then, waiting_at, waiting_in, wishes_in}
+use Rattle.rd_state.specs.Waiting.{with_waiting_at}
 use Rattle.rd_kernel.specs.declared.waking.Waking.{Waking}
-use Rattle.rd_kernel.specs.declared.waking.Waking.TheVariants.{TriesAgain}
+use Rattle.rd_kernel.specs.declared.waking.Waking.TheVariants.{IsGiven, TriesAgain}
 use Rattle.rd_kernel.specs.Tasks.{register_at, with_phase}
 
 -- the number that an operand stands for
@@ -52,12 +54,13 @@ FirstTriesWait =
 -- the state with the task in a list, after those of at least its priority
 abbrev pub with_waiter : List ℕ → Snapshot → Listed → ℕ → Snapshot
 with_waiter priorities s list task =
-    with_waiting_at s list (joined priorities (waiting_at s list) task)
+    with_waiting_at s list (joined priorities (waiting_at s list) task) []
 
 -- the objects, once the member at that index of the list has left it
 abbrev pub objects_without : ObjectsSnapshot → Listed → Option ℕ → ObjectsSnapshot
 objects_without o list None = o
-objects_without o list (Some index) = objects_then o list (remove (waiting_in o list) index)
+objects_without o list (Some index) =
+    objects_then o list (remove (waiting_in o list) index) (remove (wishes_in o list) index)
 
 -- the objects, once the task has left a place: it leaves the list, if it stood there; a buffer's
 -- place goes on naming it, and an entry stays as it is
@@ -77,6 +80,12 @@ ReadyHasRoom s = length s.ready < length s.tasks
 -- the phase that a waking leads to
 abbrev pub phase_woken : Waking → Phase → Phase
 phase_woken TriesAgain phase = Again (kept_deadline phase)
+phase_woken (IsGiven bits) phase = Given bits
+
+-- The bits that a waking gives are some that an event group can have.
+abbrev pub IsSizedWaking : Waking → Type 0
+IsSizedWaking TriesAgain = Unit {0}
+IsSizedWaking (IsGiven bits) = bits ≤ MAX_BITS
 
 -- A task that waits leaves its place, is in the phase that its waking leads to, and joins the ready
 -- list.

@@ -9,29 +9,18 @@ ghost use Rattle.rd_state.specs.Waiting.{held_side, holder_at, HasHeld};
 ghost use Rattle.rd_kernel.specs.Costs.{beginning_cost, coming_back_cost, completing_cost};
 ghost use Rattle.rd_kernel.specs.Holding.{cause_of_side, come_back, completed, name_gone};
 ghost use Rattle.rd_kernel.specs.Holding.{waits_held, CanComplete};
-ghost use Rattle.rd_kernel.specs.Outcomes.{DoesCall, IsCalling};
+ghost use Rattle.rd_kernel.specs.Outcomes.{DoesCall};
 
 use crate::changes::set_entry;
 use crate::outcome::Outcome;
 use crate::telling::tell;
 use crate::waking::deadline_of;
-use rd_app::app::App;
 use rd_app::instr::Operand;
 use rd_bytes::no_memory::NoMemory;
 use rd_notify::entries::{Entry, EntryState};
 use rd_state::editing::Editing;
 use rd_state::phase::{Cause, Held, Place};
 use rd_stream::side::Side;
-
-/// Whoever calls can complete a wait.
-pub fn can_complete(app: &App, editing: &Editing, task: usize)
-    requires { IsCalling app.now editing.now.now task }
-    ensures { CanComplete editing.now.now }
-{
-    let _ = task;
-    let _ = editing;
-    app.limits();
-}
 
 // Why a task fails that is to wait at a side where another does.
 fn cause_of_side(side: Side) -> Cause

@@ -1,17 +1,18 @@
 //! Block times: tasks that begin to wait, and tasks that are woken.
-ghost use Rattle.std.specs.Prelude.{◌≡◌, ◌<◌, ◌≤◌, [], false, length};
+ghost use Rattle.std.specs.Prelude.{◌≡◌, ◌+◌, ◌*◌, ◌<◌, ◌≤◌, [], true, false, length, nat_eq};
+ghost use Rattle.std.specs.Prelude.{All, IfSome, position};
 ghost use Rattle.std.specs.Prelude.{IfOk, IsOk, OnOk, OnErr, IsTrue};
 ghost use Rattle.rd_app.specs.Application.{IsOperand, priorities_of};
 ghost use Rattle.rd_state.specs.Edit.{Reaches, GivesUp};
 ghost use Rattle.rd_state.specs.Sizes.{IsDeadline};
 ghost use Rattle.rd_state.specs.Snapshot.{numbers_of, task_at};
 ghost use Rattle.rd_state.specs.Valid.{is_ahead, seats_to_run};
-ghost use Rattle.rd_state.specs.Waiting.{HasList, IsPlace, waiting_at};
+ghost use Rattle.rd_state.specs.Waiting.{HasList, IsPlace, is_by_priority, waiting_at};
 ghost use Rattle.rd_kernel.specs.Costs.{waking_cost};
 ghost use Rattle.rd_kernel.specs.Outcomes.{DoesCall, IsCalling, blocked, passed};
 ghost use Rattle.rd_kernel.specs.Waking.{operand_value, deadline_after, deadline_of};
 ghost use Rattle.rd_kernel.specs.Waking.{if_due, is_due, may_wait, phase_woken, ReadyHasRoom};
-ghost use Rattle.rd_kernel.specs.Waking.{left, woken, woken_all, woken_first};
+ghost use Rattle.rd_kernel.specs.Waking.{left, woken, woken_all, woken_first, IsSizedWaking};
 
 use crate::changes::set_phase;
 use crate::outcome::Outcome;
@@ -20,12 +21,15 @@ use rd_app::instr::{MAX_DELAY, Operand};
 use rd_bytes::no_memory::NoMemory;
 use rd_state::editing::Editing;
 use rd_state::phase::{Listed, Phase, Place};
+use rd_wait::prio_list::index_for;
 
 /// What a waking leads to.
 #[derive(Clone, Copy, Debug, PartialEq, Eq)]
 pub enum Waking {
     /// Whoever is woken isn't handed anything: it tries its call again, with its deadline.
     TriesAgain,
+    /// Whoever is woken is given bits of its event group, which its call returns.
+    IsGiven { bits: u32 },
 }
 
 impl Waking {
@@ -37,6 +41,7 @@ impl Waking {
             Waking::TriesAgain => Phase::Again {
                 deadline: phase.kept_deadline(),
             },
+            Waking::IsGiven { bits } => Phase::Given { bits },
         }
     }
 }
@@ -99,8 +104,8 @@ pub fn may_wait(editing: &Editing, task: usize, wait: Operand) -> bool
     is_ahead(editing.state().tick(), deadline_of(editing, task, wait))
 }
 
-/// Ends a call that can't be done: its task waits in the list, where its block
-/// time lasts, and else the call fails. The task is the last of those of its
+/// Ends a call that can't be done: its task waits in the list, which is in the order of priorities,
+/// where its block time lasts, and else the call fails. The task is the last of those of its
 /// priority there. A call that fails takes no memory.
 pub fn block(
     app: &App,
@@ -111,6 +116,7 @@ pub fn block(
 ) -> Result<Outcome, NoMemory>
     requires caller { IsCalling app.now editing.old.now task }
     requires list { HasList editing.old.now list }
+    requires ordered { is_by_priority list ≡ true }
     requires register { IsOperand wait }
     ensures ok { IfOk result (DoesCall editing.old editing.new
         (blocked (priorities_of app.now) editing.old.now task list wait) 1) }
@@ -123,10 +129,18 @@ pub fn block(
     }
     let priorities = app.priorities();
     let waiting = editing.state().waiting(list);
-    let index = waiting.index_for(priorities, priorities[task]);
+    let index = index_for(priorities, waiting, priorities[task]);
     editing.insert_waiting(list, index, task)?;
     let place = Place::Listed { list };
     Ok(Outcome::Waits { place, deadline })
+}
+
+// Where a task stands in a list.
+fn position(tasks: &[usize], task: usize) -> Option<usize>
+    ensures index { result ≡ position (λ member. nat_eq member task) tasks.now }
+    ensures within { IfSome result (λ index. index < length tasks.now) }
+{
+    tasks.iter().position(|member| *member == task)
 }
 
 // A task leaves a place: it leaves the list that has it, if it stands there.
@@ -139,7 +153,7 @@ fn leave(editing: &mut Editing, place: Place, task: usize) -> Result<(), NoMemor
     let Place::Listed { list } = place else {
         return Ok(());
     };
-    match editing.state().waiting(list).position(task) {
+    match position(editing.state().waiting(list), task) {
         None => Ok(()),
         Some(index) => editing.delete_waiting(list, index),
     }
@@ -154,6 +168,7 @@ pub fn wake(
     waking: Waking,
 ) -> Result<(), NoMemory>
     requires task { task < length editing.old.now.tasks }
+    requires bits { IsSizedWaking waking }
     requires room { ReadyHasRoom editing.old.now }
     requires priorities { length priorities.now ≡ length editing.old.now.tasks }
     ensures ok { OnOk result (Reaches editing.old editing.new
@@ -170,6 +185,32 @@ pub fn wake(
     editing.join_ready(priorities, task)
 }
 
+/// Wakes these tasks, one after the other. Those that don't wait stay as they are. Waking nobody
+/// takes no memory.
+pub fn wake_all(
+    editing: &mut Editing,
+    priorities: &[u8],
+    tasks: &[usize],
+    waking: Waking,
+) -> Result<(), NoMemory>
+    requires tasks { All (λ task. task < length editing.old.now.tasks) tasks.now }
+    requires bits { IsSizedWaking waking }
+    requires room { length editing.old.now.ready + length tasks.now
+        ≤ length editing.old.now.tasks }
+    requires priorities { length priorities.now ≡ length editing.old.now.tasks }
+    ensures ok { OnOk result (Reaches editing.old editing.new
+        (woken_all priorities.now waking editing.old.now tasks.now)
+        (waking_cost * length tasks.now)) }
+    ensures nobody { tasks.now ≡ [] → IsOk result }
+    ensures err { OnErr result
+        (GivesUp editing.old editing.new (waking_cost * length tasks.now)) }
+{
+    for task in tasks {
+        wake(editing, priorities, *task, waking)?;
+    }
+    Ok(())
+}
+
 /// Wakes the first to be served of a list, if anyone waits there. Waking nobody takes no memory.
 pub fn wake_first(editing: &mut Editing, priorities: &[u8], list: Listed) -> Result<(), NoMemory>
     requires list { HasList editing.old.now list }
@@ -181,7 +222,7 @@ pub fn wake_first(editing: &mut Editing, priorities: &[u8], list: Listed) -> Res
     ensures nobody { waiting_at editing.old.now list ≡ [] → IsOk result }
     ensures err { OnErr result (GivesUp editing.old editing.new waking_cost) }
 {
-    match editing.state().waiting(list).first() {
+    match editing.state().waiting(list).first().copied() {
         None => Ok(()),
         Some(task) => wake(editing, priorities, task, Waking::TriesAgain),
     }

@@ -9,11 +9,12 @@ use Rattle.rd_text.specs.declared.kind.Kind.TheVariants as kind
 use Rattle.rd_calls.specs.Step.{step}
 use Rattle.rd_calls.specs.declared.moves.Move.{Move}
 use Rattle.rd_calls.specs.declared.moves.Move.TheVariants as move
-use Rattle.rd_state.specs.Snapshot.{message_at, queue_at, queue_set_at, stream_at, task_at}
+use Rattle.rd_state.specs.Snapshot.{group_at, message_at, queue_at, queue_set_at, stream_at}
+use Rattle.rd_state.specs.Snapshot.{task_at}
 use Rattle.rd_timeline.specs.Course.{Course, IsWhyNot}
 use Rattle.rd_command.specs.Commands.{Asked, Step, Tick, Back, Show, ShowCores}
 use Rattle.rd_reply.specs.Replies.{line_of, reply_text, queue_text, queue_set_text, task_text}
-use Rattle.rd_reply.specs.Replies.{cores_text, message_text, stream_text}
+use Rattle.rd_reply.specs.Replies.{cores_text, group_text, message_text, stream_text}
 use Rattle.rd_reply.specs.Replies.{is_task}
 use Rattle.rd_text.specs.declared.refusal.Refusal.TheVariants.{TooFar, NoSuch, NoMemory, Syntax}
 use Rattle.rd_reply.specs.declared.reply.Reply.{Reply}
@@ -92,6 +93,8 @@ view_text course kind.Stream name stream =
     stream_text course.app name (stream_at course.target stream)
 view_text course kind.Message name message =
     message_text course.app name (message_at course.target message)
+view_text course kind.Group name group =
+    group_text course.app name (group_at course.target group)
 view_text course kind.Task name task =
     task_text course.app name (position (is_task task) course.target.cores)
     (task_at course.target task)

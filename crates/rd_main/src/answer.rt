@@ -14,6 +14,7 @@ ghost use Rattle.rd_reply.specs.Replies.{line_of};
 use rd_calls::moves::Move;
 use rd_command::command::{Command, parse_line};
 use rd_reply::buffers::{show_message, show_stream};
+use rd_reply::groups::show_group;
 use rd_reply::reply::{
     MAX_REPLY, Reply, append_reply_reserved, core_of, show_cores, show_queue, show_queue_set,
     show_task,
@@ -111,6 +112,7 @@ fn show_named(
         Kind::QueueSet => show_queue_set(answers, app, name, target.queue_set(number)),
         Kind::Stream => show_stream(answers, app, name, target.stream(number)),
         Kind::Message => show_message(answers, app, name, target.message(number)),
+        Kind::Group => show_group(answers, app, name, target.group(number)),
         Kind::Task => {
             let core = core_of(target.cores(), number);
             show_task(answers, app, name, core, target.task(number))

@@ -31,7 +31,7 @@ use Rattle.rd_state.specs.Snapshot.{Snapshot, TaskSnapshot, no_task, task_at, wi
 use Rattle.rd_state.specs.Valid.{EntriesFitCall, HoldersFitCall, IsValid, entry_of_call, place_of_call, seats_to_run}
 use Rattle.rd_state.specs.Waiting.{entry_of}
 use Rattle.rd_state.specs.declared.phase.Phase.{Phase}
-use Rattle.rd_state.specs.declared.phase.Phase.TheVariants.{Again, Ended, Failed, Run, Wait}
+use Rattle.rd_state.specs.declared.phase.Phase.TheVariants.{Again, Ended, Failed, Given, Run, Wait}
 use Rattle.std.proofs.lemmas.Bool.{false≢true}
 use Rattle.std.proofs.lemmas.List.{length-set}
 use Rattle.std.specs.Option.{option_and_then}
@@ -123,6 +123,7 @@ IsNotified-with_entry app s core task target index entry instr calls has not_new
 first_is_run : (phase : Phase) → is_first phase ≡ true → phase ≡ Run
 first_is_run Run e = refl
 first_is_run (Again deadline) e = absurd (false≢true e)
+first_is_run (Given bits) e = absurd (false≢true e)
 first_is_run (Wait place deadline) e = absurd (false≢true e)
 first_is_run Ended e = absurd (false≢true e)
 first_is_run (Failed cause) e = absurd (false≢true e)

@@ -7,6 +7,8 @@ mod asserts;
 #[cfg(test)]
 mod files;
 #[cfg(test)]
+mod groups;
+#[cfg(test)]
 mod items;
 #[cfg(test)]
 mod limits;

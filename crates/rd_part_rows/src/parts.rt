@@ -147,14 +147,12 @@ fn puts_to_wait(rt: &impl Abort, editing: &mut Editing) -> Result<(), Fail> {
     let other = Listed::Queue { queue, list };
     assert!(rt; editing.state().queue_count() > 0);
     assert!(rt; editing.state().task_count() > 0);
-    assert!(rt; editing.state().waiting(place).as_slice().is_empty());
+    assert!(rt; editing.state().waiting(place).is_empty());
     let (index, task) = (0, 0);
     editing.insert_waiting(place, index, task)?;
     assert!(rt; editing.state().queue_count() > 0);
-    let sending = editing.state().waiting(place).as_slice();
-    assert_same(rt, sending, [0].as_slice());
-    let receiving = editing.state().waiting(other);
-    assert!(rt; receiving.as_slice().is_empty());
+    assert_same(rt, editing.state().waiting(place), [0].as_slice());
+    assert!(rt; editing.state().waiting(other).is_empty());
     Ok(())
 }
 

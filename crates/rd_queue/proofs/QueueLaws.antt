@@ -14,8 +14,8 @@ use Rattle.rd_queue.specs.Queues.{count_in, items_in, tasks_in_list, with_items,
 use Rattle.rd_queue.specs.Sizes.{IsSizedList, IsSizedQueue}
 use Rattle.rd_queue.specs.Changes.{queue_applied, queue_inverse_of, QueueFits, EachQueueChangeIsUndone}
 use Rattle.rd_queue.proofs.ItemLaws.{All-first_items, length-first_items, length-concat, count_in-concat, items_in-concat}
-use Rattle.rd_queue.proofs.SharedLaws.{last_taken_after_push, last_pushed_after_take, inserted_sized, removed_sized, room_after}
-use Rattle.rd_wait.proofs.Offered.{remove-insert, insert-remove, set_back}
+use Rattle.rd_queue.proofs.SharedLaws.{last_taken_after_push, last_pushed_after_take}
+use Rattle.rd_wait.proofs.Offered.{remove-insert, insert-remove, set_back, inserted_sized, removed_sized, room_after}
 
 -- ---- what undoes a change
 

@@ -10,8 +10,8 @@ use Rattle.rd_queue.specs.QueueSetSnapshot.{QueueSetSnapshot}
 use Rattle.rd_queue.specs.QueueSets.{with_handles, with_waiting_tasks}
 use Rattle.rd_queue.specs.Sizes.{IsSizedList, IsSizedQueueSet}
 use Rattle.rd_queue.specs.QueueSetChanges.{queue_set_applied, queue_set_inverse_of, QueueSetFits, EachQueueSetChangeIsUndone}
-use Rattle.rd_queue.proofs.SharedLaws.{last_taken_after_push, last_pushed_after_take, inserted_sized, removed_sized, room_after}
-use Rattle.rd_wait.proofs.Offered.{remove-insert, insert-remove}
+use Rattle.rd_queue.proofs.SharedLaws.{last_taken_after_push, last_pushed_after_take}
+use Rattle.rd_wait.proofs.Offered.{remove-insert, insert-remove, inserted_sized, removed_sized, room_after}
 
 -- ---- what undoes a change
 

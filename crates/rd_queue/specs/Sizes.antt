@@ -1,15 +1,12 @@
 -- What holds of every queue, and of every queue set.
-use Rattle.std.specs.Prelude.{ℕ, ◌≡◌, ◌<◌, ◌≤◌, List, length, All, IfSome}
+use Rattle.std.specs.Prelude.{◌≡◌, ◌<◌, ◌≤◌, length, All, IfSome}
 use Rattle.rd_queue.specs.declared.item.TheConstants.{MAX_ITEM_SIZE}
 use Rattle.rd_queue.specs.declared.queue.TheConstants.{MAX_ITEMS}
 use Rattle.rd_queue.specs.declared.queue_set.TheConstants.{MAX_HANDLES}
 use Rattle.rd_queue.specs.QueueSnapshot.{QueueSnapshot}
 use Rattle.rd_queue.specs.QueueSetSnapshot.{QueueSetSnapshot}
-
--- Those that wait are tasks, of which there are so many, and no more than there are.
-abbrev pub IsSizedList : ℕ → List ℕ → Type 0
-IsSizedList task_count waiting =
-    All (λ task. task < task_count) waiting × (length waiting ≤ task_count)
+-- Those that wait are tasks, and no more than there are.
+pub use Rattle.rd_wait.specs.Sizes.{IsSizedList}
 
 pub record IsSizedQueue (queue : QueueSnapshot) : Type 0 where
   pub room : length queue.items ≤ queue.capacity

@@ -19,11 +19,12 @@ use Rattle.rd_state.specs.declared.phase.Cause.TheVariants.{SetFull}
 use Rattle.rd_state.specs.declared.phase.Listed.{Listed}
 use Rattle.rd_state.specs.declared.phase.Place.{Place}
 use Rattle.rd_state.specs.declared.phase.Place.TheVariants as sort
-use Rattle.rd_state.specs.declared.phase.Listed.TheVariants.{Queue, QueueSet}
+use Rattle.rd_state.specs.declared.phase.Listed.TheVariants.{Queue, QueueSet, Group}
+use Rattle.rd_group.specs.declared.wish.Wish.{Wish}
 use Rattle.rd_state.specs.Phases.{waits_at}
 use Rattle.rd_state.specs.Snapshot.{Snapshot, queue_at, queue_set_at, task_at}
 use Rattle.rd_state.specs.Objects.{no_queue_set}
-use Rattle.rd_state.specs.Waiting.{objects_then, waiting_at}
+use Rattle.rd_state.specs.Waiting.{objects_then, waiting_at, wishes_in}
 use Rattle.rd_kernel.specs.Outcomes.{Called, blocked, call_returns, call_fails, call_passes, passed}
 use Rattle.rd_kernel.specs.declared.outcome.Outcome.TheVariants.{Waits}
 use Rattle.rd_kernel.specs.declared.waking.Waking.{Waking}
@@ -54,13 +55,15 @@ handles_kept [] number tasks = refl
 handles_kept (q ∷ queue_sets) zero tasks = refl
 handles_kept (q ∷ queue_sets) (suc number) tasks = ap (λ rest. q.handles ∷ rest) (handles_kept queue_sets number tasks)
 
-handles_then : (s : Snapshot) (place : Listed) (tasks : List ℕ) → map (λ (q : QueueSetSnapshot). q.handles) (objects_then s.objects place tasks).queue_sets ≡ handles_in s
-handles_then s (Queue queue list) tasks = refl
-handles_then s (QueueSet number) tasks = handles_kept s.objects.queue_sets number tasks
+handles_then : (s : Snapshot) (place : Listed) (tasks : List ℕ) (wishes : List Wish)
+    → map (λ (q : QueueSetSnapshot). q.handles) (objects_then s.objects place tasks wishes).queue_sets ≡ handles_in s
+handles_then s (Queue queue list) tasks wishes = refl
+handles_then s (QueueSet number) tasks wishes = handles_kept s.objects.queue_sets number tasks
+handles_then s (Group group) tasks wishes = refl
 
 handles_without : (s : Snapshot) (place : Listed) (o : Option ℕ) → map (λ (q : QueueSetSnapshot). q.handles) (objects_without s.objects place o).queue_sets ≡ handles_in s
 handles_without s place None = refl
-handles_without s place (Some index) = handles_then s place (remove (waiting_at s place) index)
+handles_without s place (Some index) = handles_then s place (remove (waiting_at s place) index) (remove (wishes_in s.objects place) index)
 
 handles_woken_at : (priorities : List ℕ) (waking : Waking) (s : Snapshot) (task : ℕ) (o : Option Place)
     → handles_in (woken_at priorities waking s task o) ≡ handles_in s
@@ -82,7 +85,7 @@ handles_blocked : (priorities : List ℕ) (s : Snapshot) (task : ℕ) (place : L
 handles_blocked priorities s task place wait =
     elim (may_wait s task wait) as (λ b.
     handles_in (cond b (record { state = with_waiter priorities s place task; outcome = Waits (sort.Listed place) (deadline_of s task wait) }) (call_fails s)).state ≡ handles_in s) [
-      | true ↦ handles_then s place (joined priorities (waiting_at s place) task)
+      | true ↦ handles_then s place (joined priorities (waiting_at s place) task) []
       | false ↦ refl
     ]
 

@@ -3,4 +3,5 @@ pub mod ContentsLaws
 pub mod QueueCallLaws
 pub mod HandleLaws
 pub mod EntryLaws
+pub mod SleepingLaws
 pub mod Offered

@@ -2,3 +2,4 @@
 pub use Rattle.rd_queue_calls.proofs.QueueCallLaws.{IsConsistent-queue_call, IsConsistent-queue_set_call, queue_call-tick, queue_set_call-tick}
 pub use Rattle.rd_queue_calls.proofs.HandleLaws.{handles_go_by_calls, handles_woken_all}
 pub use Rattle.rd_queue_calls.proofs.EntryLaws.{EntriesStay-queue_call, EntriesStay-queue_set_call}
+pub use Rattle.rd_queue_calls.proofs.SleepingLaws.{queue_call-sleeps, queue_set_call-sleeps}

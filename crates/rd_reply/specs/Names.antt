@@ -2,6 +2,7 @@
 use Rattle.std.specs.Prelude.{ℕ, ◌<◌, codes, List, [], length, slice_index_or, All}
 use Rattle.std.specs.Prelude.{Option, Some, None, IfSome}
 use Rattle.rd_app.specs.Application.{Application}
+use Rattle.rd_group.specs.GroupSnapshot.{GroupSnapshot}
 use Rattle.rd_queue.specs.QueueSnapshot.{QueueSnapshot}
 use Rattle.rd_queue.specs.QueueSetSnapshot.{QueueSetSnapshot}
 use Rattle.rd_stream.specs.Holders.{HoldersView}
@@ -41,6 +42,10 @@ pub record QueueSetIsNamed (app : Application) (queue_set : QueueSetSnapshot) : 
 pub record HoldersAreNamed (app : Application) (holders : HoldersView) : Type 0 where
   pub reader : IsNamedOrNone app.tasks.names holders.reader
   pub writer : IsNamedOrNone app.tasks.names holders.writer
+
+-- Those who wait at the event group have a name.
+abbrev pub GroupIsNamed : Application → GroupSnapshot → Type 0
+GroupIsNamed app group = All (IsNamed app.tasks.names) group.waiting
 
 -- The place where a task waits, if it waits, has a name.
 abbrev pub PlaceIsNamed : Application → Phase → Type 0

@@ -1,13 +1,19 @@
 -- The text of replies.
 use Rattle.std.specs.Prelude.{ℕ, zero, suc, ◌==◌, Bool, false, codes, decimal, List, [], ◌∷◌, ◌++◌}
 use Rattle.std.specs.Prelude.{length, Option, Some, None}
-use Rattle.std.specs.List.{flat_map}
+use Rattle.std.specs.List.{flat_map, zip}
 use Rattle.hex.specs.Hex.{encode_lower}
 use Rattle.rd_text.specs.declared.refusal.Refusal.{Refusal}
 use Rattle.rd_text.specs.declared.refusal.Refusal.TheVariants.{NoTask, TickLimit, TooFar}
 use Rattle.rd_text.specs.declared.refusal.Refusal.TheVariants.{MovesFull, NoSuch, NoMemory}
 use Rattle.rd_text.specs.declared.refusal.Refusal.TheVariants.{Syntax, LineTooLong}
 use Rattle.rd_app.specs.Application.{Application}
+use Rattle.rd_group.specs.GroupSnapshot.{GroupSnapshot}
+use Rattle.rd_group.specs.declared.wish.OnMet.{OnMet}
+use Rattle.rd_group.specs.declared.wish.OnMet.TheVariants.{Keep, Clear}
+use Rattle.rd_group.specs.declared.wish.WaitFor.{WaitFor}
+use Rattle.rd_group.specs.declared.wish.WaitFor.TheVariants.{Any, All}
+use Rattle.rd_group.specs.declared.wish.Wish.{Wish}
 use Rattle.rd_notify.specs.declared.entries.Entry.{Entry}
 use Rattle.rd_notify.specs.declared.entries.EntryState.{EntryState}
 use Rattle.rd_notify.specs.declared.entries.EntryState.TheVariants.{Idle, Waiting, Received}
@@ -17,13 +23,14 @@ use Rattle.rd_queue.specs.QueueSnapshot.{QueueSnapshot}
 use Rattle.rd_queue.specs.QueueSetSnapshot.{QueueSetSnapshot}
 use Rattle.rd_state.specs.declared.phase.Cause.{Cause}
 use Rattle.rd_state.specs.declared.phase.Cause.TheVariants.{SetFull, TwoReaders, TwoWriters}
-use Rattle.rd_state.specs.declared.phase.Cause.TheVariants.{EmptyData}
+use Rattle.rd_state.specs.declared.phase.Cause.TheVariants.{EmptyData, BadBits}
 use Rattle.rd_state.specs.declared.phase.Held.{Held}
 use Rattle.rd_state.specs.declared.phase.Held.TheVariants as held
 use Rattle.rd_state.specs.declared.phase.Phase.{Phase}
-use Rattle.rd_state.specs.declared.phase.Phase.TheVariants.{Run, Again, Wait, Ended, Failed}
+use Rattle.rd_state.specs.declared.phase.Phase.TheVariants.{Run, Again, Given, Wait}
+use Rattle.rd_state.specs.declared.phase.Phase.TheVariants.{Ended, Failed}
 use Rattle.rd_state.specs.declared.phase.Listed.{Listed}
-use Rattle.rd_state.specs.declared.phase.Listed.TheVariants.{Queue, QueueSet}
+use Rattle.rd_state.specs.declared.phase.Listed.TheVariants.{Queue, QueueSet, Group}
 use Rattle.rd_state.specs.declared.phase.Place.{Place}
 use Rattle.rd_state.specs.declared.phase.Place.TheVariants as sort
 use Rattle.rd_state.specs.Snapshot.{Snapshot, TaskSnapshot}
@@ -88,11 +95,12 @@ abbrev pub list_name : WaitingList → List ℕ
 list_name Receiving = codes "recv"
 list_name Sending = codes "send"
 
--- a list in which tasks wait, by the name of its queue or of its set
+-- a list in which tasks wait, by the name of its queue, its set or its event group
 abbrev pub listed_text : Application → Listed → List ℕ
 listed_text app (Queue queue list) =
     list_name list ++ codes ":" ++ name_at app.objects.queues.names queue
 listed_text app (QueueSet queue_set) = codes "set:" ++ name_at app.objects.queue_sets.names queue_set
+listed_text app (Group group) = codes "group:" ++ name_at app.objects.groups.names group
 
 -- what the place at a side of a stream buffer is called, and of a message buffer
 abbrev pub stream_side_name : Side → List ℕ
@@ -122,10 +130,12 @@ cause_text SetFull = codes "SetFull"
 cause_text TwoReaders = codes "TwoReaders"
 cause_text TwoWriters = codes "TwoWriters"
 cause_text EmptyData = codes "EmptyData"
+cause_text BadBits = codes "BadBits"
 
 abbrev pub phase_text : Application → Phase → List ℕ
 phase_text app Run = codes "run"
 phase_text app (Again deadline) = codes "again:" ++ deadline_text deadline
+phase_text app (Given bits) = codes "given:" ++ decimal bits
 phase_text app (Wait place deadline) =
     codes "wait:" ++ place_text app place ++ codes ":" ++ deadline_text deadline
 phase_text app Ended = codes "ended"
@@ -223,6 +233,31 @@ abbrev pub message_text : Application → List ℕ → MessageSnapshot → List 
 message_text app name buffer =
     codes "message " ++ name ++ codes " " ++ message_contents_text buffer
     ++ holders_text app buffer.holders.reader buffer.holders.writer
+
+-- whether a task waits for any of its bits or for all, and what becomes of them once they have come
+abbrev pub wait_for_name : WaitFor → List ℕ
+wait_for_name Any = codes "any"
+wait_for_name All = codes "all"
+
+abbrev pub on_met_name : OnMet → List ℕ
+on_met_name Keep = codes "keep"
+on_met_name Clear = codes "clear"
+
+-- what a task waits for
+abbrev pub wish_text : Wish → List ℕ
+wish_text wish =
+    decimal wish.bits ++ codes ":" ++ wait_for_name wish.wait_for ++ codes ":"
+    ++ on_met_name wish.on_met
+
+-- a task that waits, by its name, with its wish
+abbrev pub waiter_text : Application → ℕ × Wish → List ℕ
+waiter_text app waiter = name_at app.tasks.names waiter.0 ++ codes ":" ++ wish_text waiter.1
+
+-- an event group of that name, with those who wait in the order of arrival
+abbrev pub group_text : Application → List ℕ → GroupSnapshot → List ℕ
+group_text app name group =
+    codes "group " ++ name ++ codes " bits " ++ decimal group.bits ++ codes " wait "
+    ++ list_text (waiter_text app) (zip group.waiting group.wishes)
 
 abbrev pub ticks_text : Snapshot → List ℕ
 ticks_text s = codes " tick " ++ decimal s.tick ++ codes " turn " ++ decimal s.turn

@@ -2,5 +2,6 @@
 #![tactic(auto)]
 
 pub mod buffers;
+pub mod groups;
 mod page;
 pub mod reply;

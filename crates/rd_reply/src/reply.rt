@@ -300,6 +300,10 @@ fn append_listed(page: &mut Page<'_>, app: &App, list: Listed)
             page.append("set:");
             append_name(page, app, Kind::QueueSet, queue_set);
         }
+        Listed::Group { group } => {
+            page.append("group:");
+            append_name(page, app, Kind::Group, group);
+        }
     }
 }
 
@@ -327,6 +331,7 @@ fn append_cause(page: &mut Page<'_>, cause: Cause)
         Cause::TwoReaders => page.append("TwoReaders"),
         Cause::TwoWriters => page.append("TwoWriters"),
         Cause::EmptyData => page.append("EmptyData"),
+        Cause::BadBits => page.append("BadBits"),
     }
 }
 
@@ -339,6 +344,10 @@ fn append_phase(page: &mut Page<'_>, app: &App, phase: Phase)
         Phase::Again { deadline } => {
             page.append("again:");
             append_deadline(page, deadline);
+        }
+        Phase::Given { bits } => {
+            page.append("given:");
+            append_number(page, bits);
         }
         Phase::Wait { place, deadline } => {
             page.append("wait:");

@@ -80,6 +80,29 @@ macro_rules! file_with_buffer_call {
     };
 }
 
+// The file of these event groups.
+macro_rules! file_with_groups {
+    ($groups:literal) => {
+        concat!(
+            r#"{"profile":1,"cores":1,"groups":"#,
+            $groups,
+            r#","tasks":[{"name":"t0","priority":1,"code":["end"]}]}"#
+        )
+    };
+}
+
+// The file of the event group g0, and the task t0 with this instruction.
+macro_rules! file_with_group_call {
+    ($call:literal) => {
+        concat!(
+            r#"{"profile":1,"cores":1,"groups":[{"name":"g0"}],"#,
+            r#""tasks":[{"name":"t0","priority":1,"code":[""#,
+            $call,
+            r#"","end"]}]}"#
+        )
+    };
+}
+
 // What the program writes to its errors, by the fault that it finds.
 const NOT_JSON: &str = "rdbg: application refused: L1 NotJson\n";
 
@@ -530,6 +553,126 @@ const REFUSED_BUFFER_CALLS: [Refused; 29] = [
     },
 ];
 
+const REFUSED_GROUPS: [Refused; 8] = [
+    Refused {
+        text: file_with_groups!(r#"{"name":"g0"}"#),
+        errors: SHAPE,
+    },
+    Refused {
+        text: file_with_groups!(r#"[7]"#),
+        errors: SHAPE,
+    },
+    Refused {
+        text: file_with_groups!(r#"[{}]"#),
+        errors: SHAPE,
+    },
+    Refused {
+        text: file_with_groups!(r#"[{"name":7}]"#),
+        errors: SHAPE,
+    },
+    Refused {
+        text: file_with_groups!(r#"[{"name":"G0","bits":0}]"#),
+        errors: SHAPE,
+    },
+    Refused {
+        text: file_with_groups!(r#"[{"name":"G0"}]"#),
+        errors: NAME,
+    },
+    Refused {
+        text: file_with_groups!(r#"[{"name":"g0"},{"name":"g1"},{"name":"g0"}]"#),
+        errors: NAME,
+    },
+    Refused {
+        text: file_with_groups!(
+            r#"[0,0,0,0,0,0,0,0,0,0,0,0,0,0,0,0,0,0,0,0,0,0,0,0,0,0,0,0,0,0,0,0,0]"#
+        ),
+        errors: LIMIT,
+    },
+];
+
+const REFUSED_GROUP_CALLS: [Refused; 20] = [
+    Refused {
+        text: file_with_group_call!("gset g9 1"),
+        errors: NAME,
+    },
+    Refused {
+        text: file_with_group_call!("gset t0 1"),
+        errors: NAME,
+    },
+    Refused {
+        text: file_with_group_call!("gset g0 max"),
+        errors: INSTR,
+    },
+    Refused {
+        text: file_with_group_call!("gset g0"),
+        errors: INSTR,
+    },
+    Refused {
+        text: file_with_group_call!("gclear g9 1"),
+        errors: NAME,
+    },
+    Refused {
+        text: file_with_group_call!("gclear g9 r8"),
+        errors: INSTR,
+    },
+    Refused {
+        text: file_with_group_call!("gclear g0"),
+        errors: INSTR,
+    },
+    Refused {
+        text: file_with_group_call!("gget g9"),
+        errors: NAME,
+    },
+    Refused {
+        text: file_with_group_call!("gget g0 0"),
+        errors: INSTR,
+    },
+    Refused {
+        text: file_with_group_call!("gget"),
+        errors: INSTR,
+    },
+    Refused {
+        text: file_with_group_call!("gwait g9 1 any keep max"),
+        errors: NAME,
+    },
+    Refused {
+        text: file_with_group_call!("gwait g0 1 some keep 0"),
+        errors: INSTR,
+    },
+    Refused {
+        text: file_with_group_call!("gwait g0 1 all leave 0"),
+        errors: INSTR,
+    },
+    Refused {
+        text: file_with_group_call!("gwait g0 1 clear all 0"),
+        errors: INSTR,
+    },
+    Refused {
+        text: file_with_group_call!("gwait g0 max any keep 0"),
+        errors: INSTR,
+    },
+    Refused {
+        text: file_with_group_call!("gwait g0 1 any keep"),
+        errors: INSTR,
+    },
+    Refused {
+        text: file_with_group_call!("gsync g9 1 1 max"),
+        errors: NAME,
+    },
+    Refused {
+        text: file_with_group_call!("gsync g0 1 max max"),
+        errors: INSTR,
+    },
+    Refused {
+        text: file_with_group_call!("gsync g0 max 1 0"),
+        errors: INSTR,
+    },
+    Refused {
+        text: file_with_group_call!("gsync g0 1 1"),
+        errors: INSTR,
+    },
+];
+
 #[test]
 fn refused_files(rt: HostRuntime) -> Result<(), Fail> {
     assert_refused(&rt, &REFUSED_FILES)?;
@@ -540,7 +683,13 @@ fn refused_files(rt: HostRuntime) -> Result<(), Fail> {
     assert_refused(&rt, &REFUSED_BUFFER_CALLS)
 }
 
-const ROWS: [Row; 5] = [
+#[test]
+fn refused_groups(rt: HostRuntime) -> Result<(), Fail> {
+    assert_refused(&rt, &REFUSED_GROUPS)?;
+    assert_refused(&rt, &REFUSED_GROUP_CALLS)
+}
+
+const ROWS: [Row; 6] = [
     Row {
         name: "a thing has its name among those of its kind",
         app: file_with_code!(r#""end""#),
@@ -574,6 +723,15 @@ const ROWS: [Row; 5] = [
                   message b0 0/5 messages - reader - writer -\n\
                   message m1 0/1024 messages - reader - writer -\n\
                   no NoSuch\nno NoSuch\nno NoSuch\nno Syntax\nno Syntax\n",
+    },
+    Row {
+        name: "event groups, and their names",
+        app: file_with_groups!(r#"[{"name":"g0"},{"name":"t0"}]"#),
+        commands: "show group g0\nshow group t0\nshow task t0\nshow group g1\nshow task g0\n\
+                   show group\nshow groups g0\n",
+        replies: "group g0 bits 0 wait -\ngroup t0 bits 0 wait -\n\
+                  task t0 core 0 pc 0 phase run regs 0,0,0,0,0,0,0,0 data - notes 0:idle\n\
+                  no NoSuch\nno NoSuch\nno Syntax\nno Syntax\n",
     },
     Row {
         name: "spaces around the words of an instruction",

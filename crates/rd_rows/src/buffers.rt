@@ -4,7 +4,7 @@
 use crate::tasks::{Row, assert_rows};
 use std::test::Fail;
 
-const ROWS: [Row; 19] = [
+const ROWS: [Row; 20] = [
     Row {
         name: "trigger_level",
         app: concat!(
@@ -458,6 +458,23 @@ const ROWS: [Row; 19] = [
                   ok at 1\n\
                   task t0 core 0 pc 1 phase run regs 1,0,0,0,0,0,0,0 data - notes 5:received\n\
                   stream b0 0/4 trigger 1 bytes - reader - writer -\n",
+    },
+    Row {
+        name: "a reset of a stream buffer wants its reader's place empty too",
+        app: concat!(
+            r#"{"profile":1,"cores":2,"streams":[{"name":"b0","size":4,"trigger":4}],"#,
+            r#""tasks":[{"name":"t0","priority":1,"code":["sread b0 4 max","end"]},"#,
+            r#"{"name":"t1","priority":1,"code":["data 01","swrite b0 0","sreset b0","end"]}]}"#,
+        ),
+        commands: "step 0\nstep 1\nstep 1\nshow task t1\nstep 1\nshow task t1\nshow stream b0\n\
+                   back 2\nshow stream b0\n",
+        replies: "ok at 1\nok at 2\nok at 3\n\
+                  task t1 core 1 pc 2 phase run regs 1,0,0,0,0,0,0,0 data 01 notes 0:idle\n\
+                  ok at 4\n\
+                  task t1 core 1 pc 3 phase run regs 0,0,0,0,0,0,0,0 data 01 notes 0:idle\n\
+                  stream b0 1/4 trigger 4 bytes 01 reader t0 writer -\n\
+                  ok at 2\n\
+                  stream b0 0/4 trigger 4 bytes - reader t0 writer -\n",
     },
 ];
 

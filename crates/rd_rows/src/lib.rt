@@ -8,6 +8,10 @@ mod asserts;
 #[cfg(test)]
 mod buffers;
 #[cfg(test)]
+mod groups;
+#[cfg(test)]
+mod locals;
+#[cfg(test)]
 mod memory;
 #[cfg(test)]
 mod messages;

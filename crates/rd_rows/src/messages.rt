@@ -14,7 +14,7 @@ const DIGITS: &str = concat!(
     "606162636465666768696a6b6c6d6e6f707172737475767778797a7b7c7d7e7f",
 );
 
-const ROWS: [Row; 8] = [
+const ROWS: [Row; 9] = [
     Row {
         name: "a writer waits until its message fits",
         app: concat!(
@@ -224,6 +224,27 @@ const ROWS: [Row; 8] = [
                   task t0 core - pc 0 phase wait:mread:m0:max regs 0,0,0,0,0,0,0,0 data - \
                   notes 0:waiting\n\
                   message m0 0/10 messages - reader t0 writer -\n",
+    },
+    Row {
+        name: "a read of no message leaves the data",
+        app: concat!(
+            r#"{"profile":1,"cores":1,"messages":[{"name":"m0","size":8}],"#,
+            r#""tasks":[{"name":"t0","priority":1,"code":["data 07","set r0 9","mread m0 4 0","#,
+            r#""mread m0 4 1","end"]}]}"#,
+        ),
+        commands: "step 0\nstep 0\nstep 0\nshow task t0\nstep 0\nshow task t0\ntick\nstep 0\n\
+                   show task t0\nshow message m0\nback 1\nshow task t0\nshow message m0\n",
+        replies: "ok at 1\nok at 2\nok at 3\n\
+                  task t0 core 0 pc 3 phase run regs 0,0,0,0,0,0,0,0 data 07 notes 0:idle\n\
+                  ok at 4\n\
+                  task t0 core - pc 3 phase wait:mread:m0:1 regs 0,0,0,0,0,0,0,0 data 07 \
+                  notes 0:waiting\n\
+                  ok at 5\nok at 6\n\
+                  task t0 core 0 pc 4 phase run regs 0,0,0,0,0,0,0,0 data 07 notes 0:idle\n\
+                  message m0 0/8 messages - reader - writer -\n\
+                  ok at 5\n\
+                  task t0 core 0 pc 3 phase again:1 regs 0,0,0,0,0,0,0,0 data 07 notes 0:waiting\n\
+                  message m0 0/8 messages - reader t0 writer -\n",
     },
 ];
 

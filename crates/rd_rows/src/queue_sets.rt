@@ -3,7 +3,7 @@
 use crate::tasks::{Row, assert_rows};
 use std::test::Fail;
 
-const ROWS: [Row; 6] = [
+const ROWS: [Row; 11] = [
     Row {
         name: "overwrite_in_a_set",
         app: concat!(
@@ -146,6 +146,115 @@ const ROWS: [Row; 6] = [
                   set s0 1/1 handles q0 wait -\n\
                   ok at 2\n\
                   task t0 core 0 pc 2 phase run regs 0,0,0,0,0,0,0,0 data - notes 0:idle\n",
+    },
+    Row {
+        name: "a select times out",
+        app: concat!(
+            r#"{"profile":1,"cores":1,"queues":[{"name":"q0","length":1,"item":1}],"#,
+            r#""sets":[{"name":"s0","length":1,"members":["q0"]}],"#,
+            r#""tasks":[{"name":"t0","priority":1,"code":["set r0 9","select s0 2","end"]}]}"#,
+        ),
+        commands: "step 0\nstep 0\nshow task t0\nshow set s0\ntick\nshow set s0\ntick\n\
+                   show task t0\nshow set s0\nstep 0\nshow task t0\nback 2\nshow set s0\n",
+        replies: "ok at 1\nok at 2\n\
+                  task t0 core - pc 1 phase wait:set:s0:2 regs 9,0,0,0,0,0,0,0 data - \
+                  notes 0:idle\n\
+                  set s0 0/1 handles - wait t0\nok at 3\nset s0 0/1 handles - wait t0\n\
+                  ok at 4\n\
+                  task t0 core 0 pc 1 phase again:2 regs 9,0,0,0,0,0,0,0 data - notes 0:idle\n\
+                  set s0 0/1 handles - wait -\n\
+                  ok at 5\n\
+                  task t0 core 0 pc 2 phase run regs 0,0,0,0,0,0,0,0 data - notes 0:idle\n\
+                  ok at 3\nset s0 0/1 handles - wait t0\n",
+    },
+    Row {
+        name: "a send that tries again finds the set full",
+        app: concat!(
+            r#"{"profile":1,"cores":2,"queues":[{"name":"q0","length":1,"item":1},"#,
+            r#"{"name":"q1","length":1,"item":1}],"#,
+            r#""sets":[{"name":"s0","length":1,"members":["q0","q1"]}],"#,
+            r#""tasks":[{"name":"t0","priority":1,"code":["send q0 0","send q0 max","end"]},"#,
+            r#"{"name":"t1","priority":1,"code":["select s0 0","recv q0 0","send q1 0","#,
+            r#""end"]}]}"#,
+        ),
+        commands: "step 0\nstep 0\nshow queue q0\nstep 1\nstep 1\nshow task t0\nstep 1\nstep 0\n\
+                   show task t0\nshow queue q0\nshow set s0\nback 1\nshow task t0\nback 3\n\
+                   show queue q0\nshow set s0\n",
+        replies: "ok at 1\nok at 2\nqueue q0 1/1 items 00 recv - send t0 set s0\n\
+                  ok at 3\nok at 4\n\
+                  task t0 core 0 pc 1 phase again:max regs 1,0,0,0,0,0,0,0 data - notes 0:idle\n\
+                  ok at 5\nok at 6\n\
+                  task t0 core - pc 1 phase failed:SetFull regs 1,0,0,0,0,0,0,0 data - \
+                  notes 0:idle\n\
+                  queue q0 0/1 items - recv - send - set s0\n\
+                  set s0 1/1 handles q1 wait -\n\
+                  ok at 5\n\
+                  task t0 core 0 pc 1 phase again:max regs 1,0,0,0,0,0,0,0 data - notes 0:idle\n\
+                  ok at 2\nqueue q0 1/1 items 00 recv - send t0 set s0\n\
+                  set s0 1/1 handles q0 wait -\n",
+    },
+    Row {
+        name: "an item that goes to the front is posted too, and fails in a full set",
+        app: concat!(
+            r#"{"profile":1,"cores":1,"queues":[{"name":"q0","length":2,"item":1}],"#,
+            r#""sets":[{"name":"s0","length":1,"members":["q0"]}],"#,
+            r#""tasks":[{"name":"t0","priority":1,"code":["data 01","front q0 0","data 02","#,
+            r#""front q0 0","end"]}]}"#,
+        ),
+        commands: "step 0\nstep 0\nshow set s0\nstep 0\nstep 0\nshow task t0\nshow queue q0\n\
+                   back 1\nshow task t0\n",
+        replies: "ok at 1\nok at 2\nset s0 1/1 handles q0 wait -\n\
+                  ok at 3\nok at 4\n\
+                  task t0 core - pc 3 phase failed:SetFull regs 1,0,0,0,0,0,0,0 data 02 \
+                  notes 0:idle\n\
+                  queue q0 1/2 items 01 recv - send - set s0\n\
+                  ok at 3\n\
+                  task t0 core 0 pc 3 phase run regs 1,0,0,0,0,0,0,0 data 02 notes 0:idle\n",
+    },
+    Row {
+        name: "a peek of a member wakes a receiver, and a reset leaves the handle",
+        app: concat!(
+            r#"{"profile":1,"cores":2,"queues":[{"name":"q0","length":1,"item":1}],"#,
+            r#""sets":[{"name":"s0","length":2,"members":["q0"]}],"#,
+            r#""tasks":[{"name":"t0","priority":1,"code":["recv q0 max","end"]},"#,
+            r#"{"name":"t1","priority":1,"code":["data 05","send q0 0","peek q0 0","qreset q0","#,
+            r#""select s0 0","end"]}]}"#,
+        ),
+        commands: "step 0\nstep 1\nstep 1\nshow queue q0\nstep 1\nshow queue q0\nshow cores\n\
+                   step 1\nshow queue q0\nshow set s0\nstep 0\nshow task t0\nstep 1\n\
+                   show task t1\nshow set s0\nback 3\nshow queue q0\nback 1\nshow queue q0\n",
+        replies: "ok at 1\nok at 2\nok at 3\nqueue q0 1/1 items 05 recv t0 send - set s0\n\
+                  ok at 4\nqueue q0 1/1 items 05 recv - send - set s0\n\
+                  cores t0,t1 ready - tick 0 turn 2\n\
+                  ok at 5\nqueue q0 0/1 items - recv - send - set s0\n\
+                  set s0 1/2 handles q0 wait -\n\
+                  ok at 6\n\
+                  task t0 core - pc 0 phase wait:recv:q0:max regs 0,0,0,0,0,0,0,0 data - \
+                  notes 0:idle\n\
+                  ok at 7\ntask t1 core 1 pc 5 phase run regs 1,0,0,0,0,0,0,0 data 05 \
+                  notes 0:idle\n\
+                  set s0 0/2 handles - wait -\n\
+                  ok at 4\nqueue q0 1/1 items 05 recv - send - set s0\n\
+                  ok at 3\nqueue q0 1/1 items 05 recv t0 send - set s0\n",
+    },
+    Row {
+        name: "a queue with items joins no set, and one in none leaves none",
+        app: concat!(
+            r#"{"profile":1,"cores":1,"queues":[{"name":"q0","length":1,"item":1}],"#,
+            r#""sets":[{"name":"s0","length":1,"members":[]}],"#,
+            r#""tasks":[{"name":"t0","priority":1,"code":["send q0 0","setadd q0 s0","#,
+            r#""recv q0 0","setdel q0 s0","end"]}]}"#,
+        ),
+        commands: "step 0\nstep 0\nshow task t0\nshow queue q0\nstep 0\nstep 0\nshow task t0\n\
+                   show queue q0\nback 3\nshow task t0\n",
+        replies: "ok at 1\nok at 2\n\
+                  task t0 core 0 pc 2 phase run regs 0,0,0,0,0,0,0,0 data - notes 0:idle\n\
+                  queue q0 1/1 items 00 recv - send - set -\n\
+                  ok at 3\nok at 4\n\
+                  task t0 core 0 pc 4 phase run regs 0,0,0,0,0,0,0,0 data 00 notes 0:idle\n\
+                  queue q0 0/1 items - recv - send - set -\n\
+                  ok at 1\n\
+                  task t0 core 0 pc 1 phase run regs 1,0,0,0,0,0,0,0 data - notes 0:idle\n",
     },
 ];
 

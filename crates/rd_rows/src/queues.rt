@@ -3,7 +3,7 @@
 use crate::tasks::{Row, assert_rows};
 use std::test::Fail;
 
-const ROWS: [Row; 6] = [
+const ROWS: [Row; 7] = [
     Row {
         name: "front_and_back",
         app: concat!(
@@ -130,6 +130,28 @@ const ROWS: [Row; 6] = [
                   queue q0 2/3 items 010200000000000000000000,ff0000000000000000000000 recv - \
                   send - set -\n\
                   task t0 core 0 pc 4 phase run regs 1,0,0,0,0,0,0,0 data ff notes 0:idle\n",
+    },
+    Row {
+        name: "an overwrite of an item wakes the next receiver",
+        app: concat!(
+            r#"{"profile":1,"cores":3,"queues":[{"name":"q0","length":1,"item":1}],"#,
+            r#""tasks":[{"name":"t0","priority":1,"code":["recv q0 max","end"]},"#,
+            r#"{"name":"t1","priority":1,"code":["recv q0 max","end"]},"#,
+            r#"{"name":"t2","priority":1,"code":["data 07","over q0","data 08","over q0","#,
+            r#""end"]}]}"#,
+        ),
+        commands: "step 0\nstep 1\nstep 2\nstep 2\nshow queue q0\nstep 2\nstep 2\nshow queue q0\n\
+                   show cores\nstep 0\nshow task t0\nstep 1\nshow queue q0\nback 3\n\
+                   show queue q0\nshow cores\n",
+        replies: "ok at 1\nok at 2\nok at 3\nok at 4\n\
+                  queue q0 1/1 items 07 recv t1 send - set -\n\
+                  ok at 5\nok at 6\nqueue q0 1/1 items 08 recv - send - set -\n\
+                  cores t0,t1,t2 ready - tick 0 turn 3\n\
+                  ok at 7\ntask t0 core 0 pc 1 phase run regs 1,0,0,0,0,0,0,0 data 08 \
+                  notes 0:idle\n\
+                  ok at 8\nqueue q0 0/1 items - recv t1 send - set -\n\
+                  ok at 5\nqueue q0 1/1 items 07 recv t1 send - set -\n\
+                  cores t0,-,t2 ready - tick 0 turn 3\n",
     },
 ];
 

@@ -9,7 +9,7 @@ use Rattle.std.proofs.lemmas.Slice.Eq.{bytes_eq-Decides}
 use Rattle.rd_app.specs.Application.{Application, IsOperand, IsWithin}
 use Rattle.rd_app.specs.Objects.{AreObjects, names_in}
 use Rattle.rd_script.specs.declared.keyword.Parameter.{Parameter}
-use Rattle.rd_script.specs.declared.keyword.Parameter.TheVariants.{Register, Number, Target, Data, Time, Operand, Index, Room, Action, OnExit, Name}
+use Rattle.rd_script.specs.declared.keyword.Parameter.TheVariants.{Register, Number, Target, Data, Time, Operand, Index, Room, Action, OnExit, WaitFor, OnMet, Name}
 use Rattle.rd_script.specs.declared.keyword.Keyword.{Keyword}
 use Rattle.rd_script.specs.declared.keyword.Keyword.TheVariants as keyword
 use Rattle.rd_script.specs.declared.keyword.LocalKeyword.{LocalKeyword}
@@ -22,9 +22,11 @@ use Rattle.rd_script.specs.declared.keyword.StreamKeyword.{StreamKeyword}
 use Rattle.rd_script.specs.declared.keyword.StreamKeyword.TheVariants as stream_keyword
 use Rattle.rd_script.specs.declared.keyword.MessageKeyword.{MessageKeyword}
 use Rattle.rd_script.specs.declared.keyword.MessageKeyword.TheVariants as message_keyword
+use Rattle.rd_script.specs.declared.keyword.GroupKeyword.{GroupKeyword}
+use Rattle.rd_script.specs.declared.keyword.GroupKeyword.TheVariants as group_keyword
 use Rattle.rd_script.specs.declared.keyword.NotifyKeyword.{NotifyKeyword}
 use Rattle.rd_script.specs.declared.keyword.NotifyKeyword.TheVariants as told
-use Rattle.rd_script.specs.Keywords.{Makes, Row, Value, Written, first_written, keyword_of, local_row, message_row, notify_row, operands_of, queue_row, row_of, queue_set_row, stream_row, text_of, texts_of}
+use Rattle.rd_script.specs.Keywords.{Makes, Row, Value, Written, first_written, group_row, keyword_of, local_row, message_row, notify_row, operands_of, queue_row, row_of, queue_set_row, stream_row, text_of, texts_of}
 use Rattle.rd_script.specs.Spelling.{IsForQueue}
 
 same_bytes : (xs ys : List ℕ) → bytes_eq xs ys ≡ true → xs ≡ ys
@@ -114,6 +116,13 @@ message_again message_keyword.Reset = refl
 message_again message_keyword.Spaces = refl
 message_again message_keyword.NextLength = refl
 
+group_again : (k : GroupKeyword) → keyword_of (text_of (group_row k)) ≡ Some (keyword.Group k)
+group_again group_keyword.Set = refl
+group_again group_keyword.Clear = refl
+group_again group_keyword.Get = refl
+group_again group_keyword.Wait = refl
+group_again group_keyword.Sync = refl
+
 notify_again : (k : NotifyKeyword) → keyword_of (text_of (notify_row k)) ≡ Some (keyword.Notify k)
 notify_again told.Notify = refl
 notify_again told.Query = refl
@@ -128,6 +137,7 @@ keyword_again (keyword.Queue k) = queue_again k
 keyword_again (keyword.QueueSet k) = queue_set_again k
 keyword_again (keyword.Stream k) = stream_again k
 keyword_again (keyword.Message k) = message_again k
+keyword_again (keyword.Group k) = group_again k
 keyword_again (keyword.Notify k) = notify_again k
 
 -- The objects of an application are within the limits, and each of its tasks has its name.
@@ -147,6 +157,8 @@ IsValue app len Index index = index < app.entries
 IsValue app len Room room = (0 < room) × (room ≤ 256)
 IsValue app len Action action = Unit {0}
 IsValue app len OnExit exit = Unit {0}
+IsValue app len WaitFor wait_for = Unit {0}
+IsValue app len OnMet on_met = Unit {0}
 IsValue app len (Name kind) number = number < length (names_in app.objects app.tasks.names kind)
 
 -- Whatever its operands stand for, what a keyword makes is within the application.
@@ -198,6 +210,13 @@ message_within app len there message_keyword.Reset = λ message named fits. (rw 
 message_within app len there message_keyword.Spaces = λ message named fits. (rw (← there.objects.named_messages.paired) named, tt)
 message_within app len there message_keyword.NextLength = λ message named fits. (rw (← there.objects.named_messages.paired) named, tt)
 
+group_within : (app : Application) (len : ℕ) → AreThere app → (k : GroupKeyword) → RowWithin app len (group_row k)
+group_within app len there group_keyword.Set = λ group named bits read fits. (rw (← there.objects.named_groups.paired) named, read)
+group_within app len there group_keyword.Clear = λ group named bits read fits. (rw (← there.objects.named_groups.paired) named, read)
+group_within app len there group_keyword.Get = λ group named fits. (rw (← there.objects.named_groups.paired) named, tt)
+group_within app len there group_keyword.Wait = λ group named bits read wait_for _ on_met _ wait also_read fits. (rw (← there.objects.named_groups.paired) named, (read, also_read))
+group_within app len there group_keyword.Sync = λ group named set read bits also_read wait read_too fits. (rw (← there.objects.named_groups.paired) named, (read, also_read, read_too))
+
 notify_within : (app : Application) (len : ℕ) → AreThere app → (k : NotifyKeyword) → RowWithin app len (notify_row k)
 notify_within app len there told.Notify = λ task named index few value read action _ fits. (rw (← there.tasks) named, few, read)
 notify_within app len there told.Query = λ task named index few value read action _ fits. (rw (← there.tasks) named, few, read)
@@ -212,4 +231,5 @@ row_within app len there (keyword.Queue k) = queue_within app len there k
 row_within app len there (keyword.QueueSet k) = queue_set_within app len there k
 row_within app len there (keyword.Stream k) = stream_within app len there k
 row_within app len there (keyword.Message k) = message_within app len there k
+row_within app len there (keyword.Group k) = group_within app len there k
 row_within app len there (keyword.Notify k) = notify_within app len there k

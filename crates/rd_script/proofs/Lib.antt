@@ -9,6 +9,7 @@ pub mod QueueLaws
 pub mod QueueSetLaws
 pub mod StreamLaws
 pub mod MessageLaws
+pub mod GroupLaws
 pub mod ObjectLaws
 pub mod ScriptLaws
 pub mod TaskLaws

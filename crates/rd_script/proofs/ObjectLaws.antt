@@ -5,12 +5,14 @@ use Rattle.std.proofs.lemmas.List.Elements.{All-from_recursion, recursion_from_A
 use Rattle.serde_json.specs.Data.{Data, Items, no_items}
 use Rattle.serde_json.specs.Events.{items_len}
 use Rattle.serde_json.specs.Find.{get}
+use Rattle.rd_app.specs.declared.objects.GroupShape.{GroupShape}
 use Rattle.rd_app.specs.Named.{AreNamed, Named}
 use Rattle.rd_app.specs.Objects.{AreObjects, IsMessageShape, IsQueueShape, IsQueueSetShape, IsStreamShape, NamedObjects}
 use Rattle.rd_text.proofs.Offered.{IsNewName}
 use Rattle.rd_script.specs.declared.error.AppError.{AppError}
-use Rattle.rd_script.specs.Objects.{IsMessage, IsQueue, IsStream, message_of, objects_of, queue_of, SaysObjects, SaysQueueSet, queue_set_of, stream_of}
+use Rattle.rd_script.specs.Objects.{IsGroup, IsMessage, IsQueue, IsStream, group_of, message_of, objects_of, queue_of, SaysObjects, SaysQueueSet, queue_set_of, stream_of}
 use Rattle.rd_script.specs.Values.{array_or_empty, IsArrayOrEmpty, named_at, nothing_named, SaysNamed}
+use Rattle.rd_script.proofs.GroupLaws as group
 use Rattle.rd_script.proofs.MessageLaws as message
 use Rattle.rd_script.proofs.NamedLaws.{AllByRecursion-first, each_again, each_takes, length_named, named_again, named_take, no_names, said_named}
 use Rattle.rd_script.proofs.QueueLaws as queue
@@ -65,13 +67,31 @@ named_read read Is InLimits first again most key d named are =
     then_is (array_or_empty most (get key d)) _ ds _ (array_or_again most (get key d) ds are.said.1 (omega (arith, sizes, are.few)))
     (named_again read Is InLimits first again ds nothing_named named.names named.things are.said.2 are.named_each.names are.in_limits)
 
+-- ---- event groups, which have no limits but that of their count
+
+abbrev NoLimits : List GroupShape → Type 0
+NoLimits groups = Unit {0}
+
+groups_taken : (d : Data) (named : Named GroupShape) → named_at (λ before. group_of before.names) 32 (codes "groups") d ≡ Ok named
+    → AreRead IsGroup NoLimits 32 (codes "groups") d named
+groups_taken =
+    named_taken (λ before. group_of before.names) IsGroup NoLimits
+    (λ before d t e limits. let taken = group.group_takes before.names d t e in (taken.0, taken.1, tt)) tt 32 (codes "groups")
+
+groups_read : (d : Data) (named : Named GroupShape) → AreRead IsGroup NoLimits 32 (codes "groups") d named
+    → named_at (λ before. group_of before.names) 32 (codes "groups") d ≡ Ok named
+groups_read =
+    named_read (λ before. group_of before.names) IsGroup NoLimits (λ groups others limits. tt)
+    (λ before d name shape is new limits. group.group_again before.names d name shape is new) 32 (codes "groups")
+
 -- ---- all kinds
 
 objects_made : (d : Data) (o : NamedObjects) → named_at (λ before. queue_of before.names) 32 (codes "queues") d ≡ Ok o.queues
     → named_at (queue_set_of o.queues.names) 32 (codes "sets") d ≡ Ok o.queue_sets
     → named_at (λ before. stream_of before.names) 32 (codes "streams") d ≡ Ok o.streams
-    → named_at (λ before. message_of before.names) 32 (codes "messages") d ≡ Ok o.messages → SaysObjects d o × AreObjects o
-objects_made d o queues_read queue_sets_read streams_read messages_read =
+    → named_at (λ before. message_of before.names) 32 (codes "messages") d ≡ Ok o.messages
+    → named_at (λ before. group_of before.names) 32 (codes "groups") d ≡ Ok o.groups → SaysObjects d o × AreObjects o
+objects_made d o queues_read queue_sets_read streams_read messages_read groups_are_read =
     let queues = named_taken (λ before. queue_of before.names) IsQueue (AllByRecursion IsQueueShape)
     (each_takes queue_of IsQueue IsQueueShape queue.queue_takes) tt 32 (codes "queues") d o.queues queues_read in
     let queue_sets = named_taken (queue_set_of o.queues.names) (SaysQueueSet o.queues.names) (queue_set.AreQueueSetsOf (length o.queues.names)) (queue_set.queue_set_takes o.queues.names)
@@ -79,13 +99,15 @@ objects_made d o queues_read queue_sets_read streams_read messages_read =
     let streams = named_taken (λ before. stream_of before.names) IsStream (AllByRecursion IsStreamShape)
     (each_takes stream_of IsStream IsStreamShape stream.stream_takes) tt 32 (codes "streams") d o.streams streams_read in
     let messages = named_taken (λ before. message_of before.names) IsMessage (AllByRecursion IsMessageShape)
-    (each_takes message_of IsMessage IsMessageShape message.message_takes) tt 32 (codes "messages") d o.messages messages_read in (
+    (each_takes message_of IsMessage IsMessageShape message.message_takes) tt 32 (codes "messages") d o.messages messages_read in
+    let groups = groups_taken d o.groups groups_are_read in (
       record {
         queues = queues.said;
         queue_sets = queue_sets.said;
         one_queue_set_each = queue_sets.in_limits.one_each;
         streams = streams.said;
         messages = messages.said;
+        groups = groups.said;
       },
       record {
         named_queues = queues.named_each;
@@ -102,6 +124,8 @@ objects_made d o queues_read queue_sets_read streams_read messages_read =
         named_messages = messages.named_each;
         few_messages = messages.few;
         messages = All-from_recursion IsMessageShape o.messages.things messages.in_limits;
+        named_groups = groups.named_each;
+        few_groups = groups.few;
       },
     )
 
@@ -111,9 +135,10 @@ objects_take d o e =
     let queue_sets = bind_ok (named_at (queue_set_of queues.0.names) 32 (codes "sets") d) _ o queues.2 in
     let streams = bind_ok (named_at (λ before. stream_of before.names) 32 (codes "streams") d) _ o queue_sets.2 in
     let messages = bind_ok (named_at (λ before. message_of before.names) 32 (codes "messages") d) _ o streams.2 in
-    let made : NamedObjects = record { queues = queues.0; queue_sets = queue_sets.0; streams = streams.0; messages = messages.0 } in
+    let groups = bind_ok (named_at (λ before. group_of before.names) 32 (codes "groups") d) _ o messages.2 in
+    let made : NamedObjects = record { queues = queues.0; queue_sets = queue_sets.0; streams = streams.0; messages = messages.0; groups = groups.0 } in
     let is : made ≡ o = cc in
-    subst (λ (o : NamedObjects). SaysObjects d o × AreObjects o) {x = made} is (objects_made d made queues.1 queue_sets.1 streams.1 messages.1)
+    subst (λ (o : NamedObjects). SaysObjects d o × AreObjects o) {x = made} is (objects_made d made queues.1 queue_sets.1 streams.1 messages.1 groups.1)
 
 pub objects_again : (d : Data) (o : NamedObjects) → SaysObjects d o → AreObjects o → objects_of d ≡ Ok o
 objects_again d o says limits =
@@ -151,4 +176,6 @@ objects_again d o says limits =
       few = limits.few_messages;
       in_limits = recursion_from_All IsMessageShape o.messages.things limits.messages;
     }))
-    refl)))
+    (then_is (named_at (λ before. group_of before.names) 32 (codes "groups") d) _ o.groups _
+    (groups_read d o.groups (record { said = says.groups; named_each = limits.named_groups; few = limits.few_groups; in_limits = tt }))
+    refl))))

@@ -20,7 +20,7 @@ use Rattle.rd_app.specs.Objects.{NamedObjects, names_in, shape_at}
 use Rattle.rd_script.specs.Scope.{Scope, scope_of}
 use Rattle.rd_script.specs.declared.error.AppError.TheVariants as fault
 use Rattle.rd_script.specs.declared.keyword.Parameter.{Parameter}
-use Rattle.rd_script.specs.declared.keyword.Parameter.TheVariants.{Register, Number, Target, Data, Time, Operand, Index, Room, Action, OnExit, Name}
+use Rattle.rd_script.specs.declared.keyword.Parameter.TheVariants.{Register, Number, Target, Data, Time, Operand, Index, Room, Action, OnExit, WaitFor, OnMet, Name}
 use Rattle.rd_script.specs.Keywords.{Makes, Row, Value, keywords, keyword_of, operands_of, row_of, text_of, Written}
 use Rattle.rd_script.specs.Spelling.{register_of, number_below, room_of, operand_of, time_of, index_named, index_of, value_of, is_formed, are_formed}
 use Rattle.rd_script.specs.Spelling.{made_of, instr_made, is_call_for, is_for_queue, instr_named, instr_of, next_value, Reading, AreOperands, IsForQueue, Spells, SpellsRow}
@@ -155,6 +155,8 @@ formed_again scope len Index word value e = ap is_some e
 formed_again scope len Room word value e = ap is_some e
 formed_again scope len Action word value e = ap is_some e
 formed_again scope len OnExit word value e = ap is_some e
+formed_again scope len WaitFor word value e = ap is_some e
+formed_again scope len OnMet word value e = ap is_some e
 formed_again scope len (Name kind) word value e = name_formed (names_in scope.objects scope.tasks kind) word value e
 
 both_true : (a b : Bool) → a ≡ true → b ≡ true → (a && b) ≡ true
@@ -297,6 +299,8 @@ value_there app len Index word value e = below_small app.entries word value e
 value_there app len Room word value e = room_small word value e
 value_there app len Action word value e = tt
 value_there app len OnExit word value e = tt
+value_there app len WaitFor word value e = tt
+value_there app len OnMet word value e = tt
 value_there app len (Name kind) word value e = index_there (names_in app.objects app.tasks.names kind) word value e
 
 operands_within : (app : Application) (len : ℕ) (parameters : List Parameter) (make : Makes parameters) (words : List (List ℕ)) (i : Instr)

@@ -9,6 +9,8 @@ use Rattle.rd_text.specs.declared.kind.Kind.TheVariants as kind
 use Rattle.rd_app.specs.declared.instr.Operand as operands
 use Rattle.rd_notify.specs.declared.action.Action as notified
 use Rattle.rd_notify.specs.declared.action.OnExit as taken
+use Rattle.rd_group.specs.declared.wish.OnMet as met
+use Rattle.rd_group.specs.declared.wish.WaitFor as awaited
 use Rattle.rd_app.specs.declared.instr.Instr.{Instr}
 use Rattle.rd_app.specs.declared.instr.Instr.TheVariants as instruction
 use Rattle.rd_app.specs.declared.instr.LocalInstr.TheVariants as local
@@ -16,11 +18,13 @@ use Rattle.rd_app.specs.declared.instr.QueueCall.TheVariants as call
 use Rattle.rd_app.specs.declared.instr.QueueSetCall.TheVariants as queue_set_call
 use Rattle.rd_app.specs.declared.instr.StreamCall.TheVariants as stream_call
 use Rattle.rd_app.specs.declared.instr.MessageCall.TheVariants as message_call
+use Rattle.rd_app.specs.declared.instr.GroupCall.TheVariants as group_call
 use Rattle.rd_app.specs.declared.instr.NotifyCall.TheVariants as notify
 use Rattle.rd_script.specs.declared.keyword.Parameter.{Parameter}
 use Rattle.rd_script.specs.declared.keyword.Parameter.TheVariants.{Register, Number, Target}
 use Rattle.rd_script.specs.declared.keyword.Parameter.TheVariants.{Data, Time, Operand, Index}
-use Rattle.rd_script.specs.declared.keyword.Parameter.TheVariants.{Room, Action, OnExit, Name}
+use Rattle.rd_script.specs.declared.keyword.Parameter.TheVariants.{Room, Action, OnExit, WaitFor}
+use Rattle.rd_script.specs.declared.keyword.Parameter.TheVariants.{OnMet, Name}
 use Rattle.rd_script.specs.declared.keyword.Keyword.{Keyword}
 use Rattle.rd_script.specs.declared.keyword.Keyword.TheVariants as keyword
 use Rattle.rd_script.specs.declared.keyword.LocalKeyword.{LocalKeyword}
@@ -36,6 +40,8 @@ use Rattle.rd_script.specs.declared.keyword.StreamKeyword.{StreamKeyword}
 use Rattle.rd_script.specs.declared.keyword.StreamKeyword.TheVariants as stream_keyword
 use Rattle.rd_script.specs.declared.keyword.MessageKeyword.{MessageKeyword}
 use Rattle.rd_script.specs.declared.keyword.MessageKeyword.TheVariants as message_keyword
+use Rattle.rd_script.specs.declared.keyword.GroupKeyword.{GroupKeyword}
+use Rattle.rd_script.specs.declared.keyword.GroupKeyword.TheVariants as group_keyword
 use Rattle.rd_script.specs.declared.keyword.NotifyKeyword.{NotifyKeyword}
 use Rattle.rd_script.specs.declared.keyword.NotifyKeyword.TheVariants as told
 
@@ -51,6 +57,8 @@ Value Index = ℕ
 Value Room = ℕ
 Value Action = notified.Action
 Value OnExit = taken.OnExit
+Value WaitFor = awaited.WaitFor
+Value OnMet = met.OnMet
 Value (Name kind) = ℕ
 
 -- the instruction for each choice of values
@@ -79,6 +87,9 @@ stream_name = Name kind.Stream
 
 abbrev message_name : Parameter
 message_name = Name kind.Message
+
+abbrev group_name : Parameter
+group_name = Name kind.Group
 
 abbrev task_name : Parameter
 task_name = Name kind.Task
@@ -178,6 +189,23 @@ message_row message_keyword.NextLength =
     Written (codes "mnext") (message_name ∷ [])
     (λ message. instruction.Message message message_call.NextLength)
 
+abbrev pub group_row : GroupKeyword → Row
+group_row group_keyword.Set =
+    Written (codes "gset") (group_name ∷ Operand ∷ [])
+    (λ group bits. instruction.Group group (group_call.Set bits))
+group_row group_keyword.Clear =
+    Written (codes "gclear") (group_name ∷ Operand ∷ [])
+    (λ group bits. instruction.Group group (group_call.Clear bits))
+group_row group_keyword.Get =
+    Written (codes "gget") (group_name ∷ []) (λ group. instruction.Group group group_call.Get)
+group_row group_keyword.Wait =
+    Written (codes "gwait") (group_name ∷ Operand ∷ WaitFor ∷ OnMet ∷ Time ∷ [])
+    (λ group bits wait_for on_met wait.
+    instruction.Group group (group_call.Wait bits wait_for on_met wait))
+group_row group_keyword.Sync =
+    Written (codes "gsync") (group_name ∷ Operand ∷ Operand ∷ Time ∷ [])
+    (λ group set bits wait. instruction.Group group (group_call.Sync set bits wait))
+
 abbrev pub notify_row : NotifyKeyword → Row
 notify_row told.Notify =
     Written (codes "notify") (task_name ∷ Index ∷ Operand ∷ Action ∷ [])
@@ -205,6 +233,7 @@ row_of (keyword.Queue of) = queue_row of
 row_of (keyword.QueueSet of) = queue_set_row of
 row_of (keyword.Stream of) = stream_row of
 row_of (keyword.Message of) = message_row of
+row_of (keyword.Group of) = group_row of
 row_of (keyword.Notify of) = notify_row of
 
 abbrev pub local_keywords : List LocalKeyword
@@ -232,6 +261,12 @@ message_keywords =
     ∷ message_keyword.NextLength
     ∷ []
 
+abbrev pub group_keywords : List GroupKeyword
+group_keywords =
+    group_keyword.Set ∷ group_keyword.Clear ∷ group_keyword.Get ∷ group_keyword.Wait
+    ∷ group_keyword.Sync
+    ∷ []
+
 abbrev pub notify_keywords : List NotifyKeyword
 notify_keywords =
     told.Notify ∷ told.Query ∷ told.Take ∷ told.Wait ∷ told.ClearState ∷ told.ClearValue ∷ []
@@ -243,6 +278,7 @@ keywords =
     ++ map keyword.QueueSet queue_set_keywords
     ++ map keyword.Stream stream_keywords
     ++ map keyword.Message message_keywords
+    ++ map keyword.Group group_keywords
     ++ map keyword.Notify notify_keywords
 
 -- the keyword that is written so

@@ -10,11 +10,12 @@ use Rattle.rd_queue.specs.declared.queue_set.TheConstants.{MAX_HANDLES}
 use Rattle.rd_stream.specs.declared.message_buf.TheConstants.{MIN_MESSAGE_BUFFER_SIZE}
 use Rattle.rd_stream.specs.declared.message_buf.TheConstants.{MAX_MESSAGE_BUFFER_SIZE}
 use Rattle.rd_stream.specs.declared.stream_buf.TheConstants.{MAX_STREAM_SIZE}
+use Rattle.rd_app.specs.declared.objects.GroupShape.{GroupShape}
 use Rattle.rd_app.specs.declared.objects.MessageShape.{MessageShape}
 use Rattle.rd_app.specs.declared.objects.QueueShape.{QueueShape}
 use Rattle.rd_app.specs.declared.objects.StreamShape.{StreamShape}
 use Rattle.rd_app.specs.declared.objects.TheConstants.{MAX_QUEUES, MAX_QUEUE_SETS, MAX_STREAMS}
-use Rattle.rd_app.specs.declared.objects.TheConstants.{MAX_MESSAGE_BUFFERS}
+use Rattle.rd_app.specs.declared.objects.TheConstants.{MAX_MESSAGE_BUFFERS, MAX_GROUPS}
 use Rattle.rd_app.specs.Named.{Named}
 use Rattle.rd_app.specs.Objects.{NamedObjects, members_of}
 use Rattle.rd_app.specs.QueueSetShapeView.{QueueSetShapeView}
@@ -39,6 +40,7 @@ drafts_view drafts = record {
   queue_sets = array_view drafts.queue_sets;
   streams = array_view drafts.streams;
   messages = array_view drafts.messages;
+  groups = array_view drafts.groups;
 }
 
 abbrev pub file_keys : List (List ℕ)
@@ -46,6 +48,7 @@ file_keys =
     codes "profile" ∷ codes "cores" ∷ codes "notes" ∷ codes "tick" ∷ codes "queues" ∷ codes "sets"
     ∷ codes "streams"
     ∷ codes "messages"
+    ∷ codes "groups"
     ∷ codes "tasks"
     ∷ []
 
@@ -187,6 +190,25 @@ pub record IsMessage (d : Data) (name : List ℕ) (shape : MessageShape) : Type 
   pub name_at : get (codes "name") d ≡ Some (string name)
   pub size_at : get (codes "size") d ≡ Some (number (unsigned shape.capacity))
 
+-- ---- event groups
+
+abbrev pub group_keys : List (List ℕ)
+group_keys = codes "name" ∷ []
+
+unfoldable pub group_of : List (List ℕ) → Data → Result (List ℕ × GroupShape) AppError
+group_of names d = do
+  _ ← object_with group_keys d
+  name ← field (codes "name") d
+  name ← new_name names name
+  Ok (name, record {})
+
+abbrev pub groups_after : Named GroupShape → Items → Result (Named GroupShape) AppError
+groups_after before ds = named_after (λ before. group_of before.names) before ds
+
+pub record IsGroup (d : Data) (name : List ℕ) (shape : GroupShape) : Type 0 where
+  pub keys : is_object_with group_keys d ≡ true
+  pub name_at : get (codes "name") d ≡ Some (string name)
+
 -- ---- all kinds
 
 -- the objects of a file's value, or the first fault that is met
@@ -196,11 +218,13 @@ objects_of d = do
   queue_sets ← named_at (queue_set_of queues.names) MAX_QUEUE_SETS (codes "sets") d
   streams ← named_at (λ before. stream_of before.names) MAX_STREAMS (codes "streams") d
   messages ← named_at (λ before. message_of before.names) MAX_MESSAGE_BUFFERS (codes "messages") d
+  groups ← named_at (λ before. group_of before.names) MAX_GROUPS (codes "groups") d
   Ok (record {
     queues = queues;
     queue_sets = queue_sets;
     streams = streams;
     messages = messages;
+    groups = groups;
   })
 
 -- what a value says of its objects
@@ -210,3 +234,4 @@ pub record SaysObjects (d : Data) (o : NamedObjects) : Type 0 where
   pub one_queue_set_each : IsDistinct nat_eq (members_of o.queue_sets.things)
   pub streams : SaysNamed IsStream (codes "streams") d o.streams
   pub messages : SaysNamed IsMessage (codes "messages") d o.messages
+  pub groups : SaysNamed IsGroup (codes "groups") d o.groups

@@ -13,6 +13,10 @@ use Rattle.rd_notify.specs.declared.action.Action as notified
 use Rattle.rd_notify.specs.declared.action.Action.TheVariants as act
 use Rattle.rd_notify.specs.declared.action.OnExit as taken
 use Rattle.rd_notify.specs.declared.action.OnExit.TheVariants as exit
+use Rattle.rd_group.specs.declared.wish.OnMet as met
+use Rattle.rd_group.specs.declared.wish.OnMet.TheVariants as on_met
+use Rattle.rd_group.specs.declared.wish.WaitFor as awaited
+use Rattle.rd_group.specs.declared.wish.WaitFor.TheVariants as wait_for
 use Rattle.rd_app.specs.declared.objects.QueueShape.{QueueShape}
 use Rattle.rd_app.specs.declared.instr.Operand as operands
 use Rattle.rd_app.specs.declared.instr.Operand.TheVariants as operand
@@ -26,7 +30,8 @@ use Rattle.rd_script.specs.declared.error.AppError.TheVariants as fault
 use Rattle.rd_script.specs.declared.keyword.Parameter.{Parameter}
 use Rattle.rd_script.specs.declared.keyword.Parameter.TheVariants.{Register, Number, Target}
 use Rattle.rd_script.specs.declared.keyword.Parameter.TheVariants.{Data, Time, Operand, Index}
-use Rattle.rd_script.specs.declared.keyword.Parameter.TheVariants.{Room, Action, OnExit, Name}
+use Rattle.rd_script.specs.declared.keyword.Parameter.TheVariants.{Room, Action, OnExit, WaitFor}
+use Rattle.rd_script.specs.declared.keyword.Parameter.TheVariants.{OnMet, Name}
 use Rattle.rd_script.specs.declared.keyword.Keyword.{Keyword}
 use Rattle.rd_script.specs.Scope.{Scope}
 use Rattle.rd_script.specs.Keywords.{Makes, Row, Value, keyword_of, operands_of, row_of, Written}
@@ -82,6 +87,20 @@ on_exit_of word =
     else (if bytes_eq word (codes "dec") then Some exit.Decrement
     else None)
 
+-- whether a task waits for any of its bits, or for all (xWaitForAllBits)
+abbrev pub wait_for_of : List ℕ → Option awaited.WaitFor
+wait_for_of word =
+    if bytes_eq word (codes "any") then Some wait_for.Any
+    else (if bytes_eq word (codes "all") then Some wait_for.All
+    else None)
+
+-- what becomes of the bits that a task waited for (xClearOnExit)
+abbrev pub on_met_of : List ℕ → Option met.OnMet
+on_met_of word =
+    if bytes_eq word (codes "keep") then Some on_met.Keep
+    else (if bytes_eq word (codes "clear") then Some on_met.Clear
+    else None)
+
 -- the number of the thing that a word names
 abbrev pub index_named : List (List ℕ) → List ℕ → Option ℕ
 index_named names word = option_and_then (λ name. position (bytes_eq name) names) (name_of word)
@@ -99,6 +118,8 @@ value_of scope len Index word = number_below scope.entries word
 value_of scope len Room word = room_of word
 value_of scope len Action word = action_of word
 value_of scope len OnExit word = on_exit_of word
+value_of scope len WaitFor word = wait_for_of word
+value_of scope len OnMet word = on_met_of word
 value_of scope len (Name kind) word = index_named (names_in scope.objects scope.tasks kind) word
 
 -- has it the form of such an operand, whatever it names?
@@ -113,6 +134,8 @@ is_formed scope len Index word = is_some (number_below scope.entries word)
 is_formed scope len Room word = is_some (room_of word)
 is_formed scope len Action word = is_some (action_of word)
 is_formed scope len OnExit word = is_some (on_exit_of word)
+is_formed scope len WaitFor word = is_some (wait_for_of word)
+is_formed scope len OnMet word = is_some (on_met_of word)
 is_formed scope len (Name kind) word = is_name word
 
 -- ---- from the first word to the last

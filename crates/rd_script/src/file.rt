@@ -252,7 +252,7 @@ fn read_bytes(alloc: Global, bytes: &[u8]) -> Result<App, AppError>
 }
 
 /// The application of a file's bytes: a JSON object with the keys `profile`, `cores`, `notes`,
-/// `tick`, `queues`, `sets`, `streams`, `messages` and `tasks`.
+/// `tick`, `queues`, `sets`, `streams`, `messages`, `groups` and `tasks`.
 pub fn read_app(alloc: Global, text: &[u8]) -> Result<App, AppError>
     // What is read is what the file says, within the limits.
     ensures accepted { IfOk result (FileSays text.now) }

@@ -4,7 +4,7 @@ ghost use Rattle.std.specs.Prelude.{◌≡◌, IfSome, option_map};
 ghost use Rattle.rd_script.specs.Keywords.{keyword_of, row_of, operands_of};
 ghost use Rattle.rd_script.specs.Keywords.{first_written, texts_view};
 
-use Keyword::{Local, Message, Notify, Queue, QueueSet, Stream};
+use Keyword::{Group, Local, Message, Notify, Queue, QueueSet, Stream};
 use rd_text::kind::Kind;
 
 /// What an operand of an instruction is.
@@ -30,6 +30,10 @@ pub(crate) enum Parameter {
     Action,
     /// What is left of a value that is taken: `clear` or `dec`.
     OnExit,
+    /// Whether a task waits for any of its bits, or for all: `any` or `all`.
+    WaitFor,
+    /// What becomes of the bits that a task waited for: `keep` or `clear`.
+    OnMet,
     /// The name of a thing of that kind.
     Name(Kind),
 }
@@ -90,6 +94,16 @@ pub(crate) enum MessageKeyword {
     NextLength,
 }
 
+/// The first word of a call of an event group.
+#[derive(Clone, Copy, Debug, PartialEq, Eq)]
+pub(crate) enum GroupKeyword {
+    Set,
+    Clear,
+    Get,
+    Wait,
+    Sync,
+}
+
 /// The first word of a call that notifies a task, or looks at an entry.
 #[derive(Clone, Copy, Debug, PartialEq, Eq)]
 pub(crate) enum NotifyKeyword {
@@ -109,6 +123,7 @@ pub(crate) enum Keyword {
     QueueSet(QueueSetKeyword),
     Stream(StreamKeyword),
     Message(MessageKeyword),
+    Group(GroupKeyword),
     Notify(NotifyKeyword),
 }
 
@@ -132,6 +147,10 @@ const ACTION: Parameter = Parameter::Action;
 
 const ON_EXIT: Parameter = Parameter::OnExit;
 
+const WAIT_FOR: Parameter = Parameter::WaitFor;
+
+const ON_MET: Parameter = Parameter::OnMet;
+
 const TASK: Parameter = Parameter::Name(Kind::Task);
 
 const QUEUE: Parameter = Parameter::Name(Kind::Queue);
@@ -142,8 +161,10 @@ const STREAM: Parameter = Parameter::Name(Kind::Stream);
 
 const MESSAGE: Parameter = Parameter::Name(Kind::Message);
 
+const GROUP: Parameter = Parameter::Name(Kind::Group);
+
 // Each keyword: as it is written, and its operands.
-const KEYWORDS: [(&str, &[Parameter], Keyword); 37] = [
+const KEYWORDS: [(&str, &[Parameter], Keyword); 42] = [
     ("set", &[REGISTER, NUMBER], Local(LocalKeyword::Set)),
     ("add", &[REGISTER, NUMBER], Local(LocalKeyword::Add)),
     ("move", &[REGISTER, REGISTER], Local(LocalKeyword::Move)),
@@ -191,6 +212,19 @@ const KEYWORDS: [(&str, &[Parameter], Keyword); 37] = [
     ("mreset", &[MESSAGE], Message(MessageKeyword::Reset)),
     ("mspaces", &[MESSAGE], Message(MessageKeyword::Spaces)),
     ("mnext", &[MESSAGE], Message(MessageKeyword::NextLength)),
+    ("gset", &[GROUP, OPERAND], Group(GroupKeyword::Set)),
+    ("gclear", &[GROUP, OPERAND], Group(GroupKeyword::Clear)),
+    ("gget", &[GROUP], Group(GroupKeyword::Get)),
+    (
+        "gwait",
+        &[GROUP, OPERAND, WAIT_FOR, ON_MET, TIME],
+        Group(GroupKeyword::Wait),
+    ),
+    (
+        "gsync",
+        &[GROUP, OPERAND, OPERAND, TIME],
+        Group(GroupKeyword::Sync),
+    ),
     (
         "notify",
         &[TASK, INDEX, OPERAND, ACTION],

@@ -9,6 +9,7 @@ ghost use Rattle.rd_script.specs.Objects.{array_view, drafts_view, file_keys, ob
 ghost use Rattle.rd_script.specs.Objects.{queue_of, queues_after};
 ghost use Rattle.rd_script.specs.Objects.{member_of, members_after, queue_set_of, queue_sets_after};
 ghost use Rattle.rd_script.specs.Objects.{message_of, messages_after, stream_of, streams_after};
+ghost use Rattle.rd_script.specs.Objects.{group_of, groups_after};
 ghost use Rattle.rd_script.specs.Values.{Gives, nothing_named};
 ghost use Rattle.rd_text.specs.Words.{texts};
 
@@ -17,8 +18,8 @@ use crate::reader::index_of;
 use crate::values::{array_or_empty, field, new_name, number, object_with};
 use arrayvec::ArrayVec;
 use rd_app::objects::{
-    MAX_MESSAGE_BUFFERS, MAX_QUEUE_SETS, MAX_QUEUES, MAX_STREAMS, MessageShape, Named,
-    NamedObjects, QueueSetShape, QueueShape, StreamShape,
+    GroupShape, MAX_GROUPS, MAX_MESSAGE_BUFFERS, MAX_QUEUE_SETS, MAX_QUEUES, MAX_STREAMS,
+    MessageShape, Named, NamedObjects, QueueSetShape, QueueShape, StreamShape,
 };
 use rd_queue::item::MAX_ITEM_SIZE;
 use rd_queue::queue::MAX_ITEMS;
@@ -32,8 +33,8 @@ use std::alloc::{AllocError, Global};
 use std::marker::Model;
 
 /// The keys of a file, among them one for each kind of object.
-pub(crate) const FILE_KEYS: [&str; 9] = [
-    "profile", "cores", "notes", "tick", "queues", "sets", "streams", "messages", "tasks",
+pub(crate) const FILE_KEYS: [&str; 10] = [
+    "profile", "cores", "notes", "tick", "queues", "sets", "streams", "messages", "groups", "tasks",
 ];
 
 /// Things of one kind in a file, with their names, which lie in its value. They go by number: the
@@ -66,6 +67,7 @@ pub(crate) struct ObjectDrafts<'a> {
     pub(crate) queue_sets: NamedArray<'a, QueueSetDraft, MAX_QUEUE_SETS>,
     pub(crate) streams: NamedArray<'a, StreamShape, MAX_STREAMS>,
     pub(crate) messages: NamedArray<'a, MessageShape, MAX_MESSAGE_BUFFERS>,
+    pub(crate) groups: NamedArray<'a, GroupShape, MAX_GROUPS>,
 }
 
 #[tactic(auto, unfolding(crate::specs::Objects::queue_of))]
@@ -260,6 +262,31 @@ fn read_messages(
     Ok(NamedArray { names, things })
 }
 
+#[tactic(auto, unfolding(crate::specs::Objects::group_of))]
+fn read_group<'a>(value: &'a Value, names: &[&str]) -> Result<(&'a str, GroupShape), AppError>
+    ensures { Gives (λ group. (group.0.now, group.1))
+        result (group_of (texts names.now) (view value.now)) }
+{
+    object_with(value, &["name"])?;
+    let name = field(value, "name")?;
+    let name = new_name(name, names)?;
+    Ok((name, GroupShape {}))
+}
+
+fn read_groups(values: &[Value]) -> Result<NamedArray<'_, GroupShape, MAX_GROUPS>, AppError>
+    requires { length values.now ≤ MAX_GROUPS }
+    ensures { Gives array_view result (groups_after nothing_named (items_view values.now)) }
+{
+    let mut names = ArrayVec::new();
+    let mut things = ArrayVec::new();
+    for value in values {
+        let (name, shape) = read_group(value, names.as_slice())?;
+        names.push(name);
+        things.push(shape);
+    }
+    Ok(NamedArray { names, things })
+}
+
 /// The objects of a file, the queues before the sets, whose members they are.
 pub(crate) fn read_objects(file: &Value) -> Result<ObjectDrafts<'_>, AppError>
     ensures { Gives drafts_view result (objects_of (view file.now)) }
@@ -269,11 +296,13 @@ pub(crate) fn read_objects(file: &Value) -> Result<ObjectDrafts<'_>, AppError>
     let queue_sets = read_queue_sets(queue_sets, queues.names.as_slice())?;
     let streams = read_streams(array_or_empty(file.get("streams"), MAX_STREAMS)?)?;
     let messages = read_messages(array_or_empty(file.get("messages"), MAX_MESSAGE_BUFFERS)?)?;
+    let groups = read_groups(array_or_empty(file.get("groups"), MAX_GROUPS)?)?;
     Ok(ObjectDrafts {
         queues,
         queue_sets,
         streams,
         messages,
+        groups,
     })
 }
 
@@ -306,6 +335,7 @@ pub(crate) fn keep_objects(
         queue_sets,
         streams,
         messages,
+        groups,
     } = drafts;
     Ok(NamedObjects {
         queues: Named {
@@ -323,6 +353,10 @@ pub(crate) fn keep_objects(
         messages: Named {
             names: Names::new(alloc, messages.names.as_slice())?,
             things: messages.things.as_slice().to_vec(alloc)?,
+        },
+        groups: Named {
+            names: Names::new(alloc, groups.names.as_slice())?,
+            things: groups.things.as_slice().to_vec(alloc)?,
         },
     })
 }

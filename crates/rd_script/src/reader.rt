@@ -4,7 +4,7 @@ ghost use Rattle.std.specs.Prelude.{◌≡◌};
 ghost use Rattle.rd_script.specs.declared.keyword.Parameter.TheVariants as parameter;
 ghost use Rattle.rd_script.specs.Draft.{scope_view};
 ghost use Rattle.rd_script.specs.Spelling.{register_of, number_below, operand_of, time_of};
-ghost use Rattle.rd_script.specs.Spelling.{action_of, on_exit_of, room_of};
+ghost use Rattle.rd_script.specs.Spelling.{action_of, on_exit_of, on_met_of, room_of, wait_for_of};
 ghost use Rattle.rd_script.specs.Spelling.{index_named, index_of, is_formed, are_formed};
 ghost use Rattle.rd_script.specs.Spelling.{Takes};
 ghost use Rattle.rd_text.specs.Words.{texts};
@@ -14,6 +14,7 @@ use crate::keyword::Parameter;
 use crate::scope::Scope;
 use rd_app::instr::{MAX_DELAY, Operand};
 use rd_bytes::bytes::{Bytes, MAX_BYTES};
+use rd_group::wish::{OnMet, WaitFor};
 use rd_notify::action::{Action, OnExit};
 use rd_text::kind::Kind;
 use rd_text::words::{Words, bytes, name, number};
@@ -96,6 +97,28 @@ fn on_exit_of(word: &[u8]) -> Option<OnExit>
     }
 }
 
+// Whether a task waits for any of its bits, or for all (`xWaitForAllBits`).
+fn wait_for_of(word: &[u8]) -> Option<WaitFor>
+    ensures { result ≡ wait_for_of word.now }
+{
+    match word {
+        b"any" => Some(WaitFor::Any),
+        b"all" => Some(WaitFor::All),
+        _ => None,
+    }
+}
+
+// What becomes of the bits that a task waited for (`xClearOnExit`).
+fn on_met_of(word: &[u8]) -> Option<OnMet>
+    ensures { result ≡ on_met_of word.now }
+{
+    match word {
+        b"keep" => Some(OnMet::Keep),
+        b"clear" => Some(OnMet::Clear),
+        _ => None,
+    }
+}
+
 /// The number of the thing with that name, which is its index among these.
 pub(crate) fn index_of(name: &str, names: &[&str]) -> Result<usize, AppError>
     ensures { result ≡ index_of (texts names.now) name.now }
@@ -130,6 +153,8 @@ fn is_formed(parameter: Parameter, word: &[u8], scope: Scope<'_>, len: usize) ->
         Parameter::Room => room_of(word).is_some(),
         Parameter::Action => action_of(word).is_some(),
         Parameter::OnExit => on_exit_of(word).is_some(),
+        Parameter::WaitFor => wait_for_of(word).is_some(),
+        Parameter::OnMet => on_met_of(word).is_some(),
         Parameter::Name(_) => name(word).is_some(),
     }
 }
@@ -261,6 +286,22 @@ impl<'a> Reader<'a> {
         ensures { Takes parameter.OnExit self.old result self.new }
     {
         on_exit_of(self.words.next()?)
+    }
+
+    /// The next word, as whether any of the bits is waited for, or all.
+    #[tactic(auto, unfolding(crate::specs::Spelling::next_value))]
+    pub(crate) fn wait_for(&mut self) -> Option<WaitFor>
+        ensures { Takes parameter.WaitFor self.old result self.new }
+    {
+        wait_for_of(self.words.next()?)
+    }
+
+    /// The next word, as what becomes of the bits that were waited for.
+    #[tactic(auto, unfolding(crate::specs::Spelling::next_value))]
+    pub(crate) fn on_met(&mut self) -> Option<OnMet>
+        ensures { Takes parameter.OnMet self.old result self.new }
+    {
+        on_met_of(self.words.next()?)
     }
 
     /// The next word, as the number of the thing of that kind that it names.

@@ -28,6 +28,7 @@ impl<'a> Scope<'a> {
             Kind::QueueSet => self.objects.queue_sets.names.as_slice(),
             Kind::Stream => self.objects.streams.names.as_slice(),
             Kind::Message => self.objects.messages.names.as_slice(),
+            Kind::Group => self.objects.groups.names.as_slice(),
             Kind::Task => self.tasks,
         }
     }

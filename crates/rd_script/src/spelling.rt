@@ -3,21 +3,21 @@
 ghost use Rattle.std.specs.Prelude.{◌≡◌};
 ghost use Rattle.rd_text.specs.Words.{words_of};
 ghost use Rattle.rd_script.specs.Keywords.{local_row, notify_row, queue_row, row_of};
-ghost use Rattle.rd_script.specs.Keywords.{message_row, queue_set_row, stream_row};
+ghost use Rattle.rd_script.specs.Keywords.{group_row, message_row, queue_set_row, stream_row};
 ghost use Rattle.rd_script.specs.Objects.{drafts_view};
 ghost use Rattle.rd_script.specs.Draft.{scope_view};
 ghost use Rattle.rd_script.specs.Spelling.{instr_made, is_call_for, is_for_queue, instr_of};
 
 use crate::error::AppError;
 use crate::keyword::{
-    Keyword, LocalKeyword, MessageKeyword, NotifyKeyword, QueueKeyword, QueueSetKeyword,
-    StreamKeyword, keyword_of,
+    GroupKeyword, Keyword, LocalKeyword, MessageKeyword, NotifyKeyword, QueueKeyword,
+    QueueSetKeyword, StreamKeyword, keyword_of,
 };
 use crate::objects::ObjectDrafts;
 use crate::reader::Reader;
 use crate::scope::Scope;
 use rd_app::instr::{
-    Instr, LocalInstr, MessageCall, NotifyCall, QueueCall, QueueSetCall, StreamCall,
+    GroupCall, Instr, LocalInstr, MessageCall, NotifyCall, QueueCall, QueueSetCall, StreamCall,
 };
 use rd_app::objects::QueueShape;
 use rd_queue::end::End;
@@ -152,6 +152,34 @@ fn message_instr(keyword: MessageKeyword, reader: &mut Reader<'_>) -> Option<Ins
     Some(Instr::Message { message, call })
 }
 
+// A call of an event group, of the words after its keyword.
+fn group_instr(keyword: GroupKeyword, reader: &mut Reader<'_>) -> Option<Instr>
+    ensures { result ≡ instr_made (group_row keyword) reader.old }
+{
+    let group = reader.named(Kind::Group)?;
+    let call = match keyword {
+        GroupKeyword::Set => GroupCall::Set {
+            bits: reader.operand()?,
+        },
+        GroupKeyword::Clear => GroupCall::Clear {
+            bits: reader.operand()?,
+        },
+        GroupKeyword::Get => GroupCall::Get,
+        GroupKeyword::Wait => GroupCall::Wait {
+            bits: reader.operand()?,
+            wait_for: reader.wait_for()?,
+            on_met: reader.on_met()?,
+            wait: reader.time()?,
+        },
+        GroupKeyword::Sync => GroupCall::Sync {
+            set: reader.operand()?,
+            bits: reader.operand()?,
+            wait: reader.time()?,
+        },
+    };
+    Some(Instr::Group { group, call })
+}
+
 // A call that notifies a task, or looks at an entry, of the words after its keyword.
 fn notify_instr(keyword: NotifyKeyword, reader: &mut Reader<'_>) -> Option<Instr>
     ensures { result ≡ instr_made (notify_row keyword) reader.old }
@@ -203,6 +231,7 @@ fn instr_made(keyword: Keyword, reader: &mut Reader<'_>) -> Option<Instr>
         Keyword::QueueSet(keyword) => queue_set_instr(keyword, reader),
         Keyword::Stream(keyword) => stream_instr(keyword, reader),
         Keyword::Message(keyword) => message_instr(keyword, reader),
+        Keyword::Group(keyword) => group_instr(keyword, reader),
         Keyword::Notify(keyword) => notify_instr(keyword, reader),
     }
 }

@@ -107,7 +107,7 @@ IsValid-boot app s limits sized e =
           );
       waiting_lists = record {
         ready = kept.order (IsInOrder-all_joined priorities n);
-        waiting = λ place. subst (IsInOrder priorities) (sym (waiting_at-before_scheduling app place)) tt;
+        waiting = λ place by. subst (IsInOrder priorities) (sym (waiting_at-before_scheduling app place)) tt;
       };
       places = λ place task h.
           ap (times_in_list task) (waiting_at-before_scheduling app place) ∙ sym (ap (λ (t : TaskSnapshot). times_waiting_in place t.phase) (there task h));

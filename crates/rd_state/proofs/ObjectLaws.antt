@@ -6,8 +6,12 @@ use Rattle.std.specs.Prelude.{All, IfSome, nat_eq}
 use Rattle.std.specs.List.{list_any}
 use Rattle.std.proofs.lemmas.Bool.Decides.{nat_tests}
 use Rattle.std.proofs.lemmas.List.Quantifiers.{position-Some}
-use Rattle.std.proofs.lemmas.List.{get_or-set_same, length-map, length_push, length-set, map-append, take_all, take_more}
-use Rattle.std.proofs.lemmas.List.Elements.{All-get_or, All-nil, All-push, All-set, All-map, All-weaker}
+use Rattle.std.proofs.lemmas.List.{get_or-set_same, length-map, length-replicate, length_push, length-set, map-append, take_all, take_more}
+use Rattle.rd_group.specs.declared.wish.Wish.{Wish}
+use Rattle.std.proofs.lemmas.List.Elements.{All-get_or, All-nil, All-replicate, All-push, All-set, All-map, All-weaker}
+use Rattle.rd_group.proofs.Offered.{group_change_is_undone}
+use Rattle.rd_group.specs.GroupChanges.{group_applied, group_inverse_of, GroupFits}
+use Rattle.rd_group.specs.GroupSnapshot.{GroupSnapshot}
 use Rattle.rd_queue.specs.Changes.{queue_applied, queue_inverse_of, QueueFits}
 use Rattle.rd_queue.specs.QueueSnapshot.{QueueSnapshot}
 use Rattle.rd_queue.specs.QueueSetChanges.{queue_set_applied, queue_set_inverse_of, QueueSetFits}
@@ -19,6 +23,7 @@ use Rattle.rd_stream.specs.MessageSnapshot.{MessageSnapshot}
 use Rattle.rd_stream.specs.StreamChanges.{stream_applied, stream_inverse_of, StreamFits}
 use Rattle.rd_stream.specs.StreamSnapshot.{StreamSnapshot}
 use Rattle.rd_stream.proofs.Offered.{message_change_is_undone, stream_change_is_undone}
+use Rattle.rd_group.specs.Groups.{empty_group}
 use Rattle.rd_app.specs.declared.objects.MessageShape.{MessageShape}
 use Rattle.rd_app.specs.declared.objects.StreamShape.{StreamShape}
 use Rattle.rd_app.specs.QueueSetShapeView.{QueueSetShapeView}
@@ -27,9 +32,9 @@ use Rattle.rd_app.specs.Application.{Application, IsApplication}
 use Rattle.rd_app.specs.Objects.{IsMessageShape, IsQueueShape, IsQueueSetShape, IsStreamShape, queue_set_at_boot, shape_at}
 use Rattle.rd_wait.proofs.Offered.{replaced_back}
 use Rattle.rd_state.specs.Objects.{ObjectChange}
-use Rattle.rd_state.specs.Objects.{Queue, QueueSet, Stream, Message}
-use Rattle.rd_state.specs.Objects.{ObjectsSnapshot, no_message_buffer, no_queue, no_queue_set, no_stream, numbers_in, message_in, queue_in, queue_set_in, stream_in}
-use Rattle.rd_state.specs.Objects.{IsMessageBufferFor, IsStreamFor, new_message_buffer, new_stream, size_of_message_buffer, size_of_stream, trigger_taken}
+use Rattle.rd_state.specs.Objects.{Queue, QueueSet, Stream, Message, Group}
+use Rattle.rd_state.specs.Objects.{ObjectsSnapshot, no_group, no_message_buffer, no_queue, no_queue_set, no_stream, numbers_in, group_in, message_in, queue_in, queue_set_in, stream_in}
+use Rattle.rd_state.specs.Objects.{IsGroupFor, IsMessageBufferFor, IsStreamFor, new_message_buffer, new_stream, size_of_message_buffer, size_of_stream, trigger_taken}
 use Rattle.rd_state.specs.Objects.{AreShaped, AreSizedObjects, Shapes, shapes_in, shapes_named, IsQueueFor, IsQueueSetFor, first_queues, new_objects, new_queue, new_queue_set, capacity_of, shape_of}
 use Rattle.rd_state.specs.Objects.{object_applied, object_inverse_of, ObjectFits}
 
@@ -49,6 +54,10 @@ stream_in_sized task_count o stream sized there = All-get_or (IsStreamFor task_c
 pub message_in_sized : (task_count : ℕ) (o : ObjectsSnapshot) (message : ℕ) → AreSizedObjects task_count o → message < length o.messages
     → IsMessageBufferFor task_count (message_in o message)
 message_in_sized task_count o message sized there = All-get_or (IsMessageBufferFor task_count) o.messages message no_message_buffer there sized.messages
+
+pub group_in_sized : (task_count : ℕ) (o : ObjectsSnapshot) (group : ℕ) → AreSizedObjects task_count o → group < length o.groups
+    → IsGroupFor task_count (group_in o group)
+group_in_sized task_count o group sized there = All-get_or (IsGroupFor task_count) o.groups group no_group there sized.groups
 
 -- A change is undone by its inverse,
 pub object_back : (task_count : ℕ) (o : ObjectsSnapshot) (change : ObjectChange) → AreSizedObjects task_count o → ObjectFits o change
@@ -73,6 +82,11 @@ object_back task_count o (Message number change) sized fits =
     let back = (message_change_is_undone was change (message_in_sized task_count o number sized fits.0).0 fits.1).back in
     ap (λ (messages : List MessageSnapshot). record o { messages = messages })
     (replaced_back o.messages number no_message_buffer (message_applied was change) (λ b. message_applied b (message_inverse_of was change)) fits.0 back)
+object_back task_count o (Group number change) sized fits =
+    let was = group_in o number in
+    let back = (group_change_is_undone was change (group_in_sized task_count o number sized fits.0).0 fits.1).back in
+    ap (λ (groups : List GroupSnapshot). record o { groups = groups })
+    (replaced_back o.groups number no_group (group_applied was change) (λ g. group_applied g (group_inverse_of was change)) fits.0 back)
 
 -- which fits: it finds what stands in the place of what was there.
 replaced_fits : {X : Type 0} (xs : List X) (i : ℕ) (d y : X) (FitsNext : X → Type 0) → i < length xs → FitsNext y
@@ -98,6 +112,10 @@ object_fits task_count o (Message number change) sized fits =
     let was = message_in o number in
     replaced_fits o.messages number no_message_buffer (message_applied was change) (λ b. MessageFits b (message_inverse_of was change)) fits.0
     (message_change_is_undone was change (message_in_sized task_count o number sized fits.0).0 fits.1).fits
+object_fits task_count o (Group number change) sized fits =
+    let was = group_in o number in
+    replaced_fits o.groups number no_group (group_applied was change) (λ g. GroupFits g (group_inverse_of was change)) fits.0
+    (group_change_is_undone was change (group_in_sized task_count o number sized fits.0).0 fits.1).fits
 
 -- keeps the sizes,
 pub object_sized : (task_count : ℕ) (o : ObjectsSnapshot) (change : ObjectChange) → AreSizedObjects task_count o → ObjectFits o change
@@ -115,6 +133,8 @@ object_sized task_count o (Queue queue change) sized fits =
       few_streams = sized.few_streams;
       messages = sized.messages;
       few_messages = sized.few_messages;
+      groups = sized.groups;
+      few_groups = sized.few_groups;
     }
 object_sized task_count o (QueueSet number change) sized fits =
     let was = queue_set_in_sized task_count o number sized fits.0 in
@@ -129,6 +149,8 @@ object_sized task_count o (QueueSet number change) sized fits =
       few_streams = sized.few_streams;
       messages = sized.messages;
       few_messages = sized.few_messages;
+      groups = sized.groups;
+      few_groups = sized.few_groups;
     }
 object_sized task_count o (Stream number change) sized fits =
     let was = stream_in_sized task_count o number sized fits.0 in
@@ -143,6 +165,8 @@ object_sized task_count o (Stream number change) sized fits =
       few_streams = omega (arith, length-set o.streams number now, sized.few_streams);
       messages = sized.messages;
       few_messages = sized.few_messages;
+      groups = sized.groups;
+      few_groups = sized.few_groups;
     }
 object_sized task_count o (Message number change) sized fits =
     let was = message_in_sized task_count o number sized fits.0 in
@@ -157,6 +181,24 @@ object_sized task_count o (Message number change) sized fits =
       few_streams = sized.few_streams;
       messages = All-set (IsMessageBufferFor task_count) o.messages number now (law.sized, law.task_count ∙ was.1) sized.messages;
       few_messages = omega (arith, length-set o.messages number now, sized.few_messages);
+      groups = sized.groups;
+      few_groups = sized.few_groups;
+    }
+object_sized task_count o (Group number change) sized fits =
+    let was = group_in_sized task_count o number sized fits.0 in
+    let law = group_change_is_undone (group_in o number) change was.0 fits.1 in
+    let now = group_applied (group_in o number) change in
+    record {
+      queues = sized.queues;
+      few_queues = sized.few_queues;
+      queue_sets = sized.queue_sets;
+      few_queue_sets = sized.few_queue_sets;
+      streams = sized.streams;
+      few_streams = sized.few_streams;
+      messages = sized.messages;
+      few_messages = sized.few_messages;
+      groups = All-set (IsGroupFor task_count) o.groups number now (law.sized, law.task_count ∙ was.1) sized.groups;
+      few_groups = omega (arith, length-set o.groups number now, sized.few_groups);
     }
 
 -- and the numbers of objects.
@@ -165,6 +207,7 @@ object_numbers o (Queue queue change) = ap (λ (count : ℕ). record (numbers_in
 object_numbers o (QueueSet number change) = ap (λ (count : ℕ). record (numbers_in o) { queue_set_count = count }) (length-set o.queue_sets number _)
 object_numbers o (Stream number change) = ap (λ (count : ℕ). record (numbers_in o) { stream_count = count }) (length-set o.streams number _)
 object_numbers o (Message number change) = ap (λ (count : ℕ). record (numbers_in o) { message_count = count }) (length-set o.messages number _)
+object_numbers o (Group number change) = ap (λ (count : ℕ). record (numbers_in o) { group_count = count }) (length-set o.groups number _)
 
 -- The set of a queue is there.
 no_shape : QueueSetShapeView
@@ -252,6 +295,19 @@ IsMessageBufferFor-new n task_count shape same limits = (
   same,
 )
 
+-- Nobody waits at a new event group, and it has no bits.
+IsGroupFor-empty : (n task_count : ℕ) → n ≡ task_count → n ≤ 32 → IsGroupFor task_count (empty_group n)
+IsGroupFor-empty n task_count same few = (
+  record {
+    bits = omega arith;
+    waiting = (All-nil (λ task. task < n), omega arith);
+    same_length = refl;
+    wishes = All-nil (λ (wish : Wish). wish.bits ≤ 16777215);
+    few = few;
+  },
+  same,
+)
+
 -- the objects of a new state, at which so many tasks can wait
 pub AreSizedObjects-new : (app : Application) (task_count : ℕ) → IsApplication app → task_count ≡ length app.tasks.things
     → AreSizedObjects task_count (new_objects app)
@@ -265,6 +321,7 @@ AreSizedObjects-new app task_count limits same =
     app.objects.queue_sets.things limits.objects.queue_sets) in
     let stream = new_stream (length app.tasks.things) in
     let message = new_message_buffer (length app.tasks.things) in
+    let group = empty_group (length app.tasks.things) in
     record {
       queues = IsQueueFor-first_queues app n task_count (length (map made app.objects.queue_sets.things)) limits (omega arith) same (length-map app.objects.queue_sets.things made);
       few_queues = omega (arith, length-first_queues app n, limits.objects.few_queues);
@@ -278,6 +335,9 @@ AreSizedObjects-new app task_count limits same =
           (All-weaker IsMessageShape (λ b. IsMessageBufferFor task_count (message b))
           (λ b h. IsMessageBufferFor-new (length app.tasks.things) task_count b (sym same) h) app.objects.messages.things limits.objects.messages);
       few_messages = omega (arith, length-map app.objects.messages.things message, limits.objects.few_messages);
+      groups = All-replicate (IsGroupFor task_count) (length app.objects.groups.things) group
+          (IsGroupFor-empty (length app.tasks.things) task_count (sym same) limits.few_tasks);
+      few_groups = omega (arith, length-replicate (length app.objects.groups.things) group, limits.objects.few_groups);
     }
 
 -- the shapes of the queues so far
@@ -323,6 +383,9 @@ message_count_shaped app o shaped =
     sym (length-map o.messages size_of_message_buffer) ∙ ap (λ (shapes : Shapes). length shapes.messages) shaped
     ∙ length-map app.objects.messages.things (λ (message : MessageShape). message.capacity)
 
+pub group_count_shaped : (app : Application) (o : ObjectsSnapshot) → AreShaped app o → length o.groups ≡ length app.objects.groups.things
+group_count_shaped app o shaped = ap (λ (shapes : Shapes). shapes.groups) shaped
+
 -- The objects of boot have the sizes that the application gives them.
 pub AreShaped-new : (app : Application) → AreShaped app (new_objects app)
 AreShaped-new app =
@@ -334,5 +397,6 @@ AreShaped-new app =
     let messages = size-new_message_buffers (length app.tasks.things) app.objects.messages.things in
     ap (λ (qs : List QueueShape). record made { queues = qs }) queues
     ∙ ap (λ (rooms : List ℕ). record made { queues = asked.queues; queue_sets = rooms }) queue_sets
-    ∙ ap (λ (sizes : List ℕ). record asked { streams = sizes; messages = made.messages }) streams
-    ∙ ap (λ (sizes : List ℕ). record asked { messages = sizes }) messages
+    ∙ ap (λ (sizes : List ℕ). record asked { streams = sizes; messages = made.messages; groups = made.groups }) streams
+    ∙ ap (λ (sizes : List ℕ). record asked { messages = sizes; groups = made.groups }) messages
+    ∙ ap (λ (count : ℕ). record asked { groups = count }) (length-replicate (length app.objects.groups.things) (empty_group (length app.tasks.things)))

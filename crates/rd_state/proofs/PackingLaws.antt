@@ -11,6 +11,10 @@ use Rattle.rd_bytes.specs.Tags.{last_kind}
 use Rattle.rd_bytes.specs.declared.tag.TheConstants.{SET_TICK, SET_TURN, SET_CORE, INS_READY, DEL_READY, INS_WAIT, DEL_WAIT, OF_QUEUE, OF_QUEUE_SET, OF_STREAM, OF_MESSAGE, SELECTING_LIST}
 use Rattle.rd_bytes.specs.declared.tag.TheConstants.{SET_READER, SET_WRITER, STREAM_HOLDER}
 use Rattle.rd_queue.proofs.Offered.{queue_change_is_read_back, queue_set_change_is_read_back, queue_inverse_has_bytes, queue_set_inverse_has_bytes}
+use Rattle.rd_group.proofs.Offered.{group_change_is_read_back, group_inverse_has_bytes}
+use Rattle.rd_group.specs.PackedGroupChanges.{last_group, last_group_change, group_change_length, GroupChangeIsAtEnd}
+use Rattle.rd_group.specs.declared.group_change.GroupChange.{GroupChange}
+use Rattle.rd_group.specs.declared.group_change.GroupChange.TheVariants as of_group
 use Rattle.rd_queue.specs.Changes.{QueueChange}
 use Rattle.rd_queue.specs.declared.queue_set_change.QueueSetChange.{QueueSetChange}
 use Rattle.rd_queue.specs.PackedChanges.{last_queue_change, queue_change_length, QueueChangeIsAtEnd}
@@ -32,14 +36,14 @@ use Rattle.rd_state.specs.Change.{cost_of, saved_bytes, weight_of}
 use Rattle.rd_state.specs.TaskChanges.{SetPc, SetReg, SetPhase, SetEntry, SetData}
 use Rattle.rd_state.specs.PackedTaskChanges.{task_fields}
 use Rattle.rd_state.specs.Change.{Change, SetTick, SetTurn, SetCore, InsReady, DelReady, Task, Object, inverse_of, Fits}
-use Rattle.rd_state.specs.Objects.{ObjectChange, ObjectsSnapshot, numbers_in, Queue, QueueSet, Stream, Message, message_in, queue_in, queue_set_in, stream_in, object_inverse_of, AreSizedObjects, ObjectFits}
+use Rattle.rd_state.specs.Objects.{ObjectChange, ObjectsSnapshot, numbers_in, Queue, QueueSet, Stream, Message, Group, group_in, message_in, queue_in, queue_set_in, stream_in, object_inverse_of, AreSizedObjects, ObjectFits}
 use Rattle.rd_state.specs.TaskChanges.{TaskChange}
 use Rattle.rd_state.specs.PackedTaskChanges.{last_task, last_task_change, task_change_length, TaskChangeIsAtEnd}
 use Rattle.rd_state.specs.PackedChanges.{packed, last_object_change, object_change_length, last_change, change_length, before_last}
 use Rattle.rd_state.specs.PackedChanges.{all_packed, changes_in, AreChanges, EndsInChange, HasBytes, IsAtEnd, ObjectHasBytes, EachIsReadBack}
 use Rattle.rd_state.specs.Sizes.{IsSized, IsTaskOrIdle}
 use Rattle.rd_state.specs.Snapshot.{Snapshot, core_at, numbers_of, task_at}
-use Rattle.rd_state.proofs.ObjectLaws.{message_in_sized, queue_in_sized, queue_set_in_sized, stream_in_sized}
+use Rattle.rd_state.proofs.ObjectLaws.{group_in_sized, message_in_sized, queue_in_sized, queue_set_in_sized, stream_in_sized}
 use Rattle.rd_state.proofs.TaskPackingLaws.{AreFew, task_change_is_read_back, task_inverse_has_bytes}
 use Rattle.rd_state.proofs.UndoLaws.{phase_sized, task_sized}
 
@@ -156,6 +160,16 @@ message_read bytes rest n change there =
     })
     there.ends.whole there.before
 
+group_read : (bytes rest : List ℕ) (n : ℕ) (change : GroupChange) → GroupChangeIsAtEnd bytes rest n change → IsAtEnd bytes rest (Object (Group n change))
+group_read bytes rest n change there =
+    let by = by_object_tag bytes (omega (arith, there.tag)) in
+    at_end bytes rest (Object (Group n change)) (group_change_length bytes) there.ends.some
+    (record {
+      same = by.same ∙ ap Object (rw there.kind (ap (λ k. Group k (last_group_change bytes)) there.group ∙ ap (Group n) there.same));
+      length = by.length ∙ rw there.kind refl;
+    })
+    there.ends.whole there.before
+
 pub change_is_read_back : EachIsReadBack
 change_is_read_back b (SetTick tick) fits = set_tick_read b tick fits
 change_is_read_back b (SetTurn turn) fits = set_turn_read b turn
@@ -167,6 +181,7 @@ change_is_read_back b (Object (Queue queue change)) fits = queue_read _ b queue 
 change_is_read_back b (Object (QueueSet n change)) fits = queue_set_read _ b n change (queue_set_change_is_read_back b n change fits)
 change_is_read_back b (Object (Stream n change)) fits = stream_read _ b n change (stream_change_is_read_back b n change fits)
 change_is_read_back b (Object (Message n change)) fits = message_read _ b n change (message_change_is_read_back b n change fits)
+change_is_read_back b (Object (Group n change)) fits = group_read _ b n change (group_change_is_read_back b n change fits)
 
 -- ---- What undoes a change has room in its bytes.
 
@@ -192,6 +207,9 @@ object_inverse_has_bytes task_count o (Stream n change) sized fits few =
 object_inverse_has_bytes task_count o (Message n change) sized fits few =
     let here = message_in_sized task_count o n sized fits.0 in
     (omega (arith, fits.0, sized.few_messages), message_inverse_has_bytes (message_in o n) change here.0 fits.1 (omega (arith, here.1, few)))
+object_inverse_has_bytes task_count o (Group n change) sized fits few =
+    let here = group_in_sized task_count o n sized fits.0 in
+    (omega (arith, fits.0, sized.few_groups), group_inverse_has_bytes (group_in o n) change here.0 fits.1)
 
 -- There are so few objects that each has a number of one byte.
 few_numbers : (task_count : ℕ) (o : ObjectsSnapshot) → AreSizedObjects task_count o → AreFew (numbers_in o)
@@ -200,6 +218,7 @@ few_numbers task_count o sized = record {
   queue_sets = omega (arith, sized.few_queue_sets);
   streams = omega (arith, sized.few_streams);
   messages = omega (arith, sized.few_messages);
+  groups = omega (arith, sized.few_groups);
 }
 
 pub inverse_has_bytes : (s : Snapshot) (change : Change) → IsSized s → Fits s change → HasBytes (inverse_of s change)
@@ -228,7 +247,8 @@ abbrev length_of_kind : ℕ → List ℕ → ℕ
 length_of_kind kind bytes =
     if kind == OF_QUEUE then queue_change_length bytes
     else (if kind == OF_QUEUE_SET then queue_set_change_length bytes
-    else (if kind == OF_STREAM then stream_change_length bytes else message_change_length bytes))
+    else (if kind == OF_STREAM then stream_change_length bytes
+    else (if kind == OF_MESSAGE then message_change_length bytes else group_change_length bytes)))
 
 pub insertion_length : (bytes : List ℕ) → end_byte 1 bytes ≡ INS_WAIT → object_change_length bytes ≡ 5
 insertion_length bytes tag = ap (λ kind. length_of_kind kind bytes) kind ∙ by_list (nat_lt (end_byte 5 bytes) SELECTING_LIST)
@@ -321,14 +341,14 @@ peeled (suc n) bytes some are =
     }
 
 -- Each change takes a byte at least.
-some_by_kind : (kind a b c d : ℕ) → 1 ≤ a → 1 ≤ b → 1 ≤ c → 1 ≤ d
-    → 1 ≤ (if kind == OF_QUEUE then a else (if kind == OF_QUEUE_SET then b else (if kind == OF_STREAM then c else d)))
-some_by_kind kind a b c d a1 b1 c1 d1 = grind (arith, nat_tests, a1, b1, c1, d1)
+some_by_kind : (kind a b c d e : ℕ) → 1 ≤ a → 1 ≤ b → 1 ≤ c → 1 ≤ d → 1 ≤ e
+    → 1 ≤ (if kind == OF_QUEUE then a else (if kind == OF_QUEUE_SET then b else (if kind == OF_STREAM then c else (if kind == OF_MESSAGE then d else e))))
+some_by_kind kind a b c d e a1 b1 c1 d1 e1 = grind (arith, nat_tests, a1, b1, c1, d1, e1)
 
 object_length_some : (bytes : List ℕ) → 1 ≤ object_change_length bytes
 object_length_some bytes =
     some_by_kind (last_kind bytes) (queue_change_length bytes) (queue_set_change_length bytes) (stream_change_length bytes) (message_change_length bytes)
-    (grind (arith, nat_tests)) (grind (arith, nat_tests)) (grind (arith, nat_tests)) (grind (arith, nat_tests))
+    (group_change_length bytes) (grind (arith, nat_tests)) (grind (arith, nat_tests)) (grind (arith, nat_tests)) (grind (arith, nat_tests)) (grind (arith, nat_tests))
 
 task_length_some : (bytes : List ℕ) → 1 ≤ task_change_length bytes
 task_length_some bytes = grind (arith, nat_tests)
@@ -394,6 +414,9 @@ packed_short (Object (Message n (of_message.SetHolder Reader task))) = omega ari
 packed_short (Object (Message n (of_message.SetHolder Writer task))) = omega arith
 packed_short (Object (Message n of_message.Clear)) = omega arith
 packed_short (Object (Message n (of_message.Fill bytes))) = omega (arith, length-append bytes (message_fields n (of_message.Fill bytes)))
+packed_short (Object (Group n (of_group.InsWait index task wish))) = omega arith
+packed_short (Object (Group n (of_group.DelWait index))) = omega arith
+packed_short (Object (Group n (of_group.SetBits bits))) = omega arith
 
 -- So a list of changes takes no more than 16 bytes a change and those that they carry.
 pub weight_bounds_bytes : (changes : List Change) → length (all_packed changes) ≤ 15 * length changes + weight_of changes
@@ -451,14 +474,16 @@ change_length-object bytes is = (by_other_tag bytes is).length
 pub last_change-object : (bytes : List ℕ) → IsObjectTag (end_byte 1 bytes) → last_change bytes ≡ Object (last_object_change bytes)
 last_change-object bytes is = (by_other_tag bytes is).same
 
--- A change of an object whose kind is none of the first three is one of a message buffer.
-pub record IsMessageKind (bytes : List ℕ) : Type 0 where
-  pub length : object_change_length bytes ≡ message_change_length bytes
-  pub change : last_object_change bytes ≡ Message (last_message_buffer bytes) (last_message_change bytes)
+-- A change of an object whose kind is none of the others is one of an event group.
+pub record IsGroupKind (bytes : List ℕ) : Type 0 where
+  pub length : object_change_length bytes ≡ group_change_length bytes
+  pub change : last_object_change bytes ≡ Group (last_group bytes) (last_group_change bytes)
 
-pub IsMessageKind-other : (bytes : List ℕ) → last_kind bytes ≢ OF_QUEUE → last_kind bytes ≢ OF_QUEUE_SET → last_kind bytes ≢ OF_STREAM → IsMessageKind bytes
-IsMessageKind-other bytes queue queue_set stream =
+pub IsGroupKind-other : (bytes : List ℕ) → last_kind bytes ≢ OF_QUEUE → last_kind bytes ≢ OF_QUEUE_SET → last_kind bytes ≢ OF_STREAM → last_kind bytes ≢ OF_MESSAGE
+    → IsGroupKind bytes
+IsGroupKind-other bytes queue queue_set stream message =
     let no_queue : (last_kind bytes == OF_QUEUE) ≡ false = grind (arith, nat_tests, queue) in
     let no_set : (last_kind bytes == OF_QUEUE_SET) ≡ false = grind (arith, nat_tests, queue_set) in
     let no_stream : (last_kind bytes == OF_STREAM) ≡ false = grind (arith, nat_tests, stream) in
-    record { length = rw (no_queue, no_set, no_stream) refl; change = rw (no_queue, no_set, no_stream) refl }
+    let no_message : (last_kind bytes == OF_MESSAGE) ≡ false = grind (arith, nat_tests, message) in
+    record { length = rw (no_queue, no_set, no_stream, no_message) refl; change = rw (no_queue, no_set, no_stream, no_message) refl }

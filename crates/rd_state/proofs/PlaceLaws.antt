@@ -1,6 +1,6 @@
 -- The lists in which tasks wait: who waits in one is a task, and at boot nobody does. Nor does a place of a buffer name anybody
 -- then.
-use Rattle.std.proofs.Common.{◌≡◌, ◌∙◌, ℕ, zero, suc, ◌<◌, List, [], ◌∷◌, None, length, get_or, map, refl, ap, subst}
+use Rattle.std.proofs.Common.{◌≡◌, ◌∙◌, ℕ, zero, suc, ◌<◌, List, [], ◌∷◌, None, length, get_or, map, refl, replicate, ap, subst}
 use Rattle.std.proofs.Common.{inl, inr}
 use Rattle.std.specs.Prelude.{All}
 use Rattle.std.proofs.lemmas.Bool.{cases_lt}
@@ -11,6 +11,7 @@ use Rattle.rd_queue.specs.declared.waiting_list.WaitingList.TheVariants.{Receivi
 use Rattle.rd_queue.specs.Queues.{tasks_in_list}
 use Rattle.rd_queue.specs.Sizes.{IsSizedList}
 use Rattle.rd_app.specs.QueueSetShapeView.{QueueSetShapeView}
+use Rattle.rd_group.specs.Groups.{empty_group}
 use Rattle.rd_app.specs.declared.objects.MessageShape.{MessageShape}
 use Rattle.rd_app.specs.declared.objects.StreamShape.{StreamShape}
 use Rattle.rd_stream.specs.Holders.{holder_of, no_holders}
@@ -20,14 +21,14 @@ use Rattle.rd_state.specs.declared.phase.Held.{Held}
 use Rattle.rd_state.specs.declared.phase.Held.TheVariants.{Stream, Message}
 use Rattle.rd_app.specs.Application.{Application}
 use Rattle.rd_state.specs.declared.phase.Listed.{Listed}
-use Rattle.rd_state.specs.declared.phase.Listed.TheVariants.{Queue, QueueSet}
+use Rattle.rd_state.specs.declared.phase.Listed.TheVariants.{Queue, QueueSet, Group}
 use Rattle.rd_state.specs.Boot.{before_scheduling}
 use Rattle.rd_state.specs.Objects.{IsQueueFor, first_queues, new_message_buffer, new_queue, new_queue_set, new_stream, no_message_buffer, no_queue}
-use Rattle.rd_state.specs.Objects.{no_queue_set, no_stream}
+use Rattle.rd_state.specs.Objects.{no_group, no_queue_set, no_stream}
 use Rattle.rd_state.specs.Sizes.{IsSized}
-use Rattle.rd_state.specs.Snapshot.{Snapshot, queue_at, queue_set_at}
+use Rattle.rd_state.specs.Snapshot.{Snapshot, group_at, queue_at, queue_set_at}
 use Rattle.rd_state.specs.Waiting.{HasList, holder_at, waiting_at}
-use Rattle.rd_state.proofs.ObjectLaws.{queue_in_sized, queue_set_in_sized}
+use Rattle.rd_state.proofs.ObjectLaws.{group_in_sized, queue_in_sized, queue_set_in_sized}
 
 -- A queue of the state has its sizes.
 pub queue_sized : (s : Snapshot) (queue : ℕ) → IsSized s → queue < length s.objects.queues
@@ -45,6 +46,9 @@ IsSizedList-waiting_at s (Queue queue Sending) sized there =
 IsSizedList-waiting_at s (QueueSet queue_set) sized there =
     let here = queue_set_in_sized (length s.tasks) s.objects queue_set sized.objects there in
     subst (λ n. IsSizedList n (queue_set_at s queue_set).waiting) here.1 here.0.waiting
+IsSizedList-waiting_at s (Group group) sized there =
+    let here = group_in_sized (length s.tasks) s.objects group sized.objects there in
+    subst (λ n. IsSizedList n (group_at s group).waiting) here.1 here.0.waiting
 
 -- Nobody waits in either list of a new queue.
 nobody_waits : (app : Application) (list : WaitingList) (n : ℕ) → All (λ queue. tasks_in_list list queue ≡ []) (first_queues app n)
@@ -70,9 +74,15 @@ nobody_selects task_count queue_count [] queue_set = refl
 nobody_selects task_count queue_count (shape ∷ shapes) zero = refl
 nobody_selects task_count queue_count (shape ∷ shapes) (suc queue_set) = nobody_selects task_count queue_count shapes queue_set
 
+nobody_at_group : (task_count n group : ℕ) → (get_or (replicate n (empty_group task_count)) group no_group).waiting ≡ []
+nobody_at_group task_count zero group = refl
+nobody_at_group task_count (suc n) zero = refl
+nobody_at_group task_count (suc n) (suc group) = nobody_at_group task_count n group
+
 pub waiting_at-before_scheduling : (app : Application) (place : Listed) → waiting_at (before_scheduling app) place ≡ []
 waiting_at-before_scheduling app (Queue queue list) = nobody_waits_at app list queue (length app.objects.queues.things)
 waiting_at-before_scheduling app (QueueSet queue_set) = nobody_selects (length app.tasks.things) (length app.objects.queues.things) app.objects.queue_sets.things queue_set
+waiting_at-before_scheduling app (Group group) = nobody_at_group (length app.tasks.things) (length app.objects.groups.things) group
 
 -- Nobody is named by the places of a new buffer, whichever side.
 nobody_named : (side : Side) (task_count : ℕ) → holder_of side (no_holders task_count) ≡ None

@@ -1,6 +1,7 @@
 -- A change of a task that was put behind bytes is read at their end.
 use Rattle.std.proofs.Common.{◌≡◌, ◌∙◌, ℕ, ◌+◌, ◌^◌, ◌<◌, ◌≤◌, List, ◌++◌, length, refl, ap, subst, arith, append_assoc, length-append}
 use Rattle.std.proofs.Common.{Option, Some, None}
+use Rattle.std.proofs.Math.Nat.{mod-eq_of_lt}
 use Rattle.std.proofs.lemmas.Bool.Decides.{nat_tests}
 use Rattle.std.proofs.lemmas.Nat.{from_le_bytes-to_le_bytes_2, from_le_bytes-to_le_bytes_4, from_le_bytes-to_le_bytes_8}
 use Rattle.rd_bytes.proofs.Offered.{end_byte_of, end_short_of, end_word_of, end_long_of, all_but_end, all_but_saved, bytes_before_end}
@@ -12,16 +13,16 @@ use Rattle.rd_notify.specs.declared.entries.EntryState.{EntryState}
 use Rattle.rd_notify.specs.declared.entries.EntryState.TheVariants.{Idle, Waiting, Received}
 use Rattle.rd_state.specs.PackedTaskChanges.{byte_of_entry_state, entry_state_of_byte}
 use Rattle.rd_state.specs.declared.phase.Cause.{Cause}
-use Rattle.rd_state.specs.declared.phase.Cause.TheVariants.{SetFull, TwoReaders, TwoWriters, EmptyData}
+use Rattle.rd_state.specs.declared.phase.Cause.TheVariants.{SetFull, TwoReaders, TwoWriters, EmptyData, BadBits}
 use Rattle.rd_state.specs.declared.phase.Held.{Held}
 use Rattle.rd_state.specs.declared.phase.Held.TheVariants.{Stream, Message}
 use Rattle.rd_stream.specs.declared.side.Side.TheVariants.{Reader, Writer}
 use Rattle.rd_state.specs.PackedTaskChanges.{cause_of_number, number_of_cause}
 use Rattle.rd_state.specs.declared.phase.Phase.{Phase}
-use Rattle.rd_state.specs.declared.phase.Phase.TheVariants.{Run, Again, Wait, Ended, Failed}
+use Rattle.rd_state.specs.declared.phase.Phase.TheVariants.{Run, Again, Given, Wait, Ended, Failed}
 use Rattle.rd_state.specs.declared.phase.Place.{Place}
 use Rattle.rd_state.specs.declared.phase.Place.TheVariants as sort
-use Rattle.rd_state.specs.declared.phase.Listed.TheVariants.{Queue, QueueSet}
+use Rattle.rd_state.specs.declared.phase.Listed.TheVariants.{Queue, QueueSet, Group}
 use Rattle.rd_state.specs.Objects.{Numbers}
 use Rattle.rd_state.specs.Sizes.{IsDeadline, IsSizedPhase, IsSizedTask}
 use Rattle.rd_state.specs.Snapshot.{TaskSnapshot}
@@ -43,6 +44,7 @@ place_again : (place : Place) → place_of_bytes (list_of_place place) (object_o
 place_again (sort.Listed (Queue queue Receiving)) = refl
 place_again (sort.Listed (Queue queue Sending)) = refl
 place_again (sort.Listed (QueueSet queue_set)) = refl
+place_again (sort.Listed (Group group)) = refl
 place_again (sort.Held (Stream stream Reader)) = refl
 place_again (sort.Held (Stream stream Writer)) = refl
 place_again (sort.Held (Message message Reader)) = refl
@@ -54,16 +56,19 @@ cause_again SetFull = refl
 cause_again TwoReaders = refl
 cause_again TwoWriters = refl
 cause_again EmptyData = refl
+cause_again BadBits = refl
 
 cause_number_fits : (cause : Cause) → number_of_cause cause < 2 ^ 64
 cause_number_fits SetFull = omega arith
 cause_number_fits TwoReaders = omega arith
 cause_number_fits TwoWriters = omega arith
 cause_number_fits EmptyData = omega arith
+cause_number_fits BadBits = omega arith
 
 phase_again : (phase : Phase) → PhaseFitsBytes phase → phase_of_bytes (phase_kind phase) (phase_list phase) (phase_object phase) (phase_number phase) ≡ phase
 phase_again Run fits = refl
 phase_again (Again deadline) fits = ap Again (deadline_again deadline fits)
+phase_again (Given bits) fits = ap Given (mod-eq_of_lt fits)
 phase_again (Wait place deadline) fits =
     ap (λ p. Wait p (deadline_of_number (number_of_deadline deadline))) (place_again place) ∙ ap (Wait place) (deadline_again deadline fits.1)
 phase_again Ended fits = refl
@@ -76,6 +81,7 @@ number_fits (Some tick) fits = omega (arith, fits)
 phase_number_fits : (phase : Phase) → PhaseFitsBytes phase → phase_number phase < 2 ^ 64
 phase_number_fits Run fits = omega arith
 phase_number_fits (Again deadline) fits = number_fits deadline fits
+phase_number_fits (Given bits) fits = omega (arith, fits)
 phase_number_fits (Wait place deadline) fits = number_fits deadline fits.1
 phase_number_fits Ended fits = omega arith
 phase_number_fits (Failed cause) fits = cause_number_fits cause
@@ -184,10 +190,12 @@ pub record AreFew (numbers : Numbers) : Type 0 where
   pub queue_sets : numbers.queue_set_count ≤ 255
   pub streams : numbers.stream_count ≤ 255
   pub messages : numbers.message_count ≤ 255
+  pub groups : numbers.group_count ≤ 255
 
 place_fits : (numbers : Numbers) (place : Place) → IsPlace numbers place → AreFew numbers → PlaceFitsBytes place
 place_fits numbers (sort.Listed (Queue queue list)) there few = omega (arith, there, few.queues)
 place_fits numbers (sort.Listed (QueueSet queue_set)) there few = omega (arith, there, few.queue_sets)
+place_fits numbers (sort.Listed (Group group)) there few = omega (arith, there, few.groups)
 place_fits numbers (sort.Held (Stream stream side)) there few = omega (arith, there, few.streams)
 place_fits numbers (sort.Held (Message message side)) there few = omega (arith, there, few.messages)
 place_fits numbers (sort.Entry index) there few = omega (arith, there)
@@ -195,6 +203,7 @@ place_fits numbers (sort.Entry index) there few = omega (arith, there)
 phase_fits : (numbers : Numbers) (phase : Phase) → IsSizedPhase numbers phase → AreFew numbers → PhaseFitsBytes phase
 phase_fits numbers Run sized few = tt
 phase_fits numbers (Again deadline) sized few = deadline_fits deadline sized
+phase_fits numbers (Given bits) sized few = omega (arith, sized)
 phase_fits numbers (Wait place deadline) sized few = (place_fits numbers place sized.0 few, deadline_fits deadline sized.1)
 phase_fits numbers Ended sized few = tt
 phase_fits numbers (Failed cause) sized few = tt

@@ -1,7 +1,13 @@
 -- The objects of the kernel: the list of each kind, its sizes, what boot makes of it, and its
 -- changes. A kind has a row or a field in each of these.
 use Rattle.std.specs.Prelude.{ℕ, zero, suc, ◌≡◌, ◌<◌, ◌≤◌, ◌∷◌, ◌++◌, List, [], All, None}
-use Rattle.std.specs.Prelude.{◌==◌, if◌then◌else◌, length, map, slice_index_or, slice_set}
+use Rattle.std.specs.Prelude.{◌==◌, if◌then◌else◌, length, map, replicate, slice_index_or}
+use Rattle.std.specs.Prelude.{slice_set}
+use Rattle.rd_group.specs.GroupChanges.{group_applied, group_inverse_of, GroupFits}
+use Rattle.rd_group.specs.GroupSnapshot.{GroupSnapshot}
+use Rattle.rd_group.specs.Groups.{empty_group}
+use Rattle.rd_group.specs.Sizes.{IsSizedGroup}
+use Rattle.rd_group.specs.declared.group_change.GroupChange.{GroupChange}
 use Rattle.rd_queue.specs.Changes.{QueueChange, queue_applied, queue_inverse_of}
 use Rattle.rd_queue.specs.Changes.{queue_saved_bytes, the_queue_change, QueueFits}
 use Rattle.rd_queue.specs.declared.queue_set_change.QueueSetChange.{QueueSetChange}
@@ -25,7 +31,7 @@ use Rattle.rd_stream.specs.declared.message_buf.TheConstants.{MAX_MESSAGE_BUFFER
 use Rattle.rd_stream.specs.declared.stream_buf.TheConstants.{MAX_STREAM_SIZE}
 use Rattle.rd_stream.specs.Streams.{empty_stream}
 use Rattle.rd_app.specs.declared.objects.TheConstants.{MAX_QUEUES, MAX_QUEUE_SETS, MAX_STREAMS}
-use Rattle.rd_app.specs.declared.objects.TheConstants.{MAX_MESSAGE_BUFFERS}
+use Rattle.rd_app.specs.declared.objects.TheConstants.{MAX_GROUPS, MAX_MESSAGE_BUFFERS}
 use Rattle.rd_app.specs.declared.objects.MessageShape.{MessageShape}
 use Rattle.rd_app.specs.declared.objects.QueueShape.{QueueShape}
 use Rattle.rd_app.specs.declared.objects.StreamShape.{StreamShape}
@@ -40,6 +46,7 @@ pub record ObjectsSnapshot : Type 0 where
   pub queue_sets : List QueueSetSnapshot
   pub streams : List StreamSnapshot
   pub messages : List MessageSnapshot
+  pub groups : List GroupSnapshot
 
 -- how many objects of each kind there are
 pub record Numbers : Type 0 where
@@ -47,6 +54,7 @@ pub record Numbers : Type 0 where
   pub queue_set_count : ℕ
   pub stream_count : ℕ
   pub message_count : ℕ
+  pub group_count : ℕ
 
 abbrev pub numbers_in : ObjectsSnapshot → Numbers
 numbers_in o = record {
@@ -54,6 +62,7 @@ numbers_in o = record {
   queue_set_count = length o.queue_sets;
   stream_count = length o.streams;
   message_count = length o.messages;
+  group_count = length o.groups;
 }
 
 -- how many objects of each kind an application names
@@ -63,10 +72,11 @@ numbers_named o = record {
   queue_set_count = length o.queue_sets.names;
   stream_count = length o.streams.names;
   message_count = length o.messages.names;
+  group_count = length o.groups.names;
 }
 
 abbrev pub no_objects : ObjectsSnapshot
-no_objects = record { queues = []; queue_sets = []; streams = []; messages = [] }
+no_objects = record { queues = []; queue_sets = []; streams = []; messages = []; groups = [] }
 
 -- what stands for an object that isn't there
 abbrev pub no_queue : QueueSnapshot
@@ -91,6 +101,9 @@ no_stream = record { bytes = []; capacity = 0; trigger = 0; holders = no_holders
 abbrev pub no_message_buffer : MessageSnapshot
 no_message_buffer = record { messages = []; capacity = 0; holders = no_holders 0 }
 
+abbrev pub no_group : GroupSnapshot
+no_group = record { bits = 0; waiting = []; wishes = []; task_count = 0 }
+
 -- an object of each kind
 abbrev pub queue_in : ObjectsSnapshot → ℕ → QueueSnapshot
 queue_in o queue = slice_index_or o.queues queue no_queue
@@ -103,6 +116,9 @@ stream_in o stream = slice_index_or o.streams stream no_stream
 
 abbrev pub message_in : ObjectsSnapshot → ℕ → MessageSnapshot
 message_in o message = slice_index_or o.messages message no_message_buffer
+
+abbrev pub group_in : ObjectsSnapshot → ℕ → GroupSnapshot
+group_in o group = slice_index_or o.groups group no_group
 
 -- the objects with another one of a kind and number
 abbrev pub objects_with_queue : ObjectsSnapshot → ℕ → QueueSnapshot → ObjectsSnapshot
@@ -117,6 +133,9 @@ objects_with_stream o stream now = record o { streams = slice_set o.streams stre
 
 abbrev pub objects_with_message : ObjectsSnapshot → ℕ → MessageSnapshot → ObjectsSnapshot
 objects_with_message o message now = record o { messages = slice_set o.messages message now }
+
+abbrev pub objects_with_group : ObjectsSnapshot → ℕ → GroupSnapshot → ObjectsSnapshot
+objects_with_group o group now = record o { groups = slice_set o.groups group now }
 
 -- a queue with room for that many tasks in each of its lists, which is a member of one of so many
 -- sets, if of any
@@ -139,6 +158,10 @@ abbrev pub IsMessageBufferFor : ℕ → MessageSnapshot → Type 0
 IsMessageBufferFor task_count buffer =
     IsSizedMessageBuffer buffer × (buffer.holders.task_count ≡ task_count)
 
+-- an event group at which that many tasks can wait
+abbrev pub IsGroupFor : ℕ → GroupSnapshot → Type 0
+IsGroupFor task_count group = IsSizedGroup group × (group.task_count ≡ task_count)
+
 -- objects at which that many tasks can wait, no more of each kind than an application has
 pub record AreSizedObjects (task_count : ℕ) (o : ObjectsSnapshot) : Type 0 where
   pub queues : All (IsQueueFor task_count (length o.queue_sets)) o.queues
@@ -149,6 +172,8 @@ pub record AreSizedObjects (task_count : ℕ) (o : ObjectsSnapshot) : Type 0 whe
   pub few_streams : length o.streams ≤ MAX_STREAMS
   pub messages : All (IsMessageBufferFor task_count) o.messages
   pub few_messages : length o.messages ≤ MAX_MESSAGE_BUFFERS
+  pub groups : All (IsGroupFor task_count) o.groups
+  pub few_groups : length o.groups ≤ MAX_GROUPS
 
 abbrev pub shape_of : QueueSnapshot → QueueShape
 shape_of queue = record { capacity = queue.capacity; item_size = queue.item_size }
@@ -164,12 +189,13 @@ size_of_stream stream = stream.capacity
 abbrev pub size_of_message_buffer : MessageSnapshot → ℕ
 size_of_message_buffer buffer = buffer.capacity
 
--- the sizes that an object keeps for good
+-- the sizes that an object keeps for good; an event group has none, and there are so many
 pub record Shapes : Type 0 where
   pub queues : List QueueShape
   pub queue_sets : List ℕ
   pub streams : List ℕ
   pub messages : List ℕ
+  pub groups : ℕ
 
 abbrev pub shapes_in : ObjectsSnapshot → Shapes
 shapes_in o = record {
@@ -177,6 +203,7 @@ shapes_in o = record {
   queue_sets = map capacity_of o.queue_sets;
   streams = map size_of_stream o.streams;
   messages = map size_of_message_buffer o.messages;
+  groups = length o.groups;
 }
 
 -- those that an application asks for
@@ -186,6 +213,7 @@ shapes_named o = record {
   queue_sets = map (λ queue_set. queue_set.capacity) o.queue_sets.things;
   streams = map (λ stream. stream.capacity) o.streams.things;
   messages = map (λ message. message.capacity) o.messages.things;
+  groups = length o.groups.things;
 }
 
 -- The objects have the sizes that the application gives them.
@@ -242,6 +270,7 @@ new_objects app = record {
       app.objects.queue_sets.things;
   streams = map (new_stream (length app.tasks.things)) app.objects.streams.things;
   messages = map (new_message_buffer (length app.tasks.things)) app.objects.messages.things;
+  groups = replicate (length app.objects.groups.things) (empty_group (length app.tasks.things));
 }
 
 -- a primitive change of an object, whichever kind it is of; objects go by number
@@ -250,6 +279,7 @@ pub data ObjectChange : Type 0 where
   QueueSet : ℕ → QueueSetChange → ObjectChange
   Stream : ℕ → StreamChange → ObjectChange
   Message : ℕ → MessageChange → ObjectChange
+  Group : ℕ → GroupChange → ObjectChange
 
 -- the change that one with borrowed bytes is
 abbrev pub the_object_change : declared.ObjectChange → ObjectChange
@@ -257,6 +287,7 @@ the_object_change (borrowed.Queue queue change) = Queue queue (the_queue_change 
 the_object_change (borrowed.QueueSet queue_set change) = QueueSet queue_set change
 the_object_change (borrowed.Stream stream change) = Stream stream (the_stream_change change)
 the_object_change (borrowed.Message message change) = Message message (the_message_change change)
+the_object_change (borrowed.Group group change) = Group group change
 
 -- the objects after a change of one
 abbrev pub object_applied : ObjectsSnapshot → ObjectChange → ObjectsSnapshot
@@ -268,6 +299,8 @@ object_applied o (Stream stream change) =
     objects_with_stream o stream (stream_applied (stream_in o stream) change)
 object_applied o (Message message change) =
     objects_with_message o message (message_applied (message_in o message) change)
+object_applied o (Group group change) =
+    objects_with_group o group (group_applied (group_in o group) change)
 
 -- the change that undoes a change made at these objects
 abbrev pub object_inverse_of : ObjectsSnapshot → ObjectChange → ObjectChange
@@ -278,6 +311,8 @@ object_inverse_of o (Stream stream change) =
     Stream stream (stream_inverse_of (stream_in o stream) change)
 object_inverse_of o (Message message change) =
     Message message (message_inverse_of (message_in o message) change)
+object_inverse_of o (Group group change) =
+    Group group (group_inverse_of (group_in o group) change)
 
 -- The object is there, and the change fits it.
 abbrev pub ObjectFits : ObjectsSnapshot → ObjectChange → Type 0
@@ -289,6 +324,8 @@ ObjectFits o (Stream stream change) =
     (stream < length o.streams) × StreamFits (stream_in o stream) change
 ObjectFits o (Message message change) =
     (message < length o.messages) × MessageFits (message_in o message) change
+ObjectFits o (Group group change) =
+    (group < length o.groups) × GroupFits (group_in o group) change
 
 -- the bytes that a change carries
 abbrev pub object_saved_bytes : ObjectChange → ℕ
@@ -296,3 +333,4 @@ object_saved_bytes (Queue queue change) = queue_saved_bytes change
 object_saved_bytes (QueueSet queue_set change) = 0
 object_saved_bytes (Stream stream change) = stream_saved_bytes change
 object_saved_bytes (Message message change) = message_saved_bytes change
+object_saved_bytes (Group group change) = 0

@@ -6,13 +6,16 @@ use Rattle.rd_bytes.specs.Ends.{all_but, byte_of_number, end_byte, end_word, num
 use Rattle.rd_bytes.specs.Tags.{last_kind}
 use Rattle.rd_bytes.specs.declared.tag.TheConstants.{SET_TICK, SET_TURN, SET_CORE, INS_READY}
 use Rattle.rd_bytes.specs.declared.tag.TheConstants.{DEL_READY, OF_QUEUE, OF_QUEUE_SET, OF_STREAM}
+use Rattle.rd_bytes.specs.declared.tag.TheConstants.{OF_MESSAGE}
+use Rattle.rd_group.specs.PackedGroupChanges.{group_change_length, group_packed, last_group}
+use Rattle.rd_group.specs.PackedGroupChanges.{last_group_change, GroupHasBytes}
 use Rattle.rd_queue.specs.PackedChanges.{last_queue, last_queue_change, queue_change_length}
 use Rattle.rd_queue.specs.PackedChanges.{queue_packed, QueueHasBytes}
 use Rattle.rd_queue.specs.PackedQueueSetChanges.{last_queue_set, last_queue_set_change}
 use Rattle.rd_queue.specs.PackedQueueSetChanges.{queue_set_change_length, queue_set_packed}
 use Rattle.rd_queue.specs.PackedQueueSetChanges.{QueueSetHasBytes}
 use Rattle.rd_state.specs.Change.{Change, SetTick, SetTurn, SetCore, InsReady, DelReady, Task, Object}
-use Rattle.rd_state.specs.Objects.{ObjectChange, Queue, QueueSet, Stream, Message}
+use Rattle.rd_state.specs.Objects.{ObjectChange, Queue, QueueSet, Stream, Message, Group}
 use Rattle.rd_stream.specs.PackedMessageChanges.{last_message_buffer, last_message_change}
 use Rattle.rd_stream.specs.PackedMessageChanges.{message_change_length, message_packed}
 use Rattle.rd_stream.specs.PackedMessageChanges.{MessageHasBytes}
@@ -30,6 +33,7 @@ object_packed (Queue queue change) = queue_packed queue change
 object_packed (QueueSet queue_set change) = queue_set_packed queue_set change
 object_packed (Stream stream change) = stream_packed stream change
 object_packed (Message message change) = message_packed message change
+object_packed (Group group change) = group_packed group change
 
 -- the bytes of a change: those that it carries, its fields, and its tag
 abbrev pub packed : Change → List ℕ
@@ -47,6 +51,7 @@ ObjectHasBytes (Queue queue change) = QueueHasBytes queue change
 ObjectHasBytes (QueueSet queue_set change) = QueueSetHasBytes queue_set change
 ObjectHasBytes (Stream stream change) = StreamHasBytes stream change
 ObjectHasBytes (Message message change) = MessageHasBytes message change
+ObjectHasBytes (Group group change) = GroupHasBytes group change
 
 abbrev pub HasBytes : Change → Type 0
 HasBytes (SetTick tick) = tick < 2 ^ 32
@@ -65,14 +70,17 @@ last_object_change bytes =
     then QueueSet (last_queue_set bytes) (last_queue_set_change bytes)
     else (if last_kind bytes == OF_STREAM
     then Stream (last_stream bytes) (last_stream_change bytes)
-    else Message (last_message_buffer bytes) (last_message_change bytes)))
+    else (if last_kind bytes == OF_MESSAGE
+    then Message (last_message_buffer bytes) (last_message_change bytes)
+    else Group (last_group bytes) (last_group_change bytes))))
 
 abbrev pub object_change_length : List ℕ → ℕ
 object_change_length bytes =
     if last_kind bytes == OF_QUEUE then queue_change_length bytes
     else (if last_kind bytes == OF_QUEUE_SET then queue_set_change_length bytes
     else (if last_kind bytes == OF_STREAM then stream_change_length bytes
-    else message_change_length bytes))
+    else (if last_kind bytes == OF_MESSAGE then message_change_length bytes
+    else group_change_length bytes)))
 
 -- the change at the end of bytes, and how many bytes it takes
 abbrev pub last_change : List ℕ → Change

@@ -1,12 +1,13 @@
 -- The bytes of a change of a task, and the change that stands at the end of bytes.
-use Rattle.std.specs.Prelude.{ℕ, ◌≡◌, ◌+◌, ◌^◌, ◌<◌, ◌≤◌, ◌==◌, if◌then◌else◌, Option, Some, None}
+use Rattle.std.specs.Prelude.{ℕ, ◌≡◌, ◌+◌, ◌%◌, ◌^◌, ◌<◌, ◌≤◌, ◌==◌, ◌||◌, if◌then◌else◌}
+use Rattle.std.specs.Prelude.{Option, Some, None}
 use Rattle.std.specs.Prelude.{IfSome, List, [], ◌∷◌, ◌++◌, length, nat_lt}
 use Rattle.std.specs.Int.{w16, w32, w64, to_le_bytes}
 use Rattle.rd_bytes.specs.Ends.{all_but, bytes_before, end_byte, end_long, end_short, end_word}
 use Rattle.rd_bytes.specs.declared.tag.TheConstants.{SET_PC, SET_REG, SET_PHASE, SET_ENTRY, SET_DATA}
 use Rattle.rd_bytes.specs.declared.tag.TheConstants.{OWN_ENTRY, SELECTING_LIST, READING_STREAM}
 use Rattle.rd_bytes.specs.declared.tag.TheConstants.{WRITING_STREAM, READING_MESSAGES}
-use Rattle.rd_bytes.specs.declared.tag.TheConstants.{WRITING_MESSAGES}
+use Rattle.rd_bytes.specs.declared.tag.TheConstants.{WRITING_MESSAGES, WAITING_GROUP}
 use Rattle.rd_stream.specs.declared.side.Side.TheVariants.{Reader, Writer}
 use Rattle.rd_queue.specs.PackedChanges.{byte_of_list, list_of_byte}
 use Rattle.rd_state.specs.TaskChanges.{TaskChange, SetPc, SetReg, SetPhase, SetEntry, SetData}
@@ -14,14 +15,15 @@ use Rattle.rd_notify.specs.declared.entries.EntryState.{EntryState}
 use Rattle.rd_notify.specs.declared.entries.EntryState.TheVariants.{Idle, Waiting, Received}
 use Rattle.rd_state.specs.declared.phase.Cause.{Cause}
 use Rattle.rd_state.specs.declared.phase.Cause.TheVariants.{SetFull, TwoReaders, TwoWriters}
-use Rattle.rd_state.specs.declared.phase.Cause.TheVariants.{EmptyData}
+use Rattle.rd_state.specs.declared.phase.Cause.TheVariants.{EmptyData, BadBits}
 use Rattle.rd_state.specs.declared.phase.Held.{Held}
 use Rattle.rd_state.specs.declared.phase.Held.TheVariants.{Stream, Message}
 use Rattle.rd_state.specs.declared.phase.Phase.{Phase}
-use Rattle.rd_state.specs.declared.phase.Phase.TheVariants.{Run, Again, Wait, Ended, Failed}
+use Rattle.rd_state.specs.declared.phase.Phase.TheVariants.{Run, Again, Given, Wait}
+use Rattle.rd_state.specs.declared.phase.Phase.TheVariants.{Ended, Failed}
 use Rattle.rd_state.specs.declared.phase.Place.{Place}
 use Rattle.rd_state.specs.declared.phase.Place.TheVariants as sort
-use Rattle.rd_state.specs.declared.phase.Listed.TheVariants.{Queue, QueueSet}
+use Rattle.rd_state.specs.declared.phase.Listed.TheVariants.{Queue, QueueSet, Group}
 use Rattle.rd_state.specs.declared.phase.Listed.{Listed}
 use Rattle.rd_state.specs.Waiting.{held_object}
 
@@ -39,26 +41,32 @@ number_of_cause SetFull = 0
 number_of_cause TwoReaders = 1
 number_of_cause TwoWriters = 2
 number_of_cause EmptyData = 3
+number_of_cause BadBits = 4
 
 abbrev pub cause_of_number : ℕ → Cause
 cause_of_number number =
     if number == 0 then SetFull
     else (if number == 1 then TwoReaders
     else (if number == 2 then TwoWriters
-    else EmptyData))
+    else (if number == 3 then EmptyData
+    else BadBits)))
 
 -- a list as two bytes, its kind and its object; and the list of such bytes
 abbrev pub kind_of_listed : Listed → ℕ
 kind_of_listed (Queue queue list) = byte_of_list list
 kind_of_listed (QueueSet queue_set) = SELECTING_LIST
+kind_of_listed (Group group) = WAITING_GROUP
 
 abbrev pub object_of_listed : Listed → ℕ
 object_of_listed (Queue queue list) = queue
 object_of_listed (QueueSet queue_set) = queue_set
+object_of_listed (Group group) = group
 
 abbrev pub listed_of_bytes : ℕ → ℕ → Listed
 listed_of_bytes kind object =
-    if kind == SELECTING_LIST then QueueSet object else Queue object (list_of_byte kind)
+    if kind == SELECTING_LIST then QueueSet object
+    else (if kind == WAITING_GROUP then Group object
+    else Queue object (list_of_byte kind))
 
 -- a buffer's place, and any place, likewise
 abbrev pub kind_of_held : Held → ℕ
@@ -87,13 +95,15 @@ object_of_place (sort.Entry index) = index
 abbrev pub place_of_bytes : ℕ → ℕ → Place
 place_of_bytes list object =
     if list == OWN_ENTRY then sort.Entry object
-    else (if nat_lt list READING_STREAM then sort.Listed (listed_of_bytes list object)
+    else (if nat_lt list READING_STREAM || list == WAITING_GROUP
+    then sort.Listed (listed_of_bytes list object)
     else sort.Held (held_of_bytes list object))
 
 -- A phase is its kind, its place and a number; what it lacks is 0.
 abbrev pub phase_kind : Phase → ℕ
 phase_kind Run = 0
 phase_kind (Again deadline) = 1
+phase_kind (Given bits) = 2
 phase_kind (Wait place deadline) = 3
 phase_kind Ended = 4
 phase_kind (Failed cause) = 5
@@ -101,6 +111,7 @@ phase_kind (Failed cause) = 5
 abbrev pub phase_list : Phase → ℕ
 phase_list Run = 0
 phase_list (Again deadline) = 0
+phase_list (Given bits) = 0
 phase_list (Wait place deadline) = list_of_place place
 phase_list Ended = 0
 phase_list (Failed cause) = 0
@@ -108,6 +119,7 @@ phase_list (Failed cause) = 0
 abbrev pub phase_object : Phase → ℕ
 phase_object Run = 0
 phase_object (Again deadline) = 0
+phase_object (Given bits) = 0
 phase_object (Wait place deadline) = object_of_place place
 phase_object Ended = 0
 phase_object (Failed cause) = 0
@@ -115,6 +127,7 @@ phase_object (Failed cause) = 0
 abbrev pub phase_number : Phase → ℕ
 phase_number Run = 0
 phase_number (Again deadline) = number_of_deadline deadline
+phase_number (Given bits) = bits
 phase_number (Wait place deadline) = number_of_deadline deadline
 phase_number Ended = 0
 phase_number (Failed cause) = number_of_cause cause
@@ -123,9 +136,10 @@ abbrev pub phase_of_bytes : ℕ → ℕ → ℕ → ℕ → Phase
 phase_of_bytes kind list object number =
     if kind == 0 then Run
     else (if kind == 1 then Again (deadline_of_number number)
+    else (if kind == 2 then Given (number % 2 ^ 32)
     else (if kind == 3 then Wait (place_of_bytes list object) (deadline_of_number number)
     else (if kind == 4 then Ended
-    else Failed (cause_of_number number))))
+    else Failed (cause_of_number number)))))
 
 -- the state of an entry as a byte, and the state of such a byte
 abbrev pub byte_of_entry_state : EntryState → ℕ
@@ -169,6 +183,7 @@ PlaceFitsBytes place = object_of_place place < 255
 abbrev pub PhaseFitsBytes : Phase → Type 0
 PhaseFitsBytes Run = Unit {0}
 PhaseFitsBytes (Again deadline) = DeadlineFitsBytes deadline
+PhaseFitsBytes (Given bits) = bits < 2 ^ 32
 PhaseFitsBytes (Wait place deadline) = PlaceFitsBytes place × DeadlineFitsBytes deadline
 PhaseFitsBytes Ended = Unit {0}
 PhaseFitsBytes (Failed cause) = Unit {0}

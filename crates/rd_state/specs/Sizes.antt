@@ -4,11 +4,12 @@ use Rattle.std.specs.Prelude.{ℕ, ◌≡◌, ◌<◌, ◌≤◌, ◌^◌, lengt
 use Rattle.rd_bytes.specs.declared.bytes.TheConstants.{MAX_BYTES}
 use Rattle.rd_app.specs.declared.app.TheConstants.{MAX_CODE, MAX_CORES, MAX_TASKS}
 use Rattle.rd_app.specs.declared.instr.TheConstants.{REGISTERS}
+use Rattle.rd_group.specs.declared.wish.TheConstants.{MAX_BITS}
 use Rattle.rd_notify.specs.declared.entries.Entry.{Entry}
 use Rattle.rd_notify.specs.declared.entries.TheConstants.{MAX_ENTRIES}
 use Rattle.rd_state.specs.declared.phase.Phase.{Phase}
 use Rattle.rd_state.specs.declared.phase.Place.{Place}
-use Rattle.rd_state.specs.Phases.{kept_deadline, waits_at}
+use Rattle.rd_state.specs.Phases.{given_bits, kept_deadline, waits_at}
 use Rattle.rd_state.specs.Objects.{AreSizedObjects, Numbers}
 use Rattle.rd_state.specs.Snapshot.{Snapshot, TaskSnapshot, numbers_of}
 use Rattle.rd_state.specs.Waiting.{IsPlace}
@@ -31,13 +32,16 @@ pub record IsSizedTask (task : TaskSnapshot) : Type 0 where
 abbrev pub IsDeadline : Option ℕ → Type 0
 IsDeadline deadline = IfSome deadline (λ tick. tick < 2 ^ 33)
 
--- A task waits at a place that is there, where there are so many objects.
-abbrev pub IsSizedWait : Numbers → Option Place → Option ℕ → Type 0
-IsSizedWait numbers None deadline = IsDeadline deadline
-IsSizedWait numbers (Some place) deadline = IsPlace numbers place × IsDeadline deadline
+-- A task waits at a place that is there, where there are so many objects, or was given bits that an
+-- event group can have.
+abbrev pub IsSizedWait : Numbers → Option Place → Option ℕ → Option ℕ → Type 0
+IsSizedWait numbers None deadline None = IsDeadline deadline
+IsSizedWait numbers None deadline (Some bits) = bits ≤ MAX_BITS
+IsSizedWait numbers (Some place) deadline given = IsPlace numbers place × IsDeadline deadline
 
 abbrev pub IsSizedPhase : Numbers → Phase → Type 0
-IsSizedPhase numbers phase = IsSizedWait numbers (waits_at phase) (kept_deadline phase)
+IsSizedPhase numbers phase =
+    IsSizedWait numbers (waits_at phase) (kept_deadline phase) (given_bits phase)
 
 -- the time, who has the turn, who runs, and who is ready
 pub record IsSizedScheduling (s : Snapshot) : Type 0 where

@@ -1,5 +1,6 @@
 -- The whole state of the target, as plain lists: what a contract sees of a `State`.
 use Rattle.std.specs.Prelude.{ℕ, ◌≡◌, List, [], Option, None, slice_index_or, slice_set}
+use Rattle.rd_group.specs.GroupSnapshot.{GroupSnapshot}
 use Rattle.rd_notify.specs.declared.entries.Entry.{Entry}
 use Rattle.rd_queue.specs.QueueSnapshot.{QueueSnapshot}
 use Rattle.rd_queue.specs.QueueSetSnapshot.{QueueSetSnapshot}
@@ -8,7 +9,8 @@ use Rattle.rd_stream.specs.StreamSnapshot.{StreamSnapshot}
 use Rattle.rd_state.specs.declared.phase.Phase.{Phase}
 use Rattle.rd_state.specs.declared.phase.Phase.TheVariants.{Run}
 use Rattle.rd_state.specs.Objects.{Numbers, ObjectsSnapshot, numbers_in, no_objects}
-use Rattle.rd_state.specs.Objects.{message_in, objects_with_message, objects_with_queue}
+use Rattle.rd_state.specs.Objects.{group_in, message_in, objects_with_group}
+use Rattle.rd_state.specs.Objects.{objects_with_message, objects_with_queue}
 use Rattle.rd_state.specs.Objects.{objects_with_queue_set, objects_with_stream, queue_in}
 use Rattle.rd_state.specs.Objects.{queue_set_in, stream_in}
 
@@ -65,6 +67,9 @@ stream_at s stream = stream_in s.objects stream
 abbrev pub message_at : Snapshot → ℕ → MessageSnapshot
 message_at s message = message_in s.objects message
 
+abbrev pub group_at : Snapshot → ℕ → GroupSnapshot
+group_at s group = group_in s.objects group
+
 -- the items of a queue
 abbrev pub items_at : Snapshot → ℕ → List (List ℕ)
 items_at s queue = (queue_at s queue).items
@@ -88,6 +93,9 @@ with_stream s stream now = with_objects s (objects_with_stream s.objects stream 
 
 abbrev pub with_message : Snapshot → ℕ → MessageSnapshot → Snapshot
 with_message s message now = with_objects s (objects_with_message s.objects message now)
+
+abbrev pub with_group : Snapshot → ℕ → GroupSnapshot → Snapshot
+with_group s group now = with_objects s (objects_with_group s.objects group now)
 
 -- the task on a core
 abbrev pub core_at : Snapshot → ℕ → Option ℕ

@@ -1,6 +1,6 @@
 -- What holds of a state between moves, for an application.
 use Rattle.std.specs.Prelude.{ℕ, ◌≡◌, ◌+◌, ◌<◌, Bool, true, false, List, length, All}
-use Rattle.std.specs.Prelude.{count_by, nat_eq, nat_lt, slice_index_or, if◌then◌else◌}
+use Rattle.std.specs.Prelude.{count_by, nat_eq, nat_lt, not, slice_index_or, if◌then◌else◌}
 use Rattle.std.specs.Prelude.{Option, Some, None, IsSome, IfSome, option_map}
 use Rattle.std.specs.Option.{option_and_then}
 use Rattle.rd_notify.specs.declared.entries.Entry.{Entry}
@@ -9,6 +9,7 @@ use Rattle.rd_notify.specs.declared.entries.EntryState.TheVariants.{Waiting}
 use Rattle.rd_notify.specs.Entries.{idle_entry}
 use Rattle.rd_state.specs.declared.phase.Phase.{Phase}
 use Rattle.rd_state.specs.Phases.{can_run, is_in_call, kept_deadline, tries_again, waits_at}
+use Rattle.rd_state.specs.Phases.{was_given}
 use Rattle.rd_app.specs.declared.instr.Instr.{Instr}
 use Rattle.rd_app.specs.declared.instr.Instr.TheVariants as instr
 use Rattle.rd_app.specs.declared.instr.QueueSetCall.{QueueSetCall}
@@ -18,14 +19,16 @@ use Rattle.rd_state.specs.declared.phase.Held.TheVariants as held
 use Rattle.rd_state.specs.declared.phase.Place.{Place}
 use Rattle.rd_state.specs.declared.phase.Place.TheVariants as sort
 use Rattle.rd_state.specs.declared.phase.Listed.{Listed}
-use Rattle.rd_state.specs.declared.phase.Listed.TheVariants.{Queue, QueueSet}
+use Rattle.rd_state.specs.declared.phase.Listed.TheVariants.{Queue, QueueSet, Group}
 use Rattle.rd_app.specs.Application.{Application, code_of, index_of_call, instr_at, list_of_call}
 use Rattle.rd_app.specs.Application.{priorities_of, side_of_message_call, side_of_stream_call}
+use Rattle.rd_app.specs.Application.{waits_in_group}
 use Rattle.rd_wait.specs.Joined.{IsInOrder}
 use Rattle.rd_state.specs.Objects.{AreShaped, ObjectsSnapshot}
 use Rattle.rd_state.specs.Snapshot.{Snapshot, task_at}
 use Rattle.rd_state.specs.Sizes.{IsSized}
-use Rattle.rd_state.specs.Waiting.{entry_of, holder_in, listed_at, same_list, waiting_at}
+use Rattle.rd_state.specs.Waiting.{entry_of, holder_in, is_by_priority, listed_at, same_list}
+use Rattle.rd_state.specs.Waiting.{waiting_at}
 
 -- Numbers and lengths are the application's, and each task stands at an instruction of its script.
 pub record InLimits (app : Application) (s : Snapshot) : Type 0 where
@@ -89,17 +92,28 @@ place_of_call (instr.Stream stream call) =
     option_map (λ side. sort.Held (held.Stream stream side)) (side_of_stream_call call)
 place_of_call (instr.Message message call) =
     option_map (λ side. sort.Held (held.Message message side)) (side_of_message_call call)
+place_of_call (instr.Group group call) =
+    if waits_in_group call then Some (sort.Listed (Group group)) else None
 place_of_call (instr.Notify call) = option_map sort.Entry (index_of_call call)
 
+-- Is the place in an event group's list, which is in the order of arrival?
+abbrev pub is_in_group : Option Place → Bool
+is_in_group None = false
+is_in_group (Some (sort.Listed list)) = not (is_by_priority list)
+is_in_group (Some (sort.Held held)) = false
+is_in_group (Some (sort.Entry index)) = false
+
 -- A task that waits stands at the call of its place. One that tries again stands at a call with a
--- block time.
-abbrev pub FitsCall : Instr → Option Place → Bool → Type 0
-FitsCall instr (Some place) again = place_of_call instr ≡ Some place
-FitsCall instr None true = IsSome (place_of_call instr)
-FitsCall instr None false = Unit {0}
+-- block time, and one that was given bits at a call that waits at an event group.
+abbrev pub FitsCall : Instr → Option Place → Bool → Bool → Type 0
+FitsCall instr (Some place) again given = place_of_call instr ≡ Some place
+FitsCall instr None true given = IsSome (place_of_call instr)
+FitsCall instr None false true = is_in_group (place_of_call instr) ≡ true
+FitsCall instr None false false = Unit {0}
 
 abbrev pub PhaseFitsCall : Phase → Instr → Type 0
-PhaseFitsCall phase instr = FitsCall instr (waits_at phase) (tries_again phase)
+PhaseFitsCall phase instr =
+    FitsCall instr (waits_at phase) (tries_again phase) (was_given phase)
 
 abbrev pub PhasesFitScripts : Application → Snapshot → Type 0
 PhasesFitScripts app s =
@@ -120,10 +134,11 @@ abbrev pub WaitersHaveTimeLeft : Snapshot → Type 0
 WaitersHaveTimeLeft s =
     (task : ℕ) → task < length s.tasks → HasTimeLeft s.tick (task_at s task).phase
 
--- Each list of tasks is in priority order.
+-- Each list of tasks is in priority order, but for those of event groups.
 pub record ListsInOrder (priorities : List ℕ) (s : Snapshot) : Type 0 where
   pub ready : IsInOrder priorities s.ready
-  pub waiting : (list : Listed) → IsInOrder priorities (waiting_at s list)
+  pub waiting : (list : Listed) → is_by_priority list ≡ true
+      → IsInOrder priorities (waiting_at s list)
 
 -- the entry through which a call waits, if it waits through one
 abbrev pub entry_of_call : Instr → Option ℕ

@@ -1,6 +1,7 @@
 //! A move in the middle: the state and the record of what was changed.
 
-ghost use Rattle.std.specs.Prelude.{◌≡◌, ◌<◌, ◌≤◌, length, drop, insert, remove, take};
+ghost use Rattle.std.specs.Prelude.{◌≡◌, ◌<◌, ◌≤◌, ◌++◌, ◌∷◌, [], true, length, drop, insert};
+ghost use Rattle.std.specs.Prelude.{remove, take};
 ghost use Rattle.std.specs.Prelude.{IfSome, IsOk, OnOk, OnErr};
 ghost use Rattle.rd_state.specs.Change.{applied, cost_of, inverse_of, the_change, Fits};
 ghost use Rattle.rd_state.specs.Edit.{begun_at, capacity_of, room_for, GoesOn, Reaches};
@@ -8,8 +9,11 @@ ghost use Rattle.rd_state.specs.PackedChanges.{all_packed};
 ghost use Rattle.rd_state.specs.Sizes.{IsSized};
 ghost use Rattle.rd_state.specs.Transfers.{change_of, CanTransfer};
 ghost use Rattle.rd_state.specs.Undoing.{undone, CanUndo};
-ghost use Rattle.rd_state.specs.Waiting.{waiting_at, with_holder, with_waiting_at};
-ghost use Rattle.rd_state.specs.Waiting.{HasHeld, HasList};
+ghost use Rattle.rd_group.specs.declared.wish.TheConstants.{MAX_BITS};
+ghost use Rattle.rd_state.specs.declared.phase.Listed.TheVariants.{Group};
+ghost use Rattle.rd_state.specs.Snapshot.{group_at};
+ghost use Rattle.rd_state.specs.Waiting.{is_by_priority, waiting_at, wishes_at, with_holder};
+ghost use Rattle.rd_state.specs.Waiting.{with_waiting_at, HasHeld, HasList};
 
 use crate::change::Change;
 use crate::change_list::ChangeList;
@@ -19,6 +23,8 @@ use crate::state::State;
 use crate::transfer::Transfer;
 use crate::undo::Undo;
 use rd_bytes::no_memory::NoMemory;
+use rd_group::group_change::GroupChange;
+use rd_group::wish::Wish;
 use rd_queue::change::QueueChange;
 use rd_queue::queue_set_change::QueueSetChange;
 use rd_stream::message_change::MessageChange;
@@ -154,7 +160,7 @@ impl Editing {
         self.changes.act_transfer(&mut self.state, transfer)
     }
 
-    /// Puts a task into a list, at the index.
+    /// Puts a task into a list that is in the order of priorities, at the index.
     #[inline(always)]
     pub fn insert_waiting(
         &mut self,
@@ -163,12 +169,13 @@ impl Editing {
         task: usize,
     ) -> Result<(), NoMemory>
         requires place { HasList self.old.now place }
+        requires ordered { is_by_priority place ≡ true }
         requires within { index ≤ length (waiting_at self.old.now place) }
         requires room { length (waiting_at self.old.now place) < length self.old.now.tasks }
         requires task { task < length self.old.now.tasks }
         ensures ok { OnOk result (Reaches self.old self.new
             (with_waiting_at self.old.now place
-            (insert (waiting_at self.old.now place) index task)) 1) }
+            (insert (waiting_at self.old.now place) index task) []) 1) }
         ensures short { OnErr result (self.old.room < room_for 1) }
         ensures err { OnErr result (self.new ≡ self.old) }
     {
@@ -184,7 +191,29 @@ impl Editing {
                 let change = ObjectChange::QueueSet { queue_set, change };
                 self.change(Change::Object { change })
             }
+            // (that list is in the order of arrival)
+            Listed::Group { .. } => Ok(()),
         }
+    }
+
+    /// Puts a task behind those that wait at an event group, with its wish.
+    pub fn append_waiting(&mut self, group: usize, task: usize, wish: Wish) -> Result<(), NoMemory>
+        requires group { group < length self.old.now.objects.groups }
+        requires room { length (group_at self.old.now group).waiting < length self.old.now.tasks }
+        requires task { task < length self.old.now.tasks }
+        requires bits { wish.bits ≤ MAX_BITS }
+        ensures ok { OnOk result (Reaches self.old self.new
+            (with_waiting_at self.old.now (Group group)
+            ((group_at self.old.now group).waiting ++ task ∷ [])
+            ((group_at self.old.now group).wishes ++ wish ∷ [])) 1) }
+        ensures short { OnErr result (self.old.room < room_for 1) }
+        ensures err { OnErr result (self.new ≡ self.old) }
+    {
+        self.state.sizes();
+        let index = self.state.group(group).waiting().as_slice().len();
+        let change = GroupChange::InsWait { index, task, wish };
+        let change = ObjectChange::Group { group, change };
+        self.change(Change::Object { change })
     }
 
     /// Takes the task at the index out of a list.
@@ -193,8 +222,8 @@ impl Editing {
         requires place { HasList self.old.now place }
         requires within { index < length (waiting_at self.old.now place) }
         ensures ok { OnOk result (Reaches self.old self.new
-            (with_waiting_at self.old.now place (remove (waiting_at self.old.now place) index))
-            1) }
+            (with_waiting_at self.old.now place (remove (waiting_at self.old.now place) index)
+            (remove (wishes_at self.old.now place) index)) 1) }
         ensures short { OnErr result (self.old.room < room_for 1) }
         ensures err { OnErr result (self.new ≡ self.old) }
     {
@@ -207,6 +236,11 @@ impl Editing {
             Listed::QueueSet { queue_set } => {
                 let change = QueueSetChange::DelWait { index };
                 let change = ObjectChange::QueueSet { queue_set, change };
+                self.change(Change::Object { change })
+            }
+            Listed::Group { group } => {
+                let change = GroupChange::DelWait { index };
+                let change = ObjectChange::Group { group, change };
                 self.change(Change::Object { change })
             }
         }

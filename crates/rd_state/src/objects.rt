@@ -1,8 +1,10 @@
 //! The objects of the target, and their changes. A kind has a row or a field in each of these.
 
 ghost use Rattle.std.specs.Prelude.{◌≡◌, ◌↔◌, ◌+◌, ◌++◌, ◌<◌, ◌≤◌, length, map, All, IfOk};
-ghost use Rattle.std.specs.Prelude.{take, IsTrue};
+ghost use Rattle.std.specs.Prelude.{replicate, take, IsTrue};
+ghost use Rattle.rd_group.specs.Groups.{empty_group};
 ghost use Rattle.rd_bytes.specs.declared.bytes.TheConstants.{MAX_BYTES};
+ghost use Rattle.rd_group.specs.GroupChanges.{group_applied, GroupFits};
 ghost use Rattle.rd_queue.specs.Changes.{put_at, queue_applied, the_queue_change, QueueFits, SetItem};
 ghost use Rattle.rd_queue.specs.Queues.{fitted};
 ghost use Rattle.rd_queue.specs.QueueSetChanges.{queue_set_applied, QueueSetFits};
@@ -10,7 +12,8 @@ ghost use Rattle.rd_stream.specs.MessageChanges.{message_applied, the_message_ch
 ghost use Rattle.rd_stream.specs.MessageChanges.{HasRoomForMessage, MessageFits};
 ghost use Rattle.rd_stream.specs.StreamChanges.{stream_applied, the_stream_change, PushBytes};
 ghost use Rattle.rd_stream.specs.StreamChanges.{StreamFits};
-ghost use Rattle.rd_state.specs.Objects.{first_queues, new_message_buffer, new_objects, new_queue};
+ghost use Rattle.rd_state.specs.Objects.{first_queues, group_in, new_message_buffer};
+ghost use Rattle.rd_state.specs.Objects.{new_objects, new_queue, objects_with_group};
 ghost use Rattle.rd_state.specs.Objects.{new_queue_set, new_stream, no_objects, trigger_taken};
 ghost use Rattle.rd_state.specs.Objects.{object_applied, object_inverse_of, object_saved_bytes};
 ghost use Rattle.rd_state.specs.Objects.{message_in, objects_with_message, objects_with_queue};
@@ -25,6 +28,8 @@ use crate::whole::{Whole, all_same, copy_all};
 use rd_app::app::App;
 use rd_app::objects::{MessageShape, QueueSetShape, StreamShape};
 use rd_bytes::no_memory::NoMemory;
+use rd_group::group::{Group, MAX_WAITERS};
+use rd_group::group_change::GroupChange;
 use rd_queue::change::QueueChange;
 use rd_queue::end::End;
 use rd_queue::queue::Queue;
@@ -60,6 +65,11 @@ pub enum ObjectChange<'a> {
         message: usize,
         change: MessageChange<'a>,
     },
+    /// The event group changes so.
+    Group {
+        group: usize,
+        change: GroupChange,
+    },
 }
 
 impl ObjectChange<'_> {
@@ -72,6 +82,7 @@ impl ObjectChange<'_> {
             ObjectChange::QueueSet { .. } => 1,
             ObjectChange::Stream { change, .. } => change.cost(),
             ObjectChange::Message { change, .. } => change.cost(),
+            ObjectChange::Group { .. } => 1,
         }
     }
 }
@@ -83,6 +94,7 @@ pub struct Objects {
     queue_sets: Vec<QueueSet>,
     streams: Vec<StreamBuf>,
     messages: Vec<MessageBuf>,
+    groups: Vec<Group>,
 }
 
 impl Model for Objects {
@@ -95,6 +107,7 @@ impl Model for Objects {
       queue_sets = o.queue_sets.items;
       streams = o.streams.items;
       messages = o.messages.items;
+      groups = o.groups.items;
     } };
 }
 
@@ -134,6 +147,16 @@ impl Whole for MessageBuf {
     }
 
     fn is_same(&self, other: &MessageBuf) -> bool {
+        self.same(other)
+    }
+}
+
+impl Whole for Group {
+    fn copied(&self, alloc: Global) -> Result<Group, AllocError> {
+        self.copy(alloc)
+    }
+
+    fn is_same(&self, other: &Group) -> bool {
         self.same(other)
     }
 }
@@ -234,6 +257,18 @@ fn new_message_buffers(
     Ok(messages)
 }
 
+// So many event groups without bits, for so many tasks.
+fn new_groups(alloc: Global, count: usize, task_count: usize) -> Result<Vec<Group>, NoMemory>
+    requires { task_count ≤ MAX_WAITERS }
+    ensures { IfOk result (λ groups. groups.items ≡ replicate count (empty_group task_count)) }
+{
+    let mut groups = Vec::with_capacity(alloc, count)?;
+    for _ in 0..count {
+        groups.push(Group::new(alloc, task_count)?)?;
+    }
+    Ok(groups)
+}
+
 impl Objects {
     /// No objects, which takes no memory.
     pub(crate) fn none(alloc: Global) -> Objects
@@ -244,6 +279,7 @@ impl Objects {
             queue_sets: Vec::new(alloc),
             streams: Vec::new(alloc),
             messages: Vec::new(alloc),
+            groups: Vec::new(alloc),
         }
     }
 
@@ -263,6 +299,7 @@ impl Objects {
             )?,
             streams: new_streams(alloc, app.objects().streams(), task_count)?,
             messages: new_message_buffers(alloc, app.objects().messages(), task_count)?,
+            groups: new_groups(alloc, app.objects().groups().len(), task_count)?,
         })
     }
 
@@ -275,6 +312,7 @@ impl Objects {
             queue_sets: copy_all(alloc, self.queue_sets.as_slice())?,
             streams: copy_all(alloc, self.streams.as_slice())?,
             messages: copy_all(alloc, self.messages.as_slice())?,
+            groups: copy_all(alloc, self.groups.as_slice())?,
         })
     }
 
@@ -286,6 +324,7 @@ impl Objects {
             && all_same(self.queue_sets.as_slice(), other.queue_sets.as_slice())
             && all_same(self.streams.as_slice(), other.streams.as_slice())
             && all_same(self.messages.as_slice(), other.messages.as_slice())
+            && all_same(self.groups.as_slice(), other.groups.as_slice())
     }
 
     /// How many queues there are.
@@ -325,6 +364,14 @@ impl Objects {
         ensures { result.now ≡ message_in self.now message }
     {
         &self.messages[message]
+    }
+
+    /// An event group.
+    pub fn group(&self, group: usize) -> &Group
+        requires { group < length self.now.groups }
+        ensures { result.now ≡ group_in self.now group }
+    {
+        &self.groups[group]
     }
 
     // Changes a queue.
@@ -375,6 +422,18 @@ impl Objects {
         target.apply(change);
     }
 
+    // Changes an event group.
+    #[inline(always)]
+    fn change_group(&mut self, group: usize, change: GroupChange)
+        requires there { group < length self.old.groups }
+        requires fits { GroupFits (group_in self.old group) change }
+        ensures { self.new ≡ objects_with_group self.old group
+            (group_applied (group_in self.old group) change) }
+    {
+        let target = &mut self.groups[group];
+        target.apply(change);
+    }
+
     /// Makes a change of an object. It takes no memory.
     #[inline(always)]
     pub(crate) fn apply(&mut self, change: ObjectChange<'_>)
@@ -388,6 +447,7 @@ impl Objects {
             }
             ObjectChange::Stream { stream, change } => self.change_stream(stream, change),
             ObjectChange::Message { message, change } => self.change_message(message, change),
+            ObjectChange::Group { group, change } => self.change_group(group, change),
         }
     }
 
@@ -415,6 +475,10 @@ impl Objects {
             ObjectChange::Message { message, change } => ObjectChange::Message {
                 message,
                 change: self.message(message).inverse_of(change),
+            },
+            ObjectChange::Group { group, change } => ObjectChange::Group {
+                group,
+                change: self.group(group).inverse_of(change),
             },
         }
     }

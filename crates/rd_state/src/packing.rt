@@ -16,9 +16,10 @@ use rd_bytes::byte_stack::ByteStack;
 use rd_bytes::ends::{all_but, byte_of_number, end_byte, end_word, number_of_byte};
 use rd_bytes::no_memory::NoMemory;
 use rd_bytes::tag::{
-    DEL_READY, INS_READY, OF_QUEUE, OF_QUEUE_SET, OF_STREAM, SET_CORE, SET_TICK, SET_TURN,
-    last_kind,
+    DEL_READY, INS_READY, OF_MESSAGE, OF_QUEUE, OF_QUEUE_SET, OF_STREAM, SET_CORE, SET_TICK,
+    SET_TURN, last_kind,
 };
+use rd_group::group_packing::{LastGroupChange, last_group_change};
 use rd_queue::packing::{LastQueueChange, last_queue_change};
 use rd_queue::queue_set_packing::{LastQueueSetChange, last_queue_set_change};
 use rd_stream::message_packing::{LastMessageChange, last_message_change};
@@ -42,6 +43,7 @@ impl ObjectChange<'_> {
             ObjectChange::QueueSet { queue_set, change } => change.pack(queue_set, bytes),
             ObjectChange::Stream { stream, change } => change.pack(stream, bytes),
             ObjectChange::Message { message, change } => change.pack(message, bytes),
+            ObjectChange::Group { group, change } => change.pack(group, bytes),
         }
     }
 }
@@ -120,7 +122,7 @@ fn last_object_change(bytes: &[u8]) -> (ObjectChange<'_>, &[u8])
             } = last_stream_change(bytes);
             (ObjectChange::Stream { stream, change }, rest)
         }
-        _ => {
+        OF_MESSAGE => {
             let LastMessageChange {
                 buffer,
                 change,
@@ -131,6 +133,14 @@ fn last_object_change(bytes: &[u8]) -> (ObjectChange<'_>, &[u8])
                 change,
             };
             (change, rest)
+        }
+        _ => {
+            let LastGroupChange {
+                group,
+                change,
+                rest,
+            } = last_group_change(bytes);
+            (ObjectChange::Group { group, change }, rest)
         }
     }
 }

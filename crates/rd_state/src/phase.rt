@@ -1,7 +1,8 @@
 //! What a task is doing, and where it can wait.
 
 ghost use Rattle.std.specs.Prelude.{◌≡◌};
-ghost use Rattle.rd_state.specs.Phases.{is_first, kept_deadline, tries_again, waits_at};
+ghost use Rattle.rd_state.specs.Phases.{given_bits, is_first, kept_deadline, tries_again, waits_at};
+ghost use Rattle.rd_state.specs.Waiting.{is_by_priority};
 
 use rd_queue::waiting_list::WaitingList;
 use rd_stream::side::Side;
@@ -13,6 +14,9 @@ pub enum Phase {
     Run,
     /// It was woken, and tries its call again when it runs. The deadline is a tick, or none.
     Again { deadline: Option<u64> },
+    /// It waited at an event group, whose bits met its wish: its call returns these bits, as they
+    /// were when they met it.
+    Given { bits: u32 },
     /// It waits at a place for as long as its deadline, a tick, is ahead; without end where it has
     /// none.
     Wait { place: Place, deadline: Option<u64> },
@@ -33,6 +37,8 @@ pub enum Cause {
     TwoWriters,
     /// Data of no bytes was to be written to a buffer.
     EmptyData,
+    /// It was to set, clear or wait for bits that an event group doesn't have, or to wait for none.
+    BadBits,
 }
 
 impl Phase {
@@ -42,7 +48,11 @@ impl Phase {
     {
         match self {
             Phase::Run => true,
-            Phase::Again { .. } | Phase::Wait { .. } | Phase::Ended | Phase::Failed { .. } => false,
+            Phase::Again { .. }
+            | Phase::Given { .. }
+            | Phase::Wait { .. }
+            | Phase::Ended
+            | Phase::Failed { .. } => false,
         }
     }
 
@@ -52,7 +62,11 @@ impl Phase {
     {
         match self {
             Phase::Again { .. } => true,
-            Phase::Run | Phase::Wait { .. } | Phase::Ended | Phase::Failed { .. } => false,
+            Phase::Run
+            | Phase::Given { .. }
+            | Phase::Wait { .. }
+            | Phase::Ended
+            | Phase::Failed { .. } => false,
         }
     }
 
@@ -62,7 +76,25 @@ impl Phase {
     {
         match self {
             Phase::Wait { place, .. } => Some(place),
-            Phase::Run | Phase::Again { .. } | Phase::Ended | Phase::Failed { .. } => None,
+            Phase::Run
+            | Phase::Again { .. }
+            | Phase::Given { .. }
+            | Phase::Ended
+            | Phase::Failed { .. } => None,
+        }
+    }
+
+    /// The bits that an event group gave the task, if its call has only to return them.
+    pub fn given_bits(self) -> Option<u32>
+        ensures { result ≡ given_bits self }
+    {
+        match self {
+            Phase::Given { bits } => Some(bits),
+            Phase::Run
+            | Phase::Again { .. }
+            | Phase::Wait { .. }
+            | Phase::Ended
+            | Phase::Failed { .. } => None,
         }
     }
 
@@ -72,7 +104,7 @@ impl Phase {
     {
         match self {
             Phase::Again { deadline } | Phase::Wait { deadline, .. } => deadline,
-            Phase::Run | Phase::Ended | Phase::Failed { .. } => None,
+            Phase::Run | Phase::Given { .. } | Phase::Ended | Phase::Failed { .. } => None,
         }
     }
 }
@@ -80,7 +112,7 @@ impl Phase {
 /// Where a task can wait.
 #[derive(Clone, Copy, Debug, PartialEq, Eq)]
 pub enum Place {
-    /// In a list of tasks, which is in the order of their priorities.
+    /// In a list of tasks.
     Listed { list: Listed },
     /// As the reader or the writer of a buffer, which has a place for one of each. It is told
     /// through its entry 0.
@@ -96,6 +128,21 @@ pub enum Listed {
     Queue { queue: usize, list: WaitingList },
     /// For a handle of the set.
     QueueSet { queue_set: usize },
+    /// For bits of the event group, with a wish.
+    Group { group: usize },
+}
+
+impl Listed {
+    /// Whether the list is in the order of its tasks' priorities. That of an event group is in the
+    /// order of arrival.
+    pub fn is_by_priority(self) -> bool
+        ensures { result ≡ is_by_priority self }
+    {
+        match self {
+            Listed::Queue { .. } | Listed::QueueSet { .. } => true,
+            Listed::Group { .. } => false,
+        }
+    }
 }
 
 /// The places of buffers, each of which names one task or nobody.

@@ -5,11 +5,11 @@ ghost use Rattle.rd_state.specs.Boot.{before_scheduling};
 ghost use Rattle.rd_state.specs.Change as changes;
 ghost use Rattle.rd_state.specs.Change.{applied, inverse_of, the_change, Fits};
 ghost use Rattle.rd_state.specs.Objects.{the_object_change, AreSizedObjects, IsMessageBufferFor};
-ghost use Rattle.rd_state.specs.Objects.{IsQueueFor, IsQueueSetFor, IsStreamFor};
+ghost use Rattle.rd_state.specs.Objects.{IsGroupFor, IsQueueFor, IsQueueSetFor, IsStreamFor};
 ghost use Rattle.rd_state.specs.Settled.{weakest_of, rank_of};
 ghost use Rattle.rd_state.specs.Sizes.{IsSized, IsSizedPhase, IsTaskOrIdle};
 ghost use Rattle.rd_state.specs.Snapshot.{hollow_state, numbers_of, task_at, queue_at};
-ghost use Rattle.rd_state.specs.Snapshot.{core_at, message_at, queue_set_at, stream_at};
+ghost use Rattle.rd_state.specs.Snapshot.{core_at, group_at, message_at, queue_set_at, stream_at};
 ghost use Rattle.rd_state.specs.Snapshot.{SameScheduling, SameObjects};
 ghost use Rattle.rd_state.specs.TaskChanges.{the_task_change};
 ghost use Rattle.rd_state.specs.Transfers.{change_of, CanTransfer, HasSink, HasSource};
@@ -26,6 +26,7 @@ use crate::transfer::{Sink, Source, Transfer};
 use crate::whole::{all_same, copy_all};
 use rd_app::app::App;
 use rd_bytes::no_memory::NoMemory;
+use rd_group::group::Group;
 use rd_queue::queue::Queue;
 use rd_queue::queue_set::QueueSet;
 use rd_stream::message_buf::MessageBuf;
@@ -260,6 +261,15 @@ impl State {
         self.objects.message(message)
     }
 
+    /// An event group.
+    pub fn group(&self, group: usize) -> &Group
+        requires { group < length self.now.objects.groups }
+        ensures group { result.now ≡ group_at self.now group }
+        ensures sized { IsGroupFor (length self.now.tasks) result.now }
+    {
+        self.objects.group(group)
+    }
+
     /// Whom the place of a buffer names, if anybody.
     pub fn holder(&self, held: Held) -> Option<usize>
         requires { HasHeld self.now held }
@@ -273,15 +283,16 @@ impl State {
     }
 
     /// The tasks that wait in a list, the first to be served first.
-    pub fn waiting(&self, place: Listed) -> &PrioList
+    pub fn waiting(&self, place: Listed) -> &[usize]
         requires { HasList self.now place }
-        ensures tasks { result.now.tasks ≡ waiting_at self.now place }
+        ensures tasks { result.now ≡ waiting_at self.now place }
         ensures members { All (λ task. task < length self.now.tasks) (waiting_at self.now place) }
-        ensures room { result.now.capacity ≡ length self.now.tasks }
+        ensures few { length result.now ≤ length self.now.tasks }
     {
         match place {
-            Listed::Queue { queue, list } => self.queue(queue).waiting(list),
-            Listed::QueueSet { queue_set } => self.queue_set(queue_set).waiting(),
+            Listed::Queue { queue, list } => self.queue(queue).waiting(list).as_slice(),
+            Listed::QueueSet { queue_set } => self.queue_set(queue_set).waiting().as_slice(),
+            Listed::Group { group } => self.group(group).waiting().as_slice(),
         }
     }
 

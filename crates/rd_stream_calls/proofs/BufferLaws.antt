@@ -11,7 +11,7 @@ use Rattle.rd_stream.specs.StreamSnapshot.{StreamSnapshot}
 use Rattle.rd_state.specs.declared.phase.Held.{Held}
 use Rattle.rd_state.specs.declared.phase.Held.TheVariants.{Stream, Message}
 use Rattle.rd_state.specs.declared.phase.Listed.{Listed}
-use Rattle.rd_state.specs.declared.phase.Listed.TheVariants.{Queue, QueueSet}
+use Rattle.rd_state.specs.declared.phase.Listed.TheVariants.{Queue, QueueSet, Group}
 use Rattle.rd_notify.specs.Entries.{idle_entry}
 use Rattle.rd_notify.specs.declared.entries.Entry.{Entry}
 use Rattle.rd_state.specs.Edit.{Edit}
@@ -41,6 +41,7 @@ stream_contents o stream now there holders capacity = record {
     waiting : (place : Listed) → waiting_in (objects_with_stream o stream now) place ≡ waiting_in o place
     waiting (Queue queue list) = refl
     waiting (QueueSet queue_set) = refl
+    waiting (Group group) = refl
 
     named : (held : Held) → holder_in (objects_with_stream o stream now) held ≡ holder_in o held
     named (Stream other side) = read_kept (λ (b : StreamSnapshot). holder_of side b.holders) o.streams stream other now no_stream there (ap (holder_of side) holders)
@@ -57,6 +58,7 @@ message_contents o message now there holders capacity = record {
     waiting : (place : Listed) → waiting_in (objects_with_message o message now) place ≡ waiting_in o place
     waiting (Queue queue list) = refl
     waiting (QueueSet queue_set) = refl
+    waiting (Group group) = refl
 
     named : (held : Held) → holder_in (objects_with_message o message now) held ≡ holder_in o held
     named (Stream stream side) = refl

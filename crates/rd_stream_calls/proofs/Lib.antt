@@ -3,4 +3,5 @@ pub mod BufferLaws
 pub mod StreamCallLaws
 pub mod MessageCallLaws
 pub mod WaitLaws
+pub mod SleepingLaws
 pub mod Offered

@@ -23,7 +23,7 @@ use Rattle.rd_state.specs.declared.phase.Held.TheVariants.{Stream, Message}
 use Rattle.rd_state.specs.Objects.{ObjectsSnapshot, message_in, no_message_buffer, no_stream, numbers_in, objects_with_message, objects_with_stream, stream_in}
 use Rattle.rd_state.specs.Phases.{is_first, tries_again}
 use Rattle.rd_state.specs.declared.phase.Phase.{Phase}
-use Rattle.rd_state.specs.declared.phase.Phase.TheVariants.{Again, Ended, Failed, Run, Wait}
+use Rattle.rd_state.specs.declared.phase.Phase.TheVariants.{Again, Ended, Failed, Given, Run, Wait}
 use Rattle.rd_state.specs.Snapshot.{Snapshot, TaskSnapshot, message_at, stream_at, task_at, with_message, with_stream}
 use Rattle.rd_state.specs.Waiting.{IsHeld, holder_at, holder_in, objects_naming, with_holder}
 use Rattle.rd_kernel.specs.declared.outcome.Outcome.TheVariants.{Fails}
@@ -201,6 +201,7 @@ over_or_waits p task held wait over stays = by_name (holder_at p held) stays
 not_first : (phase : Phase) → tries_again phase ≡ true → is_first phase ≡ false
 not_first Run e = absurd (false≢true e)
 not_first (Again deadline) e = refl
+not_first (Given bits) e = refl
 not_first (Wait place deadline) e = refl
 not_first Ended e = refl
 not_first (Failed cause) e = refl

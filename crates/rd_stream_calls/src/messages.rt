@@ -25,7 +25,7 @@ ghost use Rattle.rd_stream_calls.specs.StreamCalls.{is_held, piece_cost};
 use rd_app::app::App;
 use rd_app::instr::{MessageCall, Operand};
 use rd_bytes::no_memory::NoMemory;
-use rd_kernel::holding::{can_complete, come_back, complete, wait_held};
+use rd_kernel::holding::{come_back, complete, wait_held};
 use rd_kernel::outcome::Outcome;
 use rd_kernel::telling::waits_once;
 use rd_kernel::waking::may_wait;
@@ -312,7 +312,7 @@ pub fn call_message(
     ensures err { OnErr result (GivesUp editing.old editing.new
         (message_call_cost editing.old.now message call)) }
 {
-    can_complete(app, editing, task);
+    app.limits();
     match call {
         MessageCall::Write { wait } => write(app, editing, task, message, wait),
         MessageCall::Read { room, wait } => read(app, editing, task, message, room, wait),

@@ -24,7 +24,7 @@ ghost use Rattle.rd_stream_calls.specs.StreamCalls.{StreamCallChangesNothing};
 use rd_app::app::App;
 use rd_app::instr::{Operand, StreamCall};
 use rd_bytes::no_memory::NoMemory;
-use rd_kernel::holding::{can_complete, come_back, complete, wait_held};
+use rd_kernel::holding::{come_back, complete, wait_held};
 use rd_kernel::outcome::Outcome;
 use rd_kernel::telling::waits_once;
 use rd_kernel::waking::{may_wait, operand_value};
@@ -344,7 +344,7 @@ pub fn call_stream(
     ensures err { OnErr result (GivesUp editing.old editing.new
         (stream_call_cost editing.old.now stream call)) }
 {
-    can_complete(app, editing, task);
+    app.limits();
     match call {
         StreamCall::Write { wait } => write(app, editing, task, stream, wait),
         StreamCall::Read { room, wait } => read(app, editing, task, stream, room, wait),

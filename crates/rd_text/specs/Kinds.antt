@@ -3,7 +3,7 @@ use Rattle.std.specs.Prelude.{ℕ, codes, List, Option, Some, None, if◌then◌
 use Rattle.std.specs.Str.{bytes_eq}
 use Rattle.rd_text.specs.declared.kind.Kind.{Kind}
 use Rattle.rd_text.specs.declared.kind.Kind.TheVariants.{Queue, QueueSet, Stream, Message}
-use Rattle.rd_text.specs.declared.kind.Kind.TheVariants.{Task}
+use Rattle.rd_text.specs.declared.kind.Kind.TheVariants.{Group, Task}
 
 abbrev pub kind_of_word : List ℕ → Option Kind
 kind_of_word word =
@@ -11,5 +11,6 @@ kind_of_word word =
     else if bytes_eq word (codes "set") then Some QueueSet
     else if bytes_eq word (codes "stream") then Some Stream
     else if bytes_eq word (codes "message") then Some Message
+    else if bytes_eq word (codes "group") then Some Group
     else if bytes_eq word (codes "task") then Some Task
     else None

@@ -14,6 +14,8 @@ pub enum Kind {
     Stream,
     /// `message`: a message buffer
     Message,
+    /// `group`: an event group
+    Group,
     /// `task`
     Task,
 }
@@ -28,6 +30,7 @@ impl Kind {
             b"set" => Some(Kind::QueueSet),
             b"stream" => Some(Kind::Stream),
             b"message" => Some(Kind::Message),
+            b"group" => Some(Kind::Group),
             b"task" => Some(Kind::Task),
             _ => None,
         }

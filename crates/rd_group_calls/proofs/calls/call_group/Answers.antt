@@ -1,0 +1,29 @@
+-- The goals of `call_group` that the check left open.
+use Rattle.std.proofs.Common.{List, subst, sym, ℕ}
+use Rattle.rd_app.specs.Application.{priorities_of}
+use Rattle.rd_app.specs.declared.instr.GroupCall.TheVariants.{Set, Sync}
+use Rattle.rd_state.specs.Snapshot.{Snapshot}
+use Rattle.rd_kernel.proofs.Offered.{PcsStay}
+use Rattle.rd_kernel.specs.Waking.{operand_value}
+use Rattle.rd_group_calls.specs.GroupCalls.{set_outcome, sync_outcome}
+use Rattle.rd_group_calls.proofs.GroupCallLaws.{group_call-pcs, keeps_pc}
+use Rattle.rd_group_calls.proofs.calls.call_group.Goals as goal
+
+pub returns-in-Set-clause-stays : goal.returns-in-Set-clause-stays
+returns-in-Set-clause-stays c =
+    let s : Snapshot = c.args.editing.now.now in
+    let priorities : List ℕ = priorities_of c.args.app.now in
+    keeps_pc c.set.result c.args.editing.now c.set.new.editing _ _ c.args.task c.set.ensures.ok
+    (subst (λ bits. PcsStay s (set_outcome priorities s c.args.group bits).state) (sym c.operand_value-bits.ensures)
+    (group_call-pcs priorities s c.args.task c.args.group (Set c.in-Set.bits)))
+
+pub returns-in-Sync-clause-stays : goal.returns-in-Sync-clause-stays
+returns-in-Sync-clause-stays c =
+    let s : Snapshot = c.args.editing.now.now in
+    let priorities : List ℕ = priorities_of c.args.app.now in
+    let pcs = group_call-pcs priorities s c.args.task c.args.group (Sync c.in-Sync.set c.in-Sync.bits c.in-Sync.wait) in
+    keeps_pc c.sync.result c.args.editing.now c.sync.new.editing _ _ c.args.task c.sync.ensures.ok
+    (subst (λ set. PcsStay s (sync_outcome priorities s c.args.task c.args.group set c.operand_value-bits-in-Sync.result c.in-Sync.wait).state)
+    (sym c.operand_value-set.ensures)
+    (subst (λ bits. PcsStay s (sync_outcome priorities s c.args.task c.args.group (operand_value s c.args.task c.in-Sync.set) bits
+    c.in-Sync.wait).state) (sym c.operand_value-bits-in-Sync.ensures) pcs))
