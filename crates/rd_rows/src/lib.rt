@@ -6,6 +6,8 @@ mod applications;
 #[cfg(test)]
 mod asserts;
 #[cfg(test)]
+mod buffer_waits;
+#[cfg(test)]
 mod buffers;
 #[cfg(test)]
 mod groups;
