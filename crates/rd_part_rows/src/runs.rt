@@ -18,28 +18,39 @@ fn go() -> Request
     Request::Go { action: Move::Tick }
 }
 
-// With ample memory all that is asked is done; a way back that is too long and a move beyond the
-// limit do nothing.
-fn does_what_is_asked(rt: &impl Abort, timeline: &mut Timeline) {
+// So many moves are done and so many undone, and it is that tick.
+fn assert_place(rt: &impl Abort, timeline: &Timeline, done: usize, undone: usize, tick: u32) {
+    assert_same(rt, timeline.at(), done);
+    assert_same(rt, timeline.left(), undone);
+    assert_same(rt, timeline.target().tick(), tick);
+}
+
+// With ample memory all that is asked is done, but for a move beyond the limit.
+fn goes_to_the_limit(rt: &impl Abort, timeline: &mut Timeline) {
     let forwards = [go(), go(), go(), go()];
     assert!(rt; timeline.run(&forwards).is_ok());
-    assert_eq!(rt; timeline.at(), 3, "the limit");
-    let there_and_back = [Request::Back { count: 2 }, Request::Back { count: 2 }, go()];
-    assert!(rt; timeline.run(&there_and_back).is_ok());
-    assert_same(rt, timeline.at(), 2);
-    assert_same(rt, timeline.left(), 0);
-    assert_same(rt, timeline.target().tick(), 2);
+    assert_place(rt, timeline, 3, 0, 3);
+}
+
+// A way back that is too long does nothing.
+fn goes_there_and_back(rt: &impl Abort, timeline: &mut Timeline) {
+    let requests = [Request::Back { count: 2 }, Request::Back { count: 2 }, go()];
+    assert!(rt; timeline.run(&requests).is_ok());
+    assert_place(rt, timeline, 2, 0, 2);
+}
+
+fn goes_back_once(rt: &impl Abort, timeline: &mut Timeline) {
     assert!(rt; timeline.answer(&Request::Back { count: 1 }).is_ok());
-    assert_same(rt, timeline.at(), 1);
-    assert_same(rt, timeline.left(), 1);
-    assert_same(rt, timeline.target().tick(), 1);
+    assert_place(rt, timeline, 1, 1, 1);
 }
 
 #[test]
 fn whole_runs(rt: HostRuntime) -> Result<(), Fail> {
     let alloc = rt.alloc();
     let mut timeline = Timeline::new(alloc, App::builtin(alloc)?, 3)?;
-    does_what_is_asked(&rt, &mut timeline);
+    goes_to_the_limit(&rt, &mut timeline);
+    goes_there_and_back(&rt, &mut timeline);
+    goes_back_once(&rt, &mut timeline);
     timeline.close();
     Ok(())
 }
