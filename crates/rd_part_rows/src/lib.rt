@@ -21,4 +21,6 @@ mod records;
 #[cfg(test)]
 mod rings;
 #[cfg(test)]
+mod running;
+#[cfg(test)]
 mod runs;

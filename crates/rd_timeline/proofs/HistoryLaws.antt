@@ -1,10 +1,11 @@
 -- Lists of moves with one more, and with one less.
 use Rattle.std.proofs.Common.{◌≡◌, ◌∙◌, ℕ, zero, suc, ◌+◌, ◌≤◌, List, [], ◌∷◌, ◌++◌, length, take, drop, refl, ap, subst, sym, arith, inl, inr}
-use Rattle.std.specs.Prelude.{Ok}
-use Rattle.std.proofs.lemmas.Bool.{cases_lt}
+use Rattle.std.specs.Prelude.{Err, IfErr, IsOk, Ok, OnOk, Result, fold, is_ok}
+use Rattle.std.proofs.lemmas.Bool.{cases_lt, false≢true}
 use Rattle.std.proofs.lemmas.List.{take_all, drop_all, take-append-le, drop-append-le, length_push, length-take-le}
 use Rattle.std.proofs.lemmas.List.{take-take, take-append-drop}
-use Rattle.std.proofs.lemmas.List.Sums.{fold_push}
+use Rattle.std.proofs.lemmas.List.Sums.{fold-append, fold_push}
+use Rattle.rd_text.specs.declared.refusal.Refusal.{Refusal}
 use Rattle.rd_app.specs.Application.{Application, priorities_of}
 use Rattle.rd_state.specs.Change.{Change}
 use Rattle.rd_state.specs.Boot.{boot_of}
@@ -111,3 +112,28 @@ Retraces-back app moves records s m same within h count few =
     let fewer : count ≤ m = omega (arith, few, length-take-le m moves within) in
     subst (λ (t : Snapshot). IsStateAfter app (take count (take m moves)) t) (sym (rewound-back s records m count fewer (omega (arith, within, same))))
     (subst (λ (ms : List Move). IsStateAfter app ms (rewound s (drop count records))) (sym (take-take count m moves fewer)) (h count (omega (arith, fewer, within))))
+
+-- Once a move is refused, there is no state after those behind it either.
+refused_stays : (app : Application) (refusal : Refusal) (moves : List Move) → fold (stepped app) (Err refusal) moves ≡ Err refusal
+refused_stays app refusal [] = refl
+refused_stays app refusal (move ∷ moves) = refused_stays app refusal moves
+
+before_is_ok : (app : Application) (r : Result Snapshot Refusal) (moves : List Move) → IsOk (fold (stepped app) r moves) → IsOk r
+before_is_ok app (Ok s) moves is = refl
+before_is_ok app (Err refusal) moves is = sym (ap is_ok (refused_stays app refusal moves)) ∙ is
+
+-- Where moves lead on from those that were made, the first of them can be made.
+pub first_is_made : (app : Application) (done : List Move) (move : Move) (rest : List Move) (s : Snapshot) → state_after app done ≡ Ok s
+    → IsOk (state_after app (done ++ move ∷ rest)) → IsOk (step app s move)
+first_is_made app done move rest s state is =
+    before_is_ok app (step app s move) rest
+    (sym (ap is_ok (fold-append (stepped app) (Ok (boot_of app)) done (move ∷ rest) ∙ ap (λ r. fold (stepped app) r (move ∷ rest)) state)) ∙ is)
+
+-- What is made of a move that can be made, and refused by the kernel's rules alone.
+pub ok_if_made : {T : Type 0} (r : Result T Refusal) (x : Result Snapshot Refusal) → IsOk x → IfErr r (λ refusal. x ≡ Err refusal) → IsOk r
+ok_if_made (Ok v) x is refusals = refl
+ok_if_made (Err refusal) x is refusals = absurd (false≢true (sym (ap is_ok refusals) ∙ is))
+
+-- What a call promises where it succeeds, where it did.
+pub on_ok : {T E P : Type 0} (r : Result T E) (v : T) → r ≡ Ok v → OnOk r P → P
+on_ok {T} {E} {P} r v is on = subst (λ (q : Result T E). OnOk q P) is on

@@ -4,6 +4,8 @@ pub mod LogLaws
 pub mod JournalLaws
 pub mod HistoryLaws
 pub mod TimelineLaws
+pub mod PolicyLaws
+pub mod BackwardLaws
 pub mod Rows
 pub mod WaitingRows
 pub mod QueueSetRows

@@ -1,13 +1,13 @@
 -- What a contract sees of a timeline.
-use Rattle.std.specs.Prelude.{ℕ, ◌≡◌, ◌≢◌, ◌<◌, ◌≤◌, ◌⊎◌, List, length, Err, IsOk}
+use Rattle.std.specs.Prelude.{ℕ, ◌≡◌, ◌≢◌, ◌<◌, ◌≤◌, ◌⊎◌, List, ◌++◌, All, length, Err, IsOk}
 use Rattle.rd_text.specs.declared.refusal.Refusal.{Refusal}
 use Rattle.rd_text.specs.declared.refusal.Refusal.TheVariants.{MovesFull, NoMemory}
 use Rattle.rd_app.specs.Application.{Application}
 use Rattle.rd_state.specs.Change.{Change}
 use Rattle.rd_state.specs.Snapshot.{Snapshot}
 use Rattle.rd_calls.specs.declared.moves.Move.{Move}
-use Rattle.rd_calls.specs.Step.{step}
-use Rattle.rd_timeline.specs.History.{Retraces, CanRewind}
+use Rattle.rd_calls.specs.Step.{step, IsMoveOf}
+use Rattle.rd_timeline.specs.History.{Retraces, CanRewind, state_after}
 use Rattle.rd_timeline.specs.LogView.{bytes_of}
 
 -- the application, how many moves may be done, the target as it is now, the moves done from boot in
@@ -23,12 +23,20 @@ pub record Course : Type 0 where
   pub most_done : ℕ
   pub most_bytes : ℕ
 
--- There is a record for each move done. Going back by them retraces the moves, and can be done.
+-- The moves can be made from boot, one after the other, and as many were done once.
+pub record AreMade (app : Application) (limit most_done : ℕ) (moves : List Move) : Type 0 where
+  pub state : IsOk (state_after app moves)
+  pub named : All (IsMoveOf app) moves
+  pub within : length moves ≤ limit
+  pub were : length moves ≤ most_done
+
+-- There is a record for each move done. Going back by them retraces the moves, and can be done. From
+-- there the moves undone lead on.
 pub record IsKept (course : Course) : Type 0 where
   pub records : length course.log ≡ length course.done
   pub retraces : Retraces course.app course.done course.log course.target
   pub rewinds : CanRewind course.target course.log
-  pub within : length course.done ≤ course.limit
+  pub made : AreMade course.app course.limit course.most_done (course.done ++ course.undone)
 
 -- The moves done are at their limit.
 abbrev pub IsFull : Course → Type 0

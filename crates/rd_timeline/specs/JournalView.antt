@@ -1,8 +1,9 @@
 -- What a contract sees of a journal.
-use Rattle.std.specs.Prelude.{ℕ, ◌≡◌, List}
+use Rattle.std.specs.Prelude.{ℕ, ◌≡◌, List, slice_index_or}
 use Rattle.rd_state.specs.Change.{Change}
 use Rattle.rd_state.specs.Snapshot.{Snapshot}
 use Rattle.rd_calls.specs.declared.moves.Move.{Move}
+use Rattle.rd_calls.specs.declared.moves.Move.TheVariants.{Tick}
 
 -- The target, the moves done in order, with the record of each, and the moves undone, the one to be
 -- redone next first. There is room for so many moves done with their records, and for so many bytes
@@ -14,6 +15,10 @@ pub record JournalView : Type 0 where
   pub undone : List Move
   pub capacity : ℕ
   pub room : ℕ
+
+-- the move that is to be redone next
+abbrev pub next_undone : JournalView → Move
+next_undone journal = slice_index_or journal.undone 0 Tick
 
 -- The target, the moves and their records are as they were.
 pub record IsAsBefore (old new : JournalView) : Type 0 where

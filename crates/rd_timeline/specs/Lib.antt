@@ -6,8 +6,12 @@ pub mod JournalView
 pub mod JournalInside
 pub mod History
 pub mod Course
+pub mod Policy
+pub mod Starts
+pub mod Backward
 pub mod Inside
 pub use Rattle.rd_calls.specs.Step
+pub use Rattle.rd_condition.specs.Conditions
 pub use Rattle.rd_state.specs.Snapshot
 pub use Rattle.rd_state.specs.Undoing
 pub use Rattle.rd_state.specs.Boot

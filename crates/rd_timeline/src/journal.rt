@@ -1,13 +1,13 @@
 //! The moves done and undone, with the target, and the records that lead back through those done.
 
-ghost use Rattle.std.specs.Prelude.{◌≡◌, ◌-◌, ◌∷◌, ◌++◌, ◌<◌, ◌≤◌, [], drop, length, take};
-ghost use Rattle.std.specs.Prelude.{Err, IfErr, IsOk, OnErr, OnOk};
+ghost use Rattle.std.specs.Prelude.{◌≡◌, ◌-◌, ◌∷◌, ◌++◌, ◌+◌, ◌<◌, ◌≤◌, [], drop, length};
+ghost use Rattle.std.specs.Prelude.{take, Err, IfErr, IfOk, IsOk, OnErr, OnOk};
 ghost use Rattle.rd_calls.specs.declared.play.TheConstants.{MAX_RECORD_BYTES};
 ghost use Rattle.rd_calls.specs.Step.{step, IsMoveOf};
 ghost use Rattle.rd_state.specs.Valid.{IsValid};
 ghost use Rattle.rd_timeline.specs.History.{rewound, CanRewind};
 ghost use Rattle.rd_timeline.specs.JournalInside.{move_of_byte, HasByte};
-ghost use Rattle.rd_timeline.specs.JournalView.{IsAsBefore};
+ghost use Rattle.rd_timeline.specs.JournalView.{next_undone, IsAsBefore};
 ghost use Rattle.rd_timeline.specs.LogView.{bytes_of, memory_of, RecordsMove};
 
 use crate::trail::Trail;
@@ -43,6 +43,22 @@ impl Model for Journal {
     ghost invariant = { λ j. (j.done ≤ length j.moves.items) × (length j.trail.records ≡ j.done) };
 }
 
+/// Moves undone that are kept aside while a run goes on.
+#[derive(Debug, Drop)]
+pub struct Aside {
+    moves: Vec<u8>,
+}
+
+impl Model for Aside {
+    ghost use Rattle.std.specs.Prelude.{List};
+    ghost use Rattle.rd_calls.specs.declared.moves.Move.{Move};
+    ghost use Rattle.rd_timeline.specs.JournalInside.{moves_of_bytes};
+
+    ghost Value = { List Move };
+
+    ghost view = { λ a. moves_of_bytes a.moves.items };
+}
+
 // The byte that stands for a move.
 fn byte_of_move(action: &Move) -> u8
     requires { HasByte action.now }
@@ -51,6 +67,18 @@ fn byte_of_move(action: &Move) -> u8
     match action {
         Move::Core { core } => *core as u8,
         Move::Tick => 255,
+    }
+}
+
+// The move that a byte stands for.
+fn move_of_byte(byte: u8) -> Move
+    ensures { result ≡ move_of_byte byte }
+{
+    match byte {
+        255 => Move::Tick,
+        _ => Move::Core {
+            core: usize::from(byte),
+        },
     }
 }
 
@@ -141,6 +169,61 @@ impl Journal {
         self.moves.push_reserved(byte);
         self.done += 1;
         Ok(())
+    }
+
+    /// Makes the move again that is to be redone next. It takes no memory. A refusal is one of the
+    /// kernel's rules, and leaves the target, the moves and their records as they were.
+    pub fn replay(&mut self, app: &App) -> Result<(), Refusal>
+        requires some { 0 < length self.old.undone }
+        requires valid { IsValid app.now self.old.target }
+        requires named { IsMoveOf app.now (next_undone self.old) }
+        requires capacity { length self.old.done < self.old.capacity }
+        requires room { MAX_RECORD_BYTES ≤ self.old.room }
+        ensures lays { OnOk result
+            (RecordsMove app.now self.old.target (next_undone self.old) self.new.target
+            self.old.records self.new.records) }
+        ensures done { OnOk result
+            (self.new.done ≡ self.old.done ++ next_undone self.old ∷ []) }
+        ensures undone { OnOk result (self.new.undone ≡ drop 1 self.old.undone) }
+        ensures refusals { IfErr result (λ refusal.
+            step app.now self.old.target (next_undone self.old) ≡ Err refusal) }
+        ensures err { OnErr result (IsAsBefore self.old self.new) }
+        ensures kept_capacity { self.new.capacity ≡ self.old.capacity }
+        ensures memory { memory_of self.old.records self.old.room
+            ≤ memory_of self.new.records self.new.room }
+    {
+        let action = move_of_byte(self.moves[self.done]);
+        self.trail.play(app, action)?;
+        self.done += 1;
+        Ok(())
+    }
+
+    /// Sets the moves undone aside. An `Err` says that there is no memory for that, and leaves the
+    /// journal as it was.
+    pub fn set_aside(&mut self) -> Result<Aside, NoMemory>
+        ensures aside { IfOk result (λ aside. aside ≡ self.old.undone) }
+        ensures emptied { OnOk result (self.new ≡ record self.old { undone = [] }) }
+        ensures err { OnErr result (self.new ≡ self.old) }
+    {
+        let moves = self.moves.split_off(self.done)?;
+        Ok(Aside { moves })
+    }
+
+    /// Puts moves that were set aside in the place of those that are undone. It takes no memory.
+    pub fn put_back(&mut self, aside: Aside)
+        requires { length self.old.done + length aside ≤ self.old.capacity }
+        ensures undone { self.new.undone ≡ aside }
+        ensures target { self.new.target ≡ self.old.target }
+        ensures done { self.new.done ≡ self.old.done }
+        ensures records { self.new.records ≡ self.old.records }
+        ensures room { self.new.room ≡ self.old.room }
+        ensures grows { self.old.capacity ≤ self.new.capacity }
+    {
+        let done = self.done;
+        self.moves.truncate(done);
+        self.moves
+            .extend_from_slice(aside.moves.as_slice())
+            .unwrap();
     }
 
     /// Takes the last `n` moves done back: the target goes back by their records, and they become

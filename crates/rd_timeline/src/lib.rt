@@ -3,6 +3,7 @@
 
 pub mod journal;
 pub mod log;
+pub mod running;
 pub mod runs;
 pub mod timeline;
 pub mod trail;

@@ -12,8 +12,10 @@ ghost use Rattle.rd_timeline.specs.Course.{IsKept, IsFull, IsRefusedBy, CanGo};
 ghost use Rattle.rd_timeline.specs.Course.{IsMoreThanEver, IsWhyNot};
 ghost use Rattle.rd_timeline.specs.History.{state_after};
 ghost use Rattle.rd_timeline.specs.LogView.{bytes_of};
+ghost use Rattle.rd_timeline.specs.Policy.{StandsOn};
+ghost use Rattle.rd_timeline.specs.Starts.{CanCancel, IsCancelled, IsStartOf};
 
-use crate::journal::Journal;
+use crate::journal::{Aside, Journal};
 use crate::log::Log;
 use rd_app::app::App;
 use rd_bytes::no_memory::NoMemory;
@@ -47,6 +49,16 @@ impl Model for Timeline {
     ghost view = { course_of };
 
     ghost invariant = { IsWhole };
+}
+
+/// Where a run began: how many moves were done, the moves undone, which are set aside, and the most
+/// so far.
+#[derive(Debug, Drop)]
+pub(crate) struct Start {
+    done: usize,
+    undone: Aside,
+    most_done: usize,
+    most_bytes: usize,
 }
 
 impl Timeline {
@@ -92,6 +104,13 @@ impl Timeline {
         &self.app
     }
 
+    /// How many moves may be done.
+    pub fn limit(&self) -> usize
+        ensures { result ≡ self.now.limit }
+    {
+        self.limit
+    }
+
     /// The target as it is now.
     pub fn target(&self) -> &State
         ensures { result.now ≡ self.now.target }
@@ -126,6 +145,7 @@ impl Timeline {
         ensures undone { OnOk result (self.new.undone ≡ []) }
         ensures app { OnOk result (self.new.app ≡ self.old.app) }
         ensures limit { OnOk result (self.new.limit ≡ self.old.limit) }
+        ensures log { OnOk result (take (length self.old.done) self.new.log ≡ self.old.log) }
         ensures leads { OnOk result (state_after self.new.app self.new.done ≡ Ok self.new.target) }
         ensures most_done { OnOk result
             (self.new.most_done ≡ max self.old.most_done (length self.new.done)) }
@@ -168,6 +188,7 @@ impl Timeline {
         ensures done { OnOk result (self.new.done ≡ take (length self.old.done - n) self.old.done) }
         ensures undone { OnOk result (self.new.undone
             ≡ drop (length self.old.done - n) self.old.done ++ self.old.undone) }
+        ensures log { OnOk result (self.new.log ≡ take (length self.old.done - n) self.old.log) }
         ensures app { OnOk result (self.new.app ≡ self.old.app) }
         ensures limit { OnOk result (self.new.limit ≡ self.old.limit) }
         ensures most_done { OnOk result (self.new.most_done ≡ self.old.most_done) }
@@ -184,6 +205,56 @@ impl Timeline {
         self.journal.take_back(n);
         self.keeps();
         Ok(self.at())
+    }
+
+    /// A run begins: the moves undone are set aside. An `Err` says that there is no memory for
+    /// that, and leaves the timeline as it was.
+    pub(crate) fn begin_run(&mut self) -> Result<Start, NoMemory>
+        ensures start { IfOk result (IsStartOf self.old) }
+        ensures emptied { OnOk result (self.new ≡ record self.old { undone = [] }) }
+        ensures err { OnErr result (self.new ≡ self.old) }
+    {
+        Ok(Start {
+            done: self.at(),
+            undone: self.journal.set_aside()?,
+            most_done: self.most_done,
+            most_bytes: self.most_bytes,
+        })
+    }
+
+    /// Takes the moves of a run back, and has the moves undone from before it again. It takes no
+    /// memory.
+    pub(crate) fn cancel_run(&mut self, start: Start)
+        requires { CanCancel self.old start }
+        ensures { IsCancelled self.old start self.new }
+    {
+        let Start {
+            done,
+            undone,
+            most_done,
+            most_bytes,
+        } = start;
+        let made = self.at() - done;
+        self.journal.take_back(made);
+        self.journal.put_back(undone);
+        self.most_done = most_done;
+        self.most_bytes = most_bytes;
+    }
+
+    /// Makes the move again that is to be redone next, which is there. An `Err` says that there is
+    /// no memory for it, and leaves the timeline as it was.
+    pub(crate) fn redo_one(&mut self) -> Result<(), NoMemory>
+        requires { 0 < length self.old.undone }
+        ensures done { OnOk result (self.new.done ≡ self.old.done ++ take 1 self.old.undone) }
+        ensures undone { OnOk result (self.new.undone ≡ drop 1 self.old.undone) }
+        ensures stands { OnOk result (StandsOn self.old self.new) }
+        ensures most_done { OnOk result (self.new.most_done ≡ self.old.most_done) }
+        ensures most_bytes { OnOk result (self.new.most_bytes ≡ self.old.most_bytes) }
+        ensures err { OnErr result (self.new ≡ self.old) }
+    {
+        self.journal.reserve()?;
+        self.journal.replay(&self.app).unwrap();
+        Ok(())
     }
 
     /// Keeps a record at the log's end. Where the log can't grow, the record is handed back, and

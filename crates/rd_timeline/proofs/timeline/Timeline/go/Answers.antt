@@ -5,7 +5,8 @@ use Rattle.rd_calls.specs.declared.moves.Move.{Move}
 use Rattle.rd_state.specs.Change.{Change}
 use Rattle.rd_state.specs.Snapshot.{Snapshot}
 use Rattle.rd_state.specs.Valid.{IsValid}
-use Rattle.rd_calls.specs.Step.{step}
+use Rattle.rd_calls.specs.Step.{step, IsMoveOf}
+use Rattle.rd_timeline.specs.Course.{Course}
 use Rattle.rd_timeline.specs.History.{state_after}
 use Rattle.rd_timeline.proofs.HistoryLaws.{state_after-push}
 use Rattle.rd_timeline.proofs.TimelineLaws.{IsWhole-push, grown, state_now}
@@ -37,9 +38,10 @@ invariant_of-self-2 c =
     omega (arith, ap length made.done, length_push c.reserve.new.self.done c.args.action) in
     IsWhole-push t
     (record { app = t.app; limit = t.limit; journal = c.play.new.self; most_done = c.max-self-inside.result; most_bytes = c.max-self-inside-2.result })
-    c.args.action made.lays.undo c.self.invariant refl refl (search rules) from_target (played.leads_back ∙ same.target) played.can_undo
+    c.args.action made.lays.undo c.self.invariant refl refl (subst (λ (course : Course). IsMoveOf course.app c.args.action) (sym c.self.view_is) c.requires.named) (search rules) from_target (played.leads_back ∙ same.target) played.can_undo
     played.valid played.settled (made.done ∙ ap (λ (moves : List Move). moves ++ c.args.action ∷ []) same.done)
     (made.lays.records ∙ ap (λ (records : List (List Change)). records ++ made.lays.undo ∷ []) same.records)
+    made.undone (omega (arith, c.max-self-inside.ensures, c.done-at.ensures, one_more, ap length same.done))
     (omega (arith, c.max-self-inside.ensures, c.done-at.ensures, one_more, capacity, made.kept_capacity, c.reserve.ensures.grows, c.self.invariant.capacity))
     (grown t c.bytes-bytes.result c.max-self-inside-2.result c.reserve.new.self c.play.new.self c.self.invariant.memory same c.bytes-bytes.ensures c.max-self-inside-2.ensures
     room c.reserve.ensures.more_room made.memory)

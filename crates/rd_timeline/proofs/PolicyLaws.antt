@@ -1,0 +1,260 @@
+-- Runs by policy, one move more.
+use Rattle.std.proofs.Common.{◌≡◌, ◌∙◌, ℕ, zero, suc, ◌+◌, ◌-◌, ◌<◌, ◌≤◌, inl, inr, List, [], ◌∷◌, ◌++◌, true, false, length, ap, subst, sym, refl, arith}
+use Rattle.std.specs.Prelude.{Bool, Option, Some, None, Result, Ok, Err, drop, is_ok, is_some, position, take}
+use Rattle.std.proofs.Math.Numerals.{add-one}
+use Rattle.std.proofs.lemmas.Bool.{cases_lt, false≢true, le-ltb, lt-ltb}
+use Rattle.std.proofs.Common.{cond, ◌≢◌}
+use Rattle.std.proofs.lemmas.List.{append-nil, append_assoc, length-append, length-drop, length_push, take-append-le, take-take, take_all}
+use Rattle.std.proofs.lemmas.List.Quantifiers.{position-Some}
+use Rattle.rd_app.specs.Application.{Application}
+use Rattle.rd_text.specs.declared.refusal.Refusal.{Refusal}
+use Rattle.rd_text.specs.declared.refusal.Refusal.TheVariants.{MovesFull}
+use Rattle.rd_state.specs.Change.{Change}
+use Rattle.rd_state.specs.Snapshot.{Snapshot}
+use Rattle.rd_state.specs.Valid.{IsValid}
+use Rattle.rd_calls.specs.declared.moves.Move.{Move}
+use Rattle.rd_calls.specs.Step.{move_from, policy_of, step, IsMoveOf}
+use Rattle.rd_condition.specs.declared.condition.Condition.{Condition}
+use Rattle.rd_timeline.specs.Course.{Course, IsKept}
+use Rattle.rd_timeline.specs.History.{state_after}
+use Rattle.rd_timeline.specs.Policy.{Run, Going, Met, Refused, EndsRun, IsWhyNoRun, IsWhyNotByPolicy, StandsOn, meets, allowed, done_by_policy, looked_for, moves_by_policy, ran, run_from, run_on, state_by_policy, state_or}
+
+-- A run that has ended stays as it is.
+pub ran_on : (app : Application) (room : ℕ) (goal : Option Condition) (s : Snapshot) (run : Run) (k : ℕ) → run_on app room goal run ≡ run
+    → ran app room goal s k ≡ run → (n : ℕ) → k ≤ n → ran app room goal s n ≡ run
+ran_on app room goal s run k ended is zero within =
+    let same : k ≡ 0 = omega (arith, within) in
+    subst (λ m. ran app room goal s m ≡ run) same is
+ran_on app room goal s run k ended is (suc n) within =
+    elim (cases_lt k (suc n)) [
+      | inl less ↦ ap (run_on app room goal) (ran_on app room goal s run k ended is n (omega (arith, less))) ∙ ended
+      | inr last ↦
+          let same : k ≡ suc n = omega (arith, within, last) in
+          subst (λ m. ran app room goal s m ≡ run) same is
+    ]
+
+-- Policy's move names what the application has.
+named_by : (app : Application) (s : Snapshot) (found : Option ℕ) → position is_some (drop s.turn s.cores) ≡ found → IsValid app s
+    → IsMoveOf app (move_from s.turn found)
+named_by app s None is valid = tt
+named_by app s (Some ahead) is valid =
+    omega (
+      arith,
+      (position-Some is_some (drop s.turn s.cores) ahead None is).0,
+      length-drop s.turn s.cores,
+      valid.in_limits.cores,
+    )
+
+pub policy_named : (app : Application) (s : Snapshot) → IsValid app s → IsMoveOf app (policy_of s)
+policy_named app s valid = named_by app s (position is_some (drop s.turn s.cores)) refl valid
+
+-- ---- one move more of a run that goes on
+
+-- the moves that a course may still make
+abbrev pub room_left : Course → ℕ
+room_left course = course.limit - length course.done
+
+-- A run that has made so many moves, and where it is.
+pub record IsAt (old : Course) (goal : Option Condition) (made : ℕ) (now : Course) : Type 0 where
+  pub run : run_from old goal made ≡ Going made now.target
+  pub state : now.target ≡ state_by_policy old.app old.target made
+  pub done : now.done ≡ done_by_policy old made
+  pub stands : StandsOn old now
+
+moves_made : (app : Application) (s : Snapshot) (n : ℕ) → length (moves_by_policy app s n) ≡ n
+moves_made app s zero = refl
+moves_made app s (suc n) =
+    let t = state_by_policy app s n in
+    omega (arith, length_push (moves_by_policy app s n) (policy_of t), moves_made app s n)
+
+-- Where there is room for it, the move that policy chooses is made or refused as the kernel's rules say.
+allowed_here : (old : Course) (goal : Option Condition) (made : ℕ) (now : Course) (r : Result Snapshot Refusal) → IsAt old goal made now
+    → length now.done ≤ old.limit → length now.done ≢ old.limit → step old.app now.target (policy_of now.target) ≡ r
+    → allowed old.app (room_left old) made now.target ≡ r
+allowed_here old goal made now r at within more steps =
+    let less : made < room_left old =
+    omega (arith, within, more, ap length at.done, length-append old.done (moves_by_policy old.app old.target made), moves_made old.app old.target made) in
+    ap (λ b. cond b (step old.app now.target (policy_of now.target)) (Err MovesFull)) (lt-ltb made (room_left old) less) ∙ steps
+
+-- Where there is none, that is why it is refused.
+allowed_full : (old : Course) (goal : Option Condition) (made : ℕ) (now : Course) → IsAt old goal made now → length now.done ≡ old.limit
+    → allowed old.app (room_left old) made now.target ≡ Err MovesFull
+allowed_full old goal made now at full =
+    let none : room_left old ≤ made =
+    omega (arith, full, ap length at.done, length-append old.done (moves_by_policy old.app old.target made), moves_made old.app old.target made) in
+    ap (λ b. cond b (step old.app now.target (policy_of now.target)) (Err MovesFull)) (le-ltb made (room_left old) none)
+
+-- ---- what stands, from move to move
+
+pub StandsOn-here : (course : Course) → IsKept course → StandsOn course course
+StandsOn-here course kept = record {
+  app = refl;
+  limit = refl;
+  done = take_all (length course.done) course.done (omega arith);
+  log = take_all (length course.done) course.log (omega (arith, kept.records));
+  more = omega arith;
+  most_done = omega arith;
+  most_bytes = omega arith;
+}
+
+-- Moves are laid on once more.
+pub StandsOn-then : (old now next : Course) (more : List Move) → StandsOn old now → next.app ≡ now.app → next.limit ≡ now.limit
+    → next.done ≡ now.done ++ more → take (length now.done) next.log ≡ now.log → now.most_done ≤ next.most_done
+    → now.most_bytes ≤ next.most_bytes → StandsOn old next
+StandsOn-then old now next more stands app limit done log most_done most_bytes = record {
+  app = app ∙ stands.app;
+  limit = limit ∙ stands.limit;
+  done =
+      ap (take (length old.done)) done ∙ take-append-le (length old.done) now.done more stands.more ∙ stands.done;
+  log =
+      sym (take-take (length old.done) (length now.done) next.log stands.more) ∙ ap (take (length old.done)) log ∙ stands.log;
+  more = omega (arith, stands.more, ap length done, length-append now.done more);
+  most_done = omega (arith, stands.most_done, most_done);
+  most_bytes = omega (arith, stands.most_bytes, most_bytes);
+}
+
+pub StandsOn-trans : (old now next : Course) → StandsOn old now → StandsOn now next → StandsOn old next
+StandsOn-trans old now next first then = record {
+  app = then.app ∙ first.app;
+  limit = then.limit ∙ first.limit;
+  done =
+      sym (take-take (length old.done) (length now.done) next.done first.more) ∙ ap (take (length old.done)) then.done ∙ first.done;
+  log =
+      sym (take-take (length old.done) (length now.done) next.log first.more) ∙ ap (take (length old.done)) then.log ∙ first.log;
+  more = omega (arith, first.more, then.more);
+  most_done = omega (arith, first.most_done, then.most_done);
+  most_bytes = omega (arith, first.most_bytes, then.most_bytes);
+}
+
+-- ---- a run that has begun, and that goes on
+
+pub IsAt-begun : (course : Course) (goal : Option Condition) → IsKept course → IsAt course goal 0 course
+IsAt-begun course goal kept =
+    record { run = refl; state = refl; done = sym (append-nil course.done); stands = StandsOn-here course kept }
+
+-- What becomes of a run by one move more that is made.
+pub made_one : (old : Course) (goal : Option Condition) (made : ℕ) (now : Course) (s : Snapshot) → IsAt old goal made now
+    → length now.done ≤ old.limit → length now.done ≢ old.limit → step old.app now.target (policy_of now.target) ≡ Ok s
+    → run_from old goal (made + 1) ≡ looked_for goal (made + 1) (Ok s)
+made_one old goal made now s at within more steps =
+    ap (run_from old goal) (add-one made) ∙ ap (run_on old.app (room_left old) goal) at.run
+    ∙ ap (looked_for goal (made + 1)) (allowed_here old goal made now (Ok s) at within more steps)
+
+next_state : (old : Course) (goal : Option Condition) (made : ℕ) (now : Course) (s : Snapshot) → IsAt old goal made now
+    → step old.app now.target (policy_of now.target) ≡ Ok s → s ≡ state_by_policy old.app old.target (made + 1)
+next_state old goal made now s at steps =
+    sym
+    (ap (state_by_policy old.app old.target) (add-one made) ∙ ap (λ (t : Snapshot). state_or t (step old.app t (policy_of t))) (sym at.state)
+    ∙ ap (state_or now.target) steps)
+
+next_done : (old : Course) (goal : Option Condition) (made : ℕ) (now : Course) (done : List Move) → IsAt old goal made now
+    → done ≡ now.done ++ policy_of now.target ∷ [] → done ≡ done_by_policy old (made + 1)
+next_done old goal made now done at is =
+    is ∙ ap (λ (ms : List Move). ms ++ policy_of now.target ∷ []) at.done
+    ∙ append_assoc old.done (moves_by_policy old.app old.target made) (policy_of now.target ∷ [])
+    ∙ ap (λ (t : Snapshot). old.done ++ (moves_by_policy old.app old.target made ++ policy_of t ∷ [])) at.state
+    ∙ sym (ap (done_by_policy old) (add-one made))
+
+-- The goal isn't met by it.
+pub IsAt-next : (old : Course) (goal : Option Condition) (made : ℕ) (now next : Course) → IsAt old goal made now → length now.done ≤ old.limit
+    → length now.done ≢ old.limit → step old.app now.target (policy_of now.target) ≡ Ok next.target
+    → next.done ≡ now.done ++ policy_of now.target ∷ [] → StandsOn old next → meets goal next.target ≡ false → IsAt old goal (made + 1) next
+IsAt-next old goal made now next at within more steps done stands unmet = record {
+  run =
+      made_one old goal made now next.target at within more steps
+      ∙ ap (λ b. cond b (Met (made + 1) next.target) (Going (made + 1) next.target)) unmet;
+  state = next_state old goal made now next.target at steps;
+  done = next_done old goal made now next.done at done;
+  stands = stands;
+}
+
+-- The goal is met by it: the run stays there.
+pub EndsRun-met : (old : Course) (goal : Option Condition) (made count : ℕ) (now next : Course) → IsAt old goal made now → made < count
+    → length now.done ≤ old.limit → length now.done ≢ old.limit → step old.app now.target (policy_of now.target) ≡ Ok next.target
+    → next.done ≡ now.done ++ policy_of now.target ∷ [] → next.undone ≡ [] → meets goal next.target ≡ true → EndsRun old goal count true next
+EndsRun-met old goal made count now next at less within more steps done undone met = record {
+  made = made + 1;
+  run =
+      ran_on old.app (room_left old) goal old.target (Met (made + 1) next.target) (made + 1) refl
+      (made_one old goal made now next.target at within more steps ∙ ap (λ b. cond b (Met (made + 1) next.target) (Going (made + 1) next.target)) met)
+      count (omega (arith, less));
+  done = next_done old goal made now next.done at done;
+  undone = undone;
+}
+
+-- A move of it isn't made.
+pub why_no_run : (old : Course) (goal : Option Condition) (made count : ℕ) (now : Course) (refusal : Refusal) → IsAt old goal made now → made < count
+    → length now.done ≤ old.limit → IsWhyNotByPolicy now refusal → IsWhyNoRun old goal count refusal
+why_no_run old goal made count now refusal at less within why =
+    let refused : (cause : Refusal) → allowed old.app (room_left old) made now.target ≡ Err cause → run_from old goal count ≡ Refused cause =
+    λ cause is. ran_on old.app (room_left old) goal old.target (Refused cause) (made + 1) refl
+    (ap (run_from old goal) (add-one made) ∙ ap (run_on old.app (room_left old) goal) at.run ∙ ap (looked_for goal (made + 1)) is) count (omega (arith, less)) in
+    let app = at.stands.app in
+    let limit = at.stands.limit in
+    elim why [
+      | inl full ↦ inl (refused MovesFull (allowed_full old goal made now at (full.0 ∙ limit)) ∙ ap Refused (sym full.1))
+      | inr others ↦ elim others [
+        | inl by_rules ↦ inl (refused refusal (allowed_here old goal made now (Err refusal) at within (λ same. by_rules.0 (same ∙ sym limit))
+            (ap (λ (a : Application). step a now.target (policy_of now.target)) (sym app) ∙ by_rules.1)))
+        | inr lacks ↦ inr (
+          record {
+            made = made;
+            fewer = less;
+            state = now.target;
+            going = at.run;
+            next =
+                ap is_ok (allowed_here old goal made now _ at within (λ same. lacks.0.0 (same ∙ sym limit)) refl)
+                ∙ ap (λ (a : Application). is_ok (step a now.target (policy_of now.target))) (sym app) ∙ lacks.0.1;
+          },
+          lacks.1,
+        )
+      ]
+    ]
+
+-- ---- all as before
+
+-- Courses are equal where what is seen of them is.
+pub same_course : (old new : Course) → new.app ≡ old.app → new.limit ≡ old.limit → new.target ≡ old.target → new.done ≡ old.done → new.log ≡ old.log
+    → new.undone ≡ old.undone → new.most_done ≡ old.most_done → new.most_bytes ≡ old.most_bytes → new ≡ old
+same_course old new app limit target done log undone most_done most_bytes =
+    ap (λ (x : Application). record new { app = x }) app
+    ∙ ap (λ x. record new { app = old.app; limit = x }) limit
+    ∙ ap (λ (x : Snapshot). record new { app = old.app; limit = old.limit; target = x }) target
+    ∙ ap (λ (x : List Move). record new { app = old.app; limit = old.limit; target = old.target; done = x }) done
+    ∙ ap (λ (x : List (List Change)). record new { app = old.app; limit = old.limit; target = old.target; done = old.done; log = x }) log
+    ∙ ap (λ (x : List Move). record old { undone = x; most_done = new.most_done; most_bytes = new.most_bytes }) undone
+    ∙ ap (λ x. record old { most_done = x; most_bytes = new.most_bytes }) most_done
+    ∙ ap (λ x. record old { most_bytes = x }) most_bytes
+
+-- Where the same moves were done from boot, the target is the same.
+pub same_target : (old new : Course) → new.app ≡ old.app → new.done ≡ old.done → state_after old.app old.done ≡ Ok old.target
+    → state_after new.app new.done ≡ Ok new.target → new.target ≡ old.target
+same_target old new app done leads leads_new =
+    ap (state_or old.target)
+    (sym leads_new ∙ ap (λ (a : Application). state_after a new.done) app ∙ ap (λ (ms : List Move). state_after old.app ms) done ∙ leads)
+
+-- ---- a run without a goal
+
+abbrev is_met : Run → Bool
+is_met (Going made s) = false
+is_met (Met made s) = true
+is_met (Refused refusal) = false
+
+never_met_by : (app : Application) (room : ℕ) (run : Run) → is_met run ≡ false → is_met (run_on app room None run) ≡ false
+never_met_by app room (Going made s) is = by (allowed app room made s)
+  where
+    by : (r : Result Snapshot Refusal) → is_met (looked_for None (made + 1) r) ≡ false
+    by (Ok t) = refl
+    by (Err refusal) = refl
+never_met_by app room (Met made s) is = is
+never_met_by app room (Refused refusal) is = refl
+
+never_met : (app : Application) (room : ℕ) (s : Snapshot) (n : ℕ) → is_met (ran app room None s n) ≡ false
+never_met app room s zero = refl
+never_met app room s (suc n) = never_met_by app room (ran app room None s n) (never_met app room s n)
+
+-- It ends where its moves are made.
+pub EndsRun-unmet : (old new : Course) (count : ℕ) (met : Bool) → EndsRun old None count met new → EndsRun old None count false new
+EndsRun-unmet old new count true ends =
+    absurd (false≢true (sym (never_met old.app (room_left old) old.target count) ∙ ap is_met ends.run))
+EndsRun-unmet old new count false ends = ends

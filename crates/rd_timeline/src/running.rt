@@ -1,0 +1,206 @@
+//! Runs both ways: on by policy, to where a condition holds, through the moves undone, and back.
+
+ghost use Rattle.std.specs.Prelude.{◌≡◌, ◌↔◌, ◌-◌, ◌<◌, ◌≤◌, ◌++◌, [], false, length, take, drop};
+ghost use Rattle.std.specs.Prelude.{Ok, None, Some, IfOk, IfErr, IfSome, OnOk, OnErr, IsErrOf};
+ghost use Rattle.rd_condition.specs.Conditions.{holds, IsConditionOf};
+ghost use Rattle.rd_timeline.specs.Backward.{GoesBackTo, HasRedone, HasRedonePart};
+ghost use Rattle.rd_timeline.specs.Backward.{IsWhyNoRedo};
+ghost use Rattle.rd_timeline.specs.History.{state_after};
+ghost use Rattle.rd_timeline.specs.Policy.{meets, EndsRun, IsWhyNoRun, IsWhyNotByPolicy};
+ghost use Rattle.rd_timeline.specs.Policy.{StandsOn};
+
+use crate::timeline::Timeline;
+use rd_bytes::no_memory::NoMemory;
+use rd_calls::play::why_not;
+use rd_calls::policy::policy;
+use rd_condition::condition::Condition;
+use rd_text::refusal::Refusal;
+
+/// Where a search for a condition ended.
+#[derive(Clone, Copy, Debug, PartialEq, Eq)]
+pub struct Found {
+    /// How many moves are done there.
+    pub at: usize,
+    /// Whether the condition holds there. Else the search came to its limit.
+    pub met: bool,
+}
+
+/// Why moves aren't made again. Nothing has changed.
+#[derive(Clone, Copy, Debug, PartialEq, Eq)]
+pub enum RedoRefusal {
+    /// Fewer moves are undone.
+    NothingUndone,
+    /// A growth was refused.
+    NoMemory,
+}
+
+impl Timeline {
+    // Whether the goal is met, if there is one.
+    fn meets(&self, goal: Option<Condition>) -> bool
+        requires { IfSome goal (IsConditionOf self.now.app) }
+        ensures { result ≡ meets goal self.now.target }
+    {
+        self.keeps();
+        match goal {
+            Some(condition) => condition.holds(self.app(), self.target()),
+            None => false,
+        }
+    }
+
+    // Why the next move by policy isn't made, where there is no memory for it.
+    fn why_no_move(&self) -> Refusal
+        ensures { IsWhyNotByPolicy self.now result }
+    {
+        if self.at() == self.limit() {
+            return Refusal::MovesFull;
+        }
+        self.keeps();
+        let action = policy(self.target());
+        why_not(self.app(), self.target(), &action).unwrap_or(Refusal::NoMemory)
+    }
+
+    // Makes moves by policy until the goal is met, so many of them at the most, where none is
+    // undone. Answers whether it was met. A refusal leaves the moves that were made.
+    fn go_on(&mut self, goal: Option<Condition>, count: usize) -> Result<bool, Refusal>
+        requires none_undone { self.old.undone ≡ [] }
+        requires named { IfSome goal (IsConditionOf self.old.app) }
+        ensures ends { IfOk result (λ met. EndsRun self.old goal count met self.new) }
+        ensures stands { StandsOn self.old self.new }
+        ensures refusals { IfErr result (IsWhyNoRun self.old goal count) }
+    {
+        self.keeps();
+        for _ in 0..count {
+            self.keeps();
+            let action = policy(self.target());
+            self.go(action)?;
+            if self.meets(goal) {
+                return Ok(true);
+            }
+        }
+        Ok(false)
+    }
+
+    // Makes moves by policy until the goal is met, so many of them at the most, all or none.
+    // Answers whether it was met. A refusal leaves the timeline as it was.
+    fn run_by_policy(&mut self, goal: Option<Condition>, count: usize) -> Result<bool, Refusal>
+        requires some { 0 < count }
+        requires named { IfSome goal (IsConditionOf self.old.app) }
+        ensures ends { IfOk result (λ met. EndsRun self.old goal count met self.new) }
+        ensures app { self.new.app ≡ self.old.app }
+        ensures limit { self.new.limit ≡ self.old.limit }
+        ensures refusals { IfErr result (IsWhyNoRun self.old goal count) }
+        ensures err { OnErr result (self.new ≡ self.old) }
+    {
+        self.keeps();
+        let Ok(start) = self.begin_run() else {
+            return Err(self.why_no_move());
+        };
+        match self.go_on(goal, count) {
+            Ok(met) => Ok(met),
+            Err(refusal) => {
+                self.cancel_run(start);
+                Err(refusal)
+            }
+        }
+    }
+
+    /// Makes so many moves, one at the least, as `policy` chooses, all or none. Answers how many
+    /// moves are done then. A refusal leaves the timeline as it was, the moves undone included:
+    /// that of the first move that is refused, `MovesFull` or `TickLimit`, or `NoMemory` where a
+    /// growth was refused before that. There is no other.
+    pub fn forward(&mut self, count: usize) -> Result<usize, Refusal>
+        requires { 0 < count }
+        ensures at { IfOk result (λ at. at ≡ length self.new.done) }
+        ensures ends { OnOk result (EndsRun self.old None count false self.new) }
+        ensures app { self.new.app ≡ self.old.app }
+        ensures limit { self.new.limit ≡ self.old.limit }
+        ensures leads { state_after self.new.app self.new.done ≡ Ok self.new.target }
+        ensures refusals { IfErr result (IsWhyNoRun self.old None count) }
+        ensures err { OnErr result (self.new ≡ self.old) }
+    {
+        self.keeps();
+        self.run_by_policy(None, count)?;
+        self.keeps();
+        Ok(self.at())
+    }
+
+    /// Makes moves as `policy` chooses until the condition holds after one of them, so many of them
+    /// at the most, all or none. That it holds after none is no refusal. Refusals are those of
+    /// `forward`, and leave the timeline as it was.
+    pub fn until(&mut self, condition: Condition, count: usize) -> Result<Found, Refusal>
+        requires some { 0 < count }
+        requires named { IsConditionOf self.old.app condition }
+        ensures at { IfOk result (λ found. found.at ≡ length self.new.done) }
+        ensures ends { IfOk result (λ found.
+            EndsRun self.old (Some condition) count found.met self.new) }
+        ensures app { self.new.app ≡ self.old.app }
+        ensures limit { self.new.limit ≡ self.old.limit }
+        ensures leads { state_after self.new.app self.new.done ≡ Ok self.new.target }
+        ensures refusals { IfErr result (IsWhyNoRun self.old (Some condition) count) }
+        ensures err { OnErr result (self.new ≡ self.old) }
+    {
+        self.keeps();
+        let met = self.run_by_policy(Some(condition), count)?;
+        self.keeps();
+        Ok(Found { at: self.at(), met })
+    }
+
+    // Makes moves that are undone again, so many of them, which are there. An `Err` says that there
+    // is no memory for one of them, and leaves those that were made.
+    fn redo_each(&mut self, count: usize) -> Result<(), NoMemory>
+        requires { count ≤ length self.old.undone }
+        ensures ok { OnOk result (HasRedone self.old count self.new) }
+        ensures part { HasRedonePart self.old count self.new }
+    {
+        self.keeps();
+        for _ in 0..count {
+            self.redo_one()?;
+        }
+        Ok(())
+    }
+
+    /// Makes the next `count` moves that are undone again, all or none. Answers how many moves are
+    /// done then. It is refused as `NothingUndone` where fewer are undone, and else as `NoMemory`
+    /// alone, where a growth was refused. A refusal leaves the timeline as it was.
+    pub fn redo(&mut self, count: usize) -> Result<usize, RedoRefusal>
+        ensures at { IfOk result (λ at. at ≡ length self.new.done) }
+        ensures redone { OnOk result (HasRedone self.old count self.new) }
+        ensures leads { state_after self.new.app self.new.done ≡ Ok self.new.target }
+        ensures nothing_undone { IsErrOf result RedoRefusal.NothingUndone
+            ↔ (length self.old.undone < count) }
+        ensures refusals { IfErr result (IsWhyNoRedo self.old count) }
+        ensures err { OnErr result (self.new ≡ self.old) }
+    {
+        self.keeps();
+        if count > self.left() {
+            return Err(RedoRefusal::NothingUndone);
+        }
+        let done = self.at();
+        if self.redo_each(count).is_err() {
+            self.back(self.at() - done).unwrap();
+            return Err(RedoRefusal::NoMemory);
+        }
+        self.keeps();
+        Ok(self.at())
+    }
+
+    /// Goes back to the last earlier place where the condition holds, or else to the start. It
+    /// takes no memory and is never refused. The moves taken back can be redone.
+    pub fn back_until(&mut self, condition: Condition) -> Found
+        requires named { IsConditionOf self.old.app condition }
+        ensures at { result.at ≡ length self.new.done }
+        ensures place { GoesBackTo self.old condition result self.new }
+    {
+        for _ in 0..self.at() {
+            self.back(1).unwrap();
+            if self.meets(Some(condition)) {
+                return Found {
+                    at: self.at(),
+                    met: true,
+                };
+            }
+        }
+        self.keeps();
+        Found { at: 0, met: false }
+    }
+}
