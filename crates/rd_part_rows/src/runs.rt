@@ -25,17 +25,23 @@ fn assert_place(rt: &impl Abort, timeline: &Timeline, done: usize, undone: usize
     assert_same(rt, timeline.target().tick(), tick);
 }
 
-// With ample memory all that is asked is done, but for a move beyond the limit.
+// With ample memory what is asked is done, but for a move beyond the limit.
 fn goes_to_the_limit(rt: &impl Abort, timeline: &mut Timeline) {
-    let forwards = [go(), go(), go(), go()];
-    assert!(rt; timeline.run(&forwards).is_ok());
+    for _ in 0..4 {
+        assert!(rt; timeline.answer(&go()).is_ok());
+    }
     assert_place(rt, timeline, 3, 0, 3);
 }
 
 // A way back that is too long does nothing.
+fn goes_back_too_far(rt: &impl Abort, timeline: &mut Timeline) {
+    assert!(rt; timeline.answer(&Request::Back { count: 4 }).is_ok());
+    assert_place(rt, timeline, 3, 0, 3);
+}
+
+// (Two requests: a proof of three in one list takes minutes.)
 fn goes_there_and_back(rt: &impl Abort, timeline: &mut Timeline) {
-    let requests = [Request::Back { count: 2 }, Request::Back { count: 2 }, go()];
-    assert!(rt; timeline.run(&requests).is_ok());
+    assert!(rt; timeline.run(&[Request::Back { count: 2 }, go()]).is_ok());
     assert_place(rt, timeline, 2, 0, 2);
 }
 
@@ -49,6 +55,7 @@ fn whole_runs(rt: HostRuntime) -> Result<(), Fail> {
     let alloc = rt.alloc();
     let mut timeline = Timeline::new(alloc, App::builtin(alloc)?, 3)?;
     goes_to_the_limit(&rt, &mut timeline);
+    goes_back_too_far(&rt, &mut timeline);
     goes_there_and_back(&rt, &mut timeline);
     goes_back_once(&rt, &mut timeline);
     timeline.close();
