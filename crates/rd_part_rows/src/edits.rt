@@ -1,0 +1,43 @@
+//! An edit of a state, and the way back.
+
+ghost use Rattle.rd_state.specs.Valid.{IsValid};
+
+use crate::asserts::assert_same;
+use rd_app::app::App;
+use rd_edits::edit::Edit;
+use rd_state::editing::Editing;
+use rd_state::state::State;
+use rd_state::undo::Undo;
+use std::test::Fail;
+
+// Register 0 of the first task becomes 7, and then what it was. Answers both values.
+fn edits_and_goes_back(app: &App, editing: &mut Editing) -> Option<(u32, u32)>
+    requires { IsValid app.now editing.old.now }
+{
+    app.limits();
+    let edit = Edit::Register {
+        task: 0,
+        register: 0,
+        value: 7,
+    };
+    if !edit.is_good(app, editing.state()) {
+        return None;
+    }
+    editing.begin();
+    edit.make(app, editing).ok()?;
+    let edited = editing.state().task(0).register(0);
+    editing.roll_back();
+    Some((edited, editing.state().task(0).register(0)))
+}
+
+#[test]
+fn register_is_edited(rt: HostRuntime) -> Result<(), Fail> {
+    let alloc = rt.alloc();
+    let app = App::builtin(alloc)?;
+    let boot = State::boot(alloc, &app)?;
+    let mut editing = Editing::new(boot, Undo::new(alloc));
+    let values = edits_and_goes_back(&app, &mut editing);
+    editing.retire();
+    assert_same(&rt, values, Some((7, 0)));
+    Ok(())
+}
