@@ -7,8 +7,10 @@ ghost use Rattle.rd_app.specs.Application.{IsApplication, IsWithin, names_of, co
 ghost use Rattle.rd_app.specs.Application.{priorities_of};
 ghost use Rattle.rd_app.specs.Builtin.{builtin, builtin_code};
 ghost use Rattle.rd_app.specs.Inside.{application_of};
+ghost use Rattle.rd_app.specs.Named.{named_view};
 ghost use Rattle.rd_app.specs.Objects.{objects_view};
 
+use crate::both::both;
 use crate::instr::{Instr, LocalInstr, Operand, QueueCall};
 use crate::objects::{Named, NamedObjects, QueueShape};
 use rd_bytes::bytes::Bytes;
@@ -31,7 +33,7 @@ pub const MAX_PRIORITY: u8 = 31;
 pub const MAX_CODE: usize = 256;
 
 /// A task to be made: its priority, 0 to 31, higher before lower, and its instructions.
-#[derive(Debug, Drop)]
+#[derive(Drop)]
 pub struct Script {
     priority: u8,
     code: Vec<Instr>,
@@ -46,7 +48,7 @@ impl Model for Script {
 }
 
 /// What an application is made of.
-#[derive(Debug, Drop)]
+#[derive(Drop)]
 pub struct Parts {
     /// How many cores there are, 1 to 8.
     pub cores: usize,
@@ -61,7 +63,7 @@ pub struct Parts {
 }
 
 /// An application within the limits. It never changes.
-#[derive(Debug, Drop)]
+#[derive(Drop)]
 pub struct App {
     parts: Parts,
     priorities: Vec<u8>,
@@ -117,14 +119,23 @@ fn builtin_code(alloc: Global) -> Result<Vec<Instr>, AllocError>
         wait: Operand::Number { value: 0 },
     };
     let mut code = Vec::with_capacity(alloc, 5)?;
-    code.push(Instr::Local { instr: data })?;
-    code.push(Instr::Queue { queue: 0, call })?;
-    code.push(Instr::Queue { queue: 0, call })?;
-    code.push(Instr::Queue { queue: 0, call })?;
-    code.push(Instr::Local {
+    code.push_reserved(Instr::Local { instr: data });
+    code.push_reserved(Instr::Queue { queue: 0, call });
+    code.push_reserved(Instr::Queue { queue: 0, call });
+    code.push_reserved(Instr::Queue { queue: 0, call });
+    code.push_reserved(Instr::Local {
         instr: LocalInstr::End,
-    })?;
+    });
     Ok(code)
+}
+
+// The built-in application's task.
+fn builtin_tasks(alloc: Global) -> Result<Named<Script>, AllocError>
+    ensures { IfOk result (λ tasks. named_view tasks ≡ builtin.tasks) }
+{
+    let mut scripts = Vec::with_capacity(alloc, 1)?;
+    scripts.push_reserved(Script::new(1, builtin_code(alloc)?));
+    Named::new(alloc, &["t0"], scripts)
 }
 
 impl App {
@@ -133,7 +144,8 @@ impl App {
         requires { IsApplication (application_of parts) }
         ensures { IfOk result (λ app. app ≡ application_of parts) }
     {
-        let priorities = priorities_of(alloc, parts.tasks.things.as_slice())?;
+        let priorities = priorities_of(alloc, parts.tasks.things.as_slice());
+        let (parts, priorities) = both(Ok(parts), priorities)?;
         Ok(App { parts, priorities })
     }
 
@@ -145,21 +157,14 @@ impl App {
             capacity: 2,
             item_size: 1,
         };
-        let queues = Named {
-            names: Names::new(alloc, &["q0"])?,
-            things: vec![in alloc; queue]?,
-        };
-        let mut scripts = Vec::with_capacity(alloc, 1)?;
-        scripts.push(Script::new(1, builtin_code(alloc)?))?;
+        let queues = Named::new(alloc, &["q0"], vec![in alloc; queue]?);
+        let (queues, tasks) = both(queues, builtin_tasks(alloc))?;
         let parts = Parts {
             cores: 1,
             entries: 1,
             tick: 0,
-            objects: NamedObjects::of_queues(alloc, queues)?,
-            tasks: Named {
-                names: Names::new(alloc, &["t0"])?,
-                things: scripts,
-            },
+            objects: NamedObjects::of_queues(alloc, queues),
+            tasks,
         };
         App::new(alloc, parts)
     }

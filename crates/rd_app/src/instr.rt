@@ -15,7 +15,7 @@ pub const REGISTERS: usize = 8;
 pub const MAX_DELAY: u32 = u32::MAX;
 
 /// An operand that is a number, or what a register holds when the instruction is done.
-#[derive(Clone, Copy, Debug, PartialEq, Eq)]
+#[derive(Clone, Copy)]
 pub enum Operand {
     /// This number.
     Number { value: u32 },
@@ -25,7 +25,7 @@ pub enum Operand {
 
 /// An instruction that touches nothing but its own task. Registers are 0 to 7, the instructions of
 /// a script are counted from 0.
-#[derive(Debug, Drop)]
+#[derive(Drop)]
 pub enum LocalInstr {
     /// `set R N`: the register becomes the value.
     Set { register: usize, value: u32 },
@@ -48,7 +48,7 @@ pub enum LocalInstr {
 }
 
 /// A call of a queue.
-#[derive(Clone, Copy, Debug, PartialEq, Eq)]
+#[derive(Clone, Copy)]
 pub enum QueueCall {
     /// `send Q T`, `front Q T`: puts the data at the queue's back, or at its front, and waits for
     /// room up to the block time (`xQueueSend`, `xQueueSendToFront`).
@@ -75,7 +75,7 @@ pub enum QueueCall {
 }
 
 /// A call of a queue set.
-#[derive(Clone, Copy, Debug, PartialEq, Eq)]
+#[derive(Clone, Copy)]
 pub enum QueueSetCall {
     /// `select S T`: takes the set's first handle, that of a member with an item, and waits for one
     /// up to the block time (`xQueueSelectFromSet`).
@@ -83,7 +83,7 @@ pub enum QueueSetCall {
 }
 
 /// A call of a stream buffer.
-#[derive(Clone, Copy, Debug, PartialEq, Eq)]
+#[derive(Clone, Copy)]
 pub enum StreamCall {
     /// `swrite B T`: puts as many bytes of the data into the buffer as it has room for, and waits
     /// for room for all of them up to the block time (`xStreamBufferSend`).
@@ -102,7 +102,7 @@ pub enum StreamCall {
 }
 
 /// A call of a message buffer.
-#[derive(Clone, Copy, Debug, PartialEq, Eq)]
+#[derive(Clone, Copy)]
 pub enum MessageCall {
     /// `mwrite M T`: puts the data into the buffer as one message, and waits for room up to the
     /// block time (`xMessageBufferSend`).
@@ -119,7 +119,7 @@ pub enum MessageCall {
 }
 
 /// A call of an event group. Its bits are 24, 0 to 16,777,215 as a number.
-#[derive(Clone, Copy, Debug, PartialEq, Eq)]
+#[derive(Clone, Copy)]
 pub enum GroupCall {
     /// `gset G V`: sets bits, and gives them to all whose wishes they meet
     /// (`xEventGroupSetBits`).
@@ -151,7 +151,7 @@ pub enum GroupCall {
 
 /// A call that notifies a task, or looks at an entry of a task. Tasks and the entries of each are
 /// counted from 0.
-#[derive(Clone, Copy, Debug, PartialEq, Eq)]
+#[derive(Clone, Copy)]
 pub enum NotifyCall {
     /// `notify K I V ACTION`: notifies the task through that entry (`xTaskNotifyIndexed`).
     Notify {
@@ -197,7 +197,7 @@ pub enum NotifyCall {
 }
 
 /// One instruction of a task's script. Objects are counted from 0.
-#[derive(Debug, Drop)]
+#[derive(Drop)]
 pub enum Instr {
     /// One that touches nothing but its own task.
     Local {

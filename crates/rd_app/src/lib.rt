@@ -3,5 +3,6 @@
 #![tactic(auto)]
 
 pub mod app;
+pub mod both;
 pub mod instr;
 pub mod objects;

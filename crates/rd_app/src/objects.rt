@@ -1,7 +1,9 @@
 //! The objects of an application, as they are to be made. A kind has a field or a row in each of
 //! these.
 
-ghost use Rattle.std.specs.Prelude.{◌≡◌, ◌<◌, length, IfOk, IfSome};
+ghost use Rattle.std.specs.Prelude.{◌≡◌, ◌<◌, [], true, length, IfOk, IfSome};
+ghost use Rattle.rd_text.specs.Names.{are_distinct};
+ghost use Rattle.rd_text.specs.Words.{texts};
 ghost use Rattle.rd_app.specs.Named.{named_view};
 ghost use Rattle.rd_app.specs.Objects.{names_in, no_named_objects, objects_view, queue_set_at_boot};
 
@@ -26,7 +28,7 @@ pub const MAX_MESSAGE_BUFFERS: usize = 32;
 pub const MAX_GROUPS: usize = 32;
 
 /// A queue to be made: room for 1 to 64 items of 1 to 64 bytes each.
-#[derive(Clone, Copy, Debug, Default, PartialEq, Eq)]
+#[derive(Clone, Copy, Default)]
 pub struct QueueShape {
     pub capacity: usize,
     pub item_size: usize,
@@ -34,7 +36,7 @@ pub struct QueueShape {
 
 /// A queue set to be made: room for 1 to 2,048 handles (`xQueueCreateSet`), and the queues that are
 /// its members at boot, by number.
-#[derive(Debug, Drop)]
+#[derive(Drop)]
 pub struct QueueSetShape {
     capacity: usize,
     members: Vec<usize>,
@@ -73,7 +75,7 @@ impl QueueSetShape {
 
 /// A stream buffer to be made (`xStreamBufferCreate`): room for 1 to 1,024 bytes, and how many of
 /// them there have to be for a write to complete a reader's wait, 0 to all, where 0 is taken as 1.
-#[derive(Clone, Copy, Debug, Default, PartialEq, Eq)]
+#[derive(Clone, Copy, Default)]
 pub struct StreamShape {
     pub capacity: usize,
     pub trigger: usize,
@@ -81,17 +83,17 @@ pub struct StreamShape {
 
 /// A message buffer to be made (`xMessageBufferCreate`): room for 5 to 1,024 bytes, of which each
 /// message takes four more than it has.
-#[derive(Clone, Copy, Debug, Default, PartialEq, Eq)]
+#[derive(Clone, Copy, Default)]
 pub struct MessageShape {
     pub capacity: usize,
 }
 
 /// An event group to be made (`xEventGroupCreate`): there is nothing to choose.
-#[derive(Clone, Copy, Debug, Default, PartialEq, Eq)]
+#[derive(Clone, Copy, Default)]
 pub struct GroupShape {}
 
 /// Things of one kind, with their names. They go by number: the index in both.
-#[derive(Debug, Drop)]
+#[derive(Drop)]
 pub struct Named<T> {
     /// Their names.
     pub names: Names,
@@ -100,7 +102,7 @@ pub struct Named<T> {
 }
 
 /// What objects there are, each kind by number.
-#[derive(Debug, Drop)]
+#[derive(Drop)]
 pub struct NamedObjects {
     /// The queues, at most 32.
     pub queues: Named<QueueShape>,
@@ -114,43 +116,42 @@ pub struct NamedObjects {
     pub groups: Named<GroupShape>,
 }
 
-impl NamedObjects {
-    /// No objects of any kind.
-    pub fn none(alloc: Global) -> Result<NamedObjects, AllocError>
-        ensures { IfOk result (λ objects. objects_view objects ≡ no_named_objects) }
+impl<T: Drop> Named<T> {
+    /// Things with these names, no two of which are equal.
+    pub fn new(alloc: Global, names: &[&str], things: Vec<T>) -> Result<Named<T>, AllocError>
+        requires { are_distinct (texts names.now) ≡ true }
+        ensures { IfOk result
+            (λ named. named_view named
+            ≡ record { names = texts names.now; things = things.items }) }
     {
-        Ok(NamedObjects {
-            queues: Named {
-                names: Names::new(alloc, &[])?,
-                things: Vec::new(alloc),
-            },
-            queue_sets: Named {
-                names: Names::new(alloc, &[])?,
-                things: Vec::new(alloc),
-            },
-            streams: Named {
-                names: Names::new(alloc, &[])?,
-                things: Vec::new(alloc),
-            },
-            messages: Named {
-                names: Names::new(alloc, &[])?,
-                things: Vec::new(alloc),
-            },
-            groups: Named {
-                names: Names::new(alloc, &[])?,
-                things: Vec::new(alloc),
-            },
-        })
+        let names = Names::new(alloc, names)?;
+        Ok(Named { names, things })
     }
 
-    /// These queues, and no objects of any other kind.
-    pub fn of_queues(alloc: Global, queues: Named<QueueShape>) -> Result<NamedObjects, AllocError>
-        ensures { IfOk result
-            (λ objects. objects_view objects
-            ≡ record no_named_objects { queues = named_view queues }) }
+    /// No things, which takes no memory.
+    fn none(alloc: Global) -> Named<T>
+        ensures { named_view result ≡ record { names = []; things = [] } }
     {
-        let none = NamedObjects::none(alloc)?;
-        Ok(NamedObjects { queues, ..none })
+        Named {
+            names: Names::none(alloc),
+            things: Vec::new(alloc),
+        }
+    }
+}
+
+impl NamedObjects {
+    /// These queues, and no objects of any other kind.
+    pub fn of_queues(alloc: Global, queues: Named<QueueShape>) -> NamedObjects
+        ensures { objects_view result
+            ≡ record no_named_objects { queues = named_view queues } }
+    {
+        NamedObjects {
+            queues,
+            queue_sets: Named::none(alloc),
+            streams: Named::none(alloc),
+            messages: Named::none(alloc),
+            groups: Named::none(alloc),
+        }
     }
 
     /// The queues, by number.

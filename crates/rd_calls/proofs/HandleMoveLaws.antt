@@ -2,12 +2,15 @@
 use Rattle.std.proofs.Common.{◌≡◌, ◌∙◌, ℕ, true, false, cond, length, ap}
 use Rattle.std.specs.Prelude.{◌+◌, Option, None, Some, Ok, Err, nat_lt}
 use Rattle.rd_app.specs.Application.{Application, priorities_of}
-use Rattle.rd_text.specs.declared.refusal.Refusal.TheVariants.{TickLimit}
+use Rattle.rd_refusal.specs.declared.refusal.Refusal.TheVariants.{TickLimit}
 use Rattle.rd_state.specs.Snapshot.{Snapshot, core_at}
 use Rattle.rd_kernel.specs.declared.waking.Waking.TheVariants.{TriesAgain}
 use Rattle.rd_kernel.specs.Waking.{due_below}
 use Rattle.rd_queue_calls.specs.QueueSetLaws.{handles_in}
 use Rattle.rd_queue_calls.proofs.Offered.{handles_woken_all}
+use Rattle.rd_refusal.specs.declared.refusal.Refusal.TheVariants as refusal
+use Rattle.rd_edits.specs.Edits.{edited, is_good_edit}
+use Rattle.rd_edits.proofs.Offered.{edited-handles}
 use Rattle.rd_calls.specs.declared.moves.Move.TheVariants as move
 use Rattle.rd_calls.specs.HandleMoves.{HandlesGoByMoves, handles_run}
 use Rattle.rd_calls.proofs.InstrLaws.{handles_performed-is}
@@ -26,5 +29,11 @@ handles_go_by_moves app s s' move.Tick e =
       | true ↦ λ made. let same : s' ≡ tick_step app s = cc in
           let now = record s { tick = s.tick + 1 } in
           ap handles_in same ∙ handles_woken_all (priorities_of app) TriesAgain now (due_below now (length s.tasks))
+      | false ↦ λ none. cc
+    ] e
+handles_go_by_moves app s s' (move.Edit edit) e =
+    elim (is_good_edit app s edit) as (λ b. cond b (Ok (edited s edit)) (Err refusal.BadEdit) ≡ Ok s' → handles_in s' ≡ handles_in s) [
+      | true ↦ λ made. let same : s' ≡ edited s edit = cc in
+          ap handles_in same ∙ edited-handles s edit
       | false ↦ λ none. cc
     ] e

@@ -43,9 +43,14 @@ use Rattle.rd_state.specs.Undoing.{undone, CanUndo}
 use Rattle.rd_state.specs.Valid.{IsValid}
 use Rattle.rd_calls.specs.declared.moves.Move.{Move}
 use Rattle.rd_calls.specs.declared.moves.Move.TheVariants.{Core, Tick}
+use Rattle.rd_calls.specs.declared.moves.Move.TheVariants as move
 use Rattle.rd_calls.specs.Step.{core_step, dropped_by_instr, dropped_by_move, dropped_by_task, instr_cost, last_tick, next_instr, record_limit, step, step_of_core, tick_step}
-use Rattle.rd_calls.specs.Step.{IsPlayed}
+use Rattle.rd_calls.specs.Step.{IsPlayed, LeavesSettled}
 use Rattle.rd_calls.specs.declared.play.TheConstants.{MAX_RECORD_BYTES}
+use Rattle.rd_edits.proofs.Offered.{IsValid-edited, edited-settled}
+use Rattle.rd_edits.specs.declared.edit.Edit as edits
+use Rattle.rd_edits.specs.declared.edit.Edit.TheVariants as edit
+use Rattle.rd_edits.specs.Edits.{edit_cost, edited, is_good_edit, IsEditOf}
 use Rattle.rd_calls.proofs.StepLaws.{IsSettled-step, IsSettled-tick, IsValid-step, IsValid-tick}
 
 -- The items that a move drops are those of one queue at the most.
@@ -104,6 +109,7 @@ dropped_by_task_few app s (Some task) sized = dropped_by_instr_few s (next_instr
 pub dropped_few : (app : Application) (s : Snapshot) (move : Move) → IsSized s → dropped_by_move app s move ≤ 4096
 dropped_few app s (Core core) sized = dropped_by_task_few app s (core_at s core) sized
 dropped_few app s Tick sized = omega arith
+dropped_few app s (move.Edit edit) sized = omega arith
 
 most_is_few : (app : Application) (s : Snapshot) (move : Move) → IsSized s → record_limit app s move ≤ 4800
 most_is_few app s move sized = omega (arith, dropped_few app s move sized, sized.tasks.few, sized.scheduling.few_cores)
@@ -122,7 +128,7 @@ pub record Leads (app : Application) (s : Snapshot) (move : Move) (target : Snap
   pub few : cost ≤ record_limit app s move
   pub most_few : record_limit app s move ≤ 4800
   pub valid : (s' : Snapshot) → s' ≡ target → IsSized s' → IsValid app s'
-  pub settled : (s' : Snapshot) → s' ≡ target → IsSettled (priorities_of app) s'
+  pub settled : (s' : Snapshot) → s' ≡ target → LeavesSettled app s move s'
 
 goes_on : (app : Application) (s s' : Snapshot) (move : Move) (target : Snapshot) (cost : ℕ) (begun made : Edit) (before changes : List Change) (room : ℕ)
     → begun ≡ begun_at s before room → Leads app s move target cost → IsSized s' → Reaches begun made target cost → s' ≡ made.now → GoesOn made changes
@@ -240,6 +246,25 @@ Leads-tick app s limits valid later =
       valid = λ s' is sized. IsValid-tick app s s' limits valid is sized;
       settled = λ s' is. IsSettled-tick app s s' limits valid is;
     }
+
+edit_cost_few : (edit : edits.Edit) → edit_cost edit ≤ 300
+edit_cost_few (edit.Register task register value) = omega arith
+edit_cost_few (edit.Data task bytes) = omega arith
+edit_cost_few (edit.Pc task pc) = omega arith
+edit_cost_few (edit.Value task index value) = omega arith
+edit_cost_few (edit.Bits group bits) = omega arith
+edit_cost_few (edit.Item queue index bytes) = omega arith
+edit_cost_few (edit.Byte stream index value) = omega arith
+
+pub Leads-edit : (app : Application) (s : Snapshot) (edit : edits.Edit) → IsValid app s → IsEditOf app edit → is_good_edit app s edit ≡ true
+    → Leads app s (move.Edit edit) (edited s edit) (edit_cost edit)
+Leads-edit app s edit valid named good = record {
+  step = rw good refl;
+  few = omega (arith, edit_cost_few edit);
+  most_few = most_is_few app s (move.Edit edit) valid.in_limits.sized;
+  valid = λ s' is sized. subst (λ (t : Snapshot). IsSized t → IsValid app t) (sym is) (IsValid-edited app s edit valid named good) sized;
+  settled = λ s' is before. subst (IsSettled (priorities_of app)) (sym is) (edited-settled (priorities_of app) s edit before);
+}
 
 -- No memory is given back, whether the move was made or gave up.
 pub grows-from : {T E : Type 0} (r : Result T E) (target : Snapshot) (cost : ℕ) (begun made : Edit) → OnOk r (Reaches begun made target cost)

@@ -30,9 +30,13 @@ use Rattle.rd_stream_calls.specs.StreamCalls.{stream_outcome}
 use Rattle.rd_stream_calls.specs.MessageCalls.{message_outcome}
 use Rattle.rd_stream_calls.proofs.Offered.{message_call-received, stream_call-received}
 use Rattle.rd_notify_calls.specs.NotifyCalls.{entry_closed, entry_opened, notify_call_outcome}
+use Rattle.rd_refusal.specs.declared.refusal.Refusal.TheVariants as refusal
+use Rattle.rd_edits.specs.Edits.{edited, is_good_edit}
+use Rattle.rd_edits.proofs.Offered.{edited-entry_state}
 use Rattle.rd_calls.specs.declared.moves.Move.TheVariants.{Core, Tick}
+use Rattle.rd_calls.specs.declared.moves.Move.TheVariants as move
 use Rattle.rd_kernel.specs.Waking.{due_below, operand_value, woken_all}
-use Rattle.rd_text.specs.declared.refusal.Refusal.TheVariants.{TickLimit}
+use Rattle.rd_refusal.specs.declared.refusal.Refusal.TheVariants.{TickLimit}
 use Rattle.rd_calls.specs.Received.{ReceivedStays, call_looks_at, is_entry, looks_at}
 use Rattle.rd_kernel.specs.Telling.{if_waiting_for, notified, told, waits_for_entry, waits_once}
 use Rattle.rd_notify.specs.Entries.{entry_cleared, entry_idle, entry_notified, entry_taken, entry_waiting, has_received, idle_entry, is_left_alone}
@@ -188,5 +192,11 @@ received_stays app s s' Tick target index e come looks =
           let p = woken_all (priorities_of app) TriesAgain now (due_below now (length s.tasks)) in
           subst (λ q. has_come (entry_at q target index)) (sym same)
           (stays_come now p target index (EntriesStay-woken_all (priorities_of app) TriesAgain now (due_below now (length s.tasks))) come)
+      | false ↦ λ none. cc
+    ] e
+received_stays app s s' (move.Edit edit) target index e come looks =
+    elim (is_good_edit app s edit) as (λ b. cond b (Ok (edited s edit)) (Err refusal.BadEdit) ≡ Ok s' → has_come (entry_at s' target index)) [
+      | true ↦ λ made. let same : s' ≡ edited s edit = cc in
+          subst (λ q. has_come (entry_at q target index)) (sym same) (edited-entry_state s edit target index ∙ come)
       | false ↦ λ none. cc
     ] e

@@ -18,7 +18,7 @@ use Rattle.rd_app.specs.declared.instr.NotifyCall.{NotifyCall}
 use Rattle.rd_app.specs.declared.instr.NotifyCall.TheVariants.{ClearState, ClearValue, Query, Take}
 use Rattle.rd_notify.specs.Entries.{entry_cleared, entry_idle, entry_taken, entry_waiting, has_received}
 use Rattle.rd_stream.specs.declared.side.Side.TheVariants.{Reader}
-use Rattle.rd_text.specs.declared.refusal.Refusal.TheVariants.{TickLimit}
+use Rattle.rd_refusal.specs.declared.refusal.Refusal.TheVariants.{TickLimit}
 use Rattle.rd_state.specs.Objects.{ObjectsSnapshot, message_in, stream_in}
 use Rattle.rd_state.specs.Phases.{waits_at}
 use Rattle.rd_state.specs.Snapshot.{Snapshot, TaskSnapshot, core_at, message_at, stream_at, task_at, with_task}
@@ -44,10 +44,15 @@ use Rattle.rd_stream_calls.proofs.Offered.{HasNoMore, IsBelow, message_call-slee
 use Rattle.rd_group_calls.proofs.Offered.{group_call-sleeps}
 use Rattle.rd_group_calls.specs.GroupCalls.{group_outcome}
 use Rattle.rd_calls.specs.declared.moves.Move.{Move as AnyMove}
+use Rattle.rd_refusal.specs.declared.refusal.Refusal.TheVariants as refusal
+use Rattle.rd_edits.specs.declared.edit.Edit.{Edit}
+use Rattle.rd_edits.specs.declared.edit.Edit.TheVariants as edit
+use Rattle.rd_edits.specs.Edits.{edited, is_good_edit}
 use Rattle.rd_calls.specs.declared.moves.Move.TheVariants.{Core, Tick}
+use Rattle.rd_calls.specs.declared.moves.Move.TheVariants as any_move
 use Rattle.rd_calls.specs.Local.{local_step, unpacked}
 use Rattle.rd_calls.specs.Received.{is_entry}
-use Rattle.rd_calls.specs.Sleeping.{ReadersSleep, SleepsOn, call_notifies_first, is_woken_otherwise, notifies_first}
+use Rattle.rd_calls.specs.Sleeping.{ReadersSleep, SleepsOn, call_notifies_first, edits_task, is_disturbed, notifies_first}
 use Rattle.rd_calls.specs.Step.{core_step, last_tick, next_instr, performed, step, step_of_core, tick_step}
 
 -- ---- local instructions
@@ -182,16 +187,42 @@ tick_sleeps app s s' task made there early =
       | false ↦ λ none. cc
     ] made
 
+-- An edit of another task, or of an entry, or of an object.
+task_apart : (of task : ℕ) → nat_eq of task ≡ false → task ≢ of
+task_apart of task apart same =
+    let one : nat_eq of task ≡ true = grind (arith, nat_tests, same) in
+    false≢true (sym apart ∙ one)
+
+edited_sleeps : (s : Snapshot) (edit : Edit) (task : ℕ) → edits_task edit task ≡ false → Sleeps task s (edited s edit)
+edited_sleeps s (edit.Register of register value) task apart =
+    Sleeps-other s task of (record (task_at s of) { registers = set (task_at s of).registers register value }) (task_apart of task apart)
+edited_sleeps s (edit.Data of bytes) task apart = Sleeps-other s task of (record (task_at s of) { bytes = bytes }) (task_apart of task apart)
+edited_sleeps s (edit.Pc of pc) task apart = Sleeps-other s task of (record (task_at s of) { pc = pc }) (task_apart of task apart)
+edited_sleeps s (edit.Value of index value) task apart = Sleeps-with_entry s task of index (record (entry_at s of index) { value = value })
+edited_sleeps s (edit.Bits group bits) task apart = refl
+edited_sleeps s (edit.Item queue index bytes) task apart = refl
+edited_sleeps s (edit.Byte stream index value) task apart = refl
+
+edit_sleeps : (app : Application) (s s' : Snapshot) (edit : Edit) (task : ℕ) → step app s (any_move.Edit edit) ≡ Ok s' → edits_task edit task ≡ false
+    → Sleeps task s s'
+edit_sleeps app s s' edit task made apart =
+    elim (is_good_edit app s edit) as (λ b. cond b (Ok (edited s edit)) (Err refusal.BadEdit) ≡ Ok s' → Sleeps task s s') [
+      | true ↦ λ made. let same : s' ≡ edited s edit = cc in
+          subst (Sleeps task s) (sym same) (edited_sleeps s edit task apart)
+      | false ↦ λ none. cc
+    ] made
+
 move_sleeps : (app : Application) (s s' : Snapshot) (move : AnyMove) (task : ℕ) (own : Held) → IsValid app s → step app s move ≡ Ok s' → task < length s.tasks
-    → waits_at (task_at s task).phase ≡ Some (sort.Held own) → held_side own ≡ Reader → IsQuiet s s' own → is_woken_otherwise app s move task ≡ false
+    → waits_at (task_at s task).phase ≡ Some (sort.Held own) → held_side own ≡ Reader → IsQuiet s s' own → is_disturbed app s move task ≡ false
     → SleepsOn s s' task
 move_sleeps app s s' move task own valid made there waits reads quiet other =
     ap (λ (x : TaskSnapshot). record x { entries = (task_at s' task).entries }) (by_move move made other)
   where
-    by_move : (move : AnyMove) → step app s move ≡ Ok s' → is_woken_otherwise app s move task ≡ false → Sleeps task s s'
+    by_move : (move : AnyMove) → step app s move ≡ Ok s' → is_disturbed app s move task ≡ false → Sleeps task s s'
     by_move (Core core) made other = core_sleeps app s s' core task own (core_at s core) valid refl made
         (IsSleeper-valid app s task own valid there waits) reads quiet other
     by_move Tick made other = tick_sleeps app s s' task made there other
+    by_move (any_move.Edit edit) made other = edit_sleeps app s s' edit task made other
 
 same_stream : (stream other : ℕ) → Stream stream Reader ≡ Stream other Reader → stream ≡ other
 same_stream stream other e = cc

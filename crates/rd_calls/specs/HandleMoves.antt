@@ -4,7 +4,7 @@ use Rattle.rd_app.specs.Application.{Application}
 use Rattle.rd_state.specs.Snapshot.{Snapshot, core_at}
 use Rattle.rd_queue_calls.specs.QueueSetLaws.{handles_in}
 use Rattle.rd_calls.specs.declared.moves.Move.{Move}
-use Rattle.rd_calls.specs.declared.moves.Move.TheVariants.{Core, Tick}
+use Rattle.rd_calls.specs.declared.moves.Move.TheVariants.{Core, Edit, Tick}
 use Rattle.rd_calls.specs.Step.{handles_performed, next_instr, step}
 
 -- the handles after the instruction of a core's task
@@ -12,10 +12,11 @@ abbrev pub handles_run : Application → Snapshot → Option ℕ → List (List 
 handles_run app s None = handles_in s
 handles_run app s (Some task) = handles_performed s (next_instr app s task)
 
--- after a move: those after the instruction of the core's task; a tick changes none
+-- after a move: those after the instruction of the core's task; a tick changes none, and no edit does
 abbrev pub handles_moved : Application → Snapshot → Move → List (List ℕ)
 handles_moved app s (Core core) = handles_run app s (core_at s core)
 handles_moved app s Tick = handles_in s
+handles_moved app s (Edit edit) = handles_in s
 
 -- What becomes of callers, whose time is up, who is woken and who runs: none of it changes handles.
 abbrev pub HandlesGoByMoves : Type 0

@@ -1,6 +1,6 @@
 -- Readers of buffers sleep on: a stream buffer's below its trigger level, a message buffer's as
 -- long as no message comes.
-use Rattle.std.specs.Prelude.{ℕ, ◌≡◌, ◌+◌, ◌<◌, ◌≤◌, Bool, false, length, Some, Ok}
+use Rattle.std.specs.Prelude.{ℕ, ◌≡◌, ◌+◌, ◌<◌, ◌≤◌, Bool, false, length, nat_eq, Some, Ok}
 use Rattle.std.specs.Option.{option_map_or}
 use Rattle.rd_stream.specs.declared.side.Side.TheVariants.{Reader}
 use Rattle.rd_app.specs.declared.instr.Instr.{Instr}
@@ -15,8 +15,10 @@ use Rattle.rd_state.specs.Phases.{waits_at}
 use Rattle.rd_state.specs.Snapshot.{Snapshot, core_at, message_at, stream_at, task_at}
 use Rattle.rd_state.specs.Valid.{IsValid}
 use Rattle.rd_kernel.specs.Waking.{is_due}
+use Rattle.rd_edits.specs.declared.edit.Edit.{Edit}
+use Rattle.rd_edits.specs.declared.edit.Edit.TheVariants as edit
 use Rattle.rd_calls.specs.declared.moves.Move.{Move}
-use Rattle.rd_calls.specs.declared.moves.Move.TheVariants.{Core, Tick}
+use Rattle.rd_calls.specs.declared.moves.Move.TheVariants as move
 use Rattle.rd_calls.specs.Received.{is_entry}
 use Rattle.rd_calls.specs.Step.{next_instr, step}
 
@@ -39,12 +41,23 @@ notifies_first (instr.Message message call) task = false
 notifies_first (instr.Group group call) task = false
 notifies_first (instr.Notify call) task = call_notifies_first call task
 
--- Is a task woken by a move otherwise than by its buffer: by a notification of its entry 0, or by
--- the tick at which its time is up?
-abbrev pub is_woken_otherwise : Application → Snapshot → Move → ℕ → Bool
-is_woken_otherwise app s (Core core) task =
+-- Does an edit change what a task has besides its entries?
+abbrev pub edits_task : Edit → ℕ → Bool
+edits_task (edit.Register of register value) task = nat_eq of task
+edits_task (edit.Data of bytes) task = nat_eq of task
+edits_task (edit.Pc of pc) task = nat_eq of task
+edits_task (edit.Value of index value) task = false
+edits_task (edit.Bits group bits) task = false
+edits_task (edit.Item queue index bytes) task = false
+edits_task (edit.Byte stream index value) task = false
+
+-- Does a move disturb a task otherwise than through its buffer: by a notification of its entry 0, by
+-- the tick at which its time is up, or by an edit?
+abbrev pub is_disturbed : Application → Snapshot → Move → ℕ → Bool
+is_disturbed app s (move.Core core) task =
     option_map_or (λ running. notifies_first (next_instr app s running) task) (core_at s core) false
-is_woken_otherwise app s Tick task = is_due (s.tick + 1) (task_at s task).phase
+is_disturbed app s move.Tick task = is_due (s.tick + 1) (task_at s task).phase
+is_disturbed app s (move.Edit edit) task = edits_task edit task
 
 -- A task sleeps on: whatever has become of its entries, it is as it was else, and so waits where it
 -- waited, until the same deadline.
@@ -52,7 +65,7 @@ abbrev pub SleepsOn : Snapshot → Snapshot → ℕ → Type 0
 SleepsOn s s' task =
     task_at s' task ≡ record (task_at s task) { entries = (task_at s' task).entries }
 
--- Unless it is woken otherwise, a task sleeps on that waits as the reader of a stream buffer,
+-- Unless it is disturbed otherwise, a task sleeps on that waits as the reader of a stream buffer,
 -- through each move after which fewer bytes than the trigger level are there. One that waits as the
 -- reader of a message buffer does, through each move after which there are no more messages.
 pub record ReadersSleep : Type 0 where
@@ -60,9 +73,9 @@ pub record ReadersSleep : Type 0 where
       → IsValid app s → step app s move ≡ Ok s' → task < length s.tasks
       → waits_at (task_at s task).phase ≡ Some (sort.Held (Stream stream Reader))
       → length (stream_at s' stream).bytes < (stream_at s' stream).trigger
-      → is_woken_otherwise app s move task ≡ false → SleepsOn s s' task
+      → is_disturbed app s move task ≡ false → SleepsOn s s' task
   pub of_messages : (app : Application) (s s' : Snapshot) (move : Move) (task message : ℕ)
       → IsValid app s → step app s move ≡ Ok s' → task < length s.tasks
       → waits_at (task_at s task).phase ≡ Some (sort.Held (Message message Reader))
       → length (message_at s' message).messages ≤ length (message_at s message).messages
-      → is_woken_otherwise app s move task ≡ false → SleepsOn s s' task
+      → is_disturbed app s move task ≡ false → SleepsOn s s' task

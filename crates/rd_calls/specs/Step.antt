@@ -1,6 +1,8 @@
--- A move: one instruction of the task on a core, or a tick, and then scheduling.
+-- A move: one instruction of the task on a core, or a tick, and then scheduling; or an edit, after
+-- which nothing is scheduled.
 use Rattle.std.specs.Prelude.{ℕ, ◌≡◌, ◌+◌, ◌*◌, ◌%◌, ◌<◌, ◌≤◌, List, length, drop, position, nat_lt}
-use Rattle.std.specs.Prelude.{if◌then◌else◌, Option, None, Some, is_some, Result, Ok, Err}
+use Rattle.std.specs.Prelude.{if◌then◌else◌, Option, None, Some, is_some, Result, Ok, Err, OnErr}
+use Rattle.std.specs.Prelude.{OnOk, take}
 use Rattle.rd_app.specs.declared.instr.Instr.{Instr}
 use Rattle.rd_app.specs.declared.instr.Instr.TheVariants.{Local, Queue, QueueSet, Stream, Message}
 use Rattle.rd_app.specs.declared.instr.Instr.TheVariants.{Group, Notify}
@@ -8,10 +10,13 @@ use Rattle.rd_app.specs.Application.{Application, IsGroupCall, IsMessageCall, Is
 use Rattle.rd_app.specs.Application.{IsQueueCall, IsQueueSetCall, IsStreamCall, instr_at}
 use Rattle.rd_app.specs.Application.{priorities_of}
 use Rattle.rd_group_calls.specs.GroupCalls.{group_call_cost, group_outcome}
-use Rattle.rd_text.specs.declared.refusal.Refusal.{Refusal}
-use Rattle.rd_text.specs.declared.refusal.Refusal.TheVariants.{NoTask, TickLimit}
+use Rattle.rd_refusal.specs.declared.refusal.Refusal.{Refusal}
+use Rattle.rd_refusal.specs.declared.refusal.Refusal.TheVariants.{BadEdit, NoTask, TickLimit}
+use Rattle.rd_bytes.specs.declared.no_memory.NoMemory.{NoMemory}
 use Rattle.rd_state.specs.Change.{Change}
 use Rattle.rd_state.specs.Change.{weight_of}
+use Rattle.rd_state.specs.Edit.{added, capacity_of, room_for}
+use Rattle.rd_state.specs.Edit as editing
 use Rattle.rd_state.specs.Settled.{settled, rotated, IsSettled}
 use Rattle.rd_state.specs.PackedChanges.{IsPackable}
 use Rattle.rd_state.specs.Snapshot.{Snapshot, task_at, core_at}
@@ -29,8 +34,11 @@ use Rattle.rd_stream_calls.specs.MessageCalls.{dropped_by_message_call, message_
 use Rattle.rd_stream_calls.specs.MessageCalls.{message_outcome}
 use Rattle.rd_stream_calls.specs.StreamCalls.{dropped_by_stream_call, stream_call_cost}
 use Rattle.rd_stream_calls.specs.StreamCalls.{stream_outcome}
+use Rattle.rd_edits.specs.declared.edit.Edit.{Edit}
+use Rattle.rd_edits.specs.Edits.{edited, is_good_edit, IsEditOf}
 use Rattle.rd_calls.specs.declared.moves.Move.{Move}
 use Rattle.rd_calls.specs.declared.moves.Move.TheVariants.{Core, Tick}
+use Rattle.rd_calls.specs.declared.moves.Move.TheVariants as move
 
 -- the state after an instruction of the task on a core
 abbrev pub performed : List ℕ → Snapshot → ℕ → ℕ → Instr → Snapshot
@@ -93,15 +101,21 @@ last_tick = 4294967295
 abbrev pub step_of_tick : Application → Snapshot → Result Snapshot Refusal
 step_of_tick app s = if nat_lt s.tick last_tick then Ok (tick_step app s) else Err TickLimit
 
+-- An edit that can't be made is refused.
+abbrev pub step_of_edit : Application → Snapshot → Edit → Result Snapshot Refusal
+step_of_edit app s edit = if is_good_edit app s edit then Ok (edited s edit) else Err BadEdit
+
 -- the state after a move, or why there is none
 abbrev pub step : Application → Snapshot → Move → Result Snapshot Refusal
 step app s (Core core) = step_of_core app s core (core_at s core)
 step app s Tick = step_of_tick app s
+step app s (move.Edit edit) = step_of_edit app s edit
 
 -- The move names what the application has.
 abbrev pub IsMoveOf : Application → Move → Type 0
 IsMoveOf app (Core core) = core < app.cores
 IsMoveOf app Tick = Unit {0}
+IsMoveOf app (move.Edit edit) = IsEditOf app edit
 
 -- The move that a run makes next: of the first busy core
 -- from the turn on, or a tick where there is none.
@@ -130,6 +144,7 @@ dropped_by_task app s (Some task) = dropped_by_instr s (next_instr app s task)
 abbrev pub dropped_by_move : Application → Snapshot → Move → ℕ
 dropped_by_move app s (Core core) = dropped_by_task app s (core_at s core)
 dropped_by_move app s Tick = 0
+dropped_by_move app s (move.Edit edit) = 0
 
 -- The weight that the record of a move has at the most: only the numbers of tasks and cores enter,
 -- apart from the bytes of one task's data and one item, and those that a reset drops.
@@ -141,6 +156,14 @@ record_limit app s move =
 abbrev pub IsSmall : Application → Snapshot → Move → List Change → Type 0
 IsSmall app s move changes = weight_of changes ≤ record_limit app s move
 
+-- Nothing is left to schedule after a move. An edit schedules nothing: it leaves nothing to
+-- schedule where nothing was.
+abbrev pub LeavesSettled : Application → Snapshot → Move → Snapshot → Type 0
+LeavesSettled app s (Core core) s' = IsSettled (priorities_of app) s'
+LeavesSettled app s Tick s' = IsSettled (priorities_of app) s'
+LeavesSettled app s (move.Edit edit) s' =
+    IsSettled (priorities_of app) s → IsSettled (priorities_of app) s'
+
 -- What a move leaves: the written state, valid and with nothing left to schedule, and few changes,
 -- which lead back from there.
 pub record IsPlayed (app : Application) (s : Snapshot) (move : Move) (s' : Snapshot)
@@ -151,7 +174,18 @@ pub record IsPlayed (app : Application) (s : Snapshot) (move : Move) (s' : Snaps
   pub small : IsSmall app s move changes
   pub packable : IsPackable changes
   pub valid : IsValid app s'
-  pub settled : IsSettled (priorities_of app) s'
+  pub settled : LeavesSettled app s move s'
+
+-- What a function answers that makes a move after others, and records it: it is made, and its
+-- record stands behind theirs, or there is no memory for it, and nothing has changed.
+pub record Plays (app : Application) (move : Move) (old new : editing.Edit)
+    (made : Result (Unit {0}) NoMemory) : Type 0 where
+  pub before : OnOk made (take (length old.changes) new.changes ≡ old.changes)
+  pub played : OnOk made (IsPlayed app old.now move new.now (added old.changes new.changes))
+  pub short : OnErr made (old.room < room_for (record_limit app old.now move))
+  pub state : OnErr made (new.now ≡ old.now)
+  pub changes : OnErr made (new.changes ≡ old.changes)
+  pub grows : capacity_of old ≤ capacity_of new
 
 -- The registers, objects, tasks and entries that an instruction names are there, where there are so
 -- many entries.

@@ -6,7 +6,7 @@ ghost use Rattle.rd_calls.specs.Sleeping.{ReadersSleep};
 
 /// Handles of queue sets come by sends into members and go by selects, and by nothing else: a move
 /// changes them as the call that it makes is written to, and no other move changes any. Ticks,
-/// local instructions, and what becomes of callers and of those who are woken change none.
+/// edits, local instructions, and what becomes of callers and of those who are woken change none.
 pub fn handles_go_by_moves()
     ensures { HandlesGoByMoves }
 {}
@@ -18,8 +18,9 @@ pub fn received_stays()
 {}
 
 /// No reader is woken below the trigger level but by its time, or by a notification of its entry 0:
-/// whatever move is made, a task that waits as the reader of a stream buffer sleeps on if fewer
-/// bytes than that are there afterwards. One that waits for a message sleeps on until one comes.
+/// whatever move is made, but for an edit of its own, a task that waits as the reader of a stream
+/// buffer sleeps on if fewer bytes than that are there afterwards. One that waits for a message
+/// sleeps on until one comes.
 pub fn readers_sleep()
     ensures { ReadersSleep }
 {}

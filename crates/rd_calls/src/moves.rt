@@ -2,6 +2,8 @@
 
 ghost use Rattle.std.specs.Prelude.{◌≡◌};
 
+use rd_edits::edit::Edit;
+
 /// One move of the target.
 #[derive(Debug, Drop)]
 pub enum Move {
@@ -9,6 +11,8 @@ pub enum Move {
     Core { core: usize },
     /// A tick passes.
     Tick,
+    /// One thing is changed by hand.
+    Edit { edit: Edit },
 }
 
 impl Move {
@@ -19,6 +23,7 @@ impl Move {
         match self {
             Move::Core { core } => Move::Core { core: *core },
             Move::Tick => Move::Tick,
+            Move::Edit { edit } => Move::Edit { edit: edit.copy() },
         }
     }
 }

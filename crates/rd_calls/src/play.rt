@@ -1,30 +1,30 @@
 //! Moves, made whole or not at all.
 
 ghost use Rattle.std.specs.Prelude.{◌≡◌, ◌↔◌, ◌<◌, ◌≤◌, ◌⊎◌, length, take, Ok, Err};
-ghost use Rattle.std.specs.Prelude.{None, Some, IfErr, IfOk, IfSome, OnOk, OnErr, IsErrOf, IsOk};
-ghost use Rattle.rd_app.specs.Application.{priorities_of};
+ghost use Rattle.std.specs.Prelude.{None, Some, true, IfErr, IfOk, IfSome, OnOk, OnErr, IsErrOf, IsOk};
 ghost use Rattle.rd_state.specs.Edit.{added, capacity_of, room_for, GoesOn};
 ghost use Rattle.rd_state.specs.PackedChanges.{IsPackable};
-ghost use Rattle.rd_state.specs.Settled.{IsSettled};
 ghost use Rattle.rd_state.specs.Sizes.{IsSized};
 ghost use Rattle.rd_state.specs.Snapshot.{core_at};
 ghost use Rattle.rd_state.specs.Undoing.{undone, CanUndo};
 ghost use Rattle.rd_state.specs.Valid.{IsValid};
 ghost use Rattle.rd_kernel.specs.Outcomes.{IsCalling};
 ghost use Rattle.rd_kernel.specs.Waking.{FirstTriesWait};
+ghost use Rattle.rd_edits.specs.Edits.{is_good_edit, IsEditOf};
 ghost use Rattle.rd_calls.specs.Step.{last_tick, record_limit, step, IsMoveOf, IsPlayed};
-ghost use Rattle.rd_calls.specs.Step.{IsSmall};
+ghost use Rattle.rd_calls.specs.Step.{IsSmall, LeavesSettled, Plays};
 
 use crate::moves::Move;
 use crate::perform::move_core;
 use crate::tick::move_tick;
 use rd_app::app::App;
 use rd_bytes::no_memory::NoMemory;
+use rd_edits::edit::Edit;
 use rd_kernel::calling::caller_on;
+use rd_refusal::refusal::Refusal;
 use rd_state::editing::Editing;
 use rd_state::state::State;
 use rd_state::undo::Undo;
-use rd_text::refusal::Refusal;
 use std::alloc::Global;
 use std::mem;
 
@@ -54,15 +54,7 @@ fn play_core(editing: &mut Editing, app: &App, core: usize, task: usize) -> Resu
     requires caller { IsCalling app.now editing.old.now task }
     requires core { core < length editing.old.now.cores }
     requires task { core_at editing.old.now core ≡ Some task }
-    ensures before { OnOk result
-        (take (length editing.old.changes) editing.new.changes ≡ editing.old.changes) }
-    ensures played { OnOk result (IsPlayed app.now editing.old.now (Move.Core core) editing.new.now
-        (added editing.old.changes editing.new.changes)) }
-    ensures short { OnErr result
-        (editing.old.room < room_for (record_limit app.now editing.old.now (Move.Core core))) }
-    ensures err { OnErr result (editing.new.now ≡ editing.old.now) }
-    ensures err_record { OnErr result (editing.new.changes ≡ editing.old.changes) }
-    ensures grows { capacity_of editing.old ≤ capacity_of editing.new }
+    ensures { Plays app.now (Move.Core core) editing.old editing.new result }
 {
     app.limits();
     editing.begin();
@@ -74,15 +66,7 @@ fn play_core(editing: &mut Editing, app: &App, core: usize, task: usize) -> Resu
 fn play_tick(editing: &mut Editing, app: &App) -> Result<(), NoMemory>
     requires valid { IsValid app.now editing.old.now }
     requires later { editing.old.now.tick < last_tick }
-    ensures before { OnOk result
-        (take (length editing.old.changes) editing.new.changes ≡ editing.old.changes) }
-    ensures played { OnOk result (IsPlayed app.now editing.old.now Move.Tick editing.new.now
-        (added editing.old.changes editing.new.changes)) }
-    ensures short { OnErr result
-        (editing.old.room < room_for (record_limit app.now editing.old.now Move.Tick)) }
-    ensures err { OnErr result (editing.new.now ≡ editing.old.now) }
-    ensures err_record { OnErr result (editing.new.changes ≡ editing.old.changes) }
-    ensures grows { capacity_of editing.old ≤ capacity_of editing.new }
+    ensures { Plays app.now Move.Tick editing.old editing.new result }
 {
     app.limits();
     editing.begin();
@@ -90,61 +74,77 @@ fn play_tick(editing: &mut Editing, app: &App) -> Result<(), NoMemory>
     finish(editing, made)
 }
 
-/// Why the kernel's rules refuse a move, if they do: `NoTask` where the core is idle, `TickLimit`
-/// where the tick is 4,294,967,295.
+// An edit that can be made.
+fn play_edit(editing: &mut Editing, app: &App, edit: &Edit) -> Result<(), NoMemory>
+    requires valid { IsValid app.now editing.old.now }
+    requires named { IsEditOf app.now edit.now }
+    requires good { is_good_edit app.now editing.old.now edit.now ≡ true }
+    ensures { Plays app.now (Move.Edit edit.now) editing.old editing.new result }
+{
+    editing.begin();
+    let made = edit.make(app, editing);
+    finish(editing, made)
+}
+
+/// Why the rules refuse a move, if they do: `NoTask` where the core is idle, `TickLimit` where the
+/// tick is 4,294,967,295, `BadEdit` where the edit can't be made.
 pub fn why_not(app: &App, state: &State, action: &Move) -> Option<Refusal>
     requires valid { IsValid app.now state.now }
     requires named { IsMoveOf app.now action.now }
     ensures refused { IfSome result (λ refusal. step app.now state.now action.now ≡ Err refusal) }
     ensures made { result ≡ None → IsOk (step app.now state.now action.now) }
 {
-    let _ = app;
     match action {
         Move::Core { core } if state.core(*core).is_none() => Some(Refusal::NoTask),
         Move::Tick if state.tick() == u32::MAX => Some(Refusal::TickLimit),
-        Move::Core { .. } | Move::Tick => None,
+        Move::Edit { edit } if !edit.is_good(app, state) => Some(Refusal::BadEdit),
+        Move::Core { .. } | Move::Tick | Move::Edit { .. } => None,
     }
 }
 
 /// Makes a move where the state and the record are, and adds its record, which undoes it exactly, to
 /// those of the moves before. A refusal leaves the state and the record as they were: `NoTask` where
-/// the core is idle, `TickLimit` where the tick is 4,294,967,295, `NoMemory` where a growth was
-/// refused, as none is where the record has room for the move. There is no other. The record keeps
-/// the memory that it has.
-pub fn play_on(editing: &mut Editing, app: &App, action: Move) -> Result<(), Refusal>
+/// the core is idle, `TickLimit` where the tick is 4,294,967,295, `BadEdit` where the edit can't be
+/// made, `NoMemory` where a growth was refused, as none is where the record has room for the move.
+/// There is no other. The record keeps the memory that it has.
+pub fn play_on(editing: &mut Editing, app: &App, action: &Move) -> Result<(), Refusal>
     requires valid { IsValid app.now editing.old.now }
-    requires named { IsMoveOf app.now action }
+    requires named { IsMoveOf app.now action.now }
     ensures before { OnOk result
         (take (length editing.old.changes) editing.new.changes ≡ editing.old.changes) }
-    ensures played { OnOk result (IsPlayed app.now editing.old.now action editing.new.now
+    ensures played { OnOk result (IsPlayed app.now editing.old.now action.now editing.new.now
         (added editing.old.changes editing.new.changes)) }
     ensures no_task { IsErrOf result Refusal.NoTask
-        ↔ (step app.now editing.old.now action ≡ Err Refusal.NoTask) }
+        ↔ (step app.now editing.old.now action.now ≡ Err Refusal.NoTask) }
     ensures tick_limit { IsErrOf result Refusal.TickLimit
-        ↔ (step app.now editing.old.now action ≡ Err Refusal.TickLimit) }
+        ↔ (step app.now editing.old.now action.now ≡ Err Refusal.TickLimit) }
+    ensures bad_edit { IsErrOf result Refusal.BadEdit
+        ↔ (step app.now editing.old.now action.now ≡ Err Refusal.BadEdit) }
     ensures refusals { IfErr result (λ refusal.
-        (step app.now editing.old.now action ≡ Err refusal) ⊎ (refusal ≡ Refusal.NoMemory)) }
+        (step app.now editing.old.now action.now ≡ Err refusal) ⊎ (refusal ≡ Refusal.NoMemory)) }
     ensures short { IsErrOf result Refusal.NoMemory
-        → editing.old.room < room_for (record_limit app.now editing.old.now action) }
+        → editing.old.room < room_for (record_limit app.now editing.old.now action.now) }
     ensures err { OnErr result (editing.new.now ≡ editing.old.now) }
     ensures err_record { OnErr result (editing.new.changes ≡ editing.old.changes) }
     ensures grows { capacity_of editing.old ≤ capacity_of editing.new }
 {
     match action {
         Move::Core { core } => {
-            let Some(task) = caller_on(app, editing.state(), core) else {
+            let Some(task) = caller_on(app, editing.state(), *core) else {
                 return Err(Refusal::NoTask);
             };
-            play_core(editing, app, core, task).map_err(Refusal::from)
+            play_core(editing, app, *core, task).map_err(Refusal::from)
         }
         Move::Tick if editing.state().tick() == u32::MAX => Err(Refusal::TickLimit),
         Move::Tick => play_tick(editing, app).map_err(Refusal::from),
+        Move::Edit { edit } if !edit.is_good(app, editing.state()) => Err(Refusal::BadEdit),
+        Move::Edit { edit } => play_edit(editing, app, edit).map_err(Refusal::from),
     }
 }
 
 /// Makes a move and returns its record, which undoes it exactly. A refusal leaves the state as it
-/// was: `NoTask` where the core is idle, `TickLimit` where the tick is 4,294,967,295, `NoMemory`
-/// where a growth was refused. There is no other.
+/// was: `NoTask` where the core is idle, `TickLimit` where the tick is 4,294,967,295, `BadEdit` where
+/// the edit can't be made, `NoMemory` where a growth was refused. There is no other.
 pub fn play(alloc: Global, state: &mut State, app: &App, action: Move) -> Result<Undo, Refusal>
     requires valid { IsValid app.now state.old }
     requires named { IsMoveOf app.now action }
@@ -153,6 +153,8 @@ pub fn play(alloc: Global, state: &mut State, app: &App, action: Move) -> Result
         ↔ (step app.now state.old action ≡ Err Refusal.NoTask) }
     ensures tick_limit { IsErrOf result Refusal.TickLimit
         ↔ (step app.now state.old action ≡ Err Refusal.TickLimit) }
+    ensures bad_edit { IsErrOf result Refusal.BadEdit
+        ↔ (step app.now state.old action ≡ Err Refusal.BadEdit) }
     ensures refusals { IfErr result (λ refusal.
         (step app.now state.old action ≡ Err refusal) ⊎ (refusal ≡ Refusal.NoMemory)) }
     ensures err { OnErr result (state.new ≡ state.old) }
@@ -165,11 +167,11 @@ pub fn play(alloc: Global, state: &mut State, app: &App, action: Move) -> Result
 
     // A valid state stays valid, and nothing is left to schedule between moves.
     ensures valid { OnOk result (IsValid app.now state.new) }
-    ensures settled { OnOk result (IsSettled (priorities_of app.now) state.new) }
+    ensures settled { OnOk result (LeavesSettled app.now state.old action state.new) }
 {
     let before = mem::replace(state, State::hollow(alloc));
     let mut editing = Editing::new(before, Undo::new(alloc));
-    let made = play_on(&mut editing, app, action);
+    let made = play_on(&mut editing, app, &action);
     let undo = editing.end(state);
     match made {
         Ok(()) => Ok(undo),

@@ -1,2 +1,8 @@
 -- The lemmas of this crate.
+pub mod BindingLaws
+pub mod CommandLaws
+pub mod FormLaws
 pub mod LineLaws
+pub mod Steps
+pub mod TableLaws
+pub mod ThereLaws

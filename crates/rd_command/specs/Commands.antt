@@ -1,64 +1,94 @@
--- How a command is spelled, by the words of its line.
-use Rattle.std.specs.Prelude.{ℕ, ◌&&◌, codes, List, [], ◌∷◌, nat_lt, nat_le, if◌then◌else◌}
-use Rattle.std.specs.Prelude.{Option, Some, None, option_map, option_and_then}
+-- The commands of a session, and how each is spelled.
+use Rattle.std.specs.Prelude.{ℕ, ◌≡◌, ◌↔◌, true, List, [], ◌∷◌, ◌++◌, if◌then◌else◌}
+use Rattle.std.specs.Prelude.{Option, Some, None, option_and_then}
+use Rattle.std.specs.Option.{option_or}
 use Rattle.std.specs.Str.{bytes_eq}
-use Rattle.rd_text.specs.declared.kind.Kind.{Kind}
-use Rattle.rd_text.specs.Kinds.{kind_of_word}
-use Rattle.rd_text.specs.Words.{number_of, name_of}
-use Rattle.rd_command.specs.declared.command.Command.{Command}
-use Rattle.rd_command.specs.declared.command.Command.TheVariants as command
+use Rattle.rd_command.specs.declared.keyword.ConditionKeyword.{ConditionKeyword}
+use Rattle.rd_command.specs.declared.keyword.Keyword.{Keyword}
+use Rattle.rd_command.specs.declared.keyword.Parameter.{Parameter}
+use Rattle.rd_command.specs.Forms.{after_texts, are_operands, is_formed}
+use Rattle.rd_command.specs.Keywords.{Operands, Plain, WithCondition, Row, Spelled, keywords}
+use Rattle.rd_command.specs.Keywords.{condition_row, more_of, operands_of, parameters_of, row_of}
+use Rattle.rd_command.specs.Keywords.{text_of, verb_of}
 
--- A command, with its names as plain text.
-pub data Asked : Type 0 where
-  Step : ℕ → Asked
-  Tick : Asked
-  Back : ℕ → Asked
-  Show : Kind → List ℕ → Asked
-  ShowCores : Asked
+-- a command: its keyword, and the words of its operands
+pub record CommandView : Type 0 where
+  pub keyword : Keyword
+  pub operands : List (List ℕ)
 
-abbrev pub asked : Command → Asked
-asked (command.Step core) = Step core
-asked command.Tick = Tick
-asked (command.Back count) = Back count
-asked (command.Show kind name) = Show kind name.now
-asked command.ShowCores = ShowCores
+-- ---- what words spell
 
--- a number of moves: 1 to 1,000,000
-abbrev pub count_of : List ℕ → Option ℕ
-count_of word =
-    option_and_then
-    (λ count. if nat_lt 0 count && nat_le count 1000000 then Some count else None)
-    (number_of word)
+-- The words are one of the form of each of these operands, and no more.
+abbrev pub AreFormed : List Parameter → List (List ℕ) → Type 0
+AreFormed [] words = words ≡ []
+AreFormed (parameter ∷ others) words =
+    (word : List ℕ)
+    × (left : List (List ℕ))
+    × (words ≡ word ∷ left)
+    × (is_formed parameter word ≡ true)
+    × AreFormed others left
 
--- `step N`, `back COUNT`
-abbrev pub numbered_command : List ℕ → List ℕ → Option Asked
-numbered_command verb number =
-    if bytes_eq verb (codes "step") then option_map Step (number_of number)
-    else if bytes_eq verb (codes "back") then option_map Back (count_of number)
+-- The words are such operands: those of a condition come first, with its keyword before them.
+abbrev pub AreOperands : Operands → List (List ℕ) → Type 0
+AreOperands (Plain parameters) words = AreFormed parameters words
+AreOperands (WithCondition parameters) words =
+    (keyword : ConditionKeyword)
+    × (left : List (List ℕ))
+    × (words ≡ text_of (condition_row keyword) ∷ left)
+    × AreFormed (parameters_of (condition_row keyword) ++ parameters) left
+
+-- The words are the command's: those of its keyword, and then its operands.
+pub record Spells (words : List (List ℕ)) (command : CommandView) : Type 0 where
+  pub written : words
+      ≡ verb_of (row_of command.keyword) ∷ (more_of (row_of command.keyword) ++ command.operands)
+  pub formed : AreOperands (operands_of (row_of command.keyword)) command.operands
+
+-- No words spell two commands.
+abbrev pub NoLineIsTwoCommands : Type 0
+NoLineIsTwoCommands =
+    (words : List (List ℕ)) → (command other : CommandView)
+    → Spells words command
+    → Spells words other
+    → command ≡ other
+
+-- ---- how a command is found
+
+-- the command with a keyword that is written so, if the words, of which the first stands apart, are
+-- the keyword's and then its operands
+abbrev pub command_with : List ℕ → List (List ℕ) → Operands → Keyword → List ℕ → List (List ℕ)
+    → Option CommandView
+command_with verb more operands keyword first words =
+    if bytes_eq first verb
+    then option_and_then
+    (λ left.
+    if are_operands operands left
+    then Some (record { keyword = keyword; operands = left })
+    else None)
+    (after_texts more words)
     else None
 
--- `show KIND NAME`
-abbrev pub view_of_named : List ℕ → List ℕ → Option Asked
-view_of_named kind name =
-    option_and_then (λ kind. option_map (Show kind) (name_of name)) (kind_of_word kind)
+abbrev pub command_spelled : Row → Keyword → List ℕ → List (List ℕ) → Option CommandView
+command_spelled (Spelled verb more operands make) keyword first words =
+    command_with verb more operands keyword first words
 
--- `show cores`
-abbrev pub view_without_name : List ℕ → Option Asked
-view_without_name kind = if bytes_eq kind (codes "cores") then Some ShowCores else None
+-- the command with the first of these keywords that the words are spelled with
+abbrev pub command_among : List Keyword → List ℕ → List (List ℕ) → Option CommandView
+command_among [] first words = None
+command_among (keyword ∷ others) first words =
+    option_or (command_spelled (row_of keyword) keyword first words)
+    (command_among others first words)
 
--- a view, or `step N` or `back COUNT`
-abbrev pub two_word_command : List ℕ → List ℕ → Option Asked
-two_word_command verb word =
-    if bytes_eq verb (codes "show") then view_without_name word else numbered_command verb word
-
--- `tick`
-abbrev pub single_word_command : List ℕ → Option Asked
-single_word_command verb = if bytes_eq verb (codes "tick") then Some Tick else None
+-- the command that words spell, of which the first stands apart, if they do
+unfoldable pub command_from : List ℕ → List (List ℕ) → Option CommandView
+command_from first words = command_among keywords first words
 
 -- the command that these words spell, if they do
-abbrev pub command_of : List (List ℕ) → Option Asked
-command_of (verb ∷ []) = single_word_command verb
-command_of (verb ∷ word ∷ []) = two_word_command verb word
-command_of (verb ∷ kind ∷ name ∷ []) =
-    if bytes_eq verb (codes "show") then view_of_named kind name else None
-command_of _ = None
+abbrev pub command_of : List (List ℕ) → Option CommandView
+command_of [] = None
+command_of (first ∷ words) = command_from first words
+
+-- What is found is spelled, and what is spelled is found.
+abbrev pub FindsWhatIsSpelled : Type 0
+FindsWhatIsSpelled =
+    (words : List (List ℕ)) → (command : CommandView)
+    → (command_of words ≡ Some command ↔ Spells words command)

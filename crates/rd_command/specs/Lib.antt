@@ -1,3 +1,7 @@
 -- What the contracts of this crate cite.
+pub mod Bindings
 pub mod Commands
+pub mod Forms
+pub mod Keywords
 pub mod Lines
+pub mod Tables

@@ -1,50 +1,70 @@
 //! The commands of a session.
 
-ghost use Rattle.std.specs.Prelude.{◌≡◌, option_map};
+ghost use Rattle.std.specs.Prelude.{◌≡◌, Some, IfOk};
 ghost use Rattle.std.specs.Result.{result_ok};
 ghost use Rattle.rd_text.specs.Words.{words_of};
-ghost use Rattle.rd_command.specs.Commands.{asked, command_of, count_of};
-ghost use Rattle.rd_command.specs.Commands.{single_word_command, two_word_command};
-ghost use Rattle.rd_command.specs.Commands.{numbered_command};
-ghost use Rattle.rd_command.specs.Commands.{view_without_name, view_of_named};
+ghost use Rattle.rd_command.specs.Commands.{CommandView, Spells, command_from, command_of};
+ghost use Rattle.rd_command.specs.Tables.{command_in, first_command, row_view, rows_view};
 
-use rd_text::kind::Kind;
-use rd_text::words::{Words, name, number};
+use crate::form::{after_texts, are_operands};
+use crate::keyword::{KEYWORDS, Keyword, Row};
+use rd_text::words::Words;
+use std::marker::Model;
 
-/// How many moves a command makes or takes back at the most.
-pub const MAX_COUNT: u32 = 1_000_000;
+/// A command of a session: its keyword, and the words of its operands, which have the forms that
+/// the keyword asks for. What they name is looked up by `bind`.
+#[derive(Debug, Drop)]
+pub struct Command<'a> {
+    keyword: Keyword,
+    operands: Words<'a>,
+}
 
-/// A command of a session.
-#[derive(Clone, Copy, Debug)]
-pub enum Command<'a> {
-    /// `step N`: the move of this core.
-    Step { core: u32 },
-    /// `tick`: a tick passes.
-    Tick,
-    /// `back COUNT`: the last moves are undone, 1 to 1,000,000 of them.
-    Back { count: u32 },
-    /// `show KIND NAME`: the thing of that kind and name, as `show queue Q`.
-    Show { kind: Kind, name: &'a str },
-    /// `show cores`: who runs, who is ready, the tick and the turn.
-    ShowCores,
+impl<'a> Model for Command<'a> {
+    ghost use Rattle.rd_command.specs.Commands.{CommandView};
+
+    ghost Value = { CommandView };
+
+    ghost view = { λ c. record { keyword = c.keyword; operands = c.operands } };
 }
 
 /// The line is no command.
 #[derive(Debug, Drop)]
 pub struct Syntax;
 
+impl<'a> Command<'a> {
+    /// The words of the operands.
+    pub(crate) fn operands(&self) -> Words<'a>
+        ensures { result ≡ self.now.operands }
+    {
+        self.operands.copy()
+    }
+
+    /// The keyword.
+    pub(crate) fn keyword(&self) -> Keyword
+        ensures { result ≡ self.now.keyword }
+    {
+        self.keyword
+    }
+}
+
 /// Reads a command from its line. `Syntax` exactly where the words of the line spell none.
 pub fn parse_line(line: &[u8]) -> Result<Command<'_>, Syntax>
-    ensures { option_map asked (result_ok result) ≡ command_of (words_of line.now) }
+    ensures exact { result_ok result ≡ command_of (words_of line.now) }
+    // What is read is spelled so, and what is spelled so is read.
+    ensures spelled { IfOk result (Spells (words_of line.now)) }
+    ensures only { (command : CommandView) → Spells (words_of line.now) command
+        → result_ok result ≡ Some command }
+{
+    read_line(line).ok_or(Syntax)
+}
+
+// The command that the words of the line spell, if they do.
+fn read_line(line: &[u8]) -> Option<Command<'_>>
+    ensures { result ≡ command_of (words_of line.now) }
 {
     let mut words = words_in(line);
-    let command = match (words.next(), words.next(), words.next(), words.next()) {
-        (Some(verb), None, _, _) => single_word_command(verb),
-        (Some(verb), Some(word), None, _) => two_word_command(verb, word),
-        (Some(b"show"), Some(kind), Some(name), None) => view_of_named(kind, name),
-        _ => None,
-    };
-    command.ok_or(Syntax)
+    let first = words.next()?;
+    command_from(first, &words)
 }
 
 // The words of a line. Of the reader's contract only this matters here.
@@ -54,63 +74,42 @@ fn words_in(line: &[u8]) -> Words<'_>
     Words::new(line)
 }
 
-// `step N`, `back COUNT` or `show cores`.
-fn two_word_command<'a>(verb: &[u8], word: &'a [u8]) -> Option<Command<'a>>
-    ensures { option_map asked result ≡ two_word_command verb.now word.now }
+// The command that the words spell, of which the first stands apart, if they do.
+fn command_from<'a>(first: &[u8], words: &Words<'a>) -> Option<Command<'a>>
+    ensures { result ≡ command_from first.now words.now }
 {
-    match verb {
-        b"show" => view_without_name(word),
-        _ => numbered_command(verb, word),
+    first_command(first, words, &KEYWORDS)
+}
+
+// The command of the first of these keywords that the words are spelled with. The first word stands
+// apart.
+fn first_command<'a>(first: &[u8], words: &Words<'a>, rows: &[Row<'_>]) -> Option<Command<'a>>
+    ensures { result ≡ first_command (rows_view rows.now) first.now words.now }
+{
+    for row in rows {
+        let command = command_in(row, first, words);
+        if command.is_some() {
+            return command;
+        }
     }
+    None
 }
 
-// `show cores`.
-fn view_without_name<'a>(kind: &[u8]) -> Option<Command<'a>>
-    ensures { option_map asked result ≡ view_without_name kind.now }
+// The command with this keyword, if the words are the keyword's and then its operands.
+fn command_in<'a>(row: &Row<'_>, first: &[u8], words: &Words<'a>) -> Option<Command<'a>>
+    ensures { result ≡ command_in (row_view row.now) first.now words.now }
 {
-    match kind {
-        b"cores" => Some(Command::ShowCores),
-        _ => None,
+    let (verb, more, operands, keyword) = *row;
+    if first != verb.as_bytes() {
+        return None;
     }
-}
-
-// `tick`.
-fn single_word_command<'a>(verb: &[u8]) -> Option<Command<'a>>
-    ensures { option_map asked result ≡ single_word_command verb.now }
-{
-    match verb {
-        b"tick" => Some(Command::Tick),
-        _ => None,
+    let left = after_texts(words, more)?;
+    if are_operands(&left, operands) {
+        Some(Command {
+            keyword,
+            operands: left,
+        })
+    } else {
+        None
     }
-}
-
-// `step N` or `back COUNT`.
-fn numbered_command<'a>(verb: &[u8], word: &'a [u8]) -> Option<Command<'a>>
-    ensures { option_map asked result ≡ numbered_command verb.now word.now }
-{
-    match verb {
-        b"step" => Some(Command::Step {
-            core: number(word)?,
-        }),
-        b"back" => Some(Command::Back {
-            count: count_of(word)?,
-        }),
-        _ => None,
-    }
-}
-
-// `show KIND NAME`.
-fn view_of_named<'a>(kind: &[u8], word: &'a [u8]) -> Option<Command<'a>>
-    ensures { option_map asked result ≡ view_of_named kind.now word.now }
-{
-    let kind = Kind::of_word(kind)?;
-    let name = name(word)?;
-    Some(Command::Show { kind, name })
-}
-
-// A number of moves.
-fn count_of(word: &[u8]) -> Option<u32>
-    ensures { result ≡ count_of word.now }
-{
-    number(word).filter(|count| (1..=MAX_COUNT).contains(count))
 }

@@ -1,5 +1,10 @@
-//! The lines of a session, and the commands that they are.
+//! The lines of a session, the commands that they are, and what these name of an application.
 #![tactic(auto)]
 
+pub mod binding;
 pub mod command;
+mod form;
+mod keyword;
+pub mod laws;
 pub mod lines;
+mod reader;

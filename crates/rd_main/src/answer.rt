@@ -3,16 +3,17 @@
 ghost use Rattle.std.specs.Prelude.{◌≡◌, ◌+◌, ◌++◌, ◌<◌, ◌≤◌, length, take, IsOk, OnErr, OnOk};
 ghost use Rattle.std.specs.Prelude.{vec_capacity, vec_len};
 ghost use Rattle.rd_app.specs.Application.{names_of};
-ghost use Rattle.rd_calls.specs.Step.{IsMoveOf};
 ghost use Rattle.rd_text.specs.Words.{words_of};
 ghost use Rattle.rd_command.specs.Commands.{command_of};
-ghost use Rattle.rd_main.specs.Answers.{MoveReply, StepReply, BackReply, IsAnswer, Adds, no_memory};
-ghost use Rattle.rd_main.specs.Answers.{NamedLine, CoresLine, room_in, view_text};
-ghost use Rattle.rd_reply.specs.Pages.{LacksRoom, KeepsFront};
-ghost use Rattle.rd_reply.specs.Replies.{line_of};
+ghost use Rattle.rd_main.specs.Answers.{refusal_line, room_in, view_text};
+ghost use Rattle.rd_main.specs.Answers.{Adds, IsAnswer, IsLineOf, IsShown, IsThere};
+ghost use Rattle.rd_reply.specs.Pages.{KeepsFront, LacksRoom};
+ghost use Rattle.rd_reply.specs.Replies.{cores_text, line_of};
 
-use rd_calls::moves::Move;
-use rd_command::command::{Command, parse_line};
+use crate::ask::{Answer, ask};
+use rd_command::binding::bind;
+use rd_command::command::parse_line;
+use rd_refusal::refusal::Refusal;
 use rd_reply::buffers::{show_message, show_stream};
 use rd_reply::groups::show_group;
 use rd_reply::reply::{
@@ -20,45 +21,14 @@ use rd_reply::reply::{
     show_task,
 };
 use rd_text::kind::Kind;
-use rd_text::refusal::Refusal;
 use rd_timeline::timeline::Timeline;
 use std::alloc::AllocError;
 
-// Makes a move.
-fn make(timeline: &mut Timeline, action: Move) -> Reply
-    requires { IsMoveOf timeline.old.app action }
-    ensures { MoveReply timeline.old action timeline.new result }
+fn append_refusal_reserved(answers: &mut Vec<u8>, refusal: Refusal)
+    requires { vec_len answers.old + MAX_REPLY ≤ vec_capacity answers.old }
+    ensures { answers.new.items ≡ answers.old.items ++ refusal_line refusal }
 {
-    match timeline.go(action) {
-        Ok(at) => Reply::Done { at },
-        Err(refusal) => refused(refusal),
-    }
-}
-
-// Makes the move of a core.
-fn step(timeline: &mut Timeline, core: usize) -> Reply
-    ensures { StepReply timeline.old core timeline.new result }
-{
-    if core >= timeline.app().cores() {
-        return refused(Refusal::NoSuch);
-    }
-    make(timeline, Move::Core { core })
-}
-
-// Takes the last moves back.
-fn back(timeline: &mut Timeline, count: usize) -> Reply
-    ensures { BackReply timeline.old count timeline.new result }
-{
-    match timeline.back(count) {
-        Ok(at) => Reply::Done { at },
-        Err(refusal) => refused(refusal),
-    }
-}
-
-fn refused(refusal: Refusal) -> Reply
-    ensures { result ≡ Reply.Refused refusal }
-{
-    Reply::Refused { refusal }
+    append_reply_reserved(answers, Reply::Refused { refusal });
 }
 
 // Ends a view that was appended after so many bytes. What there is of one that memory ran out for
@@ -66,45 +36,44 @@ fn refused(refusal: Refusal) -> Reply
 fn end_view(answers: &mut Vec<u8>, len: usize, shown: Result<(), AllocError>)
     requires { len + MAX_REPLY ≤ vec_capacity answers.old }
     ensures ok { OnOk shown (answers.new.items ≡ answers.old.items) }
-    ensures err { OnErr shown (answers.new.items ≡ take len answers.old.items ++ no_memory) }
+    ensures err { OnErr shown (answers.new.items
+        ≡ take len answers.old.items ++ refusal_line Refusal.NoMemory) }
 {
     if shown.is_err() {
         answers.truncate(len);
-        append_reply_reserved(answers, refused(Refusal::NoMemory));
+        append_refusal_reserved(answers, Refusal::NoMemory);
     }
 }
 
-// Appends the view of the thing of that kind and name.
-fn put_named(timeline: &Timeline, answers: &mut Vec<u8>, kind: Kind, name: &str)
-    requires { vec_len answers.old + MAX_REPLY ≤ vec_capacity answers.old }
+// Appends the view of the thing of that kind and number.
+fn put_thing(timeline: &Timeline, answers: &mut Vec<u8>, kind: Kind, number: usize)
+    requires room { vec_len answers.old + MAX_REPLY ≤ vec_capacity answers.old }
+    requires there { number < length (names_of kind timeline.now.app) }
     ensures { Adds answers.old.items answers.new.items
-        (NamedLine (room_in answers.old) timeline.now kind name.now) }
+        (IsShown (room_in answers.old) (view_text timeline.now kind number)) }
 {
-    let Some(number) = timeline.app().find(kind, name) else {
-        return append_reply_reserved(answers, refused(Refusal::NoSuch));
-    };
     let len = answers.len();
-    let shown = show_named(timeline, answers, kind, number, name);
+    let shown = show_thing(timeline, answers, kind, number);
     end_view(answers, len, shown);
 }
 
 // Appends what is shown of the thing of that kind and number, as far as there is room for it.
-fn show_named(
+fn show_thing(
     timeline: &Timeline,
     answers: &mut Vec<u8>,
     kind: Kind,
     number: usize,
-    name: &str,
 ) -> Result<(), AllocError>
     requires { number < length (names_of kind timeline.now.app) }
     ensures text { OnOk result (answers.new.items
-        ≡ answers.old.items ++ line_of (view_text timeline.now kind name.now number)) }
+        ≡ answers.old.items ++ line_of (view_text timeline.now kind number)) }
     ensures full { OnErr result
-        (LacksRoom answers.old (line_of (view_text timeline.now kind name.now number))) }
+        (LacksRoom answers.old (line_of (view_text timeline.now kind number))) }
     ensures kept { KeepsFront answers.old answers.new }
 {
     let app = timeline.app();
     let target = timeline.target();
+    let name = app.name(kind, number);
     app.limits();
     timeline.keeps();
     match kind {
@@ -124,7 +93,7 @@ fn show_named(
 fn put_cores(timeline: &Timeline, answers: &mut Vec<u8>)
     requires { vec_len answers.old + MAX_REPLY ≤ vec_capacity answers.old }
     ensures { Adds answers.old.items answers.new.items
-        (CoresLine (room_in answers.old) timeline.now) }
+        (IsShown (room_in answers.old) (cores_text timeline.now.app timeline.now.target)) }
 {
     timeline.app().limits();
     timeline.keeps();
@@ -133,22 +102,35 @@ fn put_cores(timeline: &Timeline, answers: &mut Vec<u8>)
     end_view(answers, len, shown);
 }
 
-// Appends the answer to a line, where there is room for a reply.
+// Appends the line of an answer, where there is room for a reply.
+fn put_line(timeline: &Timeline, answers: &mut Vec<u8>, answer: Answer)
+    requires room { vec_len answers.old + MAX_REPLY ≤ vec_capacity answers.old }
+    requires there { IsThere timeline.now answer }
+    ensures { Adds answers.old.items answers.new.items
+        (IsLineOf (room_in answers.old) timeline.now answer) }
+{
+    match answer {
+        Answer::Reply { reply } => append_reply_reserved(answers, reply),
+        Answer::Thing { kind, number } => put_thing(timeline, answers, kind, number),
+        Answer::Cores => put_cores(timeline, answers),
+    }
+}
+
+// Appends the answer to a line, where there is room for a reply: the command is bound, then done,
+// and then its answer is written.
 fn put_reserved(timeline: &mut Timeline, answers: &mut Vec<u8>, line: &[u8])
     requires { vec_len answers.old + MAX_REPLY ≤ vec_capacity answers.old }
     ensures { Adds answers.old.items answers.new.items (IsAnswer (room_in answers.old)
         timeline.old (command_of (words_of line.now)) timeline.new) }
 {
-    match parse_line(line) {
-        Ok(Command::Step { core }) => append_reply_reserved(answers, step(timeline, core as usize)),
-        Ok(Command::Tick) => append_reply_reserved(answers, make(timeline, Move::Tick)),
-        Ok(Command::Back { count }) => {
-            append_reply_reserved(answers, back(timeline, count as usize));
-        }
-        Ok(Command::Show { kind, name }) => put_named(timeline, answers, kind, name),
-        Ok(Command::ShowCores) => put_cores(timeline, answers),
-        Err(_) => append_reply_reserved(answers, refused(Refusal::Syntax)),
-    }
+    let Ok(command) = parse_line(line) else {
+        return append_refusal_reserved(answers, Refusal::Syntax);
+    };
+    let Ok(bound) = bind(&command, timeline.app()) else {
+        return append_refusal_reserved(answers, Refusal::NoSuch);
+    };
+    let answer = ask(timeline, bound);
+    put_line(timeline, answers, answer);
 }
 
 /// Does what the line asks for, if it is a command, and appends the answer. Where there is no

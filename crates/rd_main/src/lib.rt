@@ -6,6 +6,7 @@ ghost use Rattle.std.specs.IoError.{error_kind};
 ghost use Rattle.rd_start.specs.declared.fault.Fault.TheVariants.{BadCommandLine};
 
 pub mod answer;
+pub mod ask;
 pub mod session;
 
 use crate::session::Session;

@@ -5,8 +5,8 @@ ghost use Rattle.std.specs.Io.KnownBytes.{Appends};
 
 use crate::answer::put_answer;
 use rd_command::lines::{Front, Lines};
+use rd_refusal::refusal::Refusal;
 use rd_reply::reply::{Reply, append_reply};
-use rd_text::refusal::Refusal;
 use rd_timeline::timeline::Timeline;
 use std::alloc::{AllocError, Global};
 use std::io::{ErrorKind, Read, Write};

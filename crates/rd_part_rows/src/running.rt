@@ -8,8 +8,8 @@ ghost use Rattle.rd_condition.specs.declared.condition.Condition.TheVariants.{Co
 use crate::asserts::assert_same;
 use crate::files::read;
 use rd_condition::condition::{Amount, Comparison, Condition};
-use rd_text::refusal::Refusal;
-use rd_timeline::running::{Found, RedoRefusal};
+use rd_refusal::refusal::Refusal;
+use rd_timeline::running::Found;
 use rd_timeline::timeline::Timeline;
 use std::process::Abort;
 use std::test::Fail;
@@ -78,7 +78,7 @@ fn searches_backwards(rt: &impl Abort, timeline: &mut Timeline) {
 }
 
 fn redoes(rt: &impl Abort, timeline: &mut Timeline) {
-    assert_same(rt, timeline.redo(10), Err(RedoRefusal::NothingUndone));
+    assert_same(rt, timeline.redo(10), Err(Refusal::NothingUndone));
     assert_same(rt, timeline.redo(9), Ok(9));
     assert_same(rt, timeline.target().tick(), 4);
 }

@@ -9,6 +9,7 @@ use rd_calls::moves::Move;
 use rd_calls::policy::policy;
 use rd_timeline::runs::Request;
 use rd_timeline::timeline::Timeline;
+use std::alloc::{AllocError, Global};
 use std::process::Abort;
 use std::test::Fail;
 
@@ -39,10 +40,18 @@ fn goes_back_too_far(rt: &impl Abort, timeline: &mut Timeline) {
     assert_place(rt, timeline, 3, 0, 3);
 }
 
-// (Two requests: a proof of three in one list takes minutes.)
-fn goes_there_and_back(rt: &impl Abort, timeline: &mut Timeline) {
-    assert!(rt; timeline.run(&[Request::Back { count: 2 }, go()]).is_ok());
+// (A `Vec`: that an array of requests is dropped takes a proof of many minutes.)
+fn goes_there_and_back(
+    rt: &impl Abort,
+    alloc: Global,
+    timeline: &mut Timeline,
+) -> Result<(), AllocError> {
+    let mut requests = Vec::with_capacity(alloc, 2)?;
+    requests.push_reserved(Request::Back { count: 2 });
+    requests.push_reserved(go());
+    assert!(rt; timeline.run(requests.as_slice()).is_ok());
     assert_place(rt, timeline, 2, 0, 2);
+    Ok(())
 }
 
 fn goes_back_once(rt: &impl Abort, timeline: &mut Timeline) {
@@ -56,10 +65,10 @@ fn whole_runs(rt: HostRuntime) -> Result<(), Fail> {
     let mut timeline = Timeline::new(alloc, App::builtin(alloc)?, 3)?;
     goes_to_the_limit(&rt, &mut timeline);
     goes_back_too_far(&rt, &mut timeline);
-    goes_there_and_back(&rt, &mut timeline);
+    let result = goes_there_and_back(&rt, alloc, &mut timeline);
     goes_back_once(&rt, &mut timeline);
     timeline.close();
-    Ok(())
+    Ok(result?)
 }
 
 const ROUND_ROBIN: &str = concat!(

@@ -1,18 +1,22 @@
 -- What becomes of a page through several texts that are appended to it.
-use Rattle.std.proofs.Common.{◌≡◌, ◌∙◌, refl, sym, subst, Bool, false, true, true≢false, ℕ, List, ◌++◌, length, ap, arith, append_assoc, length-append}
+use Rattle.std.proofs.Common.{◌≡◌, ◌∙◌, refl, sym, subst, Bool, false, true, true≢false, ℕ, List}
+use Rattle.std.proofs.Common.{◌++◌, length, ap, arith, append_assoc, length-append}
 use Rattle.std.specs.Global.{Vec}
 use Rattle.rd_reply.specs.declared.page.Page.{Page}
 use Rattle.rd_reply.specs.Pages.{Appends, LacksRoom, KeepsFront}
 
-kept_then : (old between new : Vec ℕ) → KeepsFront old between → KeepsFront between new → KeepsFront old new
+kept_then : (old between new : Vec ℕ)
+    → KeepsFront old between → KeepsFront between new → KeepsFront old new
 kept_then old between new first second = record {
-  front = λ count within. second.front count (omega (arith, within, first.len)) ∙ first.front count within;
+  front = λ count within. second.front count (omega (arith, within, first.len))
+      ∙ first.front count within;
   len = omega (arith, first.len, second.len);
   room = omega (arith, first.room, second.room);
 }
 
 -- A page that isn't full in the end wasn't before.
-fits_before : (before after : Bool) → (before ≡ true → after ≡ true) → after ≡ false → before ≡ false
+fits_before : (before after : Bool)
+    → (before ≡ true → after ≡ true) → after ≡ false → before ≡ false
 fits_before false after stays fits = refl
 fits_before true after stays fits = absurd (true≢false (sym (stays refl) ∙ fits))
 
@@ -20,26 +24,42 @@ fits_before true after stays fits = absurd (true≢false (sym (stays refl) ∙ f
 full_at_first : (page : Vec ℕ) (s t : List ℕ) → LacksRoom page s → LacksRoom page (s ++ t)
 full_at_first page s t full = omega (arith, full, length-append s t)
 
-full_at_second : (old between : Vec ℕ) (s t : List ℕ) → between.items ≡ old.items ++ s → KeepsFront old between
+full_at_second : (old between : Vec ℕ) (s t : List ℕ) → between.items ≡ old.items ++ s
+    → KeepsFront old between
     → LacksRoom between t → LacksRoom old (s ++ t)
 full_at_second old between s t is kept full =
-    omega (arith, full, kept.room, length-append s t, ap length is, length-append old.items s, old.ok.0, between.ok.0)
+    omega (
+      arith,
+      full,
+      kept.room,
+      length-append s t,
+      ap length is,
+      length-append old.items s,
+      old.ok.0,
+      between.ok.0,
+    )
 
 full_then : (old between new : Page) (s t : List ℕ) → Appends old between s → Appends between new t
-    → new.is_full ≡ true → old.is_full ≡ false → (is : Bool) → between.is_full ≡ is → LacksRoom old.bytes.now (s ++ t)
+    → new.is_full ≡ true → old.is_full ≡ false → (is : Bool) → between.is_full ≡ is
+    → LacksRoom old.bytes.now (s ++ t)
 full_then old between new s t first second full fits false is =
-    full_at_second old.bytes.now between.bytes.now s t (first.added is) first.kept (second.full full is)
+    full_at_second old.bytes.now between.bytes.now s t (first.added is) first.kept
+    (second.full full is)
 full_then old between new s t first second full fits true is =
     full_at_first old.bytes.now s t (first.full is fits)
 
 -- one text and then another
-pub appends_then : {old between new : Page} {s t : List ℕ} → Appends old between s → Appends between new t → Appends old new (s ++ t)
+pub appends_then : {old between new : Page} {s t : List ℕ}
+    → Appends old between s → Appends between new t → Appends old new (s ++ t)
 appends_then {old = old} {between = between} {new = new} {s = s} {t = t} first second = record {
   same = second.same ∙ first.same;
   added = λ fits.
-      second.added fits ∙ ap (λ (bytes : List ℕ). bytes ++ t) (first.added (fits_before between.is_full new.is_full second.stays fits))
+      second.added fits
+      ∙ ap (λ (bytes : List ℕ). bytes ++ t)
+      (first.added (fits_before between.is_full new.is_full second.stays fits))
       ∙ append_assoc old.bytes.now.items s t;
-  full = λ is_full fits. full_then old between new s t first second is_full fits between.is_full refl;
+  full = λ is_full fits.
+      full_then old between new s t first second is_full fits between.is_full refl;
   stays = λ is_full. second.stays (first.stays is_full);
   kept = kept_then _ _ _ first.kept second.kept;
 }

@@ -3,10 +3,11 @@ use Rattle.std.specs.Prelude.{ℕ, zero, suc, ◌==◌, Bool, false, codes, deci
 use Rattle.std.specs.Prelude.{length, Option, Some, None}
 use Rattle.std.specs.List.{flat_map, zip}
 use Rattle.hex.specs.Hex.{encode_lower}
-use Rattle.rd_text.specs.declared.refusal.Refusal.{Refusal}
-use Rattle.rd_text.specs.declared.refusal.Refusal.TheVariants.{NoTask, TickLimit, TooFar}
-use Rattle.rd_text.specs.declared.refusal.Refusal.TheVariants.{MovesFull, NoSuch, NoMemory}
-use Rattle.rd_text.specs.declared.refusal.Refusal.TheVariants.{Syntax, LineTooLong}
+use Rattle.rd_refusal.specs.declared.refusal.Refusal.{Refusal}
+use Rattle.rd_refusal.specs.declared.refusal.Refusal.TheVariants.{NoTask, TickLimit, TooFar}
+use Rattle.rd_refusal.specs.declared.refusal.Refusal.TheVariants.{NothingUndone, MovesFull, NoSuch}
+use Rattle.rd_refusal.specs.declared.refusal.Refusal.TheVariants.{BadEdit, NoMemory, Syntax}
+use Rattle.rd_refusal.specs.declared.refusal.Refusal.TheVariants.{LineTooLong}
 use Rattle.rd_app.specs.Application.{Application}
 use Rattle.rd_group.specs.GroupSnapshot.{GroupSnapshot}
 use Rattle.rd_group.specs.declared.wish.OnMet.{OnMet}
@@ -41,7 +42,9 @@ use Rattle.rd_stream.specs.Messages.{bytes_held}
 use Rattle.rd_stream.specs.StreamSnapshot.{StreamSnapshot}
 use Rattle.rd_reply.specs.Names.{name_at, name_or_dash}
 use Rattle.rd_reply.specs.declared.reply.Reply.{Reply}
-use Rattle.rd_reply.specs.declared.reply.Reply.TheVariants.{Done, Refused}
+use Rattle.rd_reply.specs.declared.reply.Reply.TheVariants as answer
+use Rattle.rd_reply.specs.declared.reply.SearchEnd.{SearchEnd}
+use Rattle.rd_reply.specs.declared.reply.SearchEnd.TheVariants.{Met, Limit, Start}
 
 -- a text and its LF
 abbrev pub line_of : List ℕ → List ℕ
@@ -49,19 +52,39 @@ line_of text = text ++ 10 ∷ []
 
 -- ---- answers to moves, and refusals
 
+-- the cause of a refusal, by its name; behind TooFar stands how many moves are done
 abbrev pub refusal_text : Refusal → List ℕ
 refusal_text NoTask = codes "NoTask"
 refusal_text TickLimit = codes "TickLimit"
 refusal_text (TooFar done) = codes "TooFar " ++ decimal done
+refusal_text NothingUndone = codes "NothingUndone"
 refusal_text MovesFull = codes "MovesFull"
 refusal_text NoSuch = codes "NoSuch"
+refusal_text BadEdit = codes "BadEdit"
 refusal_text NoMemory = codes "NoMemory"
 refusal_text Syntax = codes "Syntax"
 refusal_text LineTooLong = codes "LineTooLong"
 
+-- how many moves are done now
+abbrev pub done_text : ℕ → List ℕ
+done_text at = codes "ok at " ++ decimal at
+
+-- how a search for a condition ended: where it holds, at the most moves that it might make, or at
+-- the start
+abbrev pub end_text : SearchEnd → List ℕ
+end_text Met = codes "met"
+end_text Limit = codes "limit"
+end_text Start = codes "start"
+
+-- how many moves are done, and how many are undone
+abbrev pub moves_text : ℕ → ℕ → List ℕ
+moves_text done undone = codes "moves " ++ decimal done ++ codes " undone " ++ decimal undone
+
 abbrev pub reply_text : Reply → List ℕ
-reply_text (Done at) = codes "ok at " ++ decimal at
-reply_text (Refused refusal) = codes "no " ++ refusal_text refusal
+reply_text (answer.Done at) = done_text at
+reply_text (answer.Ended at end) = done_text at ++ codes " " ++ end_text end
+reply_text (answer.Moves done undone) = moves_text done undone
+reply_text (answer.Refused refusal) = codes "no " ++ refusal_text refusal
 
 -- ---- parts of views
 
@@ -99,7 +122,8 @@ list_name Sending = codes "send"
 abbrev pub listed_text : Application → Listed → List ℕ
 listed_text app (Queue queue list) =
     list_name list ++ codes ":" ++ name_at app.objects.queues.names queue
-listed_text app (QueueSet queue_set) = codes "set:" ++ name_at app.objects.queue_sets.names queue_set
+listed_text app (QueueSet queue_set) =
+    codes "set:" ++ name_at app.objects.queue_sets.names queue_set
 listed_text app (Group group) = codes "group:" ++ name_at app.objects.groups.names group
 
 -- what the place at a side of a stream buffer is called, and of a message buffer

@@ -1,7 +1,7 @@
 //! The text of replies.
 #![tactic(auto, using(crate::proofs::PageLaws::appends_then))]
 
-ghost use Rattle.std.specs.Prelude.{◌≡◌, ◌+◌, ◌++◌, ◌≤◌, decimal, length, position};
+ghost use Rattle.std.specs.Prelude.{◌≡◌, ◌+◌, ◌*◌, ◌++◌, ◌≤◌, decimal, length, position};
 ghost use Rattle.std.specs.Prelude.{All, IsOk, OnErr, OnOk, vec_capacity, vec_len};
 ghost use Rattle.rd_app.specs.Application.{names_of};
 ghost use Rattle.rd_state.specs.Objects.{numbers_named};
@@ -10,6 +10,7 @@ ghost use Rattle.rd_reply.specs.Names.{name_at, name_or_dash};
 ghost use Rattle.rd_reply.specs.Names.{IsNamed, IsNamedOrNone, PlaceIsNamed};
 ghost use Rattle.rd_reply.specs.Names.{QueueIsNamed, QueueSetIsNamed, SeatedAreNamed};
 ghost use Rattle.rd_reply.specs.Replies.{line_of, refusal_text, reply_text, list_text};
+ghost use Rattle.rd_reply.specs.Replies.{done_text, end_text, moves_text};
 ghost use Rattle.rd_reply.specs.Replies.{bytes_text, comma_at};
 ghost use Rattle.rd_reply.specs.Replies.{cause_text, deadline_text, list_name, listed_text};
 ghost use Rattle.rd_reply.specs.Replies.{place_text};
@@ -30,24 +31,41 @@ use rd_notify::entries::{Entry, EntryState};
 use rd_queue::queue::Queue;
 use rd_queue::queue_set::QueueSet;
 use rd_queue::waiting_list::WaitingList;
+use rd_refusal::refusal::Refusal;
 use rd_state::phase::{Cause, Listed, Phase, Place};
 use rd_state::state::State;
 use rd_state::task::Task;
 use rd_text::kind::Kind;
-use rd_text::refusal::Refusal;
 use std::alloc::AllocError;
 
-/// What is answered to a command that makes moves or takes them back, or to one that is refused.
+/// How a search for a condition, on by policy or back, came to its end.
+#[derive(Clone, Copy, Debug, PartialEq, Eq)]
+pub enum SearchEnd {
+    /// The condition holds there.
+    Met,
+    /// It held after none of the moves, of which there may be no more.
+    Limit,
+    /// It holds at no earlier place, so that the search went back to the start.
+    Start,
+}
+
+/// What is answered to a command that makes moves or takes them back, to one that asks how many
+/// there are, or to one that is refused.
 #[derive(Clone, Copy, Debug, PartialEq, Eq)]
 pub enum Reply {
     /// So many moves are done now.
     Done { at: usize },
+    /// So many moves are done where a search ended.
+    Ended { at: usize, end: SearchEnd },
+    /// So many moves are done, and so many undone. Nothing has changed.
+    Moves { done: usize, undone: usize },
     /// Nothing has changed.
     Refused { refusal: Refusal },
 }
 
-/// How many bytes the line of a reply has at the most: `no TooFar 18446744073709551615` and its LF.
-pub const MAX_REPLY: usize = 31;
+/// How many bytes the line of a reply has at the most: a `moves N undone N` with two numbers of 20
+/// digits, as 18446744073709551615 has, and its LF.
+pub const MAX_REPLY: usize = 55;
 
 // How many digits a `usize` has at the most.
 const MAX_DIGITS: usize = 20;
@@ -95,12 +113,52 @@ fn append_refusal_reserved(page: &mut Vec<u8>, refusal: Refusal)
             append_reserved(page, b"TooFar ");
             append_number_reserved(page, done);
         }
+        Refusal::NothingUndone => append_reserved(page, b"NothingUndone"),
         Refusal::MovesFull => append_reserved(page, b"MovesFull"),
         Refusal::NoSuch => append_reserved(page, b"NoSuch"),
+        Refusal::BadEdit => append_reserved(page, b"BadEdit"),
         Refusal::NoMemory => append_reserved(page, b"NoMemory"),
         Refusal::Syntax => append_reserved(page, b"Syntax"),
         Refusal::LineTooLong => append_reserved(page, b"LineTooLong"),
     }
+}
+
+// How many moves are done now.
+fn append_done_reserved(page: &mut Vec<u8>, at: usize)
+    requires { vec_len page.old + 6 + MAX_DIGITS ≤ vec_capacity page.old }
+    ensures text { page.new.items ≡ page.old.items ++ done_text at }
+    ensures len { vec_len page.new ≤ vec_len page.old + 6 + MAX_DIGITS }
+    ensures room { vec_capacity page.old ≤ vec_capacity page.new }
+{
+    append_reserved(page, b"ok at ");
+    append_number_reserved(page, at);
+}
+
+// How a search ended. No word is longer than `limit`.
+fn append_end_reserved(page: &mut Vec<u8>, end: SearchEnd)
+    requires { vec_len page.old + 5 ≤ vec_capacity page.old }
+    ensures text { page.new.items ≡ page.old.items ++ end_text end }
+    ensures len { vec_len page.new ≤ vec_len page.old + 5 }
+    ensures room { vec_capacity page.old ≤ vec_capacity page.new }
+{
+    match end {
+        SearchEnd::Met => append_reserved(page, b"met"),
+        SearchEnd::Limit => append_reserved(page, b"limit"),
+        SearchEnd::Start => append_reserved(page, b"start"),
+    }
+}
+
+// How many moves are done and undone.
+fn append_moves_reserved(page: &mut Vec<u8>, done: usize, undone: usize)
+    requires { vec_len page.old + 14 + 2 * MAX_DIGITS ≤ vec_capacity page.old }
+    ensures text { page.new.items ≡ page.old.items ++ moves_text done undone }
+    ensures len { vec_len page.new ≤ vec_len page.old + 14 + 2 * MAX_DIGITS }
+    ensures room { vec_capacity page.old ≤ vec_capacity page.new }
+{
+    append_reserved(page, b"moves ");
+    append_number_reserved(page, done);
+    append_reserved(page, b" undone ");
+    append_number_reserved(page, undone);
 }
 
 /// Appends the line of a reply, which there is room for.
@@ -109,10 +167,13 @@ pub fn append_reply_reserved(page: &mut Vec<u8>, reply: Reply)
     ensures { page.new.items ≡ page.old.items ++ line_of (reply_text reply) }
 {
     match reply {
-        Reply::Done { at } => {
-            append_reserved(page, b"ok at ");
-            append_number_reserved(page, at);
+        Reply::Done { at } => append_done_reserved(page, at),
+        Reply::Ended { at, end } => {
+            append_done_reserved(page, at);
+            append_reserved(page, b" ");
+            append_end_reserved(page, end);
         }
+        Reply::Moves { done, undone } => append_moves_reserved(page, done, undone),
         Reply::Refused { refusal } => {
             append_reserved(page, b"no ");
             append_refusal_reserved(page, refusal);

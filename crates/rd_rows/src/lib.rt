@@ -10,6 +10,10 @@ mod buffer_waits;
 #[cfg(test)]
 mod buffers;
 #[cfg(test)]
+mod conditions;
+#[cfg(test)]
+mod edits;
+#[cfg(test)]
 mod groups;
 #[cfg(test)]
 mod locals;
@@ -27,6 +31,8 @@ mod queue_sets;
 mod queues;
 #[cfg(test)]
 mod rows;
+#[cfg(test)]
+mod runs;
 #[cfg(test)]
 mod streams;
 #[cfg(test)]

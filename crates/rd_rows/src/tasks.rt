@@ -26,18 +26,7 @@ pub fn assert_rows<H: Files + AllocGlobal + Abort>(rt: &H, rows: &[Row]) -> Resu
     Ok(())
 }
 
-const ROWS: [Row; 9] = [
-    Row {
-        name: "round_robin",
-        app: concat!(
-            r#"{"profile":1,"cores":1,"#,
-            r#""tasks":[{"name":"t0","priority":1,"code":["jump 0"]},"#,
-            r#"{"name":"t1","priority":1,"code":["jump 0"]}]}"#,
-        ),
-        commands: "step 0\ntick\nstep 0\nshow cores\nback 3\nshow cores\n",
-        replies: "ok at 1\nok at 2\nok at 3\ncores t1 ready t0 tick 1 turn 1\n\
-                  ok at 0\ncores t0 ready t1 tick 0 turn 0\n",
-    },
+const ROWS: [Row; 8] = [
     Row {
         name: "full_history",
         app: concat!(

@@ -301,3 +301,16 @@ pub is_accepted : (bytes : List ℕ) (r : Result Application AppError) → Gives
     → IfOk r (FileSays bytes) × IfOk r IsApplication
 is_accepted bytes (Ok app) e = let taken = file_takes bytes app e in (taken.0, taken.1)
 is_accepted bytes (Err d) e = (tt, tt)
+
+-- the application whose scripts were kept is the one that the draft says
+pub draft_is_kept : (draft : AppDraft) (scripts : List TaskScript) (app : Application)
+    → scripts_after (scope_of_draft draft) [] draft.tasks.things ≡ Ok scripts
+    → app ≡ record {
+      cores = draft.cores;
+      entries = draft.entries;
+      tick = draft.tick;
+      objects = draft.objects;
+      tasks = record { names = draft.tasks.names; things = scripts };
+    }
+    → with_scripts draft ≡ Ok app
+draft_is_kept draft scripts app read is = rw (read, is) refl

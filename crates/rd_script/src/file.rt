@@ -23,15 +23,15 @@ use crate::spelling::read_instr;
 use crate::values::{array, field, new_name, number, number_or, object_with};
 use arrayvec::ArrayVec;
 use rd_app::app::{App, MAX_CODE, MAX_CORES, MAX_PRIORITY, MAX_TASKS, Parts, Script};
+use rd_app::both::both;
 use rd_app::instr::Instr;
 use rd_app::objects::Named;
 use rd_notify::entries::MAX_ENTRIES;
-use rd_text::names::Names;
 use serde_json::Value;
 use std::alloc::{AllocError, Global};
 
 // A task's priority and the texts of its instructions, which are not read yet.
-#[derive(Clone, Copy, Debug, Default)]
+#[derive(Clone, Copy, Default)]
 struct TaskDraft<'a> {
     priority: u8,
     code: &'a [Value],
@@ -82,7 +82,7 @@ fn read_tasks(values: &[Value]) -> Result<NamedArray<'_, TaskDraft<'_>, MAX_TASK
 }
 
 // What a file says of an application, its scripts not read yet.
-#[derive(Debug, Drop)]
+#[derive(Drop)]
 struct AppDraft<'a> {
     cores: usize,
     entries: usize,
@@ -203,15 +203,15 @@ fn keep(alloc: Global, draft: &AppDraft<'_>) -> Result<App, AllocError>
     ensures { IfOk result (λ app. with_scripts (app_draft_view draft.now) ≡ Ok app) }
 {
     let tasks = &draft.tasks;
+    let scripts = keep_scripts(alloc, tasks.things.as_slice(), draft.scope())?;
+    let tasks = Named::new(alloc, tasks.names.as_slice(), scripts);
+    let (objects, tasks) = both(keep_objects(alloc, &draft.objects), tasks)?;
     let parts = Parts {
         cores: draft.cores,
         entries: draft.entries,
         tick: draft.tick,
-        objects: keep_objects(alloc, &draft.objects)?,
-        tasks: Named {
-            names: Names::new(alloc, tasks.names.as_slice())?,
-            things: keep_scripts(alloc, tasks.things.as_slice(), draft.scope())?,
-        },
+        objects,
+        tasks,
     };
     App::new(alloc, parts)
 }

@@ -8,7 +8,7 @@ use Keyword::{Group, Local, Message, Notify, Queue, QueueSet, Stream};
 use rd_text::kind::Kind;
 
 /// What an operand of an instruction is.
-#[derive(Clone, Copy, Debug, PartialEq, Eq)]
+#[derive(Clone, Copy)]
 pub(crate) enum Parameter {
     /// A register, `r0` to `r7`.
     Register,
@@ -39,7 +39,7 @@ pub(crate) enum Parameter {
 }
 
 /// The first word of an instruction that touches nothing but its own task.
-#[derive(Clone, Copy, Debug, PartialEq, Eq)]
+#[derive(Clone, Copy)]
 pub(crate) enum LocalKeyword {
     Set,
     Add,
@@ -53,7 +53,7 @@ pub(crate) enum LocalKeyword {
 }
 
 /// The first word of a call of a queue.
-#[derive(Clone, Copy, Debug, PartialEq, Eq)]
+#[derive(Clone, Copy)]
 pub(crate) enum QueueKeyword {
     Send,
     Front,
@@ -68,13 +68,13 @@ pub(crate) enum QueueKeyword {
 }
 
 /// The first word of a call of a queue set.
-#[derive(Clone, Copy, Debug, PartialEq, Eq)]
+#[derive(Clone, Copy)]
 pub(crate) enum QueueSetKeyword {
     Select,
 }
 
 /// The first word of a call of a stream buffer.
-#[derive(Clone, Copy, Debug, PartialEq, Eq)]
+#[derive(Clone, Copy)]
 pub(crate) enum StreamKeyword {
     Write,
     Read,
@@ -85,7 +85,7 @@ pub(crate) enum StreamKeyword {
 }
 
 /// The first word of a call of a message buffer.
-#[derive(Clone, Copy, Debug, PartialEq, Eq)]
+#[derive(Clone, Copy)]
 pub(crate) enum MessageKeyword {
     Write,
     Read,
@@ -95,7 +95,7 @@ pub(crate) enum MessageKeyword {
 }
 
 /// The first word of a call of an event group.
-#[derive(Clone, Copy, Debug, PartialEq, Eq)]
+#[derive(Clone, Copy)]
 pub(crate) enum GroupKeyword {
     Set,
     Clear,
@@ -105,7 +105,7 @@ pub(crate) enum GroupKeyword {
 }
 
 /// The first word of a call that notifies a task, or looks at an entry.
-#[derive(Clone, Copy, Debug, PartialEq, Eq)]
+#[derive(Clone, Copy)]
 pub(crate) enum NotifyKeyword {
     Notify,
     Query,
@@ -116,7 +116,7 @@ pub(crate) enum NotifyKeyword {
 }
 
 /// The first word of an instruction.
-#[derive(Clone, Copy, Debug, PartialEq, Eq)]
+#[derive(Clone, Copy)]
 pub(crate) enum Keyword {
     Local(LocalKeyword),
     Queue(QueueKeyword),

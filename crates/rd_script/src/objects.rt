@@ -1,9 +1,10 @@
 //! The objects of a file, which its instructions name. A kind has its array, read value by value,
 //! and a row or a field in what is said of all kinds.
 
-ghost use Rattle.std.specs.Prelude.{◌≡◌, ◌≤◌, [], ◌++◌, length, nat_eq, IfOk};
+ghost use Rattle.std.specs.Prelude.{◌≡◌, ◌≤◌, [], ◌++◌, true, length, nat_eq, IfOk};
 ghost use Rattle.std.specs.List.{list_any};
 ghost use Rattle.serde_json.specs.View.{view, items_view};
+ghost use Rattle.rd_app.specs.Named.{named_view};
 ghost use Rattle.rd_app.specs.Objects.{members_of, objects_view, AreObjects};
 ghost use Rattle.rd_script.specs.Objects.{array_view, drafts_view, file_keys, objects_of};
 ghost use Rattle.rd_script.specs.Objects.{queue_of, queues_after};
@@ -11,12 +12,14 @@ ghost use Rattle.rd_script.specs.Objects.{member_of, members_after, queue_set_of
 ghost use Rattle.rd_script.specs.Objects.{message_of, messages_after, stream_of, streams_after};
 ghost use Rattle.rd_script.specs.Objects.{group_of, groups_after};
 ghost use Rattle.rd_script.specs.Values.{Gives, nothing_named};
+ghost use Rattle.rd_text.specs.Names.{are_distinct};
 ghost use Rattle.rd_text.specs.Words.{texts};
 
 use crate::error::AppError;
 use crate::reader::index_of;
 use crate::values::{array_or_empty, field, new_name, number, object_with};
 use arrayvec::ArrayVec;
+use rd_app::both::both;
 use rd_app::objects::{
     GroupShape, MAX_GROUPS, MAX_MESSAGE_BUFFERS, MAX_QUEUE_SETS, MAX_QUEUES, MAX_STREAMS,
     MessageShape, Named, NamedObjects, QueueSetShape, QueueShape, StreamShape,
@@ -26,7 +29,6 @@ use rd_queue::queue::MAX_ITEMS;
 use rd_queue::queue_set::MAX_HANDLES;
 use rd_stream::message_buf::{MAX_MESSAGE_BUFFER_SIZE, MIN_MESSAGE_BUFFER_SIZE};
 use rd_stream::stream_buf::MAX_STREAM_SIZE;
-use rd_text::names::Names;
 use rd_text::words::is_name;
 use serde_json::Value;
 use std::alloc::{AllocError, Global};
@@ -39,14 +41,14 @@ pub(crate) const FILE_KEYS: [&str; 10] = [
 
 /// Things of one kind in a file, with their names, which lie in its value. They go by number: the
 /// index in both.
-#[derive(Debug, Drop)]
+#[derive(Drop)]
 pub(crate) struct NamedArray<'a, T, const N: usize> {
     pub(crate) names: ArrayVec<&'a str, N>,
     pub(crate) things: ArrayVec<T, N>,
 }
 
 /// A queue set's room, and its members, each of them once.
-#[derive(Debug, Default, Drop)]
+#[derive(Default, Drop)]
 pub(crate) struct QueueSetDraft {
     pub(crate) capacity: usize,
     pub(crate) members: ArrayVec<usize, MAX_QUEUES>,
@@ -61,7 +63,7 @@ impl Model for QueueSetDraft {
 }
 
 /// What the instructions of a file name, each kind in its order.
-#[derive(Debug, Drop)]
+#[derive(Drop)]
 pub(crate) struct ObjectDrafts<'a> {
     pub(crate) queues: NamedArray<'a, QueueShape, MAX_QUEUES>,
     pub(crate) queue_sets: NamedArray<'a, QueueSetDraft, MAX_QUEUE_SETS>,
@@ -306,11 +308,8 @@ pub(crate) fn read_objects(file: &Value) -> Result<ObjectDrafts<'_>, AppError>
     })
 }
 
-// The queue sets of drafts.
-fn keep_queue_sets(
-    alloc: Global,
-    drafts: &[QueueSetDraft],
-) -> Result<Vec<QueueSetShape>, AllocError>
+// The shapes of queue sets.
+fn keep_shapes(alloc: Global, drafts: &[QueueSetDraft]) -> Result<Vec<QueueSetShape>, AllocError>
     ensures { IfOk result (λ queue_sets. queue_sets.items ≡ drafts.now) }
 {
     let mut queue_sets = Vec::new(alloc);
@@ -320,6 +319,30 @@ fn keep_queue_sets(
         queue_sets.push(QueueSetShape::new(draft.capacity, members))?;
     }
     Ok(queue_sets)
+}
+
+// The queue sets of drafts.
+fn keep_queue_sets(
+    alloc: Global,
+    drafts: &NamedArray<'_, QueueSetDraft, MAX_QUEUE_SETS>,
+) -> Result<Named<QueueSetShape>, AllocError>
+    requires { are_distinct (texts drafts.now.names.items) ≡ true }
+    ensures { IfOk result (λ queue_sets. named_view queue_sets ≡ array_view drafts.now) }
+{
+    let shapes = keep_shapes(alloc, drafts.things.as_slice())?;
+    Named::new(alloc, drafts.names.as_slice(), shapes)
+}
+
+impl<T: Clone + Drop, const N: usize> NamedArray<'_, T, N> {
+    // The same things, in memory of their own.
+    fn keep(&self, alloc: Global) -> Result<Named<T>, AllocError>
+        requires { are_distinct (texts self.now.names.items) ≡ true }
+        ensures { IfOk result (λ named.
+            ((x y : T) → T.is_clone x y → y ≡ x) → named_view named ≡ array_view self.now) }
+    {
+        let things = self.things.as_slice().to_vec(alloc)?;
+        Named::new(alloc, self.names.as_slice(), things)
+    }
 }
 
 /// The objects of drafts, which are within the limits.
@@ -337,26 +360,18 @@ pub(crate) fn keep_objects(
         messages,
         groups,
     } = drafts;
+    let ((queues, queue_sets), (streams, (messages, groups))) = both(
+        both(queues.keep(alloc), keep_queue_sets(alloc, queue_sets)),
+        both(
+            streams.keep(alloc),
+            both(messages.keep(alloc), groups.keep(alloc)),
+        ),
+    )?;
     Ok(NamedObjects {
-        queues: Named {
-            names: Names::new(alloc, queues.names.as_slice())?,
-            things: queues.things.as_slice().to_vec(alloc)?,
-        },
-        queue_sets: Named {
-            names: Names::new(alloc, queue_sets.names.as_slice())?,
-            things: keep_queue_sets(alloc, queue_sets.things.as_slice())?,
-        },
-        streams: Named {
-            names: Names::new(alloc, streams.names.as_slice())?,
-            things: streams.things.as_slice().to_vec(alloc)?,
-        },
-        messages: Named {
-            names: Names::new(alloc, messages.names.as_slice())?,
-            things: messages.things.as_slice().to_vec(alloc)?,
-        },
-        groups: Named {
-            names: Names::new(alloc, groups.names.as_slice())?,
-            things: groups.things.as_slice().to_vec(alloc)?,
-        },
+        queues,
+        queue_sets,
+        streams,
+        messages,
+        groups,
     })
 }

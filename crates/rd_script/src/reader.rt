@@ -160,7 +160,7 @@ fn is_formed(parameter: Parameter, word: &[u8], scope: Scope<'_>, len: usize) ->
 }
 
 /// Reads the words after a keyword, in that scope, in a script of that length.
-#[derive(Debug, Drop)]
+#[derive(Drop)]
 pub(crate) struct Reader<'a> {
     scope: Scope<'a>,
     len: usize,

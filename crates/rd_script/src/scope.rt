@@ -10,7 +10,7 @@ use rd_text::kind::Kind;
 
 /// What the instructions of a file can name: its objects and its tasks, and of each task so many
 /// notification entries.
-#[derive(Clone, Copy, Debug)]
+#[derive(Clone, Copy)]
 pub(crate) struct Scope<'a> {
     pub(crate) objects: &'a ObjectDrafts<'a>,
     pub(crate) tasks: &'a [&'a str],

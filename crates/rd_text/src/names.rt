@@ -1,6 +1,6 @@
 //! Names of one kind of thing, each with its number.
 
-ghost use Rattle.std.specs.Prelude.{◌≡◌, ◌<◌, true, length, map, position, slice_get};
+ghost use Rattle.std.specs.Prelude.{◌≡◌, ◌<◌, [], true, length, map, position, slice_get};
 ghost use Rattle.std.specs.Prelude.{string_bytes, Some, IfOk};
 ghost use Rattle.std.specs.Str.{bytes_eq};
 ghost use Rattle.rd_text.specs.Names.{are_distinct};
@@ -25,6 +25,15 @@ impl Model for Names {
 }
 
 impl Names {
+    /// No names, which takes no memory.
+    pub fn none(alloc: Global) -> Names
+        ensures { result ≡ [] }
+    {
+        Names {
+            ordered: IndexSet::new(alloc),
+        }
+    }
+
     /// These names, in their order.
     pub fn new(alloc: Global, names: &[&str]) -> Result<Names, AllocError>
         requires { are_distinct (texts names.now) ≡ true }

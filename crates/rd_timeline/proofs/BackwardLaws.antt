@@ -23,13 +23,14 @@ HasRedone-here course = record {
   done = sym (append-nil course.done);
   undone = refl;
   most_done = refl;
+  most_edits = refl;
   most_bytes = refl;
 }
 
 pub HasRedone-next : (old now next : Course) (count : ℕ) → HasRedone old count now → count < length old.undone → StandsOn now next
-    → next.done ≡ now.done ++ take 1 now.undone → next.undone ≡ drop 1 now.undone → next.most_done ≡ now.most_done → next.most_bytes ≡ now.most_bytes
-    → HasRedone old (count + 1) next
-HasRedone-next old now next count has less stands done undone most_done most_bytes = record {
+    → next.done ≡ now.done ++ take 1 now.undone → next.undone ≡ drop 1 now.undone → next.most_done ≡ now.most_done → next.most_edits ≡ now.most_edits
+    → next.most_bytes ≡ now.most_bytes → HasRedone old (count + 1) next
+HasRedone-next old now next count has less stands done undone most_done most_edits most_bytes = record {
   some = omega (arith, less);
   app = stands.app ∙ has.app;
   limit = stands.limit ∙ has.limit;
@@ -40,6 +41,7 @@ HasRedone-next old now next count has less stands done undone most_done most_byt
       ∙ ap (λ (us : List Move). old.done ++ us) (sym (take-add count 1 old.undone));
   undone = undone ∙ ap (drop 1) has.undone ∙ drop-drop 1 count old.undone;
   most_done = most_done ∙ has.most_done;
+  most_edits = most_edits ∙ has.most_edits;
   most_bytes = most_bytes ∙ has.most_bytes;
 }
 

@@ -5,7 +5,7 @@ use Rattle.std.proofs.lemmas.Bool.{cases_lt, false≢true}
 use Rattle.std.proofs.lemmas.List.{take_all, drop_all, take-append-le, drop-append-le, length_push, length-take-le}
 use Rattle.std.proofs.lemmas.List.{take-take, take-append-drop}
 use Rattle.std.proofs.lemmas.List.Sums.{fold-append, fold_push}
-use Rattle.rd_text.specs.declared.refusal.Refusal.{Refusal}
+use Rattle.rd_refusal.specs.declared.refusal.Refusal.{Refusal}
 use Rattle.rd_app.specs.Application.{Application, priorities_of}
 use Rattle.rd_state.specs.Change.{Change}
 use Rattle.rd_state.specs.Boot.{boot_of}
@@ -137,3 +137,11 @@ ok_if_made (Err refusal) x is refusals = absurd (false≢true (sym (ap is_ok ref
 -- What a call promises where it succeeds, where it did.
 pub on_ok : {T E P : Type 0} (r : Result T E) (v : T) → r ≡ Ok v → OnOk r P → P
 on_ok {T} {E} {P} r v is on = subst (λ (q : Result T E). OnOk q P) is on
+
+-- What holds anyhow holds where a call succeeds, and so does what follows from what it promises there.
+pub done_or_not : {T E P : Type 0} (r : Result T E) → P → OnOk r P
+done_or_not {T} {E} {P} r holds = elim r as (λ q. OnOk q P) [ Ok x ↦ holds | Err y ↦ tt ]
+
+pub on_ok_then : {T E P Q : Type 0} (r : Result T E) → OnOk r P → (P → Q) → OnOk r Q
+on_ok_then (Ok x) holds follows = follows holds
+on_ok_then (Err y) holds follows = tt

@@ -1,23 +1,28 @@
 -- Runs by policy, one move more.
 use Rattle.std.proofs.Common.{◌≡◌, ◌∙◌, ℕ, zero, suc, ◌+◌, ◌-◌, ◌<◌, ◌≤◌, inl, inr, List, [], ◌∷◌, ◌++◌, true, false, length, ap, subst, sym, refl, arith}
-use Rattle.std.specs.Prelude.{Bool, Option, Some, None, Result, Ok, Err, drop, is_ok, is_some, position, take}
+use Rattle.std.specs.Prelude.{Bool, Option, Some, None, Result, Ok, Err, drop, max, is_ok, is_some, position, take}
 use Rattle.std.proofs.Math.Numerals.{add-one}
 use Rattle.std.proofs.lemmas.Bool.{cases_lt, false≢true, le-ltb, lt-ltb}
 use Rattle.std.proofs.Common.{cond, ◌≢◌}
 use Rattle.std.proofs.lemmas.List.{append-nil, append_assoc, length-append, length-drop, length_push, take-append-le, take-take, take_all}
 use Rattle.std.proofs.lemmas.List.Quantifiers.{position-Some}
+use Rattle.std.proofs.lemmas.List.Sums.{sum_by-take-le}
 use Rattle.rd_app.specs.Application.{Application}
-use Rattle.rd_text.specs.declared.refusal.Refusal.{Refusal}
-use Rattle.rd_text.specs.declared.refusal.Refusal.TheVariants.{MovesFull}
+use Rattle.rd_refusal.specs.declared.refusal.Refusal.{Refusal}
+use Rattle.rd_refusal.specs.declared.refusal.Refusal.TheVariants.{MovesFull}
 use Rattle.rd_state.specs.Change.{Change}
+use Rattle.rd_state.specs.PackedChanges.{all_packed}
 use Rattle.rd_state.specs.Snapshot.{Snapshot}
 use Rattle.rd_state.specs.Valid.{IsValid}
 use Rattle.rd_calls.specs.declared.moves.Move.{Move}
 use Rattle.rd_calls.specs.Step.{move_from, policy_of, step, IsMoveOf}
 use Rattle.rd_condition.specs.declared.condition.Condition.{Condition}
 use Rattle.rd_timeline.specs.Course.{Course, IsKept}
+use Rattle.rd_timeline.specs.Decoded.{edits_in}
 use Rattle.rd_timeline.specs.History.{state_after}
+use Rattle.rd_timeline.specs.LogView.{bytes_of}
 use Rattle.rd_timeline.specs.Policy.{Run, Going, Met, Refused, EndsRun, IsWhyNoRun, IsWhyNotByPolicy, StandsOn, meets, allowed, done_by_policy, looked_for, moves_by_policy, ran, run_from, run_on, state_by_policy, state_or}
+use Rattle.rd_timeline.proofs.DecodedLaws.{edits_in-append}
 
 -- A run that has ended stays as it is.
 pub ran_on : (app : Application) (room : ℕ) (goal : Option Condition) (s : Snapshot) (run : Run) (k : ℕ) → run_on app room goal run ≡ run
@@ -54,12 +59,61 @@ policy_named app s valid = named_by app s (position is_some (drop s.turn s.cores
 abbrev pub room_left : Course → ℕ
 room_left course = course.limit - length course.done
 
+-- The most that was, once so many moves of a run were made.
+pub record IsMost (old : Course) (made : ℕ) (now : Course) : Type 0 where
+  pub done : now.most_done ≡ max old.most_done (length now.done)
+  pub edits : now.most_edits ≡ old.most_edits
+  pub none : made ≡ 0 → now.most_bytes ≡ old.most_bytes
+  pub bytes : 0 < made → now.most_bytes ≡ max old.most_bytes (bytes_of (take (length now.done - 1) now.log))
+
+IsMost-begun : (course : Course) → IsKept course → IsMost course 0 course
+IsMost-begun course kept = record {
+  done = omega (arith, kept.made.were, length-append course.done course.undone);
+  edits = refl;
+  none = λ none. refl;
+  bytes = λ some. absurd (omega (arith, some));
+}
+
+-- Policy chooses no edit.
+no_edit_from : (turn : ℕ) (found : Option ℕ) → edits_in (move_from turn found ∷ []) ≡ 0
+no_edit_from turn None = refl
+no_edit_from turn (Some ahead) = refl
+
+pub IsMost-next : (old : Course) (made : ℕ) (now next : Course) → IsMost old made now → IsKept now
+    → next.done ≡ now.done ++ policy_of now.target ∷ [] → take (length now.done) next.log ≡ now.log
+    → next.most_done ≡ max now.most_done (length next.done) → next.most_edits ≡ max now.most_edits (edits_in next.done)
+    → next.most_bytes ≡ max now.most_bytes (bytes_of now.log) → IsMost old (made + 1) next
+IsMost-next old made now next most kept done log most_done most_edits most_bytes =
+    let move = policy_of now.target in
+    let one_more : length next.done ≡ length now.done + 1 = omega (arith, ap length done, length_push now.done move) in
+    let before : bytes_of (take (length next.done - 1) next.log) ≡ bytes_of now.log =
+    ap (λ k. bytes_of (take k next.log)) (omega (arith, one_more)) ∙ ap bytes_of log in
+    let fewer : bytes_of (take (length now.done - 1) now.log) ≤ bytes_of now.log =
+    sum_by-take-le (λ undo. length (all_packed undo)) now.log (length now.done - 1) in
+    let edits : edits_in next.done ≡ edits_in now.done =
+    omega (
+      arith,
+      ap edits_in done,
+      edits_in-append now.done (move ∷ []),
+      no_edit_from now.target.turn (position is_some (drop now.target.turn now.target.cores)),
+    ) in
+    record {
+      done = omega (arith, most.done, most_done, one_more);
+      edits = omega (arith, most.edits, most_edits, edits, kept.made.edits_were, edits_in-append now.done now.undone);
+      none = λ none. absurd (omega (arith, none));
+      bytes = λ some. elim (cases_lt 0 made) [
+        | inl more ↦ omega (arith, most_bytes, most.bytes more, before, fewer)
+        | inr first ↦ omega (arith, most_bytes, most.none (omega (arith, first)), before)
+      ];
+    }
+
 -- A run that has made so many moves, and where it is.
 pub record IsAt (old : Course) (goal : Option Condition) (made : ℕ) (now : Course) : Type 0 where
   pub run : run_from old goal made ≡ Going made now.target
   pub state : now.target ≡ state_by_policy old.app old.target made
   pub done : now.done ≡ done_by_policy old made
   pub stands : StandsOn old now
+  pub most : IsMost old made now
 
 moves_made : (app : Application) (s : Snapshot) (n : ℕ) → length (moves_by_policy app s n) ≡ n
 moves_made app s zero = refl
@@ -94,14 +148,15 @@ StandsOn-here course kept = record {
   log = take_all (length course.done) course.log (omega (arith, kept.records));
   more = omega arith;
   most_done = omega arith;
+  most_edits = omega arith;
   most_bytes = omega arith;
 }
 
 -- Moves are laid on once more.
 pub StandsOn-then : (old now next : Course) (more : List Move) → StandsOn old now → next.app ≡ now.app → next.limit ≡ now.limit
     → next.done ≡ now.done ++ more → take (length now.done) next.log ≡ now.log → now.most_done ≤ next.most_done
-    → now.most_bytes ≤ next.most_bytes → StandsOn old next
-StandsOn-then old now next more stands app limit done log most_done most_bytes = record {
+    → now.most_edits ≤ next.most_edits → now.most_bytes ≤ next.most_bytes → StandsOn old next
+StandsOn-then old now next more stands app limit done log most_done most_edits most_bytes = record {
   app = app ∙ stands.app;
   limit = limit ∙ stands.limit;
   done =
@@ -110,6 +165,7 @@ StandsOn-then old now next more stands app limit done log most_done most_bytes =
       sym (take-take (length old.done) (length now.done) next.log stands.more) ∙ ap (take (length old.done)) log ∙ stands.log;
   more = omega (arith, stands.more, ap length done, length-append now.done more);
   most_done = omega (arith, stands.most_done, most_done);
+  most_edits = omega (arith, stands.most_edits, most_edits);
   most_bytes = omega (arith, stands.most_bytes, most_bytes);
 }
 
@@ -123,6 +179,7 @@ StandsOn-trans old now next first then = record {
       sym (take-take (length old.done) (length now.done) next.log first.more) ∙ ap (take (length old.done)) then.log ∙ first.log;
   more = omega (arith, first.more, then.more);
   most_done = omega (arith, first.most_done, then.most_done);
+  most_edits = omega (arith, first.most_edits, then.most_edits);
   most_bytes = omega (arith, first.most_bytes, then.most_bytes);
 }
 
@@ -130,7 +187,13 @@ StandsOn-trans old now next first then = record {
 
 pub IsAt-begun : (course : Course) (goal : Option Condition) → IsKept course → IsAt course goal 0 course
 IsAt-begun course goal kept =
-    record { run = refl; state = refl; done = sym (append-nil course.done); stands = StandsOn-here course kept }
+    record {
+      run = refl;
+      state = refl;
+      done = sym (append-nil course.done);
+      stands = StandsOn-here course kept;
+      most = IsMost-begun course kept;
+    }
 
 -- What becomes of a run by one move more that is made.
 pub made_one : (old : Course) (goal : Option Condition) (made : ℕ) (now : Course) (s : Snapshot) → IsAt old goal made now
@@ -158,21 +221,24 @@ next_done old goal made now done at is =
 -- The goal isn't met by it.
 pub IsAt-next : (old : Course) (goal : Option Condition) (made : ℕ) (now next : Course) → IsAt old goal made now → length now.done ≤ old.limit
     → length now.done ≢ old.limit → step old.app now.target (policy_of now.target) ≡ Ok next.target
-    → next.done ≡ now.done ++ policy_of now.target ∷ [] → StandsOn old next → meets goal next.target ≡ false → IsAt old goal (made + 1) next
-IsAt-next old goal made now next at within more steps done stands unmet = record {
+    → next.done ≡ now.done ++ policy_of now.target ∷ [] → StandsOn old next → IsMost old (made + 1) next → meets goal next.target ≡ false
+    → IsAt old goal (made + 1) next
+IsAt-next old goal made now next at within more steps done stands most unmet = record {
   run =
       made_one old goal made now next.target at within more steps
       ∙ ap (λ b. cond b (Met (made + 1) next.target) (Going (made + 1) next.target)) unmet;
   state = next_state old goal made now next.target at steps;
   done = next_done old goal made now next.done at done;
   stands = stands;
+  most = most;
 }
 
 -- The goal is met by it: the run stays there.
 pub EndsRun-met : (old : Course) (goal : Option Condition) (made count : ℕ) (now next : Course) → IsAt old goal made now → made < count
     → length now.done ≤ old.limit → length now.done ≢ old.limit → step old.app now.target (policy_of now.target) ≡ Ok next.target
-    → next.done ≡ now.done ++ policy_of now.target ∷ [] → next.undone ≡ [] → meets goal next.target ≡ true → EndsRun old goal count true next
-EndsRun-met old goal made count now next at less within more steps done undone met = record {
+    → next.done ≡ now.done ++ policy_of now.target ∷ [] → next.undone ≡ [] → StandsOn old next → IsMost old (made + 1) next → meets goal next.target ≡ true
+    → EndsRun old goal count true next
+EndsRun-met old goal made count now next at less within more steps done undone stands most met = record {
   made = made + 1;
   run =
       ran_on old.app (room_left old) goal old.target (Met (made + 1) next.target) (made + 1) refl
@@ -180,6 +246,10 @@ EndsRun-met old goal made count now next at less within more steps done undone m
       count (omega (arith, less));
   done = next_done old goal made now next.done at done;
   undone = undone;
+  log = stands.log;
+  most_done = most.done;
+  most_edits = most.edits;
+  most_bytes = most.bytes;
 }
 
 -- A move of it isn't made.
@@ -215,15 +285,16 @@ why_no_run old goal made count now refusal at less within why =
 
 -- Courses are equal where what is seen of them is.
 pub same_course : (old new : Course) → new.app ≡ old.app → new.limit ≡ old.limit → new.target ≡ old.target → new.done ≡ old.done → new.log ≡ old.log
-    → new.undone ≡ old.undone → new.most_done ≡ old.most_done → new.most_bytes ≡ old.most_bytes → new ≡ old
-same_course old new app limit target done log undone most_done most_bytes =
+    → new.undone ≡ old.undone → new.most_done ≡ old.most_done → new.most_edits ≡ old.most_edits → new.most_bytes ≡ old.most_bytes → new ≡ old
+same_course old new app limit target done log undone most_done most_edits most_bytes =
     ap (λ (x : Application). record new { app = x }) app
     ∙ ap (λ x. record new { app = old.app; limit = x }) limit
     ∙ ap (λ (x : Snapshot). record new { app = old.app; limit = old.limit; target = x }) target
     ∙ ap (λ (x : List Move). record new { app = old.app; limit = old.limit; target = old.target; done = x }) done
     ∙ ap (λ (x : List (List Change)). record new { app = old.app; limit = old.limit; target = old.target; done = old.done; log = x }) log
-    ∙ ap (λ (x : List Move). record old { undone = x; most_done = new.most_done; most_bytes = new.most_bytes }) undone
-    ∙ ap (λ x. record old { most_done = x; most_bytes = new.most_bytes }) most_done
+    ∙ ap (λ (x : List Move). record old { undone = x; most_done = new.most_done; most_edits = new.most_edits; most_bytes = new.most_bytes }) undone
+    ∙ ap (λ x. record old { most_done = x; most_edits = new.most_edits; most_bytes = new.most_bytes }) most_done
+    ∙ ap (λ x. record old { most_edits = x; most_bytes = new.most_bytes }) most_edits
     ∙ ap (λ x. record old { most_bytes = x }) most_bytes
 
 -- Where the same moves were done from boot, the target is the same.

@@ -1,17 +1,16 @@
 -- The ways through moves that were made: those undone are made again, and back to where a condition
 -- held.
-use Rattle.std.specs.Prelude.{ℕ, ◌≡◌, ◌<◌, ◌≤◌, ◌⊎◌, Bool, false, zero, suc, List, ◌++◌}
+use Rattle.std.specs.Prelude.{ℕ, ◌≡◌, ◌-◌, ◌<◌, ◌≤◌, ◌⊎◌, Bool, false, zero, suc, List, ◌++◌}
 use Rattle.std.specs.Prelude.{Option, None, Some, Result, Ok, Err, drop, length, take}
 use Rattle.std.specs.Prelude.{if◌then◌else◌}
-use Rattle.rd_text.specs.declared.refusal.Refusal.{Refusal}
+use Rattle.rd_refusal.specs.declared.refusal.Refusal.{Refusal}
 use Rattle.rd_app.specs.Application.{Application}
 use Rattle.rd_state.specs.Snapshot.{Snapshot}
 use Rattle.rd_calls.specs.declared.moves.Move.{Move}
 use Rattle.rd_condition.specs.declared.condition.Condition.{Condition}
 use Rattle.rd_condition.specs.Conditions.{holds}
 use Rattle.rd_timeline.specs.declared.running.Found.{Found}
-use Rattle.rd_timeline.specs.declared.running.RedoRefusal.{RedoRefusal}
-use Rattle.rd_timeline.specs.declared.running.RedoRefusal.TheVariants.{NoMemory, NothingUndone}
+use Rattle.rd_refusal.specs.declared.refusal.Refusal.TheVariants.{NoMemory, NothingUndone}
 use Rattle.rd_timeline.specs.Course.{Course}
 use Rattle.rd_timeline.specs.History.{state_after}
 use Rattle.rd_timeline.specs.Policy.{StandsOn}
@@ -26,6 +25,7 @@ pub record HasRedone (old : Course) (count : ℕ) (new : Course) : Type 0 where
   pub done : new.done ≡ old.done ++ take count old.undone
   pub undone : new.undone ≡ drop count old.undone
   pub most_done : new.most_done ≡ old.most_done
+  pub most_edits : new.most_edits ≡ old.most_edits
   pub most_bytes : new.most_bytes ≡ old.most_bytes
 
 -- So far some are, no more than so many.
@@ -36,12 +36,21 @@ pub record HasRedonePart (old : Course) (count : ℕ) (new : Course) : Type 0 wh
   pub stands : StandsOn old new
 
 -- why they aren't: there are fewer, or else there is no memory
-abbrev pub IsWhyNoRedo : Course → ℕ → RedoRefusal → Type 0
+abbrev pub IsWhyNoRedo : Course → ℕ → Refusal → Type 0
 IsWhyNoRedo old count refusal =
     ((length old.undone < count) × (refusal ≡ NothingUndone))
     ⊎ ((count ≤ length old.undone) × (refusal ≡ NoMemory))
 
 -- ---- back
+
+-- The last moves done, so many of them, are undone.
+pub record GoesBack (old : Course) (count : ℕ) (new : Course) : Type 0 where
+  pub some : count ≤ length old.done
+  pub app : new.app ≡ old.app
+  pub limit : new.limit ≡ old.limit
+  pub done : new.done ≡ take (length old.done - count) old.done
+  pub undone : new.undone ≡ drop (length old.done - count) old.done ++ old.undone
+  pub leads : state_after new.app new.done ≡ Ok new.target
 
 -- Does the condition hold in the state, if there is one?
 abbrev pub holds_in : Condition → Result Snapshot Refusal → Bool
@@ -69,5 +78,6 @@ pub record GoesBackTo (old : Course) (condition : Condition) (found : Found) (ne
   pub done : new.done ≡ take found.at old.done
   pub undone : new.undone ≡ drop found.at old.done ++ old.undone
   pub most_done : new.most_done ≡ old.most_done
+  pub most_edits : new.most_edits ≡ old.most_edits
   pub most_bytes : new.most_bytes ≡ old.most_bytes
   pub leads : state_after new.app new.done ≡ Ok new.target

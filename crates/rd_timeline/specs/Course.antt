@@ -1,18 +1,21 @@
 -- What a contract sees of a timeline.
-use Rattle.std.specs.Prelude.{ℕ, ◌≡◌, ◌≢◌, ◌<◌, ◌≤◌, ◌⊎◌, List, ◌++◌, All, length, Err, IsOk}
-use Rattle.rd_text.specs.declared.refusal.Refusal.{Refusal}
-use Rattle.rd_text.specs.declared.refusal.Refusal.TheVariants.{MovesFull, NoMemory}
+use Rattle.std.specs.Prelude.{ℕ, ◌≡◌, ◌≢◌, ◌<◌, ◌≤◌, ◌⊎◌, List, [], ◌∷◌, ◌++◌, All, length, Ok, Err}
+use Rattle.std.specs.Prelude.{IsOk, IsTrue}
+use Rattle.rd_refusal.specs.declared.refusal.Refusal.{Refusal}
+use Rattle.rd_refusal.specs.declared.refusal.Refusal.TheVariants.{MovesFull, NoMemory}
 use Rattle.rd_app.specs.Application.{Application}
 use Rattle.rd_state.specs.Change.{Change}
 use Rattle.rd_state.specs.Snapshot.{Snapshot}
 use Rattle.rd_calls.specs.declared.moves.Move.{Move}
 use Rattle.rd_calls.specs.Step.{step, IsMoveOf}
+use Rattle.rd_timeline.specs.Decoded.{edits_in, is_edit}
 use Rattle.rd_timeline.specs.History.{Retraces, CanRewind, state_after}
 use Rattle.rd_timeline.specs.LogView.{bytes_of}
 
 -- the application, how many moves may be done, the target as it is now, the moves done from boot in
 -- order, the record of each, and the moves undone, the one to be redone next first; how many moves
--- were done at the most so far, and from how many bytes of records a move was made at the most
+-- were done at the most so far, how many edits were among those done at the most, and from how many
+-- bytes of records a move was made at the most
 pub record Course : Type 0 where
   pub app : Application
   pub limit : ℕ
@@ -21,14 +24,18 @@ pub record Course : Type 0 where
   pub log : List (List Change)
   pub undone : List Move
   pub most_done : ℕ
+  pub most_edits : ℕ
   pub most_bytes : ℕ
 
--- The moves can be made from boot, one after the other, and as many were done once.
-pub record AreMade (app : Application) (limit most_done : ℕ) (moves : List Move) : Type 0 where
+-- The moves can be made from boot, one after the other, and as many were done once, with as many
+-- edits among them.
+pub record AreMade (app : Application) (limit most_done most_edits : ℕ) (moves : List Move)
+    : Type 0 where
   pub state : IsOk (state_after app moves)
   pub named : All (IsMoveOf app) moves
   pub within : length moves ≤ limit
   pub were : length moves ≤ most_done
+  pub edits_were : edits_in moves ≤ most_edits
 
 -- There is a record for each move done. Going back by them retraces the moves, and can be done. From
 -- there the moves undone lead on.
@@ -36,7 +43,8 @@ pub record IsKept (course : Course) : Type 0 where
   pub records : length course.log ≡ length course.done
   pub retraces : Retraces course.app course.done course.log course.target
   pub rewinds : CanRewind course.target course.log
-  pub made : AreMade course.app course.limit course.most_done (course.done ++ course.undone)
+  pub made : AreMade course.app course.limit course.most_done course.most_edits
+      (course.done ++ course.undone)
 
 -- The moves done are at their limit.
 abbrev pub IsFull : Course → Type 0
@@ -51,10 +59,20 @@ IsRefusedBy course move refusal =
 abbrev pub CanGo : Course → Move → Type 0
 CanGo course move = (length course.done ≢ course.limit) × IsOk (step course.app course.target move)
 
--- Never were more moves done, or never was a move made from as many bytes of records.
-abbrev pub IsMoreThanEver : Course → Type 0
-IsMoreThanEver course =
+-- The move is made: it is the last one done, and no move is undone.
+pub record GoesOn (old : Course) (move : Move) (new : Course) : Type 0 where
+  pub app : new.app ≡ old.app
+  pub limit : new.limit ≡ old.limit
+  pub step : step old.app old.target move ≡ Ok new.target
+  pub done : new.done ≡ old.done ++ move ∷ []
+  pub undone : new.undone ≡ []
+
+-- Never were more moves done, or never was a move made from as many bytes of records; or, for an
+-- edit, never were more edits done.
+abbrev pub IsMoreThanEver : Course → Move → Type 0
+IsMoreThanEver course move =
     (course.most_done ≤ length course.done) ⊎ (course.most_bytes < bytes_of course.log)
+    ⊎ (IsTrue (is_edit move) × (course.most_edits ≤ edits_in course.done))
 
 -- Why a move isn't made: the moves done are at their limit, or else the kernel's rules refuse it,
 -- or else there is no memory for it.

@@ -1,6 +1,6 @@
 -- Lists of moves: the state that they give from the start, and the way back through their records.
 use Rattle.std.specs.Prelude.{ℕ, ◌≡◌, ◌≤◌, List, [], ◌∷◌, length, take, drop, fold, Result, Ok, Err}
-use Rattle.rd_text.specs.declared.refusal.Refusal.{Refusal}
+use Rattle.rd_refusal.specs.declared.refusal.Refusal.{Refusal}
 use Rattle.rd_app.specs.Application.{Application, priorities_of}
 use Rattle.rd_state.specs.Change.{Change}
 use Rattle.rd_state.specs.Boot.{boot_of}

@@ -15,6 +15,7 @@ course_of t = record {
   log = t.journal.records;
   undone = t.journal.undone;
   most_done = t.most_done;
+  most_edits = t.most_edits;
   most_bytes = t.most_bytes;
 }
 
@@ -27,5 +28,6 @@ pub record IsWhole (t : Inside) : Type 0 where
   pub kept : IsKept (course_of t)
   pub limits : IsApplication t.app
   pub capacity : t.most_done ≤ t.journal.capacity
+  pub edits : t.most_edits ≤ t.journal.edit_capacity
   pub memory : IsFresh t
       ⊎ (t.most_bytes + MAX_RECORD_BYTES ≤ memory_of t.journal.records t.journal.room)

@@ -1,28 +1,33 @@
 -- What the fields of a `Journal` stand for.
-use Rattle.std.specs.Prelude.{ℕ, ◌<◌, ◌==◌, if◌then◌else◌, List, drop, map, min, take, vec_capacity}
-use Rattle.rd_calls.specs.declared.moves.Move.{Move}
-use Rattle.rd_calls.specs.declared.moves.Move.TheVariants.{Core, Tick}
+use Rattle.std.specs.Prelude.{◌≡◌, ◌≤◌, List, drop, length, min, take, vec_capacity}
+use Rattle.rd_timeline.specs.declared.journal.Aside.TheInside as aside
 use Rattle.rd_timeline.specs.declared.journal.Journal.TheInside.{Inside}
+use Rattle.rd_calls.specs.declared.moves.Move.{Move}
+use Rattle.rd_timeline.specs.Decoded.{decoded, edits_among}
 use Rattle.rd_timeline.specs.JournalView.{JournalView}
-
--- the move that a byte stands for: a tick for 255, else that of the core of that number
-abbrev pub move_of_byte : ℕ → Move
-move_of_byte byte = if byte == 255 then Tick else Core byte
-
-abbrev pub moves_of_bytes : List ℕ → List Move
-moves_of_bytes bytes = map move_of_byte bytes
-
--- A byte stands for the move.
-abbrev pub HasByte : Move → Type 0
-HasByte (Core core) = core < 255
-HasByte Tick = Unit {0}
 
 abbrev pub journal_of : Inside → JournalView
 journal_of j = record {
   target = j.trail.target;
-  done = take j.done (moves_of_bytes j.moves.items);
+  done = decoded (take j.done j.moves.items) j.edits.done;
   records = j.trail.records;
-  undone = drop j.done (moves_of_bytes j.moves.items);
+  undone = decoded (drop j.done j.moves.items) j.edits.undone;
   capacity = min (vec_capacity j.moves) j.trail.capacity;
+  edit_capacity = j.edits.capacity;
   room = j.trail.room;
 }
+
+-- So many moves are done, with a record each, and there are as many edits as bytes for them, both
+-- of those done and of those undone.
+pub record IsInOrder (j : Inside) : Type 0 where
+  pub border : j.done ≤ length j.moves.items
+  pub records : length j.trail.records ≡ j.done
+  pub done : edits_among (take j.done j.moves.items) ≡ length j.edits.done
+  pub undone : edits_among (drop j.done j.moves.items) ≡ length j.edits.undone
+
+abbrev pub moves_aside : aside.Inside → List Move
+moves_aside a = decoded a.moves.items a.edits.items
+
+-- There are as many edits as bytes for them.
+abbrev pub HasItsEdits : aside.Inside → Type 0
+HasItsEdits a = edits_among a.moves.items ≡ length a.edits.items

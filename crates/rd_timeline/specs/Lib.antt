@@ -2,6 +2,8 @@
 pub mod Cut
 pub mod LogView
 pub mod TrailView
+pub mod Decoded
+pub mod EditsView
 pub mod JournalView
 pub mod JournalInside
 pub mod History
@@ -18,3 +20,4 @@ pub use Rattle.rd_state.specs.Boot
 pub use Rattle.rd_state.specs.Valid
 pub use Rattle.rd_app.specs.Application
 pub mod Runs
+pub mod RunLaws

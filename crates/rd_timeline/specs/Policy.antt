@@ -1,9 +1,9 @@
 -- Runs: moves that policy chooses, one after the other, until a goal is met.
 use Rattle.std.specs.Prelude.{ℕ, ◌≡◌, ◌+◌, ◌-◌, ◌<◌, ◌≤◌, ◌⊎◌, Bool, true, false, zero, suc, List}
 use Rattle.std.specs.Prelude.{[], ◌∷◌, ◌++◌, Option, None, Some, Result, Ok, Err, IsOk, length}
-use Rattle.std.specs.Prelude.{nat_lt, take, if◌then◌else◌}
-use Rattle.rd_text.specs.declared.refusal.Refusal.{Refusal}
-use Rattle.rd_text.specs.declared.refusal.Refusal.TheVariants.{MovesFull, NoMemory}
+use Rattle.std.specs.Prelude.{nat_lt, take, max, if◌then◌else◌}
+use Rattle.rd_refusal.specs.declared.refusal.Refusal.{Refusal}
+use Rattle.rd_refusal.specs.declared.refusal.Refusal.TheVariants.{MovesFull, NoMemory}
 use Rattle.rd_app.specs.Application.{Application}
 use Rattle.rd_state.specs.Snapshot.{Snapshot}
 use Rattle.rd_calls.specs.declared.moves.Move.{Move}
@@ -11,6 +11,7 @@ use Rattle.rd_calls.specs.Step.{policy_of, step}
 use Rattle.rd_condition.specs.declared.condition.Condition.{Condition}
 use Rattle.rd_condition.specs.Conditions.{holds}
 use Rattle.rd_timeline.specs.Course.{Course, IsWhyNot}
+use Rattle.rd_timeline.specs.LogView.{bytes_of}
 
 -- ---- the moves that policy chooses from a state on
 
@@ -78,13 +79,18 @@ ended true made s = Met made s
 ended false made s = Going made s
 
 -- The run has come to its end: the target and the moves done are those of the run, and no move is
--- undone.
+-- undone. Its moves are no edits, and its last move was made from the most bytes of records.
 pub record EndsRun (old : Course) (goal : Option Condition) (count : ℕ) (met : Bool) (new : Course)
     : Type 0 where
   pub made : ℕ
   pub run : run_from old goal count ≡ ended met made new.target
   pub done : new.done ≡ done_by_policy old made
   pub undone : new.undone ≡ []
+  pub log : take (length old.done) new.log ≡ old.log
+  pub most_done : new.most_done ≡ max old.most_done (length new.done)
+  pub most_edits : new.most_edits ≡ old.most_edits
+  pub most_bytes : 0 < made
+      → new.most_bytes ≡ max old.most_bytes (bytes_of (take (length new.done - 1) new.log))
 
 -- There is no memory for a move of the run that could be made.
 pub record LacksMemory (old : Course) (goal : Option Condition) (count : ℕ) : Type 0 where
@@ -112,4 +118,5 @@ pub record StandsOn (old new : Course) : Type 0 where
   pub log : take (length old.done) new.log ≡ old.log
   pub more : length old.done ≤ length new.done
   pub most_done : old.most_done ≤ new.most_done
+  pub most_edits : old.most_edits ≤ new.most_edits
   pub most_bytes : old.most_bytes ≤ new.most_bytes

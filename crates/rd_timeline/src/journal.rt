@@ -6,16 +6,19 @@ ghost use Rattle.rd_calls.specs.declared.play.TheConstants.{MAX_RECORD_BYTES};
 ghost use Rattle.rd_calls.specs.Step.{step, IsMoveOf};
 ghost use Rattle.rd_state.specs.Valid.{IsValid};
 ghost use Rattle.rd_timeline.specs.History.{rewound, CanRewind};
-ghost use Rattle.rd_timeline.specs.JournalInside.{move_of_byte, HasByte};
-ghost use Rattle.rd_timeline.specs.JournalView.{next_undone, IsAsBefore};
+ghost use Rattle.rd_timeline.specs.Decoded.{byte_of, edits_among, edits_at, edits_in};
+ghost use Rattle.rd_timeline.specs.Decoded.{HasByte};
+ghost use Rattle.rd_timeline.specs.JournalView.{next_undone, HasEditRoom, IsAsBefore};
 ghost use Rattle.rd_timeline.specs.LogView.{bytes_of, memory_of, RecordsMove};
 
+use crate::edits::Edits;
 use crate::trail::Trail;
 use rd_app::app::App;
 use rd_bytes::no_memory::NoMemory;
 use rd_calls::moves::Move;
+use rd_edits::edit::Edit;
+use rd_refusal::refusal::Refusal;
 use rd_state::state::State;
-use rd_text::refusal::Refusal;
 use std::alloc::Global;
 use std::marker::Model;
 
@@ -23,63 +26,71 @@ use std::marker::Model;
 /// done. It can't be dropped: it ends in `retire`.
 #[derive(Debug)]
 pub struct Journal {
-    // A byte a move: the number of its core, or 255 for a tick.
+    // A byte a move: the number of its core, 254 for an edit, or 255 for a tick.
     moves: Vec<u8>,
     // So many of them are done; the others are undone, the one to be redone next first.
     done: usize,
+    // The edits among them. They are rare and large.
+    edits: Edits,
     trail: Trail,
 }
 
 impl Model for Journal {
-    ghost use Rattle.std.specs.Prelude.{◌≡◌, ◌≤◌, length};
     ghost use Rattle.rd_timeline.specs.JournalView.{JournalView};
 
     ghost Value = { JournalView };
 
-    ghost use Rattle.rd_timeline.specs.JournalInside.{journal_of};
+    ghost use Rattle.rd_timeline.specs.JournalInside.{journal_of, IsInOrder};
 
     ghost view = { journal_of };
 
-    ghost invariant = { λ j. (j.done ≤ length j.moves.items) × (length j.trail.records ≡ j.done) };
+    ghost invariant = { IsInOrder };
 }
 
 /// Moves undone that are kept aside while a run goes on.
 #[derive(Debug, Drop)]
 pub struct Aside {
     moves: Vec<u8>,
+    // The edits among them.
+    edits: Vec<Edit>,
 }
 
 impl Model for Aside {
     ghost use Rattle.std.specs.Prelude.{List};
     ghost use Rattle.rd_calls.specs.declared.moves.Move.{Move};
-    ghost use Rattle.rd_timeline.specs.JournalInside.{moves_of_bytes};
+    ghost use Rattle.rd_timeline.specs.JournalInside.{moves_aside, HasItsEdits};
 
     ghost Value = { List Move };
 
-    ghost view = { λ a. moves_of_bytes a.moves.items };
+    ghost view = { moves_aside };
+
+    ghost invariant = { HasItsEdits };
 }
 
 // The byte that stands for a move.
 fn byte_of_move(action: &Move) -> u8
     requires { HasByte action.now }
-    ensures { move_of_byte result ≡ action.now }
+    ensures { result ≡ byte_of action.now }
 {
     match action {
         Move::Core { core } => *core as u8,
         Move::Tick => 255,
+        Move::Edit { .. } => 254,
     }
 }
 
-// The move that a byte stands for.
-fn move_of_byte(byte: u8) -> Move
-    ensures { result ≡ move_of_byte byte }
+// How many edits a byte stands for: one or none.
+fn edits_at(byte: u8) -> usize
+    ensures { result ≡ edits_at byte }
 {
-    match byte {
-        255 => Move::Tick,
-        _ => Move::Core {
-            core: usize::from(byte),
-        },
-    }
+    if byte == 254 { 1 } else { 0 }
+}
+
+// How many of the bytes stand for edits.
+fn edits_among(bytes: &[u8]) -> usize
+    ensures { result ≡ edits_among bytes.now }
+{
+    bytes.iter().filter(|byte| **byte == 254).count()
 }
 
 impl Journal {
@@ -93,6 +104,7 @@ impl Journal {
         Journal {
             moves: Vec::new(alloc),
             done: 0,
+            edits: Edits::new(alloc),
             trail: Trail::new(alloc, target),
         }
     }
@@ -118,6 +130,13 @@ impl Journal {
         self.moves.len() - self.done
     }
 
+    /// How many of the moves done are edits.
+    pub fn edits(&self) -> usize
+        ensures { result ≡ edits_in self.now.done }
+    {
+        self.edits.done()
+    }
+
     /// How many bytes the changes of all records take.
     pub fn bytes(&self) -> usize
         ensures { result ≡ bytes_of self.now.records }
@@ -125,9 +144,9 @@ impl Journal {
         self.trail.bytes()
     }
 
-    /// Makes room for one move more done, whichever it is, with its record. Where there is no
-    /// memory for that, nothing else has changed. It needs none where there is such room, as there
-    /// is after going back.
+    /// Makes room for one move more done, with its record; for a new edit there is `reserve_for`.
+    /// Where there is no memory for that, nothing else has changed. It needs none where there is
+    /// such room, as there is after going back.
     pub fn reserve(&mut self) -> Result<(), NoMemory>
         ensures same { IsAsBefore self.old self.new }
         ensures ok { OnOk result (length self.new.done < self.new.capacity) }
@@ -135,11 +154,30 @@ impl Journal {
         ensures enough { length self.old.done < self.old.capacity
             → MAX_RECORD_BYTES ≤ self.old.room → IsOk result }
         ensures grows { self.old.capacity ≤ self.new.capacity }
+        ensures same_edit_capacity { self.new.edit_capacity ≡ self.old.edit_capacity }
         ensures more_room { self.old.room ≤ self.new.room }
     {
         let missing = (self.done + 1).saturating_sub(self.moves.len());
         self.moves.reserve(missing)?;
         self.trail.reserve()
+    }
+
+    /// Makes room for this move to be done, with its record. Where there is no memory for that,
+    /// nothing else has changed. It needs none where there is such room, as there is after going
+    /// back. Only an edit needs room for an edit.
+    pub fn reserve_for(&mut self, action: &Move) -> Result<(), NoMemory>
+        ensures same { IsAsBefore self.old self.new }
+        ensures ok { OnOk result (length self.new.done < self.new.capacity) }
+        ensures ok_edit { OnOk result (HasEditRoom self.new action.now) }
+        ensures ok_bytes { OnOk result (MAX_RECORD_BYTES ≤ self.new.room) }
+        ensures enough { length self.old.done < self.old.capacity → HasEditRoom self.old action.now
+            → MAX_RECORD_BYTES ≤ self.old.room → IsOk result }
+        ensures grows { self.old.capacity ≤ self.new.capacity }
+        ensures more_edits { self.old.edit_capacity ≤ self.new.edit_capacity }
+        ensures more_room { self.old.room ≤ self.new.room }
+    {
+        self.edits.reserve(action)?;
+        self.reserve()
     }
 
     /// Makes a move: it is laid on the moves done, with its record, and the moves undone are
@@ -149,6 +187,7 @@ impl Journal {
         requires valid { IsValid app.now self.old.target }
         requires named { IsMoveOf app.now action }
         requires capacity { length self.old.done < self.old.capacity }
+        requires edit_room { HasEditRoom self.old action }
         requires room { MAX_RECORD_BYTES ≤ self.old.room }
         ensures lays { OnOk result
             (RecordsMove app.now self.old.target action self.new.target
@@ -159,16 +198,32 @@ impl Journal {
             step app.now self.old.target action ≡ Err refusal) }
         ensures err { OnErr result (IsAsBefore self.old self.new) }
         ensures kept_capacity { self.new.capacity ≡ self.old.capacity }
+        ensures kept_edit_capacity { self.new.edit_capacity ≡ self.old.edit_capacity }
         ensures memory { memory_of self.old.records self.old.room
             ≤ memory_of self.new.records self.new.room }
     {
         app.limits();
         let byte = byte_of_move(&action);
-        self.trail.play(app, action)?;
+        self.trail.play(app, &action)?;
         self.moves.truncate(self.done);
         self.moves.push_reserved(byte);
         self.done += 1;
+        self.edits.lay(action);
         Ok(())
+    }
+
+    // The move that is to be redone next.
+    fn next(&self) -> Move
+        requires { 0 < length self.now.undone }
+        ensures { result ≡ next_undone self.now }
+    {
+        match self.moves[self.done] {
+            255 => Move::Tick,
+            254 => self.edits.next(),
+            core => Move::Core {
+                core: usize::from(core),
+            },
+        }
     }
 
     /// Makes the move again that is to be redone next. It takes no memory. A refusal is one of the
@@ -189,11 +244,14 @@ impl Journal {
             step app.now self.old.target (next_undone self.old) ≡ Err refusal) }
         ensures err { OnErr result (IsAsBefore self.old self.new) }
         ensures kept_capacity { self.new.capacity ≡ self.old.capacity }
+        ensures kept_edit_capacity { self.new.edit_capacity ≡ self.old.edit_capacity }
         ensures memory { memory_of self.old.records self.old.room
             ≤ memory_of self.new.records self.new.room }
     {
-        let action = move_of_byte(self.moves[self.done]);
-        self.trail.play(app, action)?;
+        let action = self.next();
+        self.trail.play(app, &action)?;
+        let edits = edits_at(self.moves[self.done]);
+        self.edits.go_on(edits);
         self.done += 1;
         Ok(())
     }
@@ -205,25 +263,44 @@ impl Journal {
         ensures emptied { OnOk result (self.new ≡ record self.old { undone = [] }) }
         ensures err { OnErr result (self.new ≡ self.old) }
     {
-        let moves = self.moves.split_off(self.done)?;
-        Ok(Aside { moves })
+        // (once there is memory for these bytes, nothing else but the edits can find none)
+        let done = self.done;
+        let count = self.moves.len() - done;
+        let mut moves = Vec::with_capacity(*self.moves.allocator(), count)?;
+        let edits = self.edits.set_aside()?;
+        moves.extend_from_slice(&self.moves[done..]).unwrap();
+        self.moves.truncate(done);
+        Ok(Aside { moves, edits })
     }
 
     /// Puts moves that were set aside in the place of those that are undone. It takes no memory.
     pub fn put_back(&mut self, aside: Aside)
-        requires { length self.old.done + length aside ≤ self.old.capacity }
+        requires moves { length self.old.done + length aside ≤ self.old.capacity }
+        requires edits { edits_in self.old.done + edits_in aside ≤ self.old.edit_capacity }
         ensures undone { self.new.undone ≡ aside }
         ensures target { self.new.target ≡ self.old.target }
         ensures done { self.new.done ≡ self.old.done }
         ensures records { self.new.records ≡ self.old.records }
         ensures room { self.new.room ≡ self.old.room }
         ensures grows { self.old.capacity ≤ self.new.capacity }
+        ensures more_edits { self.old.edit_capacity ≤ self.new.edit_capacity }
     {
+        let Aside { moves, edits } = aside;
         let done = self.done;
         self.moves.truncate(done);
-        self.moves
-            .extend_from_slice(aside.moves.as_slice())
-            .unwrap();
+        self.moves.extend_from_slice(moves.as_slice()).unwrap();
+        self.edits.put_back(edits);
+    }
+
+    // How many of the last `n` moves done are edits. Where none is kept they aren't looked at.
+    fn edits_in_last(&self, n: usize) -> usize
+        requires { n ≤ length self.now.done }
+        ensures { result ≡ edits_in (drop (length self.now.done - n) self.now.done) }
+    {
+        if self.edits.done() == 0 {
+            return 0;
+        }
+        edits_among(&self.moves[self.done - n..self.done])
     }
 
     /// Takes the last `n` moves done back: the target goes back by their records, and they become
@@ -240,9 +317,12 @@ impl Journal {
             ≡ drop (length self.old.done - n) self.old.done ++ self.old.undone }
         ensures records { self.new.records ≡ take (length self.old.done - n) self.old.records }
         ensures kept_capacity { self.new.capacity ≡ self.old.capacity }
+        ensures kept_edit_capacity { self.new.edit_capacity ≡ self.old.edit_capacity }
         ensures memory { memory_of self.new.records self.new.room
             ≡ memory_of self.old.records self.old.room }
     {
+        let edits = self.edits_in_last(n);
+        self.edits.take_back(edits);
         self.done -= n;
         self.trail.take_back(n);
     }
@@ -252,6 +332,7 @@ impl Journal {
         let Journal {
             moves: _,
             done: _,
+            edits: _,
             trail,
         } = self;
         trail.retire();

@@ -1,7 +1,9 @@
 //! The moves made so far, the way back through them, and the state that they give.
 #![tactic(auto)]
 
+mod edits;
 pub mod journal;
+pub mod laws;
 pub mod log;
 pub mod running;
 pub mod runs;

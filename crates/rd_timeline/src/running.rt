@@ -14,7 +14,7 @@ use rd_bytes::no_memory::NoMemory;
 use rd_calls::play::why_not;
 use rd_calls::policy::policy;
 use rd_condition::condition::Condition;
-use rd_text::refusal::Refusal;
+use rd_refusal::refusal::Refusal;
 
 /// Where a search for a condition ended.
 #[derive(Clone, Copy, Debug, PartialEq, Eq)]
@@ -23,15 +23,6 @@ pub struct Found {
     pub at: usize,
     /// Whether the condition holds there. Else the search came to its limit.
     pub met: bool,
-}
-
-/// Why moves aren't made again. Nothing has changed.
-#[derive(Clone, Copy, Debug, PartialEq, Eq)]
-pub enum RedoRefusal {
-    /// Fewer moves are undone.
-    NothingUndone,
-    /// A growth was refused.
-    NoMemory,
 }
 
 impl Timeline {
@@ -162,23 +153,23 @@ impl Timeline {
     /// Makes the next `count` moves that are undone again, all or none. Answers how many moves are
     /// done then. It is refused as `NothingUndone` where fewer are undone, and else as `NoMemory`
     /// alone, where a growth was refused. A refusal leaves the timeline as it was.
-    pub fn redo(&mut self, count: usize) -> Result<usize, RedoRefusal>
+    pub fn redo(&mut self, count: usize) -> Result<usize, Refusal>
         ensures at { IfOk result (λ at. at ≡ length self.new.done) }
         ensures redone { OnOk result (HasRedone self.old count self.new) }
         ensures leads { state_after self.new.app self.new.done ≡ Ok self.new.target }
-        ensures nothing_undone { IsErrOf result RedoRefusal.NothingUndone
+        ensures nothing_undone { IsErrOf result Refusal.NothingUndone
             ↔ (length self.old.undone < count) }
         ensures refusals { IfErr result (IsWhyNoRedo self.old count) }
         ensures err { OnErr result (self.new ≡ self.old) }
     {
         self.keeps();
         if count > self.left() {
-            return Err(RedoRefusal::NothingUndone);
+            return Err(Refusal::NothingUndone);
         }
         let done = self.at();
         if self.redo_each(count).is_err() {
             self.back(self.at() - done).unwrap();
-            return Err(RedoRefusal::NoMemory);
+            return Err(Refusal::NoMemory);
         }
         self.keeps();
         Ok(self.at())

@@ -1,6 +1,6 @@
 //! Lists of requests: what they leave of the moves done and undone.
 
-ghost use Rattle.std.specs.Prelude.{◌≡◌, All, IsTrue, Ok, OnOk, OnErr};
+ghost use Rattle.std.specs.Prelude.{◌≡◌, ◌↔◌, All, IsErr, IsErrOf, IsTrue, Ok, OnOk, OnErr};
 ghost use Rattle.rd_timeline.specs.Course.{Course};
 ghost use Rattle.rd_timeline.specs.History.{state_after};
 ghost use Rattle.rd_timeline.specs.Runs.{moves_of, makes_move, answered, all_answered};
@@ -9,7 +9,8 @@ ghost use Rattle.rd_timeline.specs.Runs.{StopsBefore, IsRequestOf};
 use crate::timeline::Timeline;
 use rd_bytes::no_memory::NoMemory;
 use rd_calls::moves::Move;
-use rd_text::refusal::Refusal;
+use rd_condition::condition::Condition;
+use rd_refusal::refusal::Refusal;
 
 /// What one asks of a timeline.
 #[derive(Debug, Drop)]
@@ -18,6 +19,24 @@ pub enum Request {
     Go { action: Move },
     /// Go back by so many moves.
     Back { count: usize },
+    /// Make so many moves by policy, one at the least.
+    Forward { count: usize },
+    /// Make so many moves again that are undone.
+    Redo { count: usize },
+    /// Make moves by policy until the condition holds, so many at the most and one at the least.
+    Until { condition: Condition, count: usize },
+    /// Go back to where the condition held, or to the start.
+    BackUntil { condition: Condition },
+}
+
+// That memory ran out, if that is why it was refused. Any other refusal is an answer.
+fn unless_no_memory<T: Drop>(made: Result<T, Refusal>) -> Result<(), NoMemory>
+    ensures { IsErr result ↔ IsErrOf made Refusal.NoMemory }
+{
+    match made {
+        Err(Refusal::NoMemory) => Err(NoMemory),
+        Ok(_) | Err(_) => Ok(()),
+    }
 }
 
 impl Timeline {
@@ -42,6 +61,13 @@ impl Timeline {
             },
             Request::Back { count } => {
                 let _ = self.back(*count);
+                Ok(())
+            }
+            Request::Forward { count } => unless_no_memory(self.forward(*count)),
+            Request::Redo { count } => unless_no_memory(self.redo(*count)),
+            Request::Until { condition, count } => unless_no_memory(self.until(*condition, *count)),
+            Request::BackUntil { condition } => {
+                self.back_until(*condition);
                 Ok(())
             }
         }

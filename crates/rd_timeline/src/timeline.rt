@@ -8,8 +8,10 @@ ghost use Rattle.rd_state.specs.PackedChanges.{IsPackable};
 ghost use Rattle.rd_state.specs.Settled.{IsSettled};
 ghost use Rattle.rd_state.specs.Valid.{IsValid};
 ghost use Rattle.rd_calls.specs.Step.{step, IsMoveOf};
-ghost use Rattle.rd_timeline.specs.Course.{IsKept, IsFull, IsRefusedBy, CanGo};
+ghost use Rattle.rd_timeline.specs.Backward.{GoesBack};
+ghost use Rattle.rd_timeline.specs.Course.{IsKept, IsFull, IsRefusedBy, CanGo, GoesOn};
 ghost use Rattle.rd_timeline.specs.Course.{IsMoreThanEver, IsWhyNot};
+ghost use Rattle.rd_timeline.specs.Decoded.{edits_in};
 ghost use Rattle.rd_timeline.specs.History.{state_after};
 ghost use Rattle.rd_timeline.specs.LogView.{bytes_of};
 ghost use Rattle.rd_timeline.specs.Policy.{StandsOn};
@@ -21,21 +23,22 @@ use rd_app::app::App;
 use rd_bytes::no_memory::NoMemory;
 use rd_calls::moves::Move;
 use rd_calls::play::why_not;
+use rd_refusal::refusal::Refusal;
 use rd_state::state::State;
 use rd_state::undo::Undo;
-use rd_text::refusal::Refusal;
 use std::alloc::Global;
 use std::marker::Model;
 
 /// The target with the moves that led to it. It can't be dropped: it ends in `close`.
-#[derive(Debug)]
 pub struct Timeline {
     app: App,
     limit: usize,
     journal: Journal,
-    // How many moves were done at the most so far, and from how many bytes of records a move was
-    // made at the most. There is room for as much.
+    // How many moves were done at the most so far, how many edits were among those done at the
+    // most, and from how many bytes of records a move was made at the most. There is room for as
+    // much.
     most_done: usize,
+    most_edits: usize,
     most_bytes: usize,
 }
 
@@ -58,6 +61,7 @@ pub(crate) struct Start {
     done: usize,
     undone: Aside,
     most_done: usize,
+    most_edits: usize,
     most_bytes: usize,
 }
 
@@ -72,6 +76,7 @@ impl Timeline {
           log = [];
           undone = [];
           most_done = 0;
+          most_edits = 0;
           most_bytes = 0;
         }) }
     {
@@ -82,6 +87,7 @@ impl Timeline {
             limit,
             journal: Journal::new(alloc, target),
             most_done: 0,
+            most_edits: 0,
             most_bytes: 0,
         })
     }
@@ -134,12 +140,14 @@ impl Timeline {
 
     /// Makes a move: it is laid on the moves done, and the moves undone are forgotten. Answers how
     /// many moves are done. A refusal leaves the timeline as it was: `MovesFull` where the moves
-    /// done are at their limit, else `NoTask` where the core is idle and `TickLimit` where there is
-    /// no further tick, whatever memory is left, else `NoMemory` where a growth was refused. There
-    /// is no other. No memory is needed for as much as there was once.
+    /// done are at their limit, else `NoTask` where the core is idle, `TickLimit` where there is no
+    /// further tick and `BadEdit` where the edit can't be made, whatever memory is left, else
+    /// `NoMemory` where a growth was refused. There is no other. No memory is needed for as much as
+    /// there was once.
     pub fn go(&mut self, action: Move) -> Result<usize, Refusal>
         requires named { IsMoveOf self.old.app action }
         ensures at { IfOk result (λ at. at ≡ length self.new.done) }
+        ensures goes { OnOk result (GoesOn self.old action self.new) }
         ensures step { OnOk result (step self.old.app self.old.target action ≡ Ok self.new.target) }
         ensures done { OnOk result (self.new.done ≡ self.old.done ++ action ∷ []) }
         ensures undone { OnOk result (self.new.undone ≡ []) }
@@ -149,6 +157,8 @@ impl Timeline {
         ensures leads { OnOk result (state_after self.new.app self.new.done ≡ Ok self.new.target) }
         ensures most_done { OnOk result
             (self.new.most_done ≡ max self.old.most_done (length self.new.done)) }
+        ensures most_edits { OnOk result
+            (self.new.most_edits ≡ max self.old.most_edits (edits_in self.new.done)) }
         ensures most_bytes { OnOk result
             (self.new.most_bytes ≡ max self.old.most_bytes (bytes_of self.old.log)) }
 
@@ -158,15 +168,17 @@ impl Timeline {
             ↔ IsRefusedBy self.old action Refusal.NoTask }
         ensures tick_limit { IsErrOf result Refusal.TickLimit
             ↔ IsRefusedBy self.old action Refusal.TickLimit }
+        ensures bad_edit { IsErrOf result Refusal.BadEdit
+            ↔ IsRefusedBy self.old action Refusal.BadEdit }
         ensures no_memory { IsErrOf result Refusal.NoMemory → CanGo self.old action }
-        ensures short { IsErrOf result Refusal.NoMemory → IsMoreThanEver self.old }
+        ensures short { IsErrOf result Refusal.NoMemory → IsMoreThanEver self.old action }
         ensures refusals { IfErr result (IsWhyNot self.old action) }
         ensures err { OnErr result (self.new ≡ self.old) }
     {
         if self.at() == self.limit {
             return Err(Refusal::MovesFull);
         }
-        if self.journal.reserve().is_err() {
+        if self.journal.reserve_for(&action).is_err() {
             // What is wrong with the move itself is the cause, if something is.
             let cause = why_not(&self.app, self.journal.target(), &action);
             return Err(cause.unwrap_or(Refusal::NoMemory));
@@ -175,6 +187,7 @@ impl Timeline {
         self.journal.play(&self.app, action)?;
         let at = self.journal.done();
         self.most_done = self.most_done.max(at);
+        self.most_edits = self.most_edits.max(self.journal.edits());
         self.most_bytes = self.most_bytes.max(bytes);
         Ok(at)
     }
@@ -185,6 +198,7 @@ impl Timeline {
     pub fn back(&mut self, n: usize) -> Result<usize, Refusal>
         ensures ok { IsOk result ↔ (n ≤ length self.old.done) }
         ensures at { IfOk result (λ at. at ≡ length self.new.done) }
+        ensures goes { OnOk result (GoesBack self.old n self.new) }
         ensures done { OnOk result (self.new.done ≡ take (length self.old.done - n) self.old.done) }
         ensures undone { OnOk result (self.new.undone
             ≡ drop (length self.old.done - n) self.old.done ++ self.old.undone) }
@@ -192,6 +206,7 @@ impl Timeline {
         ensures app { OnOk result (self.new.app ≡ self.old.app) }
         ensures limit { OnOk result (self.new.limit ≡ self.old.limit) }
         ensures most_done { OnOk result (self.new.most_done ≡ self.old.most_done) }
+        ensures most_edits { OnOk result (self.new.most_edits ≡ self.old.most_edits) }
         ensures most_bytes { OnOk result (self.new.most_bytes ≡ self.old.most_bytes) }
         ensures leads { OnOk result (state_after self.new.app self.new.done ≡ Ok self.new.target) }
         ensures too_far { IfErr result (λ refusal.
@@ -218,6 +233,7 @@ impl Timeline {
             done: self.at(),
             undone: self.journal.set_aside()?,
             most_done: self.most_done,
+            most_edits: self.most_edits,
             most_bytes: self.most_bytes,
         })
     }
@@ -232,12 +248,14 @@ impl Timeline {
             done,
             undone,
             most_done,
+            most_edits,
             most_bytes,
         } = start;
         let made = self.at() - done;
         self.journal.take_back(made);
         self.journal.put_back(undone);
         self.most_done = most_done;
+        self.most_edits = most_edits;
         self.most_bytes = most_bytes;
     }
 
@@ -249,6 +267,7 @@ impl Timeline {
         ensures undone { OnOk result (self.new.undone ≡ drop 1 self.old.undone) }
         ensures stands { OnOk result (StandsOn self.old self.new) }
         ensures most_done { OnOk result (self.new.most_done ≡ self.old.most_done) }
+        ensures most_edits { OnOk result (self.new.most_edits ≡ self.old.most_edits) }
         ensures most_bytes { OnOk result (self.new.most_bytes ≡ self.old.most_bytes) }
         ensures err { OnErr result (self.new ≡ self.old) }
     {
@@ -275,6 +294,7 @@ impl Timeline {
             limit: _,
             journal,
             most_done: _,
+            most_edits: _,
             most_bytes: _,
         } = self;
         journal.retire();

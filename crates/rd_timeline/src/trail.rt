@@ -12,10 +12,10 @@ use rd_app::app::App;
 use rd_bytes::no_memory::NoMemory;
 use rd_calls::moves::Move;
 use rd_calls::play::{MAX_RECORD_BYTES, play_on};
+use rd_refusal::refusal::Refusal;
 use rd_state::editing::Editing;
 use rd_state::state::State;
 use rd_state::undo::Undo;
-use rd_text::refusal::Refusal;
 use std::alloc::Global;
 use std::marker::Model;
 
@@ -98,15 +98,15 @@ impl Trail {
 
     /// Makes a move, and its record is the last one then. It takes no memory. A refusal is one of
     /// the kernel's rules, and leaves the target and the records as they were.
-    pub fn play(&mut self, app: &App, action: Move) -> Result<(), Refusal>
+    pub fn play(&mut self, app: &App, action: &Move) -> Result<(), Refusal>
         requires valid { IsValid app.now self.old.target }
-        requires named { IsMoveOf app.now action }
+        requires named { IsMoveOf app.now action.now }
         requires capacity { length self.old.records < self.old.capacity }
         requires room { MAX_RECORD_BYTES ≤ self.old.room }
-        ensures lays { OnOk result (RecordsMove app.now self.old.target action self.new.target
-            self.old.records self.new.records) }
+        ensures lays { OnOk result (RecordsMove app.now self.old.target action.now
+            self.new.target self.old.records self.new.records) }
         ensures refusals { IfErr result (λ refusal.
-            step app.now self.old.target action ≡ Err refusal) }
+            step app.now self.old.target action.now ≡ Err refusal) }
         ensures err { OnErr result (self.new.records ≡ self.old.records) }
         ensures err_target { OnErr result (self.new.target ≡ self.old.target) }
         ensures kept_capacity { self.new.capacity ≡ self.old.capacity }

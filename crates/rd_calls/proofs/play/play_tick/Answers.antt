@@ -1,27 +1,24 @@
 -- The goals of `play_tick` that the check left open.
 use Rattle.std.proofs.Common.{refl, rules}
 use Rattle.rd_state.specs.Edit.{begun_at}
-use Rattle.rd_calls.proofs.PlayLaws.{grows-from, short-from, IsPlayed-from, Leads-tick}
+use Rattle.rd_calls.proofs.PlayLaws.{IsPlayed-from, Leads-tick, grows-from, short-from}
 use Rattle.rd_calls.proofs.play.play_tick.Goals as goal
 
-pub returns-clause-played : goal.returns-clause-played
-returns-clause-played c =
-    rw c.finish.ensures.made
-    (IsPlayed-from c.move_tick-made.result c.args.app.now c.args.editing.now.now c.finish.new.editing.now _ _ _ c.begin.new.self _ c.args.editing.now.changes
-    c.finish.new.editing.changes c.args.editing.now.room (search rules) (Leads-tick c.args.app.now c.args.editing.now.now c.limits.ensures c.requires.valid c.requires.later)
-    c.finish.ensures.sized (search rules) c.finish.ensures.state c.finish.ensures.record)
-
-pub returns-clause-short : goal.returns-clause-short
-returns-clause-short c =
+pub returns : goal.returns
+returns c =
     let old = c.args.editing.now in
-    rw c.finish.ensures.made
-    (short-from c.move_tick-made.result c.args.app.now old.now _ _ _ old.room (begun_at old.now old.changes old.room) c.move_tick-made.new.editing refl
-    (Leads-tick c.args.app.now c.args.editing.now.now c.limits.ensures c.requires.valid c.requires.later)
-    (rw c.begin.ensures at c.move_tick-made.ensures.err))
-
-pub returns-clause-grows : goal.returns-clause-grows
-returns-clause-grows c =
-    let old = c.args.editing.now in
+    let app = c.args.app.now in
+    let made = c.move_tick-made in
     let begun = begun_at old.now old.changes old.room in
-    rw c.finish.ensures.capacity
-    (grows-from c.move_tick-made.result _ _ begun c.move_tick-made.new.editing (rw c.begin.ensures at c.move_tick-made.ensures.ok) (rw c.begin.ensures at c.move_tick-made.ensures.err))
+    let leads = Leads-tick app old.now c.limits.ensures c.requires.valid c.requires.later in
+    rw c.finish.ensures.made
+    (record {
+      before = search rules;
+      played =
+          IsPlayed-from made.result app old.now c.finish.new.editing.now _ _ _ c.begin.new.self _ old.changes c.finish.new.editing.changes old.room
+          (search rules) leads c.finish.ensures.sized (search rules) c.finish.ensures.state c.finish.ensures.record;
+      short = short-from made.result app old.now _ _ _ old.room begun made.new.editing refl leads (rw c.begin.ensures at made.ensures.err);
+      state = search rules;
+      changes = search rules;
+      grows = rw c.finish.ensures.capacity (grows-from made.result _ _ begun made.new.editing (rw c.begin.ensures at made.ensures.ok) (rw c.begin.ensures at made.ensures.err));
+    })

@@ -1,5 +1,5 @@
 -- The goals of put_cores that the check left open.
-use Rattle.std.proofs.Common.{◌∙◌, ℕ, Some, refl, ap}
+use Rattle.std.proofs.Common.{◌∙◌, ap}
 use Rattle.rd_app.specs.Application.{Application}
 use Rattle.rd_state.specs.Snapshot.{Snapshot}
 use Rattle.rd_reply.specs.Replies.{cores_text}
@@ -14,9 +14,7 @@ show_cores-shown-requires c =
 pub returns : goal.returns
 returns c =
     let course = c.args.timeline.now in
-    let view = λ (n : ℕ). cores_text course.app course.target in
     let by_app = λ (app : Application). cores_text app c.target.result.now in
     let by_state = λ (s : Snapshot). cores_text course.app s in
-    view_added c.show_cores-shown.result (Some 0) view 0 _ _ _ _ _ refl c.len-len.ensures
-    (ap by_app c.app-2.ensures ∙ ap by_state c.target.ensures)
-    c.show_cores-shown.ensures.text c.show_cores-shown.ensures.full c.show_cores-shown.ensures.kept c.end_view.ensures.ok c.end_view.ensures.err
+    view_added c.show_cores-shown.result (cores_text course.app course.target) _ _ _ _ _ (ap by_app c.app-2.ensures ∙ ap by_state c.target.ensures)
+    c.len-len.ensures c.show_cores-shown.ensures.text c.show_cores-shown.ensures.full c.show_cores-shown.ensures.kept c.end_view.ensures.ok c.end_view.ensures.err

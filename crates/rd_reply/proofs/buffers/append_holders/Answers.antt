@@ -5,5 +5,6 @@ use Rattle.rd_reply.proofs.buffers.append_holders.Goals as goal
 
 pub returns : goal.returns
 returns c =
-    let all = appends_then (appends_then (appends_then c.append.ensures c.append_name_or_dash.ensures) c.append-2.ensures) c.append_name_or_dash-2.ensures in
+    let all = appends_then (appends_then (appends_then c.append.ensures
+    c.append_name_or_dash.ensures) c.append-2.ensures) c.append_name_or_dash-2.ensures in
     appends_as all (search rules)

@@ -5,5 +5,7 @@ use Rattle.rd_reply.proofs.buffers.append_message_buffer.Goals as goal
 
 pub returns : goal.returns
 returns c =
-    let all = appends_then (appends_then (appends_then (appends_then (appends_then c.append.ensures c.append-2.ensures) c.append-3.ensures) c.append_message_contents.ensures) c.append_holders.ensures) c.append-4.ensures in
+    let all = appends_then (appends_then (appends_then (appends_then
+    (appends_then c.append.ensures c.append-2.ensures) c.append-3.ensures)
+    c.append_message_contents.ensures) c.append_holders.ensures) c.append-4.ensures in
     appends_as all (search rules)

@@ -7,10 +7,13 @@ use Rattle.rd_reply.proofs.buffers.append_messages.Goals as goal
 
 pub loop-index-preserved : goal.loop-index-preserved
 loop-index-preserved c =
-    let message = λ (bytes : List ℕ). Appends c.append_comma.new.page c.append_pieces.new.page (bytes_text bytes) in
+    let message = λ (bytes : List ℕ). Appends c.append_comma.new.page c.append_pieces.new.page
+    (bytes_text bytes) in
     one_more bytes_text c.args.buffer.now.messages c.loop-index.index []
     _ _ _ _ (omega arith) c.loop-index.invariant c.append_comma.ensures
     (subst message c.message.ensures.message c.append_pieces.ensures)
 
 pub returns : goal.returns
-returns c = all_joined bytes_text c.args.buffer.now.messages c.loop-index.index _ _ (omega arith) (omega arith) c.loop-index.invariant
+returns c =
+    all_joined bytes_text c.args.buffer.now.messages c.loop-index.index _ _ (omega arith)
+    (omega arith) c.loop-index.invariant

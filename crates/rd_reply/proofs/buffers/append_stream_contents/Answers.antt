@@ -5,5 +5,7 @@ use Rattle.rd_reply.proofs.buffers.append_stream_contents.Goals as goal
 
 pub returns : goal.returns
 returns c =
-    let all = appends_then (appends_then (appends_then (appends_then c.append_counts.ensures c.append.ensures) c.append_number.ensures) c.append-2.ensures) c.append_stream_bytes.ensures in
+    let all = appends_then (appends_then (appends_then (appends_then c.append_counts.ensures
+    c.append.ensures) c.append_number.ensures) c.append-2.ensures)
+    c.append_stream_bytes.ensures in
     appends_as all (search rules)

@@ -5,5 +5,7 @@ use Rattle.rd_reply.proofs.groups.append_group.Goals as goal
 
 pub returns : goal.returns
 returns c =
-    let all = appends_then (appends_then (appends_then (appends_then (appends_then (appends_then c.append.ensures c.append-2.ensures) c.append-3.ensures) c.append_number.ensures) c.append-4.ensures) c.append_waiters.ensures) c.append-5.ensures in
+    let all = appends_then (appends_then (appends_then (appends_then
+    (appends_then (appends_then c.append.ensures c.append-2.ensures) c.append-3.ensures)
+    c.append_number.ensures) c.append-4.ensures) c.append_waiters.ensures) c.append-5.ensures in
     appends_as all (search rules)

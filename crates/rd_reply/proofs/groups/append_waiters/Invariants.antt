@@ -6,4 +6,6 @@ use Rattle.rd_reply.specs.Replies.{separated, waiter_text}
 use Rattle.rd_reply.proofs.groups.append_waiters.Given as goal
 
 abbrev pub invariant-loop-index : goal.invariant-loop-index
-invariant-loop-index l = Appends l.fn.page l.page (separated (waiter_text l.app) (take l.index (zip l.group.waiting l.group.wishes)))
+invariant-loop-index l =
+    Appends l.fn.page l.page (separated (waiter_text l.app)
+    (take l.index (zip l.group.waiting l.group.wishes)))

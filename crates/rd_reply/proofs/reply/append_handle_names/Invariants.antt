@@ -6,4 +6,6 @@ use Rattle.rd_reply.specs.Names.{name_at}
 use Rattle.rd_reply.proofs.reply.append_handle_names.Given as goal
 
 abbrev pub invariant-loop-index : goal.invariant-loop-index
-invariant-loop-index l = Appends l.fn.page l.page (separated (name_at l.app.objects.queues.names) (take l.index l.queue_set.handles))
+invariant-loop-index l =
+    Appends l.fn.page l.page (separated (name_at l.app.objects.queues.names)
+    (take l.index l.queue_set.handles))

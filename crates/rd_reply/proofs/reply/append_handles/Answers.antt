@@ -5,5 +5,6 @@ use Rattle.rd_reply.proofs.reply.append_handles.Goals as goal
 
 pub returns : goal.returns
 returns c =
-    let all = appends_then (appends_then c.append_counts.ensures c.append.ensures) c.append_handle_names.ensures in
+    let all = appends_then (appends_then c.append_counts.ensures c.append.ensures)
+    c.append_handle_names.ensures in
     appends_as all (search rules)

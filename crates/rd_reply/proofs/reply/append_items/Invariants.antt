@@ -5,4 +5,5 @@ use Rattle.rd_reply.specs.Replies.{bytes_text, separated}
 use Rattle.rd_reply.proofs.reply.append_items.Given as goal
 
 abbrev pub invariant-loop-index : goal.invariant-loop-index
-invariant-loop-index l = Appends l.fn.page l.page (separated bytes_text (take l.index l.queue.items))
+invariant-loop-index l =
+    Appends l.fn.page l.page (separated bytes_text (take l.index l.queue.items))

@@ -5,8 +5,11 @@ use Rattle.rd_reply.proofs.reply.append_listed.Goals as goal
 
 pub returns-in-Queue : goal.returns-in-Queue
 returns-in-Queue c =
-    let all = appends_then (appends_then c.append.ensures c.append-in-Queue.ensures) c.append_name.ensures in
+    let all = appends_then (appends_then c.append.ensures c.append-in-Queue.ensures)
+    c.append_name.ensures in
     appends_as all (search rules)
 
 pub returns-in-QueueSet : goal.returns-in-QueueSet
-returns-in-QueueSet c = appends_as (appends_then c.append-in-QueueSet.ensures c.append_name-in-QueueSet.ensures) (search rules)
+returns-in-QueueSet c =
+    appends_as (appends_then c.append-in-QueueSet.ensures c.append_name-in-QueueSet.ensures)
+    (search rules)

@@ -5,5 +5,7 @@ use Rattle.rd_reply.proofs.reply.append_queue_set.Goals as goal
 
 pub returns : goal.returns
 returns c =
-    let all = appends_then (appends_then (appends_then (appends_then (appends_then c.append.ensures c.append-2.ensures) c.append-3.ensures) c.append_handles.ensures) c.append_selecting.ensures) c.append-4.ensures in
+    let all = appends_then (appends_then (appends_then (appends_then
+    (appends_then c.append.ensures c.append-2.ensures) c.append-3.ensures)
+    c.append_handles.ensures) c.append_selecting.ensures) c.append-4.ensures in
     appends_as all (search rules)

@@ -6,4 +6,5 @@ use Rattle.rd_reply.specs.Names.{name_or_dash}
 use Rattle.rd_reply.proofs.reply.append_seat_names.Given as goal
 
 abbrev pub invariant-loop-index : goal.invariant-loop-index
-invariant-loop-index l = Appends l.fn.page l.page (separated (name_or_dash l.app.tasks.names) (take l.index l.cores))
+invariant-loop-index l =
+    Appends l.fn.page l.page (separated (name_or_dash l.app.tasks.names) (take l.index l.cores))

@@ -5,5 +5,7 @@ use Rattle.rd_reply.proofs.reply.append_state.Goals as goal
 
 pub returns : goal.returns
 returns c =
-    let all = appends_then (appends_then (appends_then (appends_then (appends_then c.append.ensures c.append_number_list.ensures) c.append-2.ensures) c.append_bytes.ensures) c.append-3.ensures) c.append_entry_list.ensures in
+    let all = appends_then (appends_then (appends_then (appends_then
+    (appends_then c.append.ensures c.append_number_list.ensures) c.append-2.ensures)
+    c.append_bytes.ensures) c.append-3.ensures) c.append_entry_list.ensures in
     appends_as all (search rules)

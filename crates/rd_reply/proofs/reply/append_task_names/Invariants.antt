@@ -6,4 +6,5 @@ use Rattle.rd_reply.specs.Names.{name_at}
 use Rattle.rd_reply.proofs.reply.append_task_names.Given as goal
 
 abbrev pub invariant-loop-index : goal.invariant-loop-index
-invariant-loop-index l = Appends l.fn.page l.page (separated (name_at l.app.tasks.names) (take l.index l.tasks))
+invariant-loop-index l =
+    Appends l.fn.page l.page (separated (name_at l.app.tasks.names) (take l.index l.tasks))

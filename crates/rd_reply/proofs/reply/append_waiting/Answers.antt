@@ -5,5 +5,6 @@ use Rattle.rd_reply.proofs.reply.append_waiting.Goals as goal
 
 pub returns : goal.returns
 returns c =
-    let all = appends_then (appends_then (appends_then c.append.ensures c.append_task_names.ensures) c.append-2.ensures) c.append_task_names-2.ensures in
+    let all = appends_then (appends_then (appends_then c.append.ensures c.append_task_names.ensures)
+    c.append-2.ensures) c.append_task_names-2.ensures in
     appends_as all (search rules)

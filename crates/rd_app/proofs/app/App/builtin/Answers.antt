@@ -1,14 +1,11 @@
--- The goals of builtin that the check left open.
+-- The goal of builtin that the check left open.
 use Rattle.std.proofs.Common.{rules}
 use Rattle.rd_app.proofs.BuiltinLaws.{builtin_is_kept}
 use Rattle.rd_app.proofs.app.App.builtin.Goals as goal
 
-pub new-requires-4 : goal.new-requires-4
-new-requires-4 c =
-    let objects = c.in_ok-of_queues.ensures in
-    let names = c.in_ok-new.ensures in
-    let script = c.new-2.ensures in
-    let code = c.in_ok-builtin_code.ensures in
-    let task_names = c.in_ok-new-2.ensures in
-    builtin_is_kept _
-    (rw (objects, c.in_ok-vec.ensures.items, names, c.in_ok-push.ensures.items, c.in_ok-scripts.ensures.items, script, code, task_names) (search rules))
+pub new-requires : goal.new-requires
+new-requires c =
+    let made = c.in_ok-queues.ensures.ok in
+    let queues = rw made.0 at c.new-queues.ensures in
+    let tasks = rw made.1 at c.builtin_tasks.ensures in
+    builtin_is_kept _ (rw (c.of_queues.ensures, queues, c.in_ok-vec.ensures.items, tasks) (search rules))

@@ -1,15 +1,73 @@
--- The goal of `Journal::play` that the check left open.
-use Rattle.std.proofs.Common.{◌∙◌, ◌+◌, ◌++◌, ◌∷◌, [], ℕ, List, ap, take}
-use Rattle.rd_timeline.specs.JournalInside.{moves_of_bytes}
+-- The goals of `Journal::play` that the check left open.
+use Rattle.std.proofs.Common.{◌∙◌, ◌+◌, ◌++◌, ◌∷◌, [], ap, arith, length, sym, take}
+use Rattle.std.specs.Prelude.{ℕ, List}
+use Rattle.std.proofs.lemmas.List.{length-take-le, length_push}
+use Rattle.rd_edits.specs.declared.edit.Edit.{Edit}
+use Rattle.rd_timeline.specs.Decoded.{decoded, edits_among}
 use Rattle.rd_timeline.specs.JournalView.{JournalView}
-use Rattle.rd_timeline.proofs.JournalLaws.{moves_laid}
+use Rattle.rd_timeline.proofs.JournalLaws.{done_count, edits_done, has_byte, moves_laid}
 use Rattle.rd_timeline.proofs.journal.Journal.play.Goals as goal
+
+pub play-requires-clause-capacity : goal.play-requires-clause-capacity
+play-requires-clause-capacity c =
+    omega (
+      arith,
+      c.requires.capacity,
+      c.self.invariant.records,
+      done_count c.self.inside c.args.self.now c.self.view_is c.self.invariant,
+      ap (λ (v : JournalView). v.capacity) c.self.view_is,
+    )
+
+pub push_reserved-requires : goal.push_reserved-requires
+push_reserved-requires c =
+    omega (
+      arith,
+      ap length c.truncate.ensures.items,
+      length-take-le c.self.inside.done c.self.inside.moves.items c.self.invariant.border,
+      c.truncate.ensures.capacity,
+      c.requires.capacity,
+      done_count c.self.inside c.args.self.now c.self.view_is c.self.invariant,
+      ap (λ (v : JournalView). v.capacity) c.self.view_is,
+    )
+
+pub lay-requires : goal.lay-requires
+lay-requires c is =
+    omega (
+      arith,
+      c.requires.edit_room is,
+      edits_done c.self.inside c.args.self.now c.self.view_is c.self.invariant,
+      ap (λ (v : JournalView). v.edit_capacity) c.self.view_is,
+    )
+
+pub invariant_of-self-2 : goal.invariant_of-self-2
+invariant_of-self-2 c =
+    let bytes = c.push_reserved.ensures.items ∙ ap (λ (bs : List ℕ). bs ++ c.byte_of_move-byte.result ∷ []) c.truncate.ensures.items
+    ∙ ap (λ b. take c.self.inside.done c.self.inside.moves.items ++ b ∷ []) c.byte_of_move-byte.ensures in
+    let laid = moves_laid c.self.inside c.args.action c.push_reserved.new.self.items c.self.invariant (has_byte c.args.app.now c.args.action c.limits.ensures c.requires.named) bytes in
+    record {
+      border = laid.border;
+      records =
+          omega (
+            arith,
+            ap length c.in_ok-play.ensures.lays.records,
+            length_push c.self.inside.trail.records c.in_ok-play.ensures.lays.undo,
+            c.self.invariant.records,
+          );
+      done = laid.done_edits ∙ ap length (sym c.lay.ensures.done);
+      undone = ap edits_among laid.none ∙ sym (ap length c.lay.ensures.undone);
+    }
 
 pub returns-clause-done : goal.returns-clause-done
 returns-clause-done c =
-    let border = c.self.inside.done in
-    let byte = c.byte_of_move-byte.result in
-    let items = c.push_reserved.ensures.items ∙ ap (λ (bytes : List ℕ). bytes ++ byte ∷ []) c.truncate.ensures.items in
-    ap (λ (bytes : List ℕ). take (border + 1) (moves_of_bytes bytes)) items
-    ∙ (moves_laid c.self.inside.moves.items border byte c.args.action c.self.invariant.0 c.byte_of_move-byte.ensures).0
+    let bytes = c.push_reserved.ensures.items ∙ ap (λ (bs : List ℕ). bs ++ c.byte_of_move-byte.result ∷ []) c.truncate.ensures.items
+    ∙ ap (λ b. take c.self.inside.done c.self.inside.moves.items ++ b ∷ []) c.byte_of_move-byte.ensures in
+    let laid = moves_laid c.self.inside c.args.action c.push_reserved.new.self.items c.self.invariant (has_byte c.args.app.now c.args.action c.limits.ensures c.requires.named) bytes in
+    ap (λ (es : List Edit). decoded (take (c.self.inside.done + 1) c.push_reserved.new.self.items) es) c.lay.ensures.done ∙ laid.done
     ∙ ap (λ (v : JournalView). v.done ++ c.args.action ∷ []) c.self.view_is
+
+pub returns-clause-undone : goal.returns-clause-undone
+returns-clause-undone c =
+    let bytes = c.push_reserved.ensures.items ∙ ap (λ (bs : List ℕ). bs ++ c.byte_of_move-byte.result ∷ []) c.truncate.ensures.items
+    ∙ ap (λ b. take c.self.inside.done c.self.inside.moves.items ++ b ∷ []) c.byte_of_move-byte.ensures in
+    let laid = moves_laid c.self.inside c.args.action c.push_reserved.new.self.items c.self.invariant (has_byte c.args.app.now c.args.action c.limits.ensures c.requires.named) bytes in
+    ap (λ (bs : List ℕ). decoded bs c.lay.new.self.undone) laid.none

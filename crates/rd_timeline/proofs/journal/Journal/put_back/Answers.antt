@@ -1,18 +1,35 @@
--- The goal of `Journal::put_back` that the check left open.
-use Rattle.std.proofs.Common.{◌∙◌, ◌++◌, ap, cond, take}
-use Rattle.std.specs.Prelude.{ℕ, List, is_ok}
-use Rattle.rd_timeline.specs.JournalInside.{moves_of_bytes}
+-- The goals of `Journal::put_back` that the check left open.
+use Rattle.std.proofs.Common.{ap, arith, length}
+use Rattle.std.proofs.lemmas.List.{length-take-le}
+use Rattle.rd_timeline.specs.Decoded.{edits_in}
 use Rattle.rd_timeline.specs.JournalView.{JournalView}
-use Rattle.rd_timeline.proofs.JournalLaws.{moves_apart}
+use Rattle.rd_timeline.proofs.DecodedLaws.{edits_in-decoded, length-decoded}
+use Rattle.rd_timeline.proofs.JournalLaws.{done_count, edits_done}
 use Rattle.rd_timeline.proofs.journal.Journal.put_back.Goals as goal
 
-pub returns-clause-done : goal.returns-clause-done
-returns-clause-done c =
-    let border = c.self.inside.done in
-    let bytes = c.self.inside.moves.items in
-    let items =
-    c.extend_from_slice.ensures.items
-    ∙ ap (λ r. cond (is_ok r) (c.truncate.new.self.items ++ c.as_slice.result.now) c.truncate.new.self.items) c.unwrap.ensures
-    ∙ ap (λ (before : List ℕ). before ++ c.as_slice.result.now) c.truncate.ensures.items in
-    ap (λ (all : List ℕ). take border (moves_of_bytes all)) items ∙ (moves_apart bytes c.as_slice.result.now border c.self.invariant.0).0
-    ∙ ap (λ (v : JournalView). v.done) c.self.view_is
+pub unwrap-requires : goal.unwrap-requires
+unwrap-requires c =
+    c.extend_from_slice.ensures.succeeds (omega (
+      arith,
+      c.truncate.ensures.capacity,
+      ap length c.truncate.ensures.items,
+      length-take-le c.self.inside.done c.self.inside.moves.items c.self.invariant.border,
+      ap length c.as_slice.ensures.value,
+      done_count c.self.inside c.args.self.now c.self.view_is c.self.invariant,
+      ap length c.aside.view_is,
+      length-decoded c.aside.inside.moves.items c.aside.inside.edits.items,
+      ap (λ (v : JournalView). v.capacity) c.self.view_is,
+      c.requires.moves,
+    ))
+
+pub put_back-requires : goal.put_back-requires
+put_back-requires c =
+    omega (
+      arith,
+      c.requires.edits,
+      edits_done c.self.inside c.args.self.now c.self.view_is c.self.invariant,
+      ap edits_in c.aside.view_is,
+      edits_in-decoded c.aside.inside.moves.items c.aside.inside.edits.items (omega (arith, c.aside.invariant)),
+      c.aside.invariant,
+      ap (λ (v : JournalView). v.edit_capacity) c.self.view_is,
+    )

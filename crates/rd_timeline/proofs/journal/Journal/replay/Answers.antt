@@ -1,30 +1,75 @@
 -- The goals of `Journal::replay` that the check left open.
-use Rattle.std.proofs.Common.{◌≡◌, ◌∙◌, Err, ap, rules, subst, sym}
+use Rattle.std.proofs.Common.{◌≡◌, ◌∙◌, ◌+◌, Err, ap, arith, drop, length, rules, subst, sym, take}
+use Rattle.std.specs.Prelude.{List}
+use Rattle.std.proofs.lemmas.List.{length_push}
+use Rattle.rd_edits.specs.declared.edit.Edit.{Edit}
 use Rattle.rd_calls.specs.declared.moves.Move.{Move}
 use Rattle.rd_calls.specs.Step.{step}
-use Rattle.rd_timeline.specs.JournalInside.{move_of_byte}
+use Rattle.rd_timeline.specs.Decoded.{decoded, edits_at}
 use Rattle.rd_timeline.specs.JournalView.{JournalView, next_undone}
 use Rattle.rd_timeline.specs.LogView.{RecordsMove}
-use Rattle.rd_timeline.proofs.JournalLaws.{border_on, next_byte}
+use Rattle.rd_timeline.proofs.JournalLaws.{IsLater, border_on, done_count, next_edits}
 use Rattle.rd_timeline.proofs.journal.Journal.replay.Goals as goal
 
+pub play-requires-clause-capacity : goal.play-requires-clause-capacity
+play-requires-clause-capacity c =
+    omega (
+      arith,
+      c.requires.capacity,
+      c.self.invariant.records,
+      done_count c.self.inside c.args.self.now c.self.view_is c.self.invariant,
+      ap (λ (v : JournalView). v.capacity) c.self.view_is,
+    )
+
+pub go_on-requires : goal.go_on-requires
+go_on-requires c =
+    omega (
+      arith,
+      c.edits_at-edits.ensures ∙ ap edits_at c.index.ensures,
+      next_edits c.self.inside c.args.self.now c.index.result.now c.self.view_is c.self.invariant c.requires.some,
+    )
+
+pub invariant_of-self-2 : goal.invariant_of-self-2
+invariant_of-self-2 c =
+    let count = c.edits_at-edits.ensures ∙ ap edits_at c.index.ensures in
+    let later = subst (IsLater c.self.inside c.args.self.now) (sym count)
+    (border_on c.self.inside c.args.self.now c.index.result.now c.self.view_is c.self.invariant c.requires.some) in
+    record {
+      border = later.border;
+      records =
+          omega (
+            arith,
+            ap length c.in_ok-play.ensures.lays.records,
+            length_push c.self.inside.trail.records c.in_ok-play.ensures.lays.undo,
+            c.self.invariant.records,
+          );
+      done = later.done_edits ∙ ap length (sym c.go_on.ensures.done);
+      undone = later.undone_edits ∙ ap length (sym c.go_on.ensures.undone);
+    }
+
 pub returns-clause-done : goal.returns-clause-done
-returns-clause-done c = (border_on c.self.inside c.args.self.now c.self.view_is c.requires.some).done
+returns-clause-done c =
+    let count = c.edits_at-edits.ensures ∙ ap edits_at c.index.ensures in
+    let later = subst (IsLater c.self.inside c.args.self.now) (sym count)
+    (border_on c.self.inside c.args.self.now c.index.result.now c.self.view_is c.self.invariant c.requires.some) in
+    ap (λ (es : List Edit). decoded (take (c.self.inside.done + 1) c.self.inside.moves.items) es) c.go_on.ensures.done ∙ later.done
 
 pub returns-clause-undone : goal.returns-clause-undone
-returns-clause-undone c = (border_on c.self.inside c.args.self.now c.self.view_is c.requires.some).undone
+returns-clause-undone c =
+    let count = c.edits_at-edits.ensures ∙ ap edits_at c.index.ensures in
+    let later = subst (IsLater c.self.inside c.args.self.now) (sym count)
+    (border_on c.self.inside c.args.self.now c.index.result.now c.self.view_is c.self.invariant c.requires.some) in
+    ap (λ (es : List Edit). decoded (drop (c.self.inside.done + 1) c.self.inside.moves.items) es) c.go_on.ensures.undone ∙ later.undone
 
 pub returns-in_err-play-clause-refusals : goal.returns-in_err-play-clause-refusals
 returns-in_err-play-clause-refusals c =
-    let is = c.move_of_byte-action.ensures ∙ ap move_of_byte c.index.ensures ∙ next_byte c.self.inside c.args.self.now _ c.self.view_is c.requires.some in
     let refused : step c.args.app.now c.args.self.now.target (next_undone c.args.self.now) ≡ Err c.in_err-play.field-0.0 =
-    ap (λ (move : Move). step c.args.app.now c.args.self.now.target move) (sym is)
-    ∙ ap (λ (v : JournalView). step c.args.app.now v.target c.move_of_byte-action.result) (sym c.self.view_is) ∙ c.in_err-play.ensures.refusals in
+    ap (λ (move : Move). step c.args.app.now c.args.self.now.target move) (sym c.next-action.ensures)
+    ∙ ap (λ (v : JournalView). step c.args.app.now v.target c.next-action.result) (sym c.self.view_is) ∙ c.in_err-play.ensures.refusals in
     search rules
 
 pub returns-clause-lays : goal.returns-clause-lays
 returns-clause-lays c =
-    let is = c.move_of_byte-action.ensures ∙ ap move_of_byte c.index.ensures ∙ next_byte c.self.inside c.args.self.now _ c.self.view_is c.requires.some in
-    subst (λ (move : Move). RecordsMove c.args.app.now c.args.self.now.target move c.play.new.self.target c.args.self.now.records c.play.new.self.records) is
-    (subst (λ (v : JournalView). RecordsMove c.args.app.now v.target c.move_of_byte-action.result c.play.new.self.target v.records c.play.new.self.records) c.self.view_is
+    subst (λ (move : Move). RecordsMove c.args.app.now c.args.self.now.target move c.play.new.self.target c.args.self.now.records c.play.new.self.records) c.next-action.ensures
+    (subst (λ (v : JournalView). RecordsMove c.args.app.now v.target c.next-action.result c.play.new.self.target v.records c.play.new.self.records) c.self.view_is
     c.in_ok-play.ensures.lays)

@@ -38,6 +38,7 @@ returns-then-meets-clause-place c =
           undone ∙ ap (λ (us : List Move). drop (length c.loop.self.done - 1) c.loop.self.done ++ us) i.undone ∙ back.1
           ∙ ap (λ k. drop k old.done ++ old.undone) (sym at);
       most_done = on_ok c.back.result c.unwrap.result c.unwrap.ensures c.back.ensures.most_done ∙ i.most_done;
+      most_edits = on_ok c.back.result c.unwrap.result c.unwrap.ensures c.back.ensures.most_edits ∙ i.most_edits;
       most_bytes = on_ok c.back.result c.unwrap.result c.unwrap.ensures c.back.ensures.most_bytes ∙ i.most_bytes;
       leads = leads;
     }
@@ -65,6 +66,7 @@ loop-preserved c =
       done = done;
       undone = undone ∙ ap (λ (us : List Move). drop (length c.loop.self.done - 1) c.loop.self.done ++ us) i.undone ∙ back.1;
       most_done = on_ok c.back.result c.unwrap.result c.unwrap.ensures c.back.ensures.most_done ∙ i.most_done;
+      most_edits = on_ok c.back.result c.unwrap.result c.unwrap.ensures c.back.ensures.most_edits ∙ i.most_edits;
       most_bytes = on_ok c.back.result c.unwrap.result c.unwrap.ensures c.back.ensures.most_bytes ∙ i.most_bytes;
     }
 
@@ -80,6 +82,7 @@ returns-clause-place c =
       done = i.done ∙ ap (λ k. take k old.done) none;
       undone = i.undone ∙ ap (λ k. drop k old.done ++ old.undone) none;
       most_done = i.most_done;
+      most_edits = i.most_edits;
       most_bytes = i.most_bytes;
       leads = c.keeps.ensures.leads;
     }

@@ -12,5 +12,6 @@ invariant-loop l = record {
   done : l.self.done ≡ take (length l.fn.self.done - l.counter) l.fn.self.done;
   undone : l.self.undone ≡ drop (length l.fn.self.done - l.counter) l.fn.self.done ++ l.fn.self.undone;
   most_done : l.self.most_done ≡ l.fn.self.most_done;
+  most_edits : l.self.most_edits ≡ l.fn.self.most_edits;
   most_bytes : l.self.most_bytes ≡ l.fn.self.most_bytes;
 }

@@ -4,12 +4,17 @@ use Rattle.std.specs.Prelude.{Ok}
 use Rattle.rd_calls.specs.declared.moves.Move.{Move}
 use Rattle.rd_state.specs.Change.{Change}
 use Rattle.rd_state.specs.Snapshot.{Snapshot}
+use Rattle.rd_app.specs.Application.{priorities_of}
+use Rattle.rd_state.specs.Settled.{IsSettled}
 use Rattle.rd_state.specs.Valid.{IsValid}
 use Rattle.rd_calls.specs.Step.{step, IsMoveOf}
 use Rattle.rd_timeline.specs.Course.{Course}
+use Rattle.rd_timeline.specs.Decoded.{edits_in}
+use Rattle.rd_timeline.specs.JournalView.{HasEditRoom}
 use Rattle.rd_timeline.specs.History.{state_after}
+use Rattle.rd_timeline.proofs.DecodedLaws.{edits_in-append}
 use Rattle.rd_timeline.proofs.HistoryLaws.{state_after-push}
-use Rattle.rd_timeline.proofs.TimelineLaws.{IsWhole-push, grown, state_now}
+use Rattle.rd_timeline.proofs.TimelineLaws.{IsWhole-push, at_most_room, grown, settled_after, state_now}
 use Rattle.rd_calls.specs.declared.play.TheConstants.{MAX_RECORD_BYTES}
 use Rattle.std.proofs.lemmas.List.{length_push}
 use Rattle.rd_timeline.proofs.timeline.Timeline.go.Goals as goal
@@ -17,41 +22,57 @@ use Rattle.rd_timeline.proofs.timeline.Timeline.go.Goals as goal
 -- the target is valid, and so it is once there is room for a move more
 pub why_not-cause-requires-clause-valid : goal.why_not-cause-requires-clause-valid
 why_not-cause-requires-clause-valid c =
-    subst (λ (s : Snapshot). IsValid c.self.inside.app s) (sym (c.target.ensures ∙ c.reserve.ensures.same.target))
+    subst (λ (s : Snapshot). IsValid c.self.inside.app s) (sym (c.target.ensures ∙ c.reserve_for.ensures.same.target))
     (state_now c.self.inside c.self.invariant).valid
 
 pub play-requires-clause-valid : goal.play-requires-clause-valid
 play-requires-clause-valid c =
-    subst (λ (s : Snapshot). IsValid c.self.inside.app s) (sym c.reserve.ensures.same.target) (state_now c.self.inside c.self.invariant).valid
+    subst (λ (s : Snapshot). IsValid c.self.inside.app s) (sym c.reserve_for.ensures.same.target) (state_now c.self.inside c.self.invariant).valid
 
 pub invariant_of-self-2 : goal.invariant_of-self-2
 invariant_of-self-2 c =
     let t = c.self.inside in
-    let same = c.reserve.ensures.same in
+    let same = c.reserve_for.ensures.same in
     let made = c.in_ok-play.ensures in
     let played = made.lays.played in
     let from_target : step t.app t.journal.target c.args.action ≡ Ok c.play.new.self.target =
     ap (λ (s : Snapshot). step t.app s c.args.action) (sym same.target) ∙ played.step in
-    let capacity : length c.reserve.new.self.done < c.reserve.new.self.capacity = search rules in
-    let room : MAX_RECORD_BYTES ≤ c.reserve.new.self.room = search rules in
-    let one_more : length c.play.new.self.done ≡ length c.reserve.new.self.done + 1 =
-    omega (arith, ap length made.done, length_push c.reserve.new.self.done c.args.action) in
+    let capacity : length c.reserve_for.new.self.done < c.reserve_for.new.self.capacity = search rules in
+    let room : MAX_RECORD_BYTES ≤ c.reserve_for.new.self.room = search rules in
+    let ok_edit : HasEditRoom c.reserve_for.new.self c.args.action = search rules in
+    let one_more : length c.play.new.self.done ≡ length c.reserve_for.new.self.done + 1 =
+    omega (arith, ap length made.done, length_push c.reserve_for.new.self.done c.args.action) in
+    let all : c.play.new.self.done ≡ t.journal.done ++ c.args.action ∷ [] =
+    made.done ∙ ap (λ (moves : List Move). moves ++ c.args.action ∷ []) same.done in
+    let settled = settled_after t.app c.reserve_for.new.self.target c.args.action c.play.new.self.target
+    (subst (IsSettled (priorities_of t.app)) (sym same.target) (state_now t c.self.invariant).settled) played.settled in
     IsWhole-push t
-    (record { app = t.app; limit = t.limit; journal = c.play.new.self; most_done = c.max-self-inside.result; most_bytes = c.max-self-inside-2.result })
+    (record {
+      app = t.app;
+      limit = t.limit;
+      journal = c.play.new.self;
+      most_done = c.max-self-inside.result;
+      most_edits = c.max-self-inside-2.result;
+      most_bytes = c.max-self-inside-3.result;
+    })
     c.args.action made.lays.undo c.self.invariant refl refl (subst (λ (course : Course). IsMoveOf course.app c.args.action) (sym c.self.view_is) c.requires.named) (search rules) from_target (played.leads_back ∙ same.target) played.can_undo
-    played.valid played.settled (made.done ∙ ap (λ (moves : List Move). moves ++ c.args.action ∷ []) same.done)
+    played.valid settled all
     (made.lays.records ∙ ap (λ (records : List (List Change)). records ++ made.lays.undo ∷ []) same.records)
     made.undone (omega (arith, c.max-self-inside.ensures, c.done-at.ensures, one_more, ap length same.done))
-    (omega (arith, c.max-self-inside.ensures, c.done-at.ensures, one_more, capacity, made.kept_capacity, c.reserve.ensures.grows, c.self.invariant.capacity))
-    (grown t c.bytes-bytes.result c.max-self-inside-2.result c.reserve.new.self c.play.new.self c.self.invariant.memory same c.bytes-bytes.ensures c.max-self-inside-2.ensures
-    room c.reserve.ensures.more_room made.memory)
+    (omega (arith, c.max-self-inside-2.ensures, c.edits.ensures, ap edits_in all))
+    (omega (arith, c.max-self-inside.ensures, c.done-at.ensures, one_more, capacity, made.kept_capacity, c.reserve_for.ensures.grows, c.self.invariant.capacity))
+    (at_most_room c.args.action t.most_edits c.edits.result c.max-self-inside-2.result c.reserve_for.new.self c.play.new.self c.max-self-inside-2.ensures c.edits.ensures
+    made.done made.kept_edit_capacity (omega (arith, c.reserve_for.ensures.more_edits, c.self.invariant.edits)) ok_edit
+    (omega (arith, ap edits_in same.done, c.self.invariant.kept.made.edits_were, edits_in-append t.journal.done t.journal.undone)))
+    (grown t c.bytes-bytes.result c.max-self-inside-3.result c.reserve_for.new.self c.play.new.self c.self.invariant.memory same c.bytes-bytes.ensures c.max-self-inside-3.ensures
+    room c.reserve_for.ensures.more_room made.memory)
 
 pub returns-clause-leads : goal.returns-clause-leads
 returns-clause-leads c =
     let t = c.self.inside in
     let made = c.in_ok-play.ensures in
     ap (λ (moves : List Move). state_after t.app moves)
-    (made.done ∙ ap (λ (moves : List Move). moves ++ c.args.action ∷ []) c.reserve.ensures.same.done)
+    (made.done ∙ ap (λ (moves : List Move). moves ++ c.args.action ∷ []) c.reserve_for.ensures.same.done)
     ∙ state_after-push t.app t.journal.done c.args.action t.journal.target
     (state_now t c.self.invariant).state
-    ∙ ap (λ (s : Snapshot). step t.app s c.args.action) (sym c.reserve.ensures.same.target) ∙ made.lays.played.step
+    ∙ ap (λ (s : Snapshot). step t.app s c.args.action) (sym c.reserve_for.ensures.same.target) ∙ made.lays.played.step

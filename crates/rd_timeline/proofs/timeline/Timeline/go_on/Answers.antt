@@ -6,13 +6,13 @@ use Rattle.rd_calls.specs.declared.moves.Move.{Move}
 use Rattle.rd_calls.specs.Step.{policy_of, step, IsMoveOf}
 use Rattle.rd_timeline.specs.Course.{IsWhyNot}
 use Rattle.rd_timeline.specs.Policy.{IsWhyNoRun}
-use Rattle.rd_timeline.proofs.PolicyLaws.{EndsRun-met, IsAt, IsAt-begun, IsAt-next, StandsOn-then, policy_named, why_no_run}
+use Rattle.rd_timeline.proofs.PolicyLaws.{EndsRun-met, IsAt, IsAt-begun, IsAt-next, IsMost-next, StandsOn-then, policy_named, why_no_run}
 use Rattle.rd_timeline.proofs.timeline.Timeline.go_on.Goals as goal
 
 pub loop-init : goal.loop-init
 loop-init c =
     let begun = IsAt-begun c.args.self.now c.args.goal c.keeps.ensures.kept in
-    record { run = begun.run; state = begun.state; done = begun.done; undone = c.requires.none_undone; stands = begun.stands }
+    record { run = begun.run; state = begun.state; done = begun.done; undone = c.requires.none_undone; stands = begun.stands; most = begun.most }
 
 pub go-requires : goal.go-requires
 go-requires c = record {
@@ -24,7 +24,7 @@ go-requires c = record {
 pub returns-in_err-go-clause-refusals : goal.returns-in_err-go-clause-refusals
 returns-in_err-go-clause-refusals c =
     let i = c.loop.invariant in
-    let at : IsAt c.args.self.now c.args.goal c.loop.counter c.loop.self = record { run = i.run; state = i.state; done = i.done; stands = i.stands } in
+    let at : IsAt c.args.self.now c.args.goal c.loop.counter c.loop.self = record { run = i.run; state = i.state; done = i.done; stands = i.stands; most = i.most } in
     let within : length c.loop.self.done ≤ c.args.self.now.limit =
     omega (arith, c.keeps-in-loop.ensures.kept.made.within, length-append c.loop.self.done c.loop.self.undone, i.stands.limit) in
     let why =
@@ -38,15 +38,23 @@ pub returns-then-meets-clause-ends : goal.returns-then-meets-clause-ends
 returns-then-meets-clause-ends c =
     let i = c.loop.invariant in
     let is = c.policy-action.ensures ∙ ap policy_of c.target.ensures in
-    let at : IsAt c.args.self.now c.args.goal c.loop.counter c.loop.self = record { run = i.run; state = i.state; done = i.done; stands = i.stands } in
+    let at : IsAt c.args.self.now c.args.goal c.loop.counter c.loop.self = record { run = i.run; state = i.state; done = i.done; stands = i.stands; most = i.most } in
     let within : length c.loop.self.done ≤ c.args.self.now.limit =
     omega (arith, c.keeps-in-loop.ensures.kept.made.within, length-append c.loop.self.done c.loop.self.undone, i.stands.limit) in
     let more : length c.loop.self.done ≢ c.loop.self.limit = search rules in
+    let made = c.in_ok-go.ensures in
+    let done = made.done ∙ ap (λ (move : Move). c.loop.self.done ++ move ∷ []) is in
+    let stands =
+    StandsOn-then c.args.self.now c.loop.self c.go.new.self (c.policy-action.result ∷ []) i.stands made.app made.limit made.done made.log
+    (omega (arith, made.most_done)) (omega (arith, made.most_edits)) (omega (arith, made.most_bytes)) in
+    let most =
+    IsMost-next c.args.self.now c.loop.counter c.loop.self c.go.new.self i.most c.keeps-in-loop.ensures.kept done made.log made.most_done made.most_edits
+    made.most_bytes in
     EndsRun-met c.args.self.now c.args.goal c.loop.counter c.args.count c.loop.self c.go.new.self at (omega (arith, c.loop-test.true)) within
     (λ same. more (same ∙ sym i.stands.limit))
     (ap (λ (app : Application). step app c.loop.self.target (policy_of c.loop.self.target)) (sym i.stands.app)
     ∙ ap (λ (move : Move). step c.loop.self.app c.loop.self.target move) (sym is) ∙ c.in_ok-go.ensures.step)
-    (c.in_ok-go.ensures.done ∙ ap (λ (move : Move). c.loop.self.done ++ move ∷ []) is) c.in_ok-go.ensures.undone
+    done made.undone stands most
     (sym c.meets.ensures ∙ c.if-meets.true)
 
 pub loop-preserved : goal.loop-preserved
@@ -54,16 +62,20 @@ loop-preserved c =
     let i = c.loop.invariant in
     let is = c.policy-action.ensures ∙ ap policy_of c.target.ensures in
     let made = c.in_ok-go.ensures in
-    let at : IsAt c.args.self.now c.args.goal c.loop.counter c.loop.self = record { run = i.run; state = i.state; done = i.done; stands = i.stands } in
+    let at : IsAt c.args.self.now c.args.goal c.loop.counter c.loop.self = record { run = i.run; state = i.state; done = i.done; stands = i.stands; most = i.most } in
     let within : length c.loop.self.done ≤ c.args.self.now.limit =
     omega (arith, c.keeps-in-loop.ensures.kept.made.within, length-append c.loop.self.done c.loop.self.undone, i.stands.limit) in
     let more : length c.loop.self.done ≢ c.loop.self.limit = search rules in
     let stands =
     StandsOn-then c.args.self.now c.loop.self c.go.new.self (c.policy-action.result ∷ []) i.stands made.app made.limit made.done made.log
-    (omega (arith, made.most_done)) (omega (arith, made.most_bytes)) in
+    (omega (arith, made.most_done)) (omega (arith, made.most_edits)) (omega (arith, made.most_bytes)) in
+    let done = made.done ∙ ap (λ (move : Move). c.loop.self.done ++ move ∷ []) is in
+    let most =
+    IsMost-next c.args.self.now c.loop.counter c.loop.self c.go.new.self i.most c.keeps-in-loop.ensures.kept done made.log made.most_done made.most_edits
+    made.most_bytes in
     let next =
     IsAt-next c.args.self.now c.args.goal c.loop.counter c.loop.self c.go.new.self at within (λ same. more (same ∙ sym i.stands.limit))
     (ap (λ (app : Application). step app c.loop.self.target (policy_of c.loop.self.target)) (sym i.stands.app)
     ∙ ap (λ (move : Move). step c.loop.self.app c.loop.self.target move) (sym is) ∙ made.step)
-    (made.done ∙ ap (λ (move : Move). c.loop.self.done ++ move ∷ []) is) stands (sym c.meets.ensures ∙ c.if-meets.false) in
-    record { run = next.run; state = next.state; done = next.done; undone = made.undone; stands = stands }
+    done stands most (sym c.meets.ensures ∙ c.if-meets.false) in
+    record { run = next.run; state = next.state; done = next.done; undone = made.undone; stands = stands; most = next.most }

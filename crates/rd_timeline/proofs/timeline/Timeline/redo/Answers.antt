@@ -24,4 +24,5 @@ returns-then-is_err-clause-err c =
     same_course old new app (on_ok c.back.result c.unwrap.result c.unwrap.ensures c.back.ensures.limit ∙ part.has.limit)
     (same_target old new app done c.keeps.ensures.leads leads) done log undone
     (on_ok c.back.result c.unwrap.result c.unwrap.ensures c.back.ensures.most_done ∙ part.has.most_done)
+    (on_ok c.back.result c.unwrap.result c.unwrap.ensures c.back.ensures.most_edits ∙ part.has.most_edits)
     (on_ok c.back.result c.unwrap.result c.unwrap.ensures c.back.ensures.most_bytes ∙ part.has.most_bytes)

@@ -7,12 +7,14 @@ use Rattle.rd_calls.specs.declared.moves.Move.TheVariants.{Tick}
 use Rattle.rd_calls.specs.Step.{step, IsMoveOf}
 use Rattle.rd_state.specs.Change.{Change}
 use Rattle.rd_state.specs.Snapshot.{Snapshot}
+use Rattle.rd_app.specs.Application.{priorities_of}
+use Rattle.rd_state.specs.Settled.{IsSettled}
 use Rattle.rd_state.specs.Valid.{IsValid}
 use Rattle.rd_timeline.specs.Course.{Course}
 use Rattle.rd_timeline.specs.JournalView.{next_undone}
 use Rattle.rd_timeline.specs.LogView.{bytes_of}
 use Rattle.rd_timeline.proofs.HistoryLaws.{ok_if_made, on_ok}
-use Rattle.rd_timeline.proofs.TimelineLaws.{IsWhole-replay, all_the_same, next_is_made, next_is_named, state_now}
+use Rattle.rd_timeline.proofs.TimelineLaws.{IsWhole-replay, all_the_same, next_is_made, next_is_named, settled_after, state_now}
 use Rattle.rd_timeline.proofs.timeline.Timeline.redo_one.Goals as goal
 
 pub replay-requires-clause-valid : goal.replay-requires-clause-valid
@@ -52,7 +54,9 @@ invariant_of-self-2 c =
     ∙ ap (λ (us : List Move). (j.done ++ slice_index_or us 0 Tick ∷ []) ++ drop 1 j.undone) same.undone ∙ all_the_same j.done j.undone some in
     IsWhole-replay t c.replay.new.self move lays.undo c.self.invariant all
     (ap (λ (s : Snapshot). step t.app s move) (sym same.target) ∙ lays.played.step) (lays.played.leads_back ∙ same.target) lays.played.can_undo
-    lays.played.valid lays.played.settled (done ∙ ap (λ (ms : List Move). ms ++ move ∷ []) same.done)
+    lays.played.valid (settled_after t.app c.reserve.new.self.target move c.replay.new.self.target
+    (subst (IsSettled (priorities_of t.app)) (sym same.target) (state_now t c.self.invariant).settled) lays.played.settled) (done ∙ ap (λ (ms : List Move). ms ++ move ∷ []) same.done)
     (lays.records ∙ ap (λ (rs : List (List Change)). rs ++ lays.undo ∷ []) same.records)
     (omega (arith, c.reserve.ensures.grows, c.replay.ensures.kept_capacity))
+    (omega (arith, c.reserve.ensures.same_edit_capacity, c.replay.ensures.kept_edit_capacity))
     (omega (arith, c.replay.ensures.memory, c.reserve.ensures.more_room, ap bytes_of same.records))

@@ -6,7 +6,7 @@ use Rattle.rd_calls.specs.declared.play.TheConstants.{MAX_RECORD_BYTES}
 use Rattle.rd_state.specs.Valid.{IsValid}
 use Rattle.rd_state.specs.Snapshot.{Snapshot}
 use Rattle.rd_calls.specs.Step.{step, IsPlayed}
-use Rattle.rd_text.specs.declared.refusal.Refusal.{Refusal}
+use Rattle.rd_refusal.specs.declared.refusal.Refusal.{Refusal}
 use Rattle.rd_timeline.specs.LogView.{bytes_of}
 use Rattle.rd_timeline.specs.TrailView.{TrailView}
 use Rattle.rd_timeline.proofs.CutLaws.{length-cut}
@@ -38,7 +38,7 @@ returns-clause-lays c =
       records =
           more.records ∙ ap (λ (v : TrailView). v.records ++ drop (length c.self.inside.editing.changes) c.play_on.new.editing.changes ∷ []) c.self.view_is;
       played =
-          subst (λ (s : Snapshot). IsPlayed c.args.app.now s c.args.action c.play_on.new.editing.now (drop (length c.self.inside.editing.changes) c.play_on.new.editing.changes))
+          subst (λ (s : Snapshot). IsPlayed c.args.app.now s c.args.action.now c.play_on.new.editing.now (drop (length c.self.inside.editing.changes) c.play_on.new.editing.changes))
           (ap (λ (v : TrailView). v.target) c.self.view_is) c.in_ok-play_on.ensures.played;
     }
 
@@ -46,7 +46,7 @@ pub overflow_cast-count : goal.overflow_cast-count
 overflow_cast-count c =
     let undo = drop (length c.self.inside.editing.changes) c.play_on.new.editing.changes in
     let valid = subst (IsValid c.args.app.now) (sym (ap (λ (v : TrailView). v.target) c.self.view_is)) c.requires.valid in
-    let few = played_few c.args.app.now c.self.inside.editing.now c.play_on.new.editing.now c.args.action undo valid.in_limits.sized c.in_ok-play_on.ensures.played in
+    let few = played_few c.args.app.now c.self.inside.editing.now c.play_on.new.editing.now c.args.action.now undo valid.in_limits.sized c.in_ok-play_on.ensures.played in
     omega (arith, few, c.len.ensures, c.len-before.ensures, length-drop (length c.self.inside.editing.changes) c.play_on.new.editing.changes)
 
 pub returns-clause-memory : goal.returns-clause-memory
@@ -67,10 +67,10 @@ returns-clause-memory c =
 pub returns-in_err-play_on-clause-refusals : goal.returns-in_err-play_on-clause-refusals
 returns-in_err-play_on-clause-refusals c =
     let valid = subst (IsValid c.args.app.now) (sym (ap (λ (v : TrailView). v.target) c.self.view_is)) c.requires.valid in
-    let fits = record_has_room c.args.app.now c.self.inside.editing.now c.args.action valid.in_limits.sized in
+    let fits = record_has_room c.args.app.now c.self.inside.editing.now c.args.action.now valid.in_limits.sized in
     let room : MAX_RECORD_BYTES ≤ c.self.inside.editing.room = omega (arith, c.requires.room, ap (λ (v : TrailView). v.room) c.self.view_is) in
-    let refused : step c.args.app.now c.args.self.now.target c.args.action ≡ Err c.in_err-play_on.field-0.0 =
-    ap (λ (v : TrailView). step c.args.app.now v.target c.args.action) (sym c.self.view_is) ∙ elim c.in_err-play_on.ensures.refusals [
+    let refused : step c.args.app.now c.args.self.now.target c.args.action.now ≡ Err c.in_err-play_on.field-0.0 =
+    ap (λ (v : TrailView). step c.args.app.now v.target c.args.action.now) (sym c.self.view_is) ∙ elim c.in_err-play_on.ensures.refusals [
       | inl refused ↦ refused
       | inr none ↦ absurd (omega (arith, c.in_err-play_on.ensures.short (ap (λ (r : Refusal). Err r) none), fits, room))
     ] in

@@ -1,9 +1,9 @@
 -- The goals of `Trail::reserve` that the check left open.
 use Rattle.std.proofs.Common.{ap, arith, length}
-use Rattle.std.specs.Prelude.{Result, Ok, Err, OnOk}
 use Rattle.std.proofs.lemmas.Bool.{false≢true}
 use Rattle.rd_timeline.specs.TrailView.{TrailView}
 use Rattle.rd_timeline.proofs.CutLaws.{length-cut}
+use Rattle.rd_timeline.proofs.HistoryLaws.{done_or_not}
 use Rattle.rd_timeline.proofs.trail.Trail.reserve.Goals as goal
 
 pub returns-in_err-reserve-clause-enough : goal.returns-in_err-reserve-clause-enough
@@ -18,9 +18,6 @@ returns-in_err-reserve-clause-enough c more =
       ap (λ (v : TrailView). length v.records) c.self.view_is,
       ap (λ (v : TrailView). v.capacity) c.self.view_is,
     ))))
-
-done_or_not : {T E P : Type 0} (r : Result T E) → P → OnOk r P
-done_or_not {P} r holds = elim r as (λ q. OnOk q P) [ Ok x ↦ holds | Err y ↦ tt ]
 
 pub returns-clause-ok : goal.returns-clause-ok
 returns-clause-ok c =

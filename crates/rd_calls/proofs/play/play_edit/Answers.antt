@@ -1,0 +1,24 @@
+-- The goals of `play_edit` that the check left open.
+use Rattle.std.proofs.Common.{refl, rules}
+use Rattle.rd_state.specs.Edit.{begun_at}
+use Rattle.rd_calls.proofs.PlayLaws.{IsPlayed-from, Leads-edit, grows-from, short-from}
+use Rattle.rd_calls.proofs.play.play_edit.Goals as goal
+
+pub returns : goal.returns
+returns c =
+    let old = c.args.editing.now in
+    let app = c.args.app.now in
+    let made = c.make-made in
+    let begun = begun_at old.now old.changes old.room in
+    let leads = Leads-edit app old.now c.args.edit.now c.requires.valid c.requires.named c.requires.good in
+    rw c.finish.ensures.made
+    (record {
+      before = search rules;
+      played =
+          IsPlayed-from made.result app old.now c.finish.new.editing.now _ _ _ c.begin.new.self _ old.changes c.finish.new.editing.changes old.room
+          (search rules) leads c.finish.ensures.sized (search rules) c.finish.ensures.state c.finish.ensures.record;
+      short = short-from made.result app old.now _ _ _ old.room begun made.new.editing refl leads (rw c.begin.ensures at made.ensures.err);
+      state = search rules;
+      changes = search rules;
+      grows = rw c.finish.ensures.capacity (grows-from made.result _ _ begun made.new.editing (rw c.begin.ensures at made.ensures.ok) (rw c.begin.ensures at made.ensures.err));
+    })

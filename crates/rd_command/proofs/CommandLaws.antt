@@ -1,0 +1,235 @@
+-- A command that is read is spelled by its words, and what spells a command is read.
+use Rattle.std.proofs.Common.{◌≡◌, ◌∙◌, ℕ, true, false, cond, List, [], ◌∷◌, ◌++◌, Option, Some, None, option_and_then, refl, sym, ap, subst}
+use Rattle.std.specs.Prelude.{IfOk, Result, ok_or}
+use Rattle.std.specs.List.{find}
+use Rattle.std.specs.Option.{option_or}
+use Rattle.std.specs.Result.{result_ok}
+use Rattle.std.specs.Str.{bytes_eq}
+use Rattle.std.proofs.lemmas.Slice.Eq.{bytes_eq-Decides}
+use Rattle.rd_text.specs.declared.kind.Kind.{Kind}
+use Rattle.rd_text.specs.declared.kind.Kind.TheVariants as kind
+use Rattle.rd_command.specs.declared.keyword.AmountKeyword.{AmountKeyword}
+use Rattle.rd_command.specs.declared.keyword.AmountKeyword.TheVariants as compared
+use Rattle.rd_command.specs.declared.keyword.ConditionKeyword.{ConditionKeyword}
+use Rattle.rd_command.specs.declared.keyword.ConditionKeyword.TheVariants.{Compares, InPhase}
+use Rattle.rd_command.specs.declared.keyword.EditKeyword.{EditKeyword}
+use Rattle.rd_command.specs.declared.keyword.EditKeyword.TheVariants as poked
+use Rattle.rd_command.specs.declared.keyword.Keyword.{Keyword}
+use Rattle.rd_command.specs.declared.keyword.Keyword.TheVariants.{Step, Tick, Back, Forward, Redo, Until, BackUntil, Poke, Show, ShowCores, ShowMoves}
+use Rattle.rd_command.specs.declared.keyword.Parameter.{Parameter}
+use Rattle.rd_command.specs.Commands.{AreFormed, AreOperands, CommandView, FindsWhatIsSpelled, NoLineIsTwoCommands, Spells, command_among, command_from, command_of, command_spelled}
+use Rattle.rd_command.specs.Forms.{after_condition, after_texts, after_words, are_operands, is_all, is_formed}
+use Rattle.rd_command.specs.Keywords.{Operands, Plain, WithCondition, Row, Spelled, condition_keyword_of, condition_keywords, condition_row, keywords, more_of, operands_of, parameters_of, row_of, text_of, verb_of}
+use Rattle.rd_command.proofs.Steps.{first_is, option_if, some_if, then_some, then_some_is}
+
+same_bytes : (xs ys : List ℕ) → bytes_eq xs ys ≡ true → xs ≡ ys
+same_bytes xs ys e = (bytes_eq-Decides xs ys).0 e
+
+-- ---- what is read is spelled
+
+-- the texts are those that the words begin with
+texts_taken : (texts words left : List (List ℕ)) → after_texts texts words ≡ Some left → words ≡ texts ++ left
+texts_taken [] words left e = let is : words ≡ left = cc in is
+texts_taken (text ∷ texts) [] left e = absurd cc
+texts_taken (text ∷ texts) (word ∷ words) left e =
+    elim (bytes_eq word text) as (λ b. (bytes_eq word text ≡ b) → cond b (after_texts texts words) None ≡ Some left → word ∷ words ≡ (text ∷ texts) ++ left) [
+      | true ↦ λ same. λ e. ap (λ (word : List ℕ). word ∷ words) (same_bytes word text same) ∙ ap (λ (words : List (List ℕ)). text ∷ words) (texts_taken texts words left e)
+      | false ↦ λ same. λ e. absurd cc
+    ] refl e
+
+formed_takes : (parameters : List Parameter) (words : List (List ℕ)) → is_all (after_words parameters words) ≡ true → AreFormed parameters words
+formed_takes [] [] e = refl
+formed_takes [] (word ∷ words) e = absurd cc
+formed_takes (parameter ∷ others) [] e = absurd cc
+formed_takes (parameter ∷ others) (word ∷ words) e =
+    elim (is_formed parameter word) as
+    (λ b. (is_formed parameter word ≡ b) → is_all (cond b (after_words others words) None) ≡ true → AreFormed (parameter ∷ others) (word ∷ words)) [
+      | true ↦ λ formed. λ e. (word, words, refl, formed, formed_takes others words e)
+      | false ↦ λ formed. λ e. absurd cc
+    ] refl e
+
+-- words for operands, and then for others
+words_then : (parameters others : List Parameter) (words : List (List ℕ))
+    → after_words (parameters ++ others) words ≡ option_and_then (after_words others) (after_words parameters words)
+words_then [] others words = refl
+words_then (parameter ∷ parameters) others [] = refl
+words_then (parameter ∷ parameters) others (word ∷ words) =
+    elim (is_formed parameter word) as
+    (λ b. cond b (after_words (parameters ++ others) words) None ≡ option_and_then (after_words others) (cond b (after_words parameters words) None)) [
+      | true ↦ words_then parameters others words
+      | false ↦ refl
+    ]
+
+text_found : (word : List ℕ) (others : List ConditionKeyword) (k : ConditionKeyword)
+    → find (λ k. bytes_eq word (text_of (condition_row k))) others ≡ Some k → word ≡ text_of (condition_row k)
+text_found word [] k e = absurd cc
+text_found word (first ∷ others) k e =
+    elim (bytes_eq word (text_of (condition_row first))) as
+    (λ b. (bytes_eq word (text_of (condition_row first)) ≡ b) → cond b (Some first) (find (λ k. bytes_eq word (text_of (condition_row k))) others) ≡ Some k → word ≡ text_of (condition_row k)) [
+      | true ↦ λ same. λ e.
+          same_bytes word (text_of (condition_row first)) same ∙ ap (λ (k : ConditionKeyword). text_of (condition_row k)) (let one : first ≡ k = cc in one)
+      | false ↦ λ same. text_found word others k
+    ] refl e
+
+condition_takes : (parameters : List Parameter) (word : List ℕ) (words : List (List ℕ)) (found : Option ConditionKeyword) → condition_keyword_of word ≡ found
+    → is_all (option_and_then (after_words parameters) (option_and_then (λ keyword. after_words (parameters_of (condition_row keyword)) words) found)) ≡ true
+    → AreOperands (WithCondition parameters) (word ∷ words)
+condition_takes parameters word words None is e = absurd cc
+condition_takes parameters word words (Some k) is e = (
+  k,
+  words,
+  ap (λ (word : List ℕ). word ∷ words) (text_found word condition_keywords k is),
+  formed_takes (parameters_of (condition_row k) ++ parameters) words (ap is_all (words_then (parameters_of (condition_row k)) parameters words) ∙ e),
+)
+
+operands_take : (operands : Operands) (words : List (List ℕ)) → are_operands operands words ≡ true → AreOperands operands words
+operands_take (Plain parameters) words e = formed_takes parameters words e
+operands_take (WithCondition parameters) [] e = absurd cc
+operands_take (WithCondition parameters) (word ∷ words) e = condition_takes parameters word words (condition_keyword_of word) refl e
+
+found_takes : (verb : List ℕ) (more : List (List ℕ)) (operands : Operands) (k : Keyword) (words : List (List ℕ)) (command : CommandView)
+    → option_and_then (λ left. cond (are_operands operands left) (Some (record { keyword = k; operands = left })) None) (after_texts more words) ≡ Some command
+    → (command.keyword ≡ k) × (words ≡ more ++ command.operands) × AreOperands operands command.operands
+found_takes verb more operands k words command e =
+    let left = then_some (λ left. cond (are_operands operands left) (Some (record { keyword = k; operands = left })) None) (after_texts more words) command e in
+    let made : CommandView = record { keyword = k; operands = left.0 } in
+    let formed = some_if (are_operands operands left.0) made command left.2 in
+    subst (λ (command : CommandView). (command.keyword ≡ k) × (words ≡ more ++ command.operands) × AreOperands operands command.operands) formed.1
+    (refl, texts_taken more words left.0 left.1, operands_take operands left.0 formed.0)
+
+row_takes : (of : Row) (k : Keyword) (first : List ℕ) (words : List (List ℕ)) (command : CommandView) → command_spelled of k first words ≡ Some command
+    → (command.keyword ≡ k) × (first ∷ words ≡ verb_of of ∷ (more_of of ++ command.operands)) × AreOperands (operands_of of) command.operands
+row_takes (Spelled verb more operands make) k first words command e =
+    let found =
+    option_if (bytes_eq first verb)
+    (option_and_then (λ left. cond (are_operands operands left) (Some (record { keyword = k; operands = left })) None) (after_texts more words)) command e in
+    let taken = found_takes verb more operands k words command found.1 in (
+      taken.0,
+      ap (λ (first : List ℕ). first ∷ words) (same_bytes first verb found.0) ∙ ap (λ (words : List (List ℕ)). verb ∷ words) taken.1,
+      taken.2,
+    )
+
+spelled_takes : (k : Keyword) (first : List ℕ) (words : List (List ℕ)) (command : CommandView) → command_spelled (row_of k) k first words ≡ Some command
+    → Spells (first ∷ words) command
+spelled_takes k first words command e =
+    let taken = row_takes (row_of k) k first words command e in
+    let same : k ≡ command.keyword = sym taken.0 in
+    record {
+      written = subst (λ (k : Keyword). first ∷ words ≡ verb_of (row_of k) ∷ (more_of (row_of k) ++ command.operands)) same taken.1;
+      formed = subst (λ (k : Keyword). AreOperands (operands_of (row_of k)) command.operands) same taken.2;
+    }
+
+either_takes : (spelled others : Option CommandView) (command : CommandView) (Good : CommandView → Type 0)
+    → ((found : CommandView) → spelled ≡ Some found → Good found) → (others ≡ Some command → Good command)
+    → option_or spelled others ≡ Some command → Good command
+either_takes (Some found) others command Good now later e = let is : found ≡ command = cc in subst Good is (now found refl)
+either_takes None others command Good now later e = later e
+
+among_takes : (others : List Keyword) (first : List ℕ) (words : List (List ℕ)) (command : CommandView) → command_among others first words ≡ Some command
+    → Spells (first ∷ words) command
+among_takes [] first words command e = absurd cc
+among_takes (k ∷ others) first words command e =
+    either_takes (command_spelled (row_of k) k first words) (command_among others first words) command (Spells (first ∷ words))
+    (λ found is. spelled_takes k first words found is) (among_takes others first words command) e
+
+pub command_takes : (words : List (List ℕ)) (command : CommandView) → command_of words ≡ Some command → Spells words command
+unfolding command_from
+command_takes [] command e = absurd cc
+command_takes (first ∷ words) command e = among_takes keywords first words command e
+
+-- ---- what spells a command is read
+
+formed_again : (parameters : List Parameter) (words : List (List ℕ)) → AreFormed parameters words → after_words parameters words ≡ Some []
+formed_again [] words h = ap Some h
+formed_again (parameter ∷ others) words h =
+    ap (after_words (parameter ∷ others)) h.2 ∙ ap (λ b. cond b (after_words others h.1) None) h.3 ∙ formed_again others h.1 h.4
+
+-- no keyword of a condition is written as another
+amount_again : (k : AmountKeyword) → condition_keyword_of (text_of (condition_row (Compares k))) ≡ Some (Compares k)
+amount_again compared.Items = refl
+amount_again compared.Bytes = refl
+amount_again compared.Messages = refl
+amount_again compared.Bits = refl
+amount_again compared.Register = refl
+amount_again compared.Pc = refl
+amount_again compared.Value = refl
+amount_again compared.Tick = refl
+
+pub condition_again : (k : ConditionKeyword) → condition_keyword_of (text_of (condition_row k)) ≡ Some k
+condition_again (Compares k) = amount_again k
+condition_again InPhase = refl
+
+operands_again : (operands : Operands) (words : List (List ℕ)) → AreOperands operands words → are_operands operands words ≡ true
+operands_again (Plain parameters) words h = ap is_all (formed_again parameters words h)
+operands_again (WithCondition parameters) words h =
+    let own = parameters_of (condition_row h.0) in
+    let found : after_condition (text_of (condition_row h.0) ∷ h.1) ≡ after_words own h.1 =
+    then_some_is (λ keyword. after_words (parameters_of (condition_row keyword)) h.1) (condition_keyword_of (text_of (condition_row h.0))) h.0 (after_words own h.1)
+    (condition_again h.0) refl in
+    ap (λ words. is_all (option_and_then (after_words parameters) (after_condition words))) h.2
+    ∙ ap (λ after. is_all (option_and_then (after_words parameters) after)) found
+    ∙ ap is_all (sym (words_then own parameters h.1) ∙ formed_again (own ++ parameters) h.1 h.3)
+
+-- no keyword of a command is written as another
+abbrev IsFound : Keyword → Type 0
+IsFound k =
+    (left : List (List ℕ)) → are_operands (operands_of (row_of k)) left ≡ true
+    → command_among keywords (verb_of (row_of k)) (more_of (row_of k) ++ left) ≡ Some (record { keyword = k; operands = left })
+
+poke_again : (k : EditKeyword) → IsFound (Poke k)
+poke_again poked.Register = λ left formed. first_is (are_operands (operands_of (row_of (Poke poked.Register))) left) (record { keyword = Poke poked.Register; operands = left }) _ formed
+poke_again poked.Data = λ left formed. first_is (are_operands (operands_of (row_of (Poke poked.Data))) left) (record { keyword = Poke poked.Data; operands = left }) _ formed
+poke_again poked.Pc = λ left formed. first_is (are_operands (operands_of (row_of (Poke poked.Pc))) left) (record { keyword = Poke poked.Pc; operands = left }) _ formed
+poke_again poked.Value = λ left formed. first_is (are_operands (operands_of (row_of (Poke poked.Value))) left) (record { keyword = Poke poked.Value; operands = left }) _ formed
+poke_again poked.Bits = λ left formed. first_is (are_operands (operands_of (row_of (Poke poked.Bits))) left) (record { keyword = Poke poked.Bits; operands = left }) _ formed
+poke_again poked.Item = λ left formed. first_is (are_operands (operands_of (row_of (Poke poked.Item))) left) (record { keyword = Poke poked.Item; operands = left }) _ formed
+poke_again poked.Byte = λ left formed. first_is (are_operands (operands_of (row_of (Poke poked.Byte))) left) (record { keyword = Poke poked.Byte; operands = left }) _ formed
+
+show_again : (k : Kind) → IsFound (Show k)
+show_again kind.Queue = λ left formed. first_is (are_operands (operands_of (row_of (Show kind.Queue))) left) (record { keyword = Show kind.Queue; operands = left }) _ formed
+show_again kind.QueueSet = λ left formed. first_is (are_operands (operands_of (row_of (Show kind.QueueSet))) left) (record { keyword = Show kind.QueueSet; operands = left }) _ formed
+show_again kind.Stream = λ left formed. first_is (are_operands (operands_of (row_of (Show kind.Stream))) left) (record { keyword = Show kind.Stream; operands = left }) _ formed
+show_again kind.Message = λ left formed. first_is (are_operands (operands_of (row_of (Show kind.Message))) left) (record { keyword = Show kind.Message; operands = left }) _ formed
+show_again kind.Group = λ left formed. first_is (are_operands (operands_of (row_of (Show kind.Group))) left) (record { keyword = Show kind.Group; operands = left }) _ formed
+show_again kind.Task = λ left formed. first_is (are_operands (operands_of (row_of (Show kind.Task))) left) (record { keyword = Show kind.Task; operands = left }) _ formed
+
+keyword_again : (k : Keyword) → IsFound k
+keyword_again Step = λ left formed. first_is (are_operands (operands_of (row_of Step)) left) (record { keyword = Step; operands = left }) _ formed
+keyword_again Tick = λ left formed. first_is (are_operands (operands_of (row_of Tick)) left) (record { keyword = Tick; operands = left }) _ formed
+keyword_again Back = λ left formed. first_is (are_operands (operands_of (row_of Back)) left) (record { keyword = Back; operands = left }) _ formed
+keyword_again Forward = λ left formed. first_is (are_operands (operands_of (row_of Forward)) left) (record { keyword = Forward; operands = left }) _ formed
+keyword_again Redo = λ left formed. first_is (are_operands (operands_of (row_of Redo)) left) (record { keyword = Redo; operands = left }) _ formed
+keyword_again Until = λ left formed. first_is (are_operands (operands_of (row_of Until)) left) (record { keyword = Until; operands = left }) _ formed
+keyword_again BackUntil = λ left formed. first_is (are_operands (operands_of (row_of BackUntil)) left) (record { keyword = BackUntil; operands = left }) _ formed
+keyword_again (Poke k) = poke_again k
+keyword_again (Show k) = show_again k
+keyword_again ShowCores = λ left formed. first_is (are_operands (operands_of (row_of ShowCores)) left) (record { keyword = ShowCores; operands = left }) _ formed
+keyword_again ShowMoves = λ left formed. first_is (are_operands (operands_of (row_of ShowMoves)) left) (record { keyword = ShowMoves; operands = left }) _ formed
+
+pub command_again : (words : List (List ℕ)) (command : CommandView) → Spells words command → command_of words ≡ Some command
+unfolding command_from
+command_again words command h =
+    ap command_of h.written ∙ keyword_again command.keyword command.operands (operands_again (operands_of (row_of command.keyword)) command.operands h.formed)
+
+pub what_is_spelled_is_found : FindsWhatIsSpelled
+what_is_spelled_is_found words command = (command_takes words command, command_again words command)
+
+pub no_line_is_two_commands : NoLineIsTwoCommands
+no_line_is_two_commands words command other h i =
+    let same : Some command ≡ Some other = sym (command_again words command h) ∙ command_again words other i in
+    cc
+
+-- ---- of a line
+
+read_is : {Fault : Type 0} (read : Option CommandView) (fault : Fault) → result_ok (ok_or read fault) ≡ read
+read_is (Some command) fault = refl
+read_is None fault = refl
+
+pub read_spelled : {Fault : Type 0} (result : Result CommandView Fault) (read : Option CommandView) (fault : Fault) (words : List (List ℕ))
+    → result ≡ ok_or read fault → read ≡ command_of words → IfOk result (Spells words)
+read_spelled result (Some command) fault words is e = rw is (command_takes words command (sym e))
+read_spelled result None fault words is e = rw is tt
+
+pub spelled_read : {Fault : Type 0} (result : Result CommandView Fault) (read : Option CommandView) (fault : Fault) (words : List (List ℕ))
+    → result ≡ ok_or read fault → read ≡ command_of words → (command : CommandView) → Spells words command → result_ok result ≡ Some command
+spelled_read result read fault words is e command h = ap result_ok is ∙ read_is read fault ∙ e ∙ command_again words command h

@@ -1,0 +1,128 @@
+-- A command that is spelled is bound exactly where all that it names is there.
+use Rattle.std.proofs.Common.{◌≡◌, ◌∙◌, ℕ, ◌&&◌, Bool, true, cond, List, [], ◌∷◌, ◌++◌, Option, Some, None, position, option_map, option_and_then, refl, sym, ap, subst}
+use Rattle.std.specs.Prelude.{is_some}
+use Rattle.std.specs.Option.{option_map_or}
+use Rattle.std.specs.Str.{bytes_eq}
+use Rattle.rd_text.specs.declared.kind.Kind.{Kind}
+use Rattle.rd_text.specs.Words.{is_name}
+use Rattle.rd_app.specs.Application.{Application, names_of}
+use Rattle.rd_condition.specs.declared.condition.Condition.{Condition}
+use Rattle.rd_command.specs.declared.binding.Bound.{Bound}
+use Rattle.rd_command.specs.declared.keyword.ConditionKeyword.{ConditionKeyword}
+use Rattle.rd_command.specs.declared.keyword.Parameter.{Parameter}
+use Rattle.rd_command.specs.declared.keyword.Parameter.TheVariants.{Core, Count, Register, Index, Number, Data, Operator, Phase, Name}
+use Rattle.rd_command.specs.Bindings.{Reading, are_there, are_there_with, bound_made, bound_of, bound_with, condition_made, has_all, has_operands, is_there, made_of, next_condition, next_keyword, next_value, number_named, value_of}
+use Rattle.rd_command.specs.Commands.{AreFormed, AreOperands, CommandView, Spells}
+use Rattle.rd_command.specs.Forms.{is_formed}
+use Rattle.rd_command.specs.Keywords.{ConditionRow, Makes, MakesBound, Operands, Plain, Row, Spelled, Value, WithCondition, Written, condition_row, operands_of, parameters_of, row_of, text_of}
+use Rattle.rd_command.proofs.CommandLaws.{condition_again}
+
+reading : Application → List (List ℕ) → Reading
+reading app words = record { app = app; words = words }
+
+named_there : (app : Application) (kind : Kind) (word : List ℕ) → is_name word ≡ true
+    → is_some (number_named app kind word) ≡ is_some (position (bytes_eq word) (names_of kind app))
+named_there app kind word e =
+    ap (λ b. is_some (option_and_then (λ name. position (bytes_eq name) (names_of kind app)) (cond b (Some word) None))) e
+
+value_there : (app : Application) (parameter : Parameter) (word : List ℕ) → is_formed parameter word ≡ true
+    → is_some (value_of app parameter word) ≡ is_there app parameter word
+value_there app Core word e = refl
+value_there app Count word e = e
+value_there app Register word e = refl
+value_there app Index word e = refl
+value_there app Number word e = e
+value_there app Data word e = e
+value_there app Operator word e = e
+value_there app Phase word e = e
+value_there app (Name kind) word e = named_there app kind word e
+
+-- What is made, and goes on so, is something exactly where all that is named is there.
+abbrev GoesOn : Application → (Made Last : Type 0) → (Made × Reading → Option Last) → List Parameter → Type 0
+GoesOn app Made Last next others =
+    (made : Made) (words : List (List ℕ)) → AreFormed others words → is_some (next (made, reading app words)) ≡ are_there app others words
+
+step_there : (app : Application) (Made Last : Type 0) (next : Made × Reading → Option Last) (parameter : Parameter) (parameters others : List Parameter)
+    (make : Value parameter → Makes Made parameters) (words : List (List ℕ)) (found : Option (Value parameter)) (there : Bool) → is_some found ≡ there
+    → ((value : Value parameter) → is_some (option_and_then next (made_of Made parameters (make value) (reading app words))) ≡ are_there app (parameters ++ others) words)
+    → is_some
+    (option_and_then next
+    (option_and_then (λ (taken : Value parameter × Reading). made_of Made parameters (make taken.0) taken.1) (option_map (λ value. (value, reading app words)) found)))
+    ≡ (there && are_there app (parameters ++ others) words)
+step_there app Made Last next parameter parameters others make words (Some value) there is h =
+    h value ∙ ap (λ there. there && are_there app (parameters ++ others) words) is
+step_there app Made Last next parameter parameters others make words None there is h = ap (λ there. there && are_there app (parameters ++ others) words) is
+
+made_there : (app : Application) (Made Last : Type 0) (next : Made × Reading → Option Last) (parameters others : List Parameter) (make : Makes Made parameters)
+    (words : List (List ℕ)) → GoesOn app Made Last next others → AreFormed (parameters ++ others) words
+    → is_some (option_and_then next (made_of Made parameters make (reading app words))) ≡ are_there app (parameters ++ others) words
+unfolding next_value reading
+made_there app Made Last next [] others make words goes h = goes make words h
+made_there app Made Last next (parameter ∷ parameters) others make words goes h =
+    ap (λ words. is_some (option_and_then next (made_of Made (parameter ∷ parameters) make (reading app words)))) h.2
+    ∙ step_there app Made Last next parameter parameters others make h.1 (value_of app parameter h.0) (is_there app parameter h.0)
+    (value_there app parameter h.0 h.3) (λ value. made_there app Made Last next parameters others (make value) h.1 goes h.4)
+    ∙ ap (are_there app (parameter ∷ (parameters ++ others))) (sym h.2)
+
+-- ---- commands
+
+-- the words of no more operands
+nothing_more : (app : Application) → GoesOn app Bound Bound (λ (made : Bound × Reading). Some made.0) []
+nothing_more app made words h = refl
+
+mapped_then : {X Y : Type 0} (f : X → Y) (o : Option X) → option_map f o ≡ option_and_then (λ x. Some (f x)) o
+mapped_then f (Some x) = refl
+mapped_then f None = refl
+
+no_others : (parameters : List Parameter) → parameters ++ [] ≡ parameters
+no_others [] = refl
+no_others (parameter ∷ parameters) = ap (λ (others : List Parameter). parameter ∷ others) (no_others parameters)
+
+last_there : (app : Application) (parameters : List Parameter) (make : Makes Bound parameters) (words : List (List ℕ)) → AreFormed parameters words
+    → is_some (option_map (λ (made : Bound × Reading). made.0) (made_of Bound parameters make (reading app words))) ≡ are_there app parameters words
+last_there app parameters make words h =
+    ap is_some (mapped_then (λ (made : Bound × Reading). made.0) (made_of Bound parameters make (reading app words)))
+    ∙ made_there app Bound Bound (λ (made : Bound × Reading). Some made.0) parameters [] make words (nothing_more app)
+    (subst (λ (parameters : List Parameter). AreFormed parameters words) (sym (no_others parameters)) h)
+    ∙ ap (λ (parameters : List Parameter). are_there app parameters words) (no_others parameters)
+
+row_there : (app : Application) (parameters : List Parameter) (make : Condition → Makes Bound parameters) (of : ConditionRow) (words : List (List ℕ))
+    → AreFormed (parameters_of of ++ parameters) words
+    → is_some (option_and_then (λ (found : Condition × Reading). option_map (λ (made : Bound × Reading). made.0) (made_of Bound parameters (make found.0) found.1)) (condition_made of (reading app words)))
+    ≡ are_there app (parameters_of of ++ parameters) words
+row_there app parameters make (Written text own condition) words h =
+    made_there app Condition Bound (λ (found : Condition × Reading). option_map (λ (made : Bound × Reading). made.0) (made_of Bound parameters (make found.0) found.1)) own parameters condition words
+    (λ found left formed. last_there app parameters (make found) left formed) h
+
+condition_there : (app : Application) (parameters : List Parameter) (make : Condition → Makes Bound parameters) (k : ConditionKeyword) (words : List (List ℕ))
+    → AreFormed (parameters_of (condition_row k) ++ parameters) words
+    → is_some
+    (option_and_then (λ (found : Condition × Reading). option_map (λ (made : Bound × Reading). made.0) (made_of Bound parameters (make found.0) found.1))
+    (next_condition (reading app (text_of (condition_row k) ∷ words))))
+    ≡ are_there_with app parameters (text_of (condition_row k) ∷ words)
+unfolding next_keyword reading
+condition_there app parameters make k words h =
+    ap
+    (λ (found : Option ConditionKeyword).
+    is_some
+    (option_and_then (λ (found : Condition × Reading). option_map (λ (made : Bound × Reading). made.0) (made_of Bound parameters (make found.0) found.1))
+    (option_and_then (λ (next : ConditionKeyword × Reading). condition_made (condition_row next.0) next.1) (option_map (λ keyword. (keyword, reading app words)) found))))
+    (condition_again k)
+    ∙ row_there app parameters make (condition_row k) words h
+    ∙ sym (ap (λ (found : Option ConditionKeyword). option_map_or (λ keyword. are_there app (parameters_of (condition_row keyword) ++ parameters) words) found true) (condition_again k))
+
+operands_there : (app : Application) (operands : Operands) (make : MakesBound operands) (words : List (List ℕ)) → AreOperands operands words
+    → is_some (bound_with operands make (reading app words)) ≡ has_operands app operands words
+operands_there app (Plain parameters) make words h = last_there app parameters make words h
+operands_there app (WithCondition parameters) make words h =
+    ap (λ words. is_some (bound_with (WithCondition parameters) make (reading app words))) h.2 ∙ condition_there app parameters make h.0 h.1 h.3
+    ∙ ap (are_there_with app parameters) (sym h.2)
+
+command_there : (app : Application) (of : Row) (words : List (List ℕ)) → AreOperands (operands_of of) words
+    → is_some (bound_made of (reading app words)) ≡ has_operands app (operands_of of) words
+command_there app (Spelled verb more operands make) words h = operands_there app operands make words h
+
+pub bound_exactly : (app : Application) (command : CommandView) (bound : Option Bound) → bound ≡ bound_of app command → (words : List (List ℕ))
+    → Spells words command → is_some bound ≡ has_all app command
+unfolding reading
+bound_exactly app command bound is words h = ap is_some is ∙ command_there app (row_of command.keyword) command.operands h.formed

@@ -1,0 +1,215 @@
+//! Commands with what they name looked up in an application.
+
+ghost use Rattle.std.specs.Prelude.{◌≡◌, ℕ, List, [], ◌∷◌, IfOk, is_some};
+ghost use Rattle.std.specs.Result.{result_ok};
+ghost use Rattle.rd_condition.specs.declared.condition.Condition as conditions;
+ghost use Rattle.rd_condition.specs.declared.condition.Condition.TheVariants as condition;
+ghost use Rattle.rd_command.specs.declared.keyword.Keyword.TheVariants as keyword;
+ghost use Rattle.rd_command.specs.declared.keyword.Parameter.TheVariants as parameter;
+ghost use Rattle.rd_command.specs.Bindings.{IsBoundOf, Takes, bound_made, bound_of};
+ghost use Rattle.rd_command.specs.Bindings.{condition_made, has_all, made_of, next_condition};
+ghost use Rattle.rd_command.specs.Commands.{Spells};
+ghost use Rattle.rd_command.specs.Keywords.{amount_row, edit_row, row_of};
+
+use crate::command::Command;
+use crate::keyword::{AmountKeyword, ConditionKeyword, EditKeyword, Keyword};
+use crate::reader::Reader;
+use rd_app::app::App;
+use rd_condition::condition::{Amount, Condition};
+use rd_edits::edit::Edit;
+use rd_text::kind::Kind;
+
+/// A command whose names are numbers, and whose cores, registers and notification entries are
+/// there. A count is 1 to 1,000,000.
+#[derive(Debug, Drop)]
+pub enum Bound {
+    /// `step N`: the move of this core.
+    Step { core: usize },
+    /// `tick`: a tick passes.
+    Tick,
+    /// `forward COUNT`: so many moves of the policy.
+    Forward { count: usize },
+    /// `redo COUNT`: so many of the moves that were taken back are made again.
+    Redo { count: usize },
+    /// `back COUNT`: so many of the last moves are taken back.
+    Back { count: usize },
+    /// `until COND COUNT`: moves of the policy until the condition holds, at most so many.
+    Until { condition: Condition, count: usize },
+    /// `back until COND`: back to the last place before this one where the condition held.
+    BackUntil { condition: Condition },
+    /// `poke ..`: something is changed by hand.
+    Poke { edit: Edit },
+    /// `show KIND NAME`: the thing of that kind with this number.
+    Show { kind: Kind, number: usize },
+    /// `show cores`: who runs, who is ready, the tick and the turn.
+    ShowCores,
+    /// `show moves`: how many moves were made, and how many of them taken back.
+    ShowMoves,
+}
+
+/// The application has no core, register, notification entry or name like this.
+#[derive(Debug, Drop)]
+pub struct Unknown;
+
+// The condition that compares this amount, of the words after it.
+fn read_compared(amount: Amount, reader: &mut Reader<'_>) -> Result<Condition, Unknown>
+    ensures { Takes (made_of conditions.Condition (parameter.Operator ∷ parameter.Number ∷ [])
+        (λ operator bound. condition.Compares amount operator bound) reader.old) result reader.new }
+{
+    let comparison = reader.operator()?;
+    let bound = reader.number()?;
+    Ok(Condition::Compares {
+        amount,
+        comparison,
+        bound,
+    })
+}
+
+// The condition of such a keyword, of the words after it.
+fn read_comparison(keyword: AmountKeyword, reader: &mut Reader<'_>) -> Result<Condition, Unknown>
+    ensures { Takes (condition_made (amount_row keyword) reader.old) result reader.new }
+{
+    match keyword {
+        AmountKeyword::Items => {
+            let queue = reader.named(Kind::Queue)?;
+            read_compared(Amount::Items { queue }, reader)
+        }
+        AmountKeyword::Bytes => {
+            let stream = reader.named(Kind::Stream)?;
+            read_compared(Amount::Bytes { stream }, reader)
+        }
+        AmountKeyword::Messages => {
+            let message = reader.named(Kind::Message)?;
+            read_compared(Amount::Messages { message }, reader)
+        }
+        AmountKeyword::Bits => {
+            let group = reader.named(Kind::Group)?;
+            read_compared(Amount::Bits { group }, reader)
+        }
+        AmountKeyword::Register => {
+            let task = reader.named(Kind::Task)?;
+            let register = reader.register()?;
+            read_compared(Amount::Register { task, register }, reader)
+        }
+        AmountKeyword::Pc => {
+            let task = reader.named(Kind::Task)?;
+            read_compared(Amount::Pc { task }, reader)
+        }
+        AmountKeyword::Value => {
+            let task = reader.named(Kind::Task)?;
+            let index = reader.index()?;
+            read_compared(Amount::Value { task, index }, reader)
+        }
+        AmountKeyword::Tick => read_compared(Amount::Tick, reader),
+    }
+}
+
+// The condition that the words begin with.
+fn read_condition(reader: &mut Reader<'_>) -> Result<Condition, Unknown>
+    ensures { Takes (next_condition reader.old) result reader.new }
+{
+    match reader.condition_keyword()? {
+        ConditionKeyword::Compares(keyword) => read_comparison(keyword, reader),
+        ConditionKeyword::InPhase => Ok(Condition::InPhase {
+            task: reader.named(Kind::Task)?,
+            name: reader.phase()?,
+        }),
+    }
+}
+
+// The edit of such a keyword, of the words after it.
+fn poke(keyword: EditKeyword, reader: &mut Reader<'_>) -> Result<Bound, Unknown>
+    ensures { result_ok result ≡ bound_made (edit_row keyword) reader.old }
+{
+    let edit = match keyword {
+        EditKeyword::Register => Edit::Register {
+            task: reader.named(Kind::Task)?,
+            register: reader.register()?,
+            value: reader.number()?,
+        },
+        EditKeyword::Data => Edit::Data {
+            task: reader.named(Kind::Task)?,
+            bytes: reader.data()?,
+        },
+        EditKeyword::Pc => Edit::Pc {
+            task: reader.named(Kind::Task)?,
+            pc: reader.number()? as usize,
+        },
+        EditKeyword::Value => Edit::Value {
+            task: reader.named(Kind::Task)?,
+            index: reader.index()?,
+            value: reader.number()?,
+        },
+        EditKeyword::Bits => Edit::Bits {
+            group: reader.named(Kind::Group)?,
+            bits: reader.number()?,
+        },
+        EditKeyword::Item => Edit::Item {
+            queue: reader.named(Kind::Queue)?,
+            index: reader.number()? as usize,
+            bytes: reader.data()?,
+        },
+        EditKeyword::Byte => Edit::Byte {
+            stream: reader.named(Kind::Stream)?,
+            index: reader.number()? as usize,
+            value: reader.number()?,
+        },
+    };
+    Ok(Bound::Poke { edit })
+}
+
+// The command `until`, of the words after that.
+fn read_until(reader: &mut Reader<'_>) -> Result<Bound, Unknown>
+    ensures { result_ok result ≡ bound_made (row_of keyword.Until) reader.old }
+{
+    let condition = read_condition(reader)?;
+    let count = reader.count()?;
+    Ok(Bound::Until { condition, count })
+}
+
+// The command of a keyword and of its operands.
+fn read_bound(keyword: Keyword, reader: &mut Reader<'_>) -> Result<Bound, Unknown>
+    ensures { result_ok result ≡ bound_made (row_of keyword) reader.old }
+{
+    match keyword {
+        Keyword::Step => Ok(Bound::Step {
+            core: reader.core()?,
+        }),
+        Keyword::Tick => Ok(Bound::Tick),
+        Keyword::Back => Ok(Bound::Back {
+            count: reader.count()?,
+        }),
+        Keyword::Forward => Ok(Bound::Forward {
+            count: reader.count()?,
+        }),
+        Keyword::Redo => Ok(Bound::Redo {
+            count: reader.count()?,
+        }),
+        Keyword::Until => read_until(reader),
+        Keyword::BackUntil => Ok(Bound::BackUntil {
+            condition: read_condition(reader)?,
+        }),
+        Keyword::Poke(keyword) => poke(keyword, reader),
+        Keyword::Show(kind) => Ok(Bound::Show {
+            kind,
+            number: reader.named(kind)?,
+        }),
+        Keyword::ShowCores => Ok(Bound::ShowCores),
+        Keyword::ShowMoves => Ok(Bound::ShowMoves),
+    }
+}
+
+/// Looks up what a command names: cores below those of the application, registers below 8,
+/// notification entries below those of each task, and names of each kind, also inside a condition.
+/// `Unknown` exactly where one of these isn't there.
+pub fn bind(command: &Command<'_>, app: &App) -> Result<Bound, Unknown>
+    ensures bound { result_ok result ≡ bound_of app.now command.now }
+    // What is bound is there.
+    ensures named { IfOk result (IsBoundOf app.now) }
+    // A command that is spelled is bound exactly where all that it names is there.
+    ensures exact { (words : List (List ℕ)) → Spells words command.now
+        → is_some (result_ok result) ≡ has_all app.now command.now }
+{
+    app.limits();
+    read_bound(command.keyword(), &mut Reader::new(app, command.operands()))
+}

@@ -1,0 +1,120 @@
+//! The forms of the words of a command, whatever they name.
+
+ghost use Rattle.std.specs.Prelude.{◌≡◌};
+ghost use Rattle.rd_text.specs.Words.{texts};
+ghost use Rattle.rd_command.specs.Forms.{count_of, operator_of, phase_of, is_formed};
+ghost use Rattle.rd_command.specs.Forms.{after_texts, after_words, after_condition};
+ghost use Rattle.rd_command.specs.Forms.{after_operands, are_operands};
+ghost use Rattle.rd_command.specs.Tables.{operands_view};
+
+use crate::keyword::{Operands, Parameter, condition_keyword_of};
+use rd_condition::condition::{Comparison, PhaseName};
+use rd_text::words::{Words, bytes, is_name, number};
+
+/// How many moves a command makes or takes back at the most.
+pub(crate) const MAX_COUNT: u32 = 1_000_000;
+
+/// A number of moves: 1 to 1,000,000.
+pub(crate) fn count_of(word: &[u8]) -> Option<u32>
+    ensures { result ≡ count_of word.now }
+{
+    number(word).filter(|count| (1..=MAX_COUNT).contains(count))
+}
+
+/// How an amount is compared: `=`, `<` or `>`.
+pub(crate) fn operator_of(word: &[u8]) -> Option<Comparison>
+    ensures { result ≡ operator_of word.now }
+{
+    match word {
+        b"=" => Some(Comparison::Equal),
+        b"<" => Some(Comparison::Less),
+        b">" => Some(Comparison::Greater),
+        _ => None,
+    }
+}
+
+/// What a phase is called.
+pub(crate) fn phase_of(word: &[u8]) -> Option<PhaseName>
+    ensures { result ≡ phase_of word.now }
+{
+    match word {
+        b"run" => Some(PhaseName::Run),
+        b"again" => Some(PhaseName::Again),
+        b"given" => Some(PhaseName::Given),
+        b"wait" => Some(PhaseName::Wait),
+        b"ended" => Some(PhaseName::Ended),
+        b"failed" => Some(PhaseName::Failed),
+        _ => None,
+    }
+}
+
+// Whether a word has the form of such an operand.
+fn is_formed(parameter: Parameter, word: &[u8]) -> bool
+    ensures { result ≡ is_formed parameter word.now }
+{
+    match parameter {
+        Parameter::Core | Parameter::Register | Parameter::Index | Parameter::Number => {
+            number(word).is_some()
+        }
+        Parameter::Count => count_of(word).is_some(),
+        Parameter::Data => bytes(word).is_some(),
+        Parameter::Operator => operator_of(word).is_some(),
+        Parameter::Phase => phase_of(word).is_some(),
+        Parameter::Name(_) => is_name(word),
+    }
+}
+
+/// What is left of the words behind these texts, if they begin with them.
+pub(crate) fn after_texts<'a>(words: &Words<'a>, more: &[&str]) -> Option<Words<'a>>
+    ensures { result ≡ after_texts (texts more.now) words.now }
+{
+    let mut left = words.copy();
+    for text in more {
+        if left.next()? != text.as_bytes() {
+            return None;
+        }
+    }
+    Some(left)
+}
+
+// What is left of the words behind one for each of these operands, if they have the forms.
+fn after_words<'a>(words: &Words<'a>, parameters: &[Parameter]) -> Option<Words<'a>>
+    ensures { result ≡ after_words parameters.now words.now }
+{
+    let mut left = words.copy();
+    for parameter in parameters {
+        if !is_formed(*parameter, left.next()?) {
+            return None;
+        }
+    }
+    Some(left)
+}
+
+// What is left of the words behind a condition, if they begin with one.
+fn after_condition<'a>(words: &Words<'a>) -> Option<Words<'a>>
+    ensures { result ≡ after_condition words.now }
+{
+    let mut left = words.copy();
+    let (parameters, _) = condition_keyword_of(left.next()?)?;
+    after_words(&left, parameters)
+}
+
+// What is left of the words behind these operands, if they have the forms.
+fn after_operands<'a>(words: &Words<'a>, operands: Operands<'_>) -> Option<Words<'a>>
+    ensures { result ≡ after_operands (operands_view operands.entry) words.now }
+{
+    match operands {
+        Operands::Plain(parameters) => after_words(words, parameters),
+        Operands::WithCondition(parameters) => after_words(&after_condition(words)?, parameters),
+    }
+}
+
+/// Whether the words are such operands, and no more.
+pub(crate) fn are_operands(words: &Words<'_>, operands: Operands<'_>) -> bool
+    ensures { result ≡ are_operands (operands_view operands.entry) words.now }
+{
+    match after_operands(words, operands) {
+        Some(mut left) => left.next().is_none(),
+        None => false,
+    }
+}

@@ -1,0 +1,244 @@
+//! The keywords of commands and of conditions: how each is written, and what its operands are.
+
+ghost use Rattle.std.specs.Prelude.{◌≡◌, IfSome, option_map};
+ghost use Rattle.rd_command.specs.Keywords.{condition_keyword_of, condition_row, parameters_of};
+ghost use Rattle.rd_command.specs.Tables.{first_condition, conditions_view};
+
+use ConditionKeyword::Compares;
+use Keyword::{Poke, Show};
+use Operands::{Plain, WithCondition};
+use rd_text::kind::Kind;
+
+/// What a word of a command or of a condition stands for.
+#[derive(Clone, Copy, Debug, PartialEq, Eq)]
+pub(crate) enum Parameter {
+    /// A core, by its number.
+    Core,
+    /// A number of moves, 1 to 1,000,000.
+    Count,
+    /// A register, by its number.
+    Register,
+    /// A notification entry, by its index.
+    Index,
+    /// A number below 2^32.
+    Number,
+    /// Bytes in hexadecimal digits, or `-`.
+    Data,
+    /// How an amount is compared: `=`, `<` or `>`.
+    Operator,
+    /// What a phase is called: `run`, `again`, `given`, `wait`, `ended` or `failed`.
+    Phase,
+    /// The name of a thing of that kind.
+    Name(Kind),
+}
+
+/// What stands behind the words of a keyword.
+#[derive(Clone, Copy, Debug)]
+pub(crate) enum Operands<'a> {
+    /// A word for each of these.
+    Plain(&'a [Parameter]),
+    /// A condition, and then a word for each of these.
+    WithCondition(&'a [Parameter]),
+}
+
+/// What an edit changes.
+#[derive(Clone, Copy, Debug, PartialEq, Eq)]
+pub(crate) enum EditKeyword {
+    Register,
+    Data,
+    Pc,
+    Value,
+    Bits,
+    Item,
+    Byte,
+}
+
+/// What a command does, as its first words say.
+#[derive(Clone, Copy, Debug, PartialEq, Eq)]
+pub(crate) enum Keyword {
+    Step,
+    Tick,
+    Back,
+    Forward,
+    Redo,
+    Until,
+    BackUntil,
+    Poke(EditKeyword),
+    Show(Kind),
+    ShowCores,
+    ShowMoves,
+}
+
+/// What a condition compares with a number.
+#[derive(Clone, Copy, Debug, PartialEq, Eq)]
+pub(crate) enum AmountKeyword {
+    Items,
+    Bytes,
+    Messages,
+    Bits,
+    Register,
+    Pc,
+    Value,
+    Tick,
+}
+
+/// What a condition speaks of, as its first word says.
+#[derive(Clone, Copy, Debug, PartialEq, Eq)]
+pub(crate) enum ConditionKeyword {
+    Compares(AmountKeyword),
+    InPhase,
+}
+
+const CORE: Parameter = Parameter::Core;
+
+const COUNT: Parameter = Parameter::Count;
+
+const REGISTER: Parameter = Parameter::Register;
+
+const INDEX: Parameter = Parameter::Index;
+
+const NUMBER: Parameter = Parameter::Number;
+
+const DATA: Parameter = Parameter::Data;
+
+const OPERATOR: Parameter = Parameter::Operator;
+
+const PHASE: Parameter = Parameter::Phase;
+
+const QUEUE: Parameter = Parameter::Name(Kind::Queue);
+
+const QUEUE_SET: Parameter = Parameter::Name(Kind::QueueSet);
+
+const STREAM: Parameter = Parameter::Name(Kind::Stream);
+
+const MESSAGE: Parameter = Parameter::Name(Kind::Message);
+
+const GROUP: Parameter = Parameter::Name(Kind::Group);
+
+const TASK: Parameter = Parameter::Name(Kind::Task);
+
+/// A keyword of a command: its first word, its other words, and its operands.
+pub(crate) type Row<'a> = (&'a str, &'a [&'a str], Operands<'a>, Keyword);
+
+/// Each keyword of a command. The moves that are asked for most come first.
+pub(crate) static KEYWORDS: [Row<'static>; 22] = [
+    ("step", &[], Plain(&[CORE]), Keyword::Step),
+    ("tick", &[], Plain(&[]), Keyword::Tick),
+    ("back", &[], Plain(&[COUNT]), Keyword::Back),
+    ("forward", &[], Plain(&[COUNT]), Keyword::Forward),
+    ("redo", &[], Plain(&[COUNT]), Keyword::Redo),
+    ("until", &[], WithCondition(&[COUNT]), Keyword::Until),
+    ("back", &["until"], WithCondition(&[]), Keyword::BackUntil),
+    (
+        "poke",
+        &["reg"],
+        Plain(&[TASK, REGISTER, NUMBER]),
+        Poke(EditKeyword::Register),
+    ),
+    (
+        "poke",
+        &["data"],
+        Plain(&[TASK, DATA]),
+        Poke(EditKeyword::Data),
+    ),
+    (
+        "poke",
+        &["pc"],
+        Plain(&[TASK, NUMBER]),
+        Poke(EditKeyword::Pc),
+    ),
+    (
+        "poke",
+        &["note"],
+        Plain(&[TASK, INDEX, NUMBER]),
+        Poke(EditKeyword::Value),
+    ),
+    (
+        "poke",
+        &["group"],
+        Plain(&[GROUP, NUMBER]),
+        Poke(EditKeyword::Bits),
+    ),
+    (
+        "poke",
+        &["item"],
+        Plain(&[QUEUE, NUMBER, DATA]),
+        Poke(EditKeyword::Item),
+    ),
+    (
+        "poke",
+        &["byte"],
+        Plain(&[STREAM, NUMBER, NUMBER]),
+        Poke(EditKeyword::Byte),
+    ),
+    ("show", &["queue"], Plain(&[QUEUE]), Show(Kind::Queue)),
+    ("show", &["set"], Plain(&[QUEUE_SET]), Show(Kind::QueueSet)),
+    ("show", &["stream"], Plain(&[STREAM]), Show(Kind::Stream)),
+    ("show", &["message"], Plain(&[MESSAGE]), Show(Kind::Message)),
+    ("show", &["group"], Plain(&[GROUP]), Show(Kind::Group)),
+    ("show", &["task"], Plain(&[TASK]), Show(Kind::Task)),
+    ("show", &["cores"], Plain(&[]), Keyword::ShowCores),
+    ("show", &["moves"], Plain(&[]), Keyword::ShowMoves),
+];
+
+// Each keyword of a condition: as it is written, and its operands.
+static CONDITIONS: [(&str, &[Parameter], ConditionKeyword); 9] = [
+    (
+        "count",
+        &[QUEUE, OPERATOR, NUMBER],
+        Compares(AmountKeyword::Items),
+    ),
+    (
+        "bytes",
+        &[STREAM, OPERATOR, NUMBER],
+        Compares(AmountKeyword::Bytes),
+    ),
+    (
+        "msgs",
+        &[MESSAGE, OPERATOR, NUMBER],
+        Compares(AmountKeyword::Messages),
+    ),
+    (
+        "bits",
+        &[GROUP, OPERATOR, NUMBER],
+        Compares(AmountKeyword::Bits),
+    ),
+    (
+        "reg",
+        &[TASK, REGISTER, OPERATOR, NUMBER],
+        Compares(AmountKeyword::Register),
+    ),
+    ("pc", &[TASK, OPERATOR, NUMBER], Compares(AmountKeyword::Pc)),
+    (
+        "note",
+        &[TASK, INDEX, OPERATOR, NUMBER],
+        Compares(AmountKeyword::Value),
+    ),
+    ("tick", &[OPERATOR, NUMBER], Compares(AmountKeyword::Tick)),
+    ("phase", &[TASK, PHASE], ConditionKeyword::InPhase),
+];
+
+/// The keyword of a condition that is written so, with its operands.
+pub(crate) fn condition_keyword_of(word: &[u8]) -> Option<(&'static [Parameter], ConditionKeyword)>
+    ensures keyword { option_map (λ found. found.1) result ≡ condition_keyword_of word.now }
+    ensures operands { IfSome result
+        (λ found. found.0.now ≡ parameters_of (condition_row found.1)) }
+{
+    first_condition(word, &CONDITIONS)
+}
+
+// The first of these keywords that is written so.
+fn first_condition<'a>(
+    word: &[u8],
+    keywords: &[(&str, &'a [Parameter], ConditionKeyword)],
+) -> Option<(&'a [Parameter], ConditionKeyword)>
+    ensures { option_map (λ row. (row.0.now, row.1)) result
+        ≡ first_condition word.now (conditions_view keywords.now) }
+{
+    for (text, parameters, keyword) in keywords {
+        if word == text.as_bytes() {
+            return Some((*parameters, *keyword));
+        }
+    }
+    None
+}

@@ -1,0 +1,145 @@
+//! The operands of a command, looked up in an application one after another.
+
+ghost use Rattle.std.specs.Prelude.{◌≡◌};
+ghost use Rattle.std.specs.Result.{result_ok};
+ghost use Rattle.rd_command.specs.declared.keyword.Parameter.TheVariants as parameter;
+ghost use Rattle.rd_command.specs.Bindings.{Takes, next_keyword, next_value};
+ghost use Rattle.rd_command.specs.Bindings.{number_below, number_named};
+
+use crate::binding::Unknown;
+use crate::form::{count_of, operator_of, phase_of};
+use crate::keyword::{ConditionKeyword, condition_keyword_of};
+use rd_app::app::App;
+use rd_app::instr::REGISTERS;
+use rd_bytes::bytes::Bytes;
+use rd_condition::condition::{Comparison, PhaseName};
+use rd_text::kind::Kind;
+use rd_text::words::{Words, bytes, name, number};
+use std::marker::Model;
+
+// A number below a limit.
+fn number_below(word: &[u8], limit: usize) -> Result<usize, Unknown>
+    ensures { result_ok result ≡ number_below limit word.now }
+{
+    match number(word) {
+        Some(number) if (number as usize) < limit => Ok(number as usize),
+        _ => Err(Unknown),
+    }
+}
+
+// The number of the thing of that kind that a word names.
+fn number_named(word: &[u8], kind: Kind, app: &App) -> Result<usize, Unknown>
+    ensures { result_ok result ≡ number_named app.now kind word.now }
+{
+    let name = name(word).ok_or(Unknown)?;
+    app.find(kind, name).ok_or(Unknown)
+}
+
+/// Reads the operands of a command, which have their forms, and answers `Unknown` to one that the
+/// application doesn't have.
+#[derive(Drop)]
+pub(crate) struct Reader<'a> {
+    app: &'a App,
+    words: Words<'a>,
+}
+
+impl<'a> Model for Reader<'a> {
+    ghost use Rattle.rd_command.specs.Bindings.{Reading};
+
+    ghost Value = { Reading };
+
+    ghost view = { λ r. record { app = r.app.now; words = r.words } };
+}
+
+impl<'a> Reader<'a> {
+    /// Reads these words.
+    pub(crate) fn new(app: &'a App, words: Words<'a>) -> Reader<'a>
+        ensures { result ≡ record { app = app.now; words = words.entry } }
+    {
+        Reader { app, words }
+    }
+
+    /// The next word, as the keyword of a condition.
+    #[tactic(auto, unfolding(crate::specs::Bindings::next_keyword))]
+    pub(crate) fn condition_keyword(&mut self) -> Result<ConditionKeyword, Unknown>
+        ensures { Takes (next_keyword self.old) result self.new }
+    {
+        match condition_keyword_of(self.words.next().ok_or(Unknown)?) {
+            Some((_, keyword)) => Ok(keyword),
+            None => Err(Unknown),
+        }
+    }
+
+    /// The next word, as a core.
+    #[tactic(auto, unfolding(crate::specs::Bindings::next_value))]
+    pub(crate) fn core(&mut self) -> Result<usize, Unknown>
+        ensures { Takes (next_value parameter.Core self.old) result self.new }
+    {
+        number_below(self.words.next().ok_or(Unknown)?, self.app.cores())
+    }
+
+    /// The next word, as a number of moves.
+    #[tactic(auto, unfolding(crate::specs::Bindings::next_value))]
+    pub(crate) fn count(&mut self) -> Result<usize, Unknown>
+        ensures { Takes (next_value parameter.Count self.old) result self.new }
+    {
+        let count = count_of(self.words.next().ok_or(Unknown)?).ok_or(Unknown)?;
+        Ok(count as usize)
+    }
+
+    /// The next word, as a register.
+    #[tactic(auto, unfolding(crate::specs::Bindings::next_value))]
+    pub(crate) fn register(&mut self) -> Result<usize, Unknown>
+        ensures { Takes (next_value parameter.Register self.old) result self.new }
+    {
+        number_below(self.words.next().ok_or(Unknown)?, REGISTERS)
+    }
+
+    /// The next word, as the index of a notification entry.
+    #[tactic(auto, unfolding(crate::specs::Bindings::next_value))]
+    pub(crate) fn index(&mut self) -> Result<usize, Unknown>
+        ensures { Takes (next_value parameter.Index self.old) result self.new }
+    {
+        number_below(self.words.next().ok_or(Unknown)?, self.app.entries())
+    }
+
+    /// The next word, as a number.
+    #[tactic(auto, unfolding(crate::specs::Bindings::next_value))]
+    pub(crate) fn number(&mut self) -> Result<u32, Unknown>
+        ensures { Takes (next_value parameter.Number self.old) result self.new }
+    {
+        number(self.words.next().ok_or(Unknown)?).ok_or(Unknown)
+    }
+
+    /// The next word, as bytes.
+    #[tactic(auto, unfolding(crate::specs::Bindings::next_value))]
+    pub(crate) fn data(&mut self) -> Result<Bytes, Unknown>
+        ensures { Takes (next_value parameter.Data self.old) result self.new }
+    {
+        bytes(self.words.next().ok_or(Unknown)?).ok_or(Unknown)
+    }
+
+    /// The next word, as how an amount is compared.
+    #[tactic(auto, unfolding(crate::specs::Bindings::next_value))]
+    pub(crate) fn operator(&mut self) -> Result<Comparison, Unknown>
+        ensures { Takes (next_value parameter.Operator self.old) result self.new }
+    {
+        operator_of(self.words.next().ok_or(Unknown)?).ok_or(Unknown)
+    }
+
+    /// The next word, as what a phase is called.
+    #[tactic(auto, unfolding(crate::specs::Bindings::next_value))]
+    pub(crate) fn phase(&mut self) -> Result<PhaseName, Unknown>
+        ensures { Takes (next_value parameter.Phase self.old) result self.new }
+    {
+        phase_of(self.words.next().ok_or(Unknown)?).ok_or(Unknown)
+    }
+
+    /// The next word, as the number of the thing of that kind that it names.
+    #[tactic(auto, unfolding(crate::specs::Bindings::next_value))]
+    pub(crate) fn named(&mut self, kind: Kind) -> Result<usize, Unknown>
+        ensures { Takes (next_value (parameter.Name kind) self.old) result self.new }
+    {
+        number_named(self.words.next().ok_or(Unknown)?, kind, self.app)
+    }
+}

@@ -1,0 +1,5 @@
+//! Why a command is refused. It has a crate of its own, so that one more cause touches only those
+//! who refuse.
+#![tactic(auto)]
+
+pub mod refusal;

@@ -1,0 +1,66 @@
+-- The goals of `answer` that the check left open.
+use Rattle.std.proofs.Common.{◌≡◌, ◌∙◌, ap, inl, inr, subst, sym}
+use Rattle.std.specs.Prelude.{IsTrue, None, false, OnErr, OnOk, Some}
+use Rattle.rd_timeline.specs.declared.running.Found.{Found}
+use Rattle.rd_timeline.specs.declared.runs.Request.{Request}
+use Rattle.rd_timeline.specs.Backward.{HasRedone, IsWhyNoRedo}
+use Rattle.rd_timeline.specs.Policy.{EndsRun, IsWhyNoRun}
+use Rattle.rd_timeline.specs.Runs.{answered, makes_move, moves_of}
+use Rattle.rd_timeline.proofs.RunsLaws.{answers, back_until_leaves, lacking, redo_leaves, redo_refused, run_leaves, run_needs_memory, run_refused}
+use Rattle.rd_timeline.proofs.timeline.Timeline.answer.Goals as goal
+
+pub returns-in-Forward-clause-ok : goal.returns-in-Forward-clause-ok
+returns-in-Forward-clause-ok c =
+    let old = c.args.self.now in
+    let new = c.forward.new.self in
+    subst (λ (r : Request). OnOk c.unless_no_memory.result (moves_of new ≡ answered old.app old.limit (moves_of old) r)) (sym c.in-Forward.is)
+    (answers _ c.forward.result c.unless_no_memory.result (λ at. EndsRun old None c.in-Forward.count false new) (IsWhyNoRun old None c.in-Forward.count) (new ≡ old)
+    c.unless_no_memory.ensures c.forward.ensures.ends c.forward.ensures.refusals c.forward.ensures.err
+    (λ at ends. run_leaves old new None c.in-Forward.count false c.keeps.ensures.leads ends)
+    (λ refusal other why same. ap moves_of same ∙ run_refused old None c.in-Forward.count refusal c.keeps.ensures.leads other why))
+
+pub returns-in-Until-clause-ok : goal.returns-in-Until-clause-ok
+returns-in-Until-clause-ok c =
+    let old = c.args.self.now in
+    let new = c.until.new.self in
+    let goal = Some c.in-Until.condition in
+    subst (λ (r : Request). OnOk c.unless_no_memory-in-Until.result (moves_of new ≡ answered old.app old.limit (moves_of old) r)) (sym c.in-Until.is)
+    (answers _ c.until.result c.unless_no_memory-in-Until.result (λ (found : Found). EndsRun old goal c.in-Until.count found.met new) (IsWhyNoRun old goal c.in-Until.count)
+    (new ≡ old) c.unless_no_memory-in-Until.ensures c.until.ensures.ends c.until.ensures.refusals c.until.ensures.err
+    (λ found ends. run_leaves old new goal c.in-Until.count found.met c.keeps.ensures.leads ends)
+    (λ refusal other why same. ap moves_of same ∙ run_refused old goal c.in-Until.count refusal c.keeps.ensures.leads other why))
+
+pub returns-in-Redo-clause-ok : goal.returns-in-Redo-clause-ok
+returns-in-Redo-clause-ok c =
+    let old = c.args.self.now in
+    let new = c.redo.new.self in
+    subst (λ (r : Request). OnOk c.unless_no_memory-in-Redo.result (moves_of new ≡ answered old.app old.limit (moves_of old) r)) (sym c.in-Redo.is)
+    (answers _ c.redo.result c.unless_no_memory-in-Redo.result (λ at. HasRedone old c.in-Redo.count new) (IsWhyNoRedo old c.in-Redo.count) (new ≡ old)
+    c.unless_no_memory-in-Redo.ensures c.redo.ensures.redone c.redo.ensures.refusals c.redo.ensures.err
+    (λ at has. redo_leaves old new c.in-Redo.count has)
+    (λ refusal other why same. elim why [
+      | inl fewer ↦ ap moves_of same ∙ redo_refused old c.in-Redo.count fewer.0
+      | inr lacks ↦ absurd (other lacks.1)
+    ]))
+
+pub returns-in-BackUntil-clause-ok : goal.returns-in-BackUntil-clause-ok
+returns-in-BackUntil-clause-ok c =
+    let old = c.args.self.now in
+    let new = c.back_until.new.self in
+    subst (λ (r : Request). moves_of new ≡ answered old.app old.limit (moves_of old) r) (sym c.in-BackUntil.is)
+    (back_until_leaves old new c.in-BackUntil.condition c.back_until.result c.back_until.ensures.place)
+
+pub returns-in-Forward-clause-no_memory : goal.returns-in-Forward-clause-no_memory
+returns-in-Forward-clause-no_memory c =
+    let old = c.args.self.now in
+    subst (λ (r : Request). OnErr c.unless_no_memory.result (IsTrue (makes_move old.app old.limit (moves_of old) r))) (sym c.in-Forward.is)
+    (lacking c.forward.result c.unless_no_memory.result (IsWhyNoRun old None c.in-Forward.count) c.unless_no_memory.ensures c.forward.ensures.refusals
+    (run_needs_memory old None c.in-Forward.count c.keeps.ensures.leads))
+
+pub returns-in-Until-clause-no_memory : goal.returns-in-Until-clause-no_memory
+returns-in-Until-clause-no_memory c =
+    let old = c.args.self.now in
+    let goal = Some c.in-Until.condition in
+    subst (λ (r : Request). OnErr c.unless_no_memory-in-Until.result (IsTrue (makes_move old.app old.limit (moves_of old) r))) (sym c.in-Until.is)
+    (lacking c.until.result c.unless_no_memory-in-Until.result (IsWhyNoRun old goal c.in-Until.count) c.unless_no_memory-in-Until.ensures
+    c.until.ensures.refusals (run_needs_memory old goal c.in-Until.count c.keeps.ensures.leads))
