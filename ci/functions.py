@@ -1,6 +1,7 @@
 """Finds the functions of a source, with their lines and their paths as a check prints them."""
 import bisect
 import dataclasses
+import functools
 import pathlib
 import re
 
@@ -47,13 +48,15 @@ def module_of(crate, file):
     return "::".join([crate, *(part for part in parts if part not in ("lib", "main", "mod"))])
 
 
+@functools.cache
 def homes_in(crate, folder):
-    """The module of each type of the crate: a part of its methods' paths, wherever they stand."""
+    """The module of each type of the crate: a part of its methods' paths, wherever they stand. As
+    pairs, for functions_of."""
     homes = {}
     for file in sorted((folder / "src").rglob("*.rt")):
         for name in re.findall(r"\b(?:struct|enum)\s+(\w+)", blanked(file.read_text())):
             homes[name] = module_of(crate, file.relative_to(folder))
-    return homes
+    return tuple(homes.items())
 
 
 def named(header):
@@ -74,9 +77,10 @@ def path_of(module, blocks, name, homes):
     return "::".join([home, *(block.name for block in around), name])
 
 
-def functions_of(crate, file, text, homes):
+@functools.cache
+def functions_of(crate, file, text, homes=()):
     """The functions of a source, outer ones before those that stand in them."""
-    text = blanked(text)
+    text, homes = blanked(text), dict(homes)
     ends = [at for at, char in enumerate(text) if char == "\n"]
     found, blocks, header, begun, brackets = [], [], 0, None, 0
     for at, char in enumerate(text):

@@ -126,8 +126,8 @@ IsGroupCall group_call.Get = Unit {0}
 IsGroupCall (group_call.Wait bits wait_for on_met wait) = IsOperand bits × IsOperand wait
 IsGroupCall (group_call.Sync set bits wait) = IsOperand set × IsOperand bits × IsOperand wait
 
--- The registers that a call names are there, and of so many tasks, each with so many entries, the one
--- that it names.
+-- The registers that a call names are there, and of so many tasks, each with so many entries, the
+-- one that it names.
 abbrev pub IsNotifyCall : ℕ → ℕ → NotifyCall → Type 0
 IsNotifyCall tasks entries (notify.Notify task index value action) =
     (task < tasks) × (index < entries) × IsOperand value

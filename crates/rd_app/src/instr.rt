@@ -175,15 +175,17 @@ pub enum NotifyCall {
         exit: OnExit,
         wait: Operand,
     },
-    /// `nwait I V V T`: waits for a notification of an entry of its own up to the block time, clears
-    /// bits of the value before and after, and r1 becomes the value (`xTaskNotifyWaitIndexed`).
+    /// `nwait I V V T`: waits for a notification of an entry of its own up to the block time,
+    /// clears bits of the value before and after, and r1 becomes the value
+    /// (`xTaskNotifyWaitIndexed`).
     Wait {
         index: usize,
         entry_bits: Operand,
         exit_bits: Operand,
         wait: Operand,
     },
-    /// `nclear K I`: an entry of the task that has received is idle (`xTaskNotifyStateClearIndexed`).
+    /// `nclear K I`: an entry of the task that has received is idle
+    /// (`xTaskNotifyStateClearIndexed`).
     ClearState {
         task: usize,
         index: usize,

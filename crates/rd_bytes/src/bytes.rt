@@ -9,9 +9,16 @@ use std::marker::Model;
 pub const MAX_BYTES: usize = 256;
 
 /// The data of a task, or of an instruction: 0 to 256 bytes, which take no memory elsewhere.
-#[derive(Debug, Drop)]
+#[derive(Debug)]
 pub struct Bytes {
     bytes: ArrayVec<u8, MAX_BYTES>,
+}
+
+// (Written out, so that a drop of one is a call: no proof elsewhere has to look into its parts.)
+impl Drop for Bytes {
+    fn drop(self) {
+        let Bytes { bytes: _bytes } = self;
+    }
 }
 
 impl Model for Bytes {

@@ -12,7 +12,7 @@ abbrev pub handles_run : Application → Snapshot → Option ℕ → List (List 
 handles_run app s None = handles_in s
 handles_run app s (Some task) = handles_performed s (next_instr app s task)
 
--- after a move: those after the instruction of the core's task; a tick changes none, and no edit does
+-- after a move: those after the instruction of the core's task; ticks and edits change none
 abbrev pub handles_moved : Application → Snapshot → Move → List (List ℕ)
 handles_moved app s (Core core) = handles_run app s (core_at s core)
 handles_moved app s Tick = handles_in s

@@ -18,8 +18,8 @@ use Rattle.rd_calls.specs.Step.{next_instr, step}
 abbrev pub is_entry : ℕ → ℕ → ℕ → ℕ → Bool
 is_entry task other target index = nat_eq task target && nat_eq other index
 
--- Does a call of a task look at an entry of a task? It takes its own, or waits for it, or clears the
--- state of anybody's.
+-- Does a call of a task look at an entry of a task? It takes its own, or waits for it, or clears
+-- the state of anybody's.
 abbrev pub call_looks_at : ℕ → NotifyCall → ℕ → ℕ → Bool
 call_looks_at task (Notify to entry value action) target index = false
 call_looks_at task (Query to entry value action) target index = false

@@ -51,8 +51,8 @@ edits_task (edit.Bits group bits) task = false
 edits_task (edit.Item queue index bytes) task = false
 edits_task (edit.Byte stream index value) task = false
 
--- Does a move disturb a task otherwise than through its buffer: by a notification of its entry 0, by
--- the tick at which its time is up, or by an edit?
+-- Does a move disturb a task otherwise than through its buffer: by a notification of its entry 0,
+-- by the tick at which its time is up, or by an edit?
 abbrev pub is_disturbed : Application → Snapshot → Move → ℕ → Bool
 is_disturbed app s (move.Core core) task =
     option_map_or (λ running. notifies_first (next_instr app s running) task) (core_at s core) false

@@ -102,11 +102,11 @@ pub fn why_not(app: &App, state: &State, action: &Move) -> Option<Refusal>
     }
 }
 
-/// Makes a move where the state and the record are, and adds its record, which undoes it exactly, to
-/// those of the moves before. A refusal leaves the state and the record as they were: `NoTask` where
-/// the core is idle, `TickLimit` where the tick is 4,294,967,295, `BadEdit` where the edit can't be
-/// made, `NoMemory` where a growth was refused, as none is where the record has room for the move.
-/// There is no other. The record keeps the memory that it has.
+/// Makes a move where the state and the record are, and adds its record, which undoes it exactly,
+/// to those of the moves before. A refusal leaves the state and the record as they were: `NoTask`
+/// where the core is idle, `TickLimit` where the tick is 4,294,967,295, `BadEdit` where the edit
+/// can't be made, `NoMemory` where a growth was refused, as none is where the record has room for
+/// the move. There is no other. The record keeps the memory that it has.
 pub fn play_on(editing: &mut Editing, app: &App, action: &Move) -> Result<(), Refusal>
     requires valid { IsValid app.now editing.old.now }
     requires named { IsMoveOf app.now action.now }
@@ -143,8 +143,8 @@ pub fn play_on(editing: &mut Editing, app: &App, action: &Move) -> Result<(), Re
 }
 
 /// Makes a move and returns its record, which undoes it exactly. A refusal leaves the state as it
-/// was: `NoTask` where the core is idle, `TickLimit` where the tick is 4,294,967,295, `BadEdit` where
-/// the edit can't be made, `NoMemory` where a growth was refused. There is no other.
+/// was: `NoTask` where the core is idle, `TickLimit` where the tick is 4,294,967,295, `BadEdit`
+/// where the edit can't be made, `NoMemory` where a growth was refused. There is no other.
 pub fn play(alloc: Global, state: &mut State, app: &App, action: Move) -> Result<Undo, Refusal>
     requires valid { IsValid app.now state.old }
     requires named { IsMoveOf app.now action }

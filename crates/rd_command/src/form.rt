@@ -2,6 +2,7 @@
 
 ghost use Rattle.std.specs.Prelude.{◌≡◌};
 ghost use Rattle.rd_text.specs.Words.{texts};
+ghost use Rattle.rd_command.specs.declared.keyword.Parameter.TheVariants.{Data};
 ghost use Rattle.rd_command.specs.Forms.{count_of, operator_of, phase_of, is_formed};
 ghost use Rattle.rd_command.specs.Forms.{after_texts, after_words, after_condition};
 ghost use Rattle.rd_command.specs.Forms.{after_operands, are_operands};
@@ -48,6 +49,13 @@ pub(crate) fn phase_of(word: &[u8]) -> Option<PhaseName>
     }
 }
 
+// Whether a word is bytes. (By itself, since a check of any other form would clear room for them.)
+fn is_data(word: &[u8]) -> bool
+    ensures { result ≡ is_formed Data word.now }
+{
+    bytes(word).is_some()
+}
+
 // Whether a word has the form of such an operand.
 fn is_formed(parameter: Parameter, word: &[u8]) -> bool
     ensures { result ≡ is_formed parameter word.now }
@@ -57,7 +65,7 @@ fn is_formed(parameter: Parameter, word: &[u8]) -> bool
             number(word).is_some()
         }
         Parameter::Count => count_of(word).is_some(),
-        Parameter::Data => bytes(word).is_some(),
+        Parameter::Data => is_data(word),
         Parameter::Operator => operator_of(word).is_some(),
         Parameter::Phase => phase_of(word).is_some(),
         Parameter::Name(_) => is_name(word),

@@ -2,7 +2,8 @@
 
 ghost use Rattle.rd_command.specs.Commands.{FindsWhatIsSpelled, NoLineIsTwoCommands};
 
-/// The command that is found for words is what they spell, and there is one wherever they spell one.
+/// The command that is found for words is what they spell, and there is one wherever they spell
+/// one.
 pub fn what_is_spelled_is_found()
     ensures { FindsWhatIsSpelled }
 {}

@@ -20,13 +20,13 @@ use Rattle.rd_state.specs.declared.phase.Phase.{Phase}
 use Rattle.rd_state.specs.Objects.{AreSizedObjects, IsGroupFor, IsQueueFor, IsQueueSetFor, IsStreamFor, Numbers, ObjectsSnapshot, group_in, numbers_in}
 use Rattle.rd_state.specs.Objects.{objects_with_group, objects_with_queue, objects_with_stream, queue_in, stream_in}
 use Rattle.rd_state.specs.Sizes.{IsSized, IsSizedPhase, IsSizedTask, IsTaskOrIdle}
-use Rattle.rd_state.specs.Snapshot.{Snapshot, TaskSnapshot, items_at, no_task, numbers_of, queue_at, stream_at, task_at, with_objects, with_task}
+use Rattle.rd_state.specs.Snapshot.{Snapshot, TaskSnapshot, items_at, no_task, numbers_of, queue_at, stream_at, task_at, with_bits_at, with_objects, with_task}
 use Rattle.rd_state.proofs.Offered.{group_in_sized, queue_sized, stream_in_sized}
 use Rattle.rd_kernel.specs.Tasks.{entry_at}
 use Rattle.rd_kernel.proofs.Offered.{both}
 use Rattle.rd_edits.specs.declared.edit.Edit.{Edit}
 use Rattle.rd_edits.specs.declared.edit.Edit.TheVariants.{Register, Data, Pc, Value, Bits, Item, Byte}
-use Rattle.rd_edits.specs.Edits.{IsEditAt, IsEditOf, IsSizedEdit, edited, is_good_edit, with_bits_at, with_byte_at, with_item_at}
+use Rattle.rd_edits.specs.Edits.{IsEditAt, IsEditOf, IsSizedEdit, edited, is_good_edit, with_byte_at, with_item_at}
 use Rattle.rd_state.specs.Phases.{is_first}
 
 -- ---- tests of numbers

@@ -2,7 +2,6 @@
 use Rattle.std.specs.Prelude.{ℕ, ◌<◌, ◌≤◌, ◌^◌, ◌&&◌, Bool, true, List, length, nat_eq, nat_le}
 use Rattle.std.specs.Prelude.{nat_lt, slice_set}
 use Rattle.rd_bytes.specs.declared.bytes.TheConstants.{MAX_BYTES}
-use Rattle.rd_group.specs.Groups.{with_bits}
 use Rattle.rd_group.specs.declared.wish.TheConstants.{MAX_BITS}
 use Rattle.rd_queue.specs.Queues.{with_items}
 use Rattle.rd_stream.specs.Streams.{with_stream_bytes}
@@ -10,7 +9,7 @@ use Rattle.rd_app.specs.Application.{Application, code_of}
 use Rattle.rd_app.specs.declared.instr.TheConstants.{REGISTERS}
 use Rattle.rd_state.specs.Phases.{is_first}
 use Rattle.rd_state.specs.Snapshot.{Snapshot, group_at, items_at, queue_at, stream_at, task_at}
-use Rattle.rd_state.specs.Snapshot.{with_group, with_queue, with_stream}
+use Rattle.rd_state.specs.Snapshot.{with_bits_at, with_queue, with_stream}
 use Rattle.rd_kernel.specs.Costs.{data_cost, item_cost}
 use Rattle.rd_kernel.specs.Tasks.{entry_at, with_bytes, with_entry, with_pc, with_register}
 use Rattle.rd_kernel.specs.Tasks.{HasEntry}
@@ -83,10 +82,6 @@ is_good_edit app s (Byte stream index value) = is_good_byte s stream index value
 abbrev pub with_value : Snapshot → ℕ → ℕ → ℕ → Snapshot
 with_value s task index value =
     with_entry s task index (record (entry_at s task index) { value = value })
-
--- the state with other bits of an event group
-abbrev pub with_bits_at : Snapshot → ℕ → ℕ → Snapshot
-with_bits_at s group bits = with_group s group (with_bits (group_at s group) bits)
 
 -- the state with another item in the place of one of a queue
 abbrev pub with_item_at : Snapshot → ℕ → ℕ → List ℕ → Snapshot

@@ -6,12 +6,12 @@ ghost use Rattle.rd_bytes.specs.declared.bytes.TheConstants.{MAX_BYTES};
 ghost use Rattle.rd_group.specs.declared.wish.TheConstants.{MAX_BITS};
 ghost use Rattle.rd_app.specs.declared.app.TheConstants.{MAX_CODE};
 ghost use Rattle.rd_state.specs.Edit.{GivesUp, Reaches};
-ghost use Rattle.rd_state.specs.Snapshot.{group_at, items_at, queue_at, stream_at, task_at};
+ghost use Rattle.rd_state.specs.Snapshot.{group_at, items_at, queue_at, stream_at, task_at, with_bits_at};
 ghost use Rattle.rd_state.specs.Valid.{IsValid};
 ghost use Rattle.rd_kernel.specs.Costs.{data_cost, item_cost};
 ghost use Rattle.rd_kernel.specs.Tasks.{entry_at, with_bytes, with_pc, HasEntry};
 ghost use Rattle.rd_edits.specs.Edits.{edit_cost, edited, is_good_byte, is_good_edit, is_good_item};
-ghost use Rattle.rd_edits.specs.Edits.{is_good_pc, with_bits_at, with_byte_at, with_item_at};
+ghost use Rattle.rd_edits.specs.Edits.{is_good_pc, with_byte_at, with_item_at};
 ghost use Rattle.rd_edits.specs.Edits.{with_value, IsEditAt, IsEditOf, IsSizedEdit};
 
 use rd_app::app::App;

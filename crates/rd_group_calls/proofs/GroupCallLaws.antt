@@ -26,7 +26,7 @@ use Rattle.rd_state.specs.declared.phase.Listed.TheVariants.{Group, Queue, Queue
 use Rattle.rd_state.specs.Edit.{Edit}
 use Rattle.rd_state.specs.Objects.{ObjectsSnapshot, group_in, no_group, objects_with_group, shapes_in}
 use Rattle.rd_state.specs.Phases.{can_run, given_bits, is_first}
-use Rattle.rd_state.specs.Snapshot.{Snapshot, TaskSnapshot, group_at, task_at, with_group}
+use Rattle.rd_state.specs.Snapshot.{Snapshot, TaskSnapshot, group_at, task_at, with_bits_at, with_group}
 use Rattle.rd_state.specs.Sizes.{IsSized}
 use Rattle.rd_state.specs.Valid.{IsValid, entry_of_call, place_of_call, seats_to_run, times_in_list}
 use Rattle.rd_state.specs.declared.phase.Phase.{Phase}
@@ -45,7 +45,6 @@ use Rattle.rd_kernel.proofs.Offered.{IsOn-fails, IsOn-given, IsOn-outside, IsOn-
 use Rattle.rd_kernel.proofs.Offered.{Sleeps, Sleeps-woken_all, all_have_time_left, both, read_kept, waits_is_task}
 use Rattle.rd_group_calls.specs.GroupCalls.{are_bad_bits, bits_at, bits_given, bits_set, clear_outcome, fails_for_bits, given_or, group_outcome, is_bad_wish}
 use Rattle.rd_group_calls.specs.GroupCalls.{meeting_wish, met_or_waits, set_outcome, sync_outcome, sync_tried, wait_outcome, waits_or_returns, waits_with_wish, wished}
-use Rattle.rd_group_calls.specs.GroupCalls.{with_bits_at}
 
 -- ---- who is met
 

@@ -23,7 +23,7 @@ use Rattle.rd_state.specs.declared.phase.Phase.TheVariants.{Given}
 use Rattle.rd_state.specs.declared.phase.Place.{Place}
 use Rattle.rd_state.specs.Objects.{no_group, objects_with_group}
 use Rattle.rd_state.specs.Phases.{waits_at}
-use Rattle.rd_state.specs.Snapshot.{Snapshot, TaskSnapshot, group_at, no_task, task_at}
+use Rattle.rd_state.specs.Snapshot.{Snapshot, TaskSnapshot, group_at, no_task, task_at, with_bits_at}
 use Rattle.rd_state.specs.Valid.{IsValid, is_in_list, times_in_list, waits_in}
 use Rattle.rd_state.specs.Waiting.{listed_at}
 use Rattle.rd_state.proofs.Offered.{group_in_sized, one_if, times_in_list-cons}
@@ -31,7 +31,7 @@ use Rattle.rd_kernel.specs.Waking.{objects_without, phase_woken, woken, woken_al
 use Rattle.rd_kernel.specs.declared.waking.Waking.{Waking}
 use Rattle.rd_kernel.specs.declared.waking.Waking.TheVariants.{IsGiven}
 use Rattle.rd_kernel.proofs.Offered.{AfterWaking-woken_all, IsConsistent-valid, all_have_time_left, other_none, same_one, waits_at_group, waits_is_task}
-use Rattle.rd_group_calls.specs.GroupCalls.{bits_set, with_bits_at}
+use Rattle.rd_group_calls.specs.GroupCalls.{bits_set}
 use Rattle.rd_group_calls.specs.GroupLaws.{ClearingHasNoOrder, SettingsMeetTogether, together, unmet_tasks, unmet_wishes}
 use Rattle.rd_group_calls.proofs.GroupCallLaws.{times_met}
 

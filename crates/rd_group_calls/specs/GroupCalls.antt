@@ -1,7 +1,7 @@
 -- What the calls of event groups do.
 use Rattle.std.specs.Prelude.{ℕ, ◌≡◌, ◌+◌, ◌*◌, ◌<◌, ◌++◌, ◌∷◌, ◌||◌, Bool, true, false, List, []}
 use Rattle.std.specs.Prelude.{Option, None, Some, bit_or, if◌then◌else◌, length, nat_eq, nat_lt}
-use Rattle.rd_group.specs.Groups.{bits_left, met_by, with_bits}
+use Rattle.rd_group.specs.Groups.{bits_left, met_by}
 use Rattle.rd_group.specs.Wishes.{is_met, left_of, without_bits}
 use Rattle.rd_group.specs.declared.wish.OnMet.TheVariants as of_bits
 use Rattle.rd_group.specs.declared.wish.TheConstants.{MAX_BITS}
@@ -14,7 +14,7 @@ use Rattle.rd_state.specs.declared.phase.Cause.TheVariants.{BadBits}
 use Rattle.rd_state.specs.declared.phase.Listed.TheVariants.{Group}
 use Rattle.rd_state.specs.declared.phase.Place.TheVariants as sort
 use Rattle.rd_state.specs.Phases.{given_bits, is_first, was_given}
-use Rattle.rd_state.specs.Snapshot.{Snapshot, group_at, task_at, with_group}
+use Rattle.rd_state.specs.Snapshot.{Snapshot, group_at, task_at, with_bits_at}
 use Rattle.rd_state.specs.Waiting.{with_waiting_at}
 use Rattle.rd_kernel.specs.declared.outcome.Outcome.TheVariants.{Fails, Waits}
 use Rattle.rd_kernel.specs.declared.waking.Waking.TheVariants.{IsGiven}
@@ -23,12 +23,9 @@ use Rattle.rd_kernel.specs.Outcomes.{Called, call_returns}
 use Rattle.rd_kernel.specs.Telling.{waits_once}
 use Rattle.rd_kernel.specs.Waking.{deadline_of, operand_value, woken_all}
 
--- the bits of a group, and the state with others in their place
+-- the bits of a group
 abbrev pub bits_at : Snapshot → ℕ → ℕ
 bits_at s group = (group_at s group).bits
-
-abbrev pub with_bits_at : Snapshot → ℕ → ℕ → Snapshot
-with_bits_at s group bits = with_group s group (with_bits (group_at s group) bits)
 
 -- A call names bits that an event group doesn't have, or waits for none.
 abbrev pub are_bad_bits : ℕ → Bool

@@ -6,9 +6,9 @@ use Rattle.rd_group.specs.Wishes.{is_met}
 use Rattle.rd_group.specs.declared.wish.Wish.{Wish}
 use Rattle.rd_app.specs.Application.{Application, priorities_of}
 use Rattle.rd_state.specs.declared.phase.Phase.TheVariants.{Given}
-use Rattle.rd_state.specs.Snapshot.{Snapshot, group_at, task_at}
+use Rattle.rd_state.specs.Snapshot.{Snapshot, group_at, task_at, with_bits_at}
 use Rattle.rd_state.specs.Valid.{IsValid, times_in_list}
-use Rattle.rd_group_calls.specs.GroupCalls.{bits_at, bits_set, with_bits_at}
+use Rattle.rd_group_calls.specs.GroupCalls.{bits_at, bits_set}
 
 -- the bits once these are set, before any are cleared
 abbrev pub together : Snapshot → ℕ → ℕ → ℕ

@@ -8,7 +8,7 @@ ghost use Rattle.rd_group.specs.Wishes.{is_met};
 ghost use Rattle.rd_group.specs.declared.wish.TheConstants.{MAX_BITS};
 ghost use Rattle.rd_state.specs.Edit.{GivesUp, Reaches};
 ghost use Rattle.rd_state.specs.Phases.{given_bits, is_first, was_given};
-ghost use Rattle.rd_state.specs.Snapshot.{group_at, task_at};
+ghost use Rattle.rd_state.specs.Snapshot.{group_at, task_at, with_bits_at};
 ghost use Rattle.rd_kernel.specs.Outcomes.{DoesCall, IsCalling};
 ghost use Rattle.rd_kernel.specs.Tasks.{KeepsPc};
 ghost use Rattle.rd_kernel.specs.Telling.{waits_once};
@@ -18,7 +18,7 @@ ghost use Rattle.rd_group_calls.specs.GroupCalls.{group_call_cost, group_outcome
 ghost use Rattle.rd_group_calls.specs.GroupCalls.{meeting_wish, met_or_waits, set_outcome};
 ghost use Rattle.rd_group_calls.specs.GroupCalls.{setting_cost, sync_outcome, sync_tried};
 ghost use Rattle.rd_group_calls.specs.GroupCalls.{wait_outcome, waits_or_returns, wished};
-ghost use Rattle.rd_group_calls.specs.GroupCalls.{with_bits_at, GroupCallChangesNothing};
+ghost use Rattle.rd_group_calls.specs.GroupCalls.{GroupCallChangesNothing};
 ghost use Rattle.rd_state.specs.Valid.{IsValid};
 
 use arrayvec::ArrayVec;

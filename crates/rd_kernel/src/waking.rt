@@ -159,8 +159,9 @@ fn leave(editing: &mut Editing, place: Place, task: usize) -> Result<(), NoMemor
     }
 }
 
-/// Wakes a task that waits: it leaves its place, is in the phase that its waking leads to, and joins
-/// the ready list. A task that doesn't wait stays as it is; where it can run, that takes no memory.
+/// Wakes a task that waits: it leaves its place, is in the phase that its waking leads to, and
+/// joins the ready list. A task that doesn't wait stays as it is; where it can run, that takes no
+/// memory.
 pub fn wake(
     editing: &mut Editing,
     priorities: &[u8],

@@ -48,7 +48,8 @@ IsSameDebugger old new = (new.app ≡ old.app) × (new.limit ≡ old.limit)
 abbrev pub IsMade : Course → Move → Course → Type 0
 IsMade old move new = (length old.done ≢ old.limit) × GoesOn old move new
 
--- the answers to a move; one for want of memory comes only where the move would be made (`IsWhyNot`)
+-- the answers to a move; one for want of memory comes only where the move would be made
+-- (`IsWhyNot`)
 abbrev pub MoveReply : Course → Move → Course → Reply → Type 0
 MoveReply old move new reply = DoneOr (IsMade old move new) (IsWhyNot old move) old new reply
 

@@ -67,7 +67,8 @@ fn notify(
     Ok(1)
 }
 
-// Takes the value of an entry of its own, or waits for one that isn't 0 (`ulTaskNotifyTakeIndexed`).
+// Takes the value of an entry of its own, or waits for one that isn't 0
+// (`ulTaskNotifyTakeIndexed`).
 fn take(
     editing: &mut Editing,
     task: usize,
@@ -209,8 +210,8 @@ fn clear_value(
     Ok(Outcome::Returns(entry.value))
 }
 
-/// Does a call that notifies a task, or looks at an entry of one. One that leaves all as it is takes
-/// no memory.
+/// Does a call that notifies a task, or looks at an entry of one. One that leaves all as it is
+/// takes no memory.
 pub fn call_notify(
     app: &App,
     editing: &mut Editing,

@@ -3,8 +3,8 @@
 ghost use Rattle.rd_notify_calls.specs.NotifyLaws.{NotificationsArrive, NothingIsOverwritten};
 ghost use Rattle.rd_notify_calls.specs.NotifyLaws.{TakesCountDown};
 
-/// A notification that isn't refused is not lost: its entry has received, and a task that waited for
-/// it doesn't wait any more.
+/// A notification that isn't refused is not lost: its entry has received, and a task that waited
+/// for it doesn't wait any more.
 pub fn notifications_arrive()
     ensures { NotificationsArrive }
 {}

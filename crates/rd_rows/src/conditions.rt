@@ -8,7 +8,8 @@ const FILLS: &str = concat!(
     r#"{"profile":1,"cores":1,"notes":2,"queues":[{"name":"q0","length":2,"item":1}],"#,
     r#""streams":[{"name":"b0","size":4,"trigger":1}],"messages":[{"name":"m0","size":16}],"#,
     r#""groups":[{"name":"g0"}],"tasks":[{"name":"t0","priority":1,"code":["data 4142","#,
-    r#""send q0 0","swrite b0 0","mwrite m0 0","gset g0 5","notify t0 1 9 set","set r1 3","end"]},"#,
+    r#""send q0 0","swrite b0 0","mwrite m0 0","gset g0 5","notify t0 1 9 set","set r1 3","#,
+    r#""end"]},"#,
     r#"{"name":"t1","priority":0,"code":["end"]}]}"#,
 );
 

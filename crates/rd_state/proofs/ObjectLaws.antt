@@ -17,7 +17,6 @@ use Rattle.rd_queue.specs.QueueSnapshot.{QueueSnapshot}
 use Rattle.rd_queue.specs.QueueSetChanges.{queue_set_applied, queue_set_inverse_of, QueueSetFits}
 use Rattle.rd_queue.specs.QueueSetSnapshot.{QueueSetSnapshot}
 use Rattle.rd_queue.proofs.Offered.{queue_change_is_undone, queue_set_change_is_undone}
-use Rattle.rd_stream.specs.Holders.{no_holders}
 use Rattle.rd_stream.specs.MessageChanges.{message_applied, message_inverse_of, MessageFits}
 use Rattle.rd_stream.specs.MessageSnapshot.{MessageSnapshot}
 use Rattle.rd_stream.specs.StreamChanges.{stream_applied, stream_inverse_of, StreamFits}

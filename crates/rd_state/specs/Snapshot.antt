@@ -1,6 +1,7 @@
 -- The whole state of the target, as plain lists: what a contract sees of a `State`.
 use Rattle.std.specs.Prelude.{ℕ, ◌≡◌, List, [], Option, None, slice_index_or, slice_set}
 use Rattle.rd_group.specs.GroupSnapshot.{GroupSnapshot}
+use Rattle.rd_group.specs.Groups.{with_bits}
 use Rattle.rd_notify.specs.declared.entries.Entry.{Entry}
 use Rattle.rd_queue.specs.QueueSnapshot.{QueueSnapshot}
 use Rattle.rd_queue.specs.QueueSetSnapshot.{QueueSetSnapshot}
@@ -96,6 +97,10 @@ with_message s message now = with_objects s (objects_with_message s.objects mess
 
 abbrev pub with_group : Snapshot → ℕ → GroupSnapshot → Snapshot
 with_group s group now = with_objects s (objects_with_group s.objects group now)
+
+-- the state with other bits of an event group
+abbrev pub with_bits_at : Snapshot → ℕ → ℕ → Snapshot
+with_bits_at s group bits = with_group s group (with_bits (group_at s group) bits)
 
 -- the task on a core
 abbrev pub core_at : Snapshot → ℕ → Option ℕ

@@ -115,8 +115,8 @@ wishes_in o (Group group) = (group_in o group).wishes
 abbrev pub wishes_at : Snapshot → Listed → List Wish
 wishes_at s list = wishes_in s.objects list
 
--- the objects, once these tasks wait in a list and no others, each with the wish at its place, where
--- the list has wishes
+-- the objects, once these tasks wait in a list and no others, each with the wish at its place,
+-- where the list has wishes
 abbrev pub objects_then : ObjectsSnapshot → Listed → List ℕ → List Wish → ObjectsSnapshot
 objects_then o (Queue queue list) tasks wishes =
     objects_with_queue o queue (with_waiting list tasks (queue_in o queue))

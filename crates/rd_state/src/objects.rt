@@ -26,6 +26,7 @@ ghost use Rattle.rd_state.specs.Transfers.{bytes_at, sunk, HasSink, HasSource};
 use crate::transfer::{Sink, Source};
 use crate::whole::{Whole, all_same, copy_all};
 use rd_app::app::App;
+use rd_app::both::both;
 use rd_app::objects::{MessageShape, QueueSetShape, StreamShape};
 use rd_bytes::no_memory::NoMemory;
 use rd_group::group::{Group, MAX_WAITERS};
@@ -88,13 +89,26 @@ impl ObjectChange<'_> {
 }
 
 /// The objects of the target, each kind by number.
-#[derive(Debug, Drop)]
+#[derive(Debug)]
 pub struct Objects {
     queues: Vec<Queue>,
     queue_sets: Vec<QueueSet>,
     streams: Vec<StreamBuf>,
     messages: Vec<MessageBuf>,
     groups: Vec<Group>,
+}
+
+// (Written out, so that a drop of one is a call: no proof elsewhere has to look into its parts.)
+impl Drop for Objects {
+    fn drop(self) {
+        let Objects {
+            queues: _queues,
+            queue_sets: _queue_sets,
+            streams: _streams,
+            messages: _messages,
+            groups: _groups,
+        } = self;
+    }
 }
 
 impl Model for Objects {
@@ -289,17 +303,27 @@ impl Objects {
     {
         app.limits();
         let task_count = app.priorities().len();
+        let shapes = app.objects();
+        let queue_count = shapes.queues().len();
+        let ((queues, queue_sets), (streams, (messages, groups))) = both(
+            both(
+                new_queues(alloc, app),
+                new_queue_sets(alloc, shapes.queue_sets(), queue_count, task_count),
+            ),
+            both(
+                new_streams(alloc, shapes.streams(), task_count),
+                both(
+                    new_message_buffers(alloc, shapes.messages(), task_count),
+                    new_groups(alloc, shapes.groups().len(), task_count),
+                ),
+            ),
+        )?;
         Ok(Objects {
-            queues: new_queues(alloc, app)?,
-            queue_sets: new_queue_sets(
-                alloc,
-                app.objects().queue_sets(),
-                app.objects().queues().len(),
-                task_count,
-            )?,
-            streams: new_streams(alloc, app.objects().streams(), task_count)?,
-            messages: new_message_buffers(alloc, app.objects().messages(), task_count)?,
-            groups: new_groups(alloc, app.objects().groups().len(), task_count)?,
+            queues,
+            queue_sets,
+            streams,
+            messages,
+            groups,
         })
     }
 
@@ -307,12 +331,25 @@ impl Objects {
     pub(crate) fn copy(&self, alloc: Global) -> Result<Objects, NoMemory>
         ensures { IfOk result (λ objects. objects ≡ self.now) }
     {
+        let ((queues, queue_sets), (streams, (messages, groups))) = both(
+            both(
+                copy_all(alloc, self.queues.as_slice()),
+                copy_all(alloc, self.queue_sets.as_slice()),
+            ),
+            both(
+                copy_all(alloc, self.streams.as_slice()),
+                both(
+                    copy_all(alloc, self.messages.as_slice()),
+                    copy_all(alloc, self.groups.as_slice()),
+                ),
+            ),
+        )?;
         Ok(Objects {
-            queues: copy_all(alloc, self.queues.as_slice())?,
-            queue_sets: copy_all(alloc, self.queue_sets.as_slice())?,
-            streams: copy_all(alloc, self.streams.as_slice())?,
-            messages: copy_all(alloc, self.messages.as_slice())?,
-            groups: copy_all(alloc, self.groups.as_slice())?,
+            queues,
+            queue_sets,
+            streams,
+            messages,
+            groups,
         })
     }
 

@@ -25,6 +25,7 @@ use crate::task_change::TaskChange;
 use crate::transfer::{Sink, Source, Transfer};
 use crate::whole::{all_same, copy_all};
 use rd_app::app::App;
+use rd_app::both::both;
 use rd_bytes::no_memory::NoMemory;
 use rd_group::group::Group;
 use rd_queue::queue::Queue;
@@ -36,7 +37,7 @@ use std::alloc::Global;
 use std::marker::Model;
 
 /// The whole state of the target. It changes by primitive changes alone.
-#[derive(Debug, Drop)]
+#[derive(Debug)]
 pub struct State {
     tick: u32,
     turn: usize,
@@ -44,6 +45,20 @@ pub struct State {
     ready: PrioList,
     tasks: Vec<Task>,
     objects: Objects,
+}
+
+// (Written out, so that a drop of one is a call: no proof elsewhere has to look into its parts.)
+impl Drop for State {
+    fn drop(self) {
+        let State {
+            tick: _,
+            turn: _,
+            cores: _cores,
+            ready: _ready,
+            tasks: _tasks,
+            objects: _objects,
+        } = self;
+    }
 }
 
 impl Model for State {
@@ -87,13 +102,21 @@ impl State {
     {
         app.limits();
         let priorities = app.priorities();
+        let cores = vec![in alloc; None; app.cores()]?;
+        let (ready, (tasks, objects)) = both(
+            all_ready(alloc, priorities),
+            both(
+                new_tasks(alloc, priorities.len(), app.entries()),
+                Objects::new(alloc, app),
+            ),
+        )?;
         Ok(State {
             tick: app.tick(),
             turn: 0,
-            cores: vec![in alloc; None; app.cores()]?,
-            ready: all_ready(alloc, priorities)?,
-            tasks: new_tasks(alloc, priorities.len(), app.entries())?,
-            objects: Objects::new(alloc, app)?,
+            cores,
+            ready,
+            tasks,
+            objects,
         })
     }
 
@@ -101,13 +124,19 @@ impl State {
     pub fn copy(&self, alloc: Global) -> Result<State, NoMemory>
         ensures { IfOk result (λ state. state ≡ self.now) }
     {
+        let cores = Vec::from_slice(alloc, self.cores.as_slice())?;
+        let ready = self.ready.copy(alloc)?;
+        let (tasks, objects) = both(
+            copy_all(alloc, self.tasks.as_slice()),
+            self.objects.copy(alloc),
+        )?;
         Ok(State {
             tick: self.tick,
             turn: self.turn,
-            cores: Vec::from_slice(alloc, self.cores.as_slice())?,
-            ready: self.ready.copy(alloc)?,
-            tasks: copy_all(alloc, self.tasks.as_slice())?,
-            objects: self.objects.copy(alloc)?,
+            cores,
+            ready,
+            tasks,
+            objects,
         })
     }
 

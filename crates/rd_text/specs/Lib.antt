@@ -1,4 +1,3 @@
 -- What the contracts of this crate cite.
-pub mod Kinds
 pub mod Names
 pub mod Words

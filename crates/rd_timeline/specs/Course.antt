@@ -37,8 +37,8 @@ pub record AreMade (app : Application) (limit most_done most_edits : ℕ) (moves
   pub were : length moves ≤ most_done
   pub edits_were : edits_in moves ≤ most_edits
 
--- There is a record for each move done. Going back by them retraces the moves, and can be done. From
--- there the moves undone lead on.
+-- There is a record for each move done. Going back by them retraces the moves, and can be done.
+-- From there the moves undone lead on.
 pub record IsKept (course : Course) : Type 0 where
   pub records : length course.log ≡ length course.done
   pub retraces : Retraces course.app course.done course.log course.target

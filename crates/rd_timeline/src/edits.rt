@@ -75,9 +75,9 @@ impl Edits {
 
     /// A move is made: if it is an edit, it is the last one done. The edits undone are forgotten.
     /// It takes no memory.
-    pub(crate) fn lay(&mut self, action: Move)
-        requires { IsTrue (is_edit action) → length self.old.done < self.old.capacity }
-        ensures done { self.new.done ≡ self.old.done ++ edit_of action }
+    pub(crate) fn lay(&mut self, action: &Move)
+        requires { IsTrue (is_edit action.now) → length self.old.done < self.old.capacity }
+        ensures done { self.new.done ≡ self.old.done ++ edit_of action.now }
         ensures undone { self.new.undone ≡ [] }
         ensures capacity { self.new.capacity ≡ self.old.capacity }
     {
@@ -85,7 +85,7 @@ impl Edits {
         match action {
             Move::Core { .. } | Move::Tick => (),
             Move::Edit { edit } => {
-                self.kept.push_reserved(edit);
+                self.kept.push_reserved(edit.copy());
                 self.done += 1;
             }
         }

@@ -183,19 +183,19 @@ impl Journal {
     /// Makes a move: it is laid on the moves done, with its record, and the moves undone are
     /// forgotten. It takes no memory. A refusal is one of the kernel's rules, and leaves the
     /// target, the moves and their records as they were.
-    pub fn play(&mut self, app: &App, action: Move) -> Result<(), Refusal>
+    pub fn play(&mut self, app: &App, action: &Move) -> Result<(), Refusal>
         requires valid { IsValid app.now self.old.target }
-        requires named { IsMoveOf app.now action }
+        requires named { IsMoveOf app.now action.now }
         requires capacity { length self.old.done < self.old.capacity }
-        requires edit_room { HasEditRoom self.old action }
+        requires edit_room { HasEditRoom self.old action.now }
         requires room { MAX_RECORD_BYTES ≤ self.old.room }
         ensures lays { OnOk result
-            (RecordsMove app.now self.old.target action self.new.target
+            (RecordsMove app.now self.old.target action.now self.new.target
             self.old.records self.new.records) }
-        ensures done { OnOk result (self.new.done ≡ self.old.done ++ action ∷ []) }
+        ensures done { OnOk result (self.new.done ≡ self.old.done ++ action.now ∷ []) }
         ensures undone { OnOk result (self.new.undone ≡ []) }
         ensures refusals { IfErr result (λ refusal.
-            step app.now self.old.target action ≡ Err refusal) }
+            step app.now self.old.target action.now ≡ Err refusal) }
         ensures err { OnErr result (IsAsBefore self.old self.new) }
         ensures kept_capacity { self.new.capacity ≡ self.old.capacity }
         ensures kept_edit_capacity { self.new.edit_capacity ≡ self.old.edit_capacity }
@@ -203,8 +203,8 @@ impl Journal {
             ≤ memory_of self.new.records self.new.room }
     {
         app.limits();
-        let byte = byte_of_move(&action);
-        self.trail.play(app, &action)?;
+        let byte = byte_of_move(action);
+        self.trail.play(app, action)?;
         self.moves.truncate(self.done);
         self.moves.push_reserved(byte);
         self.done += 1;

@@ -184,7 +184,7 @@ impl Timeline {
             return Err(cause.unwrap_or(Refusal::NoMemory));
         }
         let bytes = self.journal.bytes();
-        self.journal.play(&self.app, action)?;
+        self.journal.play(&self.app, &action)?;
         let at = self.journal.done();
         self.most_done = self.most_done.max(at);
         self.most_edits = self.most_edits.max(self.journal.edits());

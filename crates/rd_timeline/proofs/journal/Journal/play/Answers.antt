@@ -43,7 +43,7 @@ pub invariant_of-self-2 : goal.invariant_of-self-2
 invariant_of-self-2 c =
     let bytes = c.push_reserved.ensures.items ∙ ap (λ (bs : List ℕ). bs ++ c.byte_of_move-byte.result ∷ []) c.truncate.ensures.items
     ∙ ap (λ b. take c.self.inside.done c.self.inside.moves.items ++ b ∷ []) c.byte_of_move-byte.ensures in
-    let laid = moves_laid c.self.inside c.args.action c.push_reserved.new.self.items c.self.invariant (has_byte c.args.app.now c.args.action c.limits.ensures c.requires.named) bytes in
+    let laid = moves_laid c.self.inside c.args.action.now c.push_reserved.new.self.items c.self.invariant (has_byte c.args.app.now c.args.action.now c.limits.ensures c.requires.named) bytes in
     record {
       border = laid.border;
       records =
@@ -61,13 +61,13 @@ pub returns-clause-done : goal.returns-clause-done
 returns-clause-done c =
     let bytes = c.push_reserved.ensures.items ∙ ap (λ (bs : List ℕ). bs ++ c.byte_of_move-byte.result ∷ []) c.truncate.ensures.items
     ∙ ap (λ b. take c.self.inside.done c.self.inside.moves.items ++ b ∷ []) c.byte_of_move-byte.ensures in
-    let laid = moves_laid c.self.inside c.args.action c.push_reserved.new.self.items c.self.invariant (has_byte c.args.app.now c.args.action c.limits.ensures c.requires.named) bytes in
+    let laid = moves_laid c.self.inside c.args.action.now c.push_reserved.new.self.items c.self.invariant (has_byte c.args.app.now c.args.action.now c.limits.ensures c.requires.named) bytes in
     ap (λ (es : List Edit). decoded (take (c.self.inside.done + 1) c.push_reserved.new.self.items) es) c.lay.ensures.done ∙ laid.done
-    ∙ ap (λ (v : JournalView). v.done ++ c.args.action ∷ []) c.self.view_is
+    ∙ ap (λ (v : JournalView). v.done ++ c.args.action.now ∷ []) c.self.view_is
 
 pub returns-clause-undone : goal.returns-clause-undone
 returns-clause-undone c =
     let bytes = c.push_reserved.ensures.items ∙ ap (λ (bs : List ℕ). bs ++ c.byte_of_move-byte.result ∷ []) c.truncate.ensures.items
     ∙ ap (λ b. take c.self.inside.done c.self.inside.moves.items ++ b ∷ []) c.byte_of_move-byte.ensures in
-    let laid = moves_laid c.self.inside c.args.action c.push_reserved.new.self.items c.self.invariant (has_byte c.args.app.now c.args.action c.limits.ensures c.requires.named) bytes in
+    let laid = moves_laid c.self.inside c.args.action.now c.push_reserved.new.self.items c.self.invariant (has_byte c.args.app.now c.args.action.now c.limits.ensures c.requires.named) bytes in
     ap (λ (bs : List ℕ). decoded bs c.lay.new.self.undone) laid.none
