@@ -1,5 +1,5 @@
 -- What a command is bound to is in the application.
-use Rattle.std.proofs.Common.{◌≡◌, ◌∙◌, ℕ, ◌<◌, ◌≤◌, ◌&&◌, true, cond, List, [], ◌∷◌, length, nat_le, nat_lt, Some, None, position, option_map, slice_get, refl, sym, ap, subst, arith}
+use Rattle.std.proofs.Common.{◌≡◌, ◌∙◌, ℕ, ◌<◌, ◌≤◌, ◌&&◌, true, cond, List, [], ◌∷◌, length, nat_eq, nat_le, nat_lt, Some, None, position, option_map, slice_get, refl, sym, ap, subst, arith}
 use Rattle.std.specs.Prelude.{IfOk, Result, Ok, Err}
 use Rattle.std.specs.Result.{result_ok}
 use Rattle.std.specs.Str.{bytes_eq}
@@ -20,14 +20,15 @@ use Rattle.rd_command.specs.declared.keyword.ConditionKeyword.TheVariants.{Compa
 use Rattle.rd_command.specs.declared.keyword.EditKeyword.{EditKeyword}
 use Rattle.rd_command.specs.declared.keyword.EditKeyword.TheVariants as poked
 use Rattle.rd_command.specs.declared.keyword.Keyword.{Keyword}
-use Rattle.rd_command.specs.declared.keyword.Keyword.TheVariants.{Step, Tick, Back, Forward, Redo, Until, BackUntil, Poke, Show, ShowCores, ShowMoves}
+use Rattle.rd_command.specs.declared.keyword.Keyword.TheVariants.{Step, Tick, Back, Forward, Redo, Until, UntilWatch, BackUntil, BackUntilWatch, Poke, TakeWheel, GiveWheel, Watch, Unwatch, Show, ShowCores, ShowMoves, ShowWheel, ShowWatches}
 use Rattle.rd_command.specs.declared.keyword.Parameter.{Parameter}
 use Rattle.rd_command.specs.declared.keyword.Parameter.TheVariants.{Core, Count, Register, Index, Number, Data, Operator, Phase, Name}
-use Rattle.rd_command.specs.Bindings.{IsBoundOf, IsCount, Reading, after_word, bound_made, bound_of, bound_with, condition_made, made_of, next_condition, next_keyword, next_value, number_below, number_named, value_of}
+use Rattle.rd_command.specs.declared.keyword.Parameter.TheVariants as parameter
+use Rattle.rd_command.specs.Bindings.{IsBoundOf, IsCount, IsWatch, Reading, after_word, bound_made, bound_of, bound_with, condition_made, made_of, next_condition, next_keyword, next_value, number_below, number_named, value_of}
 use Rattle.rd_command.specs.Commands.{CommandView}
-use Rattle.rd_command.specs.Forms.{count_of}
+use Rattle.rd_command.specs.Forms.{count_of, watch_number, watch_of}
 use Rattle.rd_command.specs.Keywords.{ConditionRow, Makes, MakesBound, Operands, Plain, Row, Spelled, Value, WithCondition, Written, condition_keyword_of, condition_row, row_of}
-use Rattle.rd_command.proofs.Steps.{mapped, some_if, then_some}
+use Rattle.rd_command.proofs.Steps.{mapped, option_if, some_if, then_some}
 
 -- what an operand of that kind may stand for
 abbrev IsValue : Application → (parameter : Parameter) → Value parameter → Type 0
@@ -39,6 +40,7 @@ IsValue app Number number = Unit {0}
 IsValue app Data bytes = Unit {0}
 IsValue app Operator operator = Unit {0}
 IsValue app Phase name = Unit {0}
+IsValue app parameter.Watch watch = IsWatch watch
 IsValue app (Name kind) number = number < length (names_of kind app)
 
 below_small : (limit : ℕ) (word : List ℕ) (number : ℕ) → number_below limit word ≡ Some number → number < limit
@@ -58,6 +60,13 @@ count_small word count e =
     let most : n.0 ≤ 1000000 = grind (arith, nat_tests) in
     (omega (arith, h.1, least), omega (arith, h.1, most))
 
+watch_number_small : (digits : List ℕ) (watch : ℕ) → watch_number digits ≡ Some watch → IsWatch watch
+watch_number_small digits watch e = below_small 16 digits watch e
+
+watch_small : (word : List ℕ) (watch : ℕ) → watch_of word ≡ Some watch → IsWatch watch
+watch_small [] watch e = absurd cc
+watch_small (first ∷ digits) watch e = watch_number_small digits watch (option_if (nat_eq first 119) (watch_number digits) watch e).1
+
 named_there : (app : Application) (kind : Kind) (word : List ℕ) (number : ℕ) → number_named app kind word ≡ Some number → number < length (names_of kind app)
 named_there app kind word number e =
     let name = then_some (λ name. position (bytes_eq name) (names_of kind app)) (name_of word) number e in
@@ -73,6 +82,7 @@ value_there app Number word value e = tt
 value_there app Data word value e = tt
 value_there app Operator word value e = tt
 value_there app Phase word value e = tt
+value_there app parameter.Watch word value e = watch_small word value e
 value_there app (Name kind) word value e = named_there app kind word value e
 
 -- what the next word stands for is there, and the words are read in the same application
@@ -166,11 +176,19 @@ row_good app there Back = λ count is. is
 row_good app there Forward = λ count is. is
 row_good app there Redo = λ count is. is
 row_good app there Until = λ condition holds count is. (holds, is)
+row_good app there UntilWatch = λ watch few count is. (few, is)
 row_good app there BackUntil = λ condition holds. holds
+row_good app there BackUntilWatch = λ watch few. few
 row_good app there (Poke k) = poke_good app there k
+row_good app there TakeWheel = tt
+row_good app there GiveWheel = tt
+row_good app there Watch = λ condition holds. holds
+row_good app there Unwatch = λ number _. tt
 row_good app there (Show kind) = λ number named. named
 row_good app there ShowCores = tt
 row_good app there ShowMoves = tt
+row_good app there ShowWheel = tt
+row_good app there ShowWatches = tt
 
 bound_good : (app : Application) (operands : Operands) (make : MakesBound operands) (reading : Reading) (made : Bound) → AreThere app → app ≡ reading.app
     → OperandsGood app operands make → bound_with operands make reading ≡ Some made → IsBoundOf app made

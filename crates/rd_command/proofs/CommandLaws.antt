@@ -1,10 +1,11 @@
 -- A command that is read is spelled by its words, and what spells a command is read.
-use Rattle.std.proofs.Common.{◌≡◌, ◌∙◌, ℕ, true, false, cond, List, [], ◌∷◌, ◌++◌, Option, Some, None, option_and_then, refl, sym, ap, subst}
-use Rattle.std.specs.Prelude.{IfOk, Result, ok_or}
+use Rattle.std.proofs.Common.{◌≡◌, ◌∙◌, ℕ, Bool, true, false, cond, nat_eq, List, [], ◌∷◌, ◌++◌, Option, Some, None, option_and_then, refl, sym, ap, subst}
+use Rattle.std.specs.Prelude.{IfOk, Result, is_some, ok_or}
 use Rattle.std.specs.List.{find}
 use Rattle.std.specs.Option.{option_or}
 use Rattle.std.specs.Result.{result_ok}
 use Rattle.std.specs.Str.{bytes_eq}
+use Rattle.std.proofs.lemmas.Bool.{eqb-true}
 use Rattle.std.proofs.lemmas.Slice.Eq.{bytes_eq-Decides}
 use Rattle.rd_text.specs.declared.kind.Kind.{Kind}
 use Rattle.rd_text.specs.declared.kind.Kind.TheVariants as kind
@@ -15,10 +16,12 @@ use Rattle.rd_command.specs.declared.keyword.ConditionKeyword.TheVariants.{Compa
 use Rattle.rd_command.specs.declared.keyword.EditKeyword.{EditKeyword}
 use Rattle.rd_command.specs.declared.keyword.EditKeyword.TheVariants as poked
 use Rattle.rd_command.specs.declared.keyword.Keyword.{Keyword}
-use Rattle.rd_command.specs.declared.keyword.Keyword.TheVariants.{Step, Tick, Back, Forward, Redo, Until, BackUntil, Poke, Show, ShowCores, ShowMoves}
+use Rattle.rd_command.specs.declared.keyword.Keyword.TheVariants.{Step, Tick, Back, Forward, Redo, Until, UntilWatch, BackUntil, BackUntilWatch, Poke, TakeWheel, GiveWheel, Watch, Unwatch, Show, ShowCores, ShowMoves, ShowWheel, ShowWatches}
 use Rattle.rd_command.specs.declared.keyword.Parameter.{Parameter}
+use Rattle.rd_command.specs.declared.keyword.Parameter.TheVariants.{Count}
+use Rattle.rd_command.specs.declared.keyword.Parameter.TheVariants as parameter
 use Rattle.rd_command.specs.Commands.{AreFormed, AreOperands, CommandView, FindsWhatIsSpelled, NoLineIsTwoCommands, Spells, command_among, command_from, command_of, command_spelled}
-use Rattle.rd_command.specs.Forms.{after_condition, after_texts, after_words, are_operands, is_all, is_formed}
+use Rattle.rd_command.specs.Forms.{after_condition, after_texts, after_words, are_operands, is_all, is_formed, watch_number, watch_of}
 use Rattle.rd_command.specs.Keywords.{Operands, Plain, WithCondition, Row, Spelled, condition_keyword_of, condition_keywords, condition_row, keywords, more_of, operands_of, parameters_of, row_of, text_of, verb_of}
 use Rattle.rd_command.proofs.Steps.{first_is, option_if, some_if, then_some, then_some_is}
 
@@ -193,6 +196,53 @@ show_again kind.Message = λ left formed. first_is (are_operands (operands_of (r
 show_again kind.Group = λ left formed. first_is (are_operands (operands_of (row_of (Show kind.Group))) left) (record { keyword = Show kind.Group; operands = left }) _ formed
 show_again kind.Task = λ left formed. first_is (are_operands (operands_of (row_of (Show kind.Task))) left) (record { keyword = Show kind.Task; operands = left }) _ formed
 
+-- a watch is no condition, since no keyword of a condition begins with w
+watch_is_no_condition : (word : List ℕ) → is_some (watch_of word) ≡ true → condition_keyword_of word ≡ None
+watch_is_no_condition [] e = absurd cc
+watch_is_no_condition (first ∷ digits) e =
+    elim (nat_eq first 119) as
+    (λ b. (nat_eq first 119 ≡ b) → is_some (cond b (watch_number digits) None) ≡ true → condition_keyword_of (first ∷ digits) ≡ None) [
+      | true ↦ λ is. λ e. ap (λ n. condition_keyword_of (n ∷ digits)) (eqb-true first 119 is)
+      | false ↦ λ is. λ e. absurd cc
+    ] refl e
+
+no_condition_left : (parameters : List Parameter) (word : List ℕ) (words : List (List ℕ)) → is_some (watch_of word) ≡ true
+    → are_operands (WithCondition parameters) (word ∷ words) ≡ false
+no_condition_left parameters word words e =
+    ap
+    (λ found.
+    is_all (option_and_then (after_words parameters) (option_and_then (λ keyword. after_words (parameters_of (condition_row keyword)) words) found)))
+    (watch_is_no_condition word e)
+
+-- words for a watch and others are not for a condition and others
+watch_left : (parameters others : List Parameter) (words : List (List ℕ)) → are_operands (Plain (parameter.Watch ∷ parameters)) words ≡ true
+    → are_operands (WithCondition others) words ≡ false
+watch_left parameters others [] e = absurd cc
+watch_left parameters others (word ∷ words) e =
+    no_condition_left others word words
+    (elim (is_some (watch_of word)) as
+    (λ b. (is_some (watch_of word) ≡ b) → is_all (cond b (after_words parameters words) None) ≡ true → is_some (watch_of word) ≡ true) [
+      | true ↦ λ is. λ e. is
+      | false ↦ λ is. λ e. absurd cc
+    ] refl e)
+
+-- the second of two, where the first isn't
+second_is : {X : Type 0} (a b : Bool) (x y : X) (other : Option X) → a ≡ false → b ≡ true
+    → option_or (cond a (Some x) None) (option_or (cond b (Some y) None) other) ≡ Some y
+second_is true b x y other e f = absurd cc
+second_is false true x y other e f = refl
+second_is false false x y other e f = absurd cc
+
+until_watch_again : IsFound UntilWatch
+until_watch_again left formed =
+    second_is (are_operands (operands_of (row_of Until)) left) (are_operands (operands_of (row_of UntilWatch)) left)
+    (record { keyword = Until; operands = left }) (record { keyword = UntilWatch; operands = left }) _ (watch_left (Count ∷ []) (Count ∷ []) left formed) formed
+
+back_until_watch_again : IsFound BackUntilWatch
+back_until_watch_again left formed =
+    second_is (are_operands (operands_of (row_of BackUntil)) left) (are_operands (operands_of (row_of BackUntilWatch)) left)
+    (record { keyword = BackUntil; operands = left }) (record { keyword = BackUntilWatch; operands = left }) _ (watch_left [] [] left formed) formed
+
 keyword_again : (k : Keyword) → IsFound k
 keyword_again Step = λ left formed. first_is (are_operands (operands_of (row_of Step)) left) (record { keyword = Step; operands = left }) _ formed
 keyword_again Tick = λ left formed. first_is (are_operands (operands_of (row_of Tick)) left) (record { keyword = Tick; operands = left }) _ formed
@@ -200,11 +250,19 @@ keyword_again Back = λ left formed. first_is (are_operands (operands_of (row_of
 keyword_again Forward = λ left formed. first_is (are_operands (operands_of (row_of Forward)) left) (record { keyword = Forward; operands = left }) _ formed
 keyword_again Redo = λ left formed. first_is (are_operands (operands_of (row_of Redo)) left) (record { keyword = Redo; operands = left }) _ formed
 keyword_again Until = λ left formed. first_is (are_operands (operands_of (row_of Until)) left) (record { keyword = Until; operands = left }) _ formed
+keyword_again UntilWatch = until_watch_again
 keyword_again BackUntil = λ left formed. first_is (are_operands (operands_of (row_of BackUntil)) left) (record { keyword = BackUntil; operands = left }) _ formed
+keyword_again BackUntilWatch = back_until_watch_again
 keyword_again (Poke k) = poke_again k
+keyword_again TakeWheel = λ left formed. first_is (are_operands (operands_of (row_of TakeWheel)) left) (record { keyword = TakeWheel; operands = left }) _ formed
+keyword_again GiveWheel = λ left formed. first_is (are_operands (operands_of (row_of GiveWheel)) left) (record { keyword = GiveWheel; operands = left }) _ formed
+keyword_again Watch = λ left formed. first_is (are_operands (operands_of (row_of Watch)) left) (record { keyword = Watch; operands = left }) _ formed
+keyword_again Unwatch = λ left formed. first_is (are_operands (operands_of (row_of Unwatch)) left) (record { keyword = Unwatch; operands = left }) _ formed
 keyword_again (Show k) = show_again k
 keyword_again ShowCores = λ left formed. first_is (are_operands (operands_of (row_of ShowCores)) left) (record { keyword = ShowCores; operands = left }) _ formed
 keyword_again ShowMoves = λ left formed. first_is (are_operands (operands_of (row_of ShowMoves)) left) (record { keyword = ShowMoves; operands = left }) _ formed
+keyword_again ShowWheel = λ left formed. first_is (are_operands (operands_of (row_of ShowWheel)) left) (record { keyword = ShowWheel; operands = left }) _ formed
+keyword_again ShowWatches = λ left formed. first_is (are_operands (operands_of (row_of ShowWatches)) left) (record { keyword = ShowWatches; operands = left }) _ formed
 
 pub command_again : (words : List (List ℕ)) (command : CommandView) → Spells words command → command_of words ≡ Some command
 unfolding command_from

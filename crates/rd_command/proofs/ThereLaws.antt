@@ -10,7 +10,7 @@ use Rattle.rd_condition.specs.declared.condition.Condition.{Condition}
 use Rattle.rd_command.specs.declared.binding.Bound.{Bound}
 use Rattle.rd_command.specs.declared.keyword.ConditionKeyword.{ConditionKeyword}
 use Rattle.rd_command.specs.declared.keyword.Parameter.{Parameter}
-use Rattle.rd_command.specs.declared.keyword.Parameter.TheVariants.{Core, Count, Register, Index, Number, Data, Operator, Phase, Name}
+use Rattle.rd_command.specs.declared.keyword.Parameter.TheVariants.{Core, Count, Register, Index, Number, Data, Operator, Phase, Watch, Name}
 use Rattle.rd_command.specs.Bindings.{Reading, are_there, are_there_with, bound_made, bound_of, bound_with, condition_made, has_all, has_operands, is_there, made_of, next_condition, next_keyword, next_value, number_named, value_of}
 use Rattle.rd_command.specs.Commands.{AreFormed, AreOperands, CommandView, Spells}
 use Rattle.rd_command.specs.Forms.{is_formed}
@@ -35,6 +35,7 @@ value_there app Number word e = e
 value_there app Data word e = e
 value_there app Operator word e = e
 value_there app Phase word e = e
+value_there app Watch word e = e
 value_there app (Name kind) word e = named_there app kind word e
 
 -- What is made, and goes on so, is something exactly where all that is named is there.

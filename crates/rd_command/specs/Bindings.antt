@@ -14,14 +14,15 @@ use Rattle.rd_condition.specs.Conditions.{IsConditionOf}
 use Rattle.rd_edits.specs.Edits.{IsEditOf}
 use Rattle.rd_command.specs.declared.binding.Bound.{Bound}
 use Rattle.rd_command.specs.declared.binding.Bound.TheVariants as bound
+use Rattle.rd_command.specs.declared.binding.TheConstants.{MAX_WATCHES}
 use Rattle.rd_command.specs.declared.binding.Unknown.{Unknown}
 use Rattle.rd_command.specs.declared.keyword.ConditionKeyword.{ConditionKeyword}
 use Rattle.rd_command.specs.declared.keyword.Parameter.{Parameter}
 use Rattle.rd_command.specs.declared.keyword.Parameter.TheVariants.{Core, Count, Register, Index}
 use Rattle.rd_command.specs.declared.keyword.Parameter.TheVariants.{Number, Data, Operator}
-use Rattle.rd_command.specs.declared.keyword.Parameter.TheVariants.{Phase, Name}
+use Rattle.rd_command.specs.declared.keyword.Parameter.TheVariants.{Phase, Watch, Name}
 use Rattle.rd_command.specs.Commands.{CommandView}
-use Rattle.rd_command.specs.Forms.{count_of, operator_of, phase_of}
+use Rattle.rd_command.specs.Forms.{count_of, operator_of, phase_of, watch_of}
 use Rattle.rd_command.specs.Keywords.{Makes, MakesBound, Value, Written, ConditionRow}
 use Rattle.rd_command.specs.Keywords.{Operands, Plain, WithCondition, Row, Spelled}
 use Rattle.rd_command.specs.Keywords.{condition_keyword_of, condition_row, operands_of}
@@ -33,6 +34,10 @@ use Rattle.rd_command.specs.Keywords.{parameters_of, row_of}
 abbrev pub IsCount : ℕ → Type 0
 IsCount count = (0 < count) × (count ≤ 1000000)
 
+-- the number that a watch may have
+abbrev pub IsWatch : ℕ → Type 0
+IsWatch watch = watch < MAX_WATCHES
+
 -- The application has what the command names.
 abbrev pub IsBoundOf : Application → Bound → Type 0
 IsBoundOf app (bound.Step core) = core < app.cores
@@ -41,11 +46,19 @@ IsBoundOf app (bound.Forward count) = IsCount count
 IsBoundOf app (bound.Redo count) = IsCount count
 IsBoundOf app (bound.Back count) = IsCount count
 IsBoundOf app (bound.Until condition count) = IsConditionOf app condition × IsCount count
+IsBoundOf app (bound.UntilWatch watch count) = IsWatch watch × IsCount count
 IsBoundOf app (bound.BackUntil condition) = IsConditionOf app condition
+IsBoundOf app (bound.BackUntilWatch watch) = IsWatch watch
 IsBoundOf app (bound.Poke edit) = IsEditOf app edit
+IsBoundOf app bound.TakeWheel = Unit {0}
+IsBoundOf app bound.GiveWheel = Unit {0}
+IsBoundOf app (bound.Watch condition) = IsConditionOf app condition
+IsBoundOf app (bound.Unwatch number) = Unit {0}
 IsBoundOf app (bound.Show kind number) = number < length (names_of kind app)
 IsBoundOf app bound.ShowCores = Unit {0}
 IsBoundOf app bound.ShowMoves = Unit {0}
+IsBoundOf app bound.ShowWheel = Unit {0}
+IsBoundOf app bound.ShowWatches = Unit {0}
 
 -- ---- what a word stands for
 
@@ -69,6 +82,7 @@ value_of app Number word = number_of word
 value_of app Data word = bytes_of word
 value_of app Operator word = operator_of word
 value_of app Phase word = phase_of word
+value_of app Watch word = watch_of word
 value_of app (Name kind) word = number_named app kind word
 
 -- ---- from the first operand to the last
@@ -149,6 +163,7 @@ is_there app Number word = true
 is_there app Data word = true
 is_there app Operator word = true
 is_there app Phase word = true
+is_there app Watch word = true
 is_there app (Name kind) word = is_some (position (bytes_eq word) (names_of kind app))
 
 abbrev pub are_there : Application → List Parameter → List (List ℕ) → Bool

@@ -1,5 +1,5 @@
 -- The forms of the words of a command, whatever they name.
-use Rattle.std.specs.Prelude.{ℕ, ◌&&◌, Bool, true, false, nat_lt, nat_le, if◌then◌else◌, codes}
+use Rattle.std.specs.Prelude.{ℕ, ◌&&◌, Bool, true, false, nat_eq, nat_lt, nat_le, if◌then◌else◌, codes}
 use Rattle.std.specs.Prelude.{List, [], ◌∷◌, Option, Some, None, is_some, option_and_then}
 use Rattle.std.specs.Str.{bytes_eq}
 use Rattle.rd_text.specs.Words.{number_of, bytes_of, is_name}
@@ -10,7 +10,7 @@ use Rattle.rd_condition.specs.declared.condition.PhaseName.TheVariants as name
 use Rattle.rd_command.specs.declared.keyword.Parameter.{Parameter}
 use Rattle.rd_command.specs.declared.keyword.Parameter.TheVariants.{Core, Count, Register, Index}
 use Rattle.rd_command.specs.declared.keyword.Parameter.TheVariants.{Number, Data, Operator}
-use Rattle.rd_command.specs.declared.keyword.Parameter.TheVariants.{Phase, Name}
+use Rattle.rd_command.specs.declared.keyword.Parameter.TheVariants.{Phase, Watch, Name}
 use Rattle.rd_command.specs.Keywords.{Operands, Plain, WithCondition}
 use Rattle.rd_command.specs.Keywords.{condition_keyword_of, condition_row, parameters_of}
 
@@ -40,6 +40,16 @@ phase_of word =
     else (if bytes_eq word (codes "failed") then Some name.Failed
     else None)))))
 
+-- the number of a watch: a number below 16
+abbrev pub watch_number : List ℕ → Option ℕ
+watch_number digits =
+    option_and_then (λ number. if nat_lt number 16 then Some number else None) (number_of digits)
+
+-- a watch: `w`, which has the code 119, and its number
+abbrev pub watch_of : List ℕ → Option ℕ
+watch_of [] = None
+watch_of (first ∷ digits) = if nat_eq first 119 then watch_number digits else None
+
 -- has the word the form of such an operand?
 abbrev pub is_formed : Parameter → List ℕ → Bool
 is_formed Core word = is_some (number_of word)
@@ -50,6 +60,7 @@ is_formed Number word = is_some (number_of word)
 is_formed Data word = is_some (bytes_of word)
 is_formed Operator word = is_some (operator_of word)
 is_formed Phase word = is_some (phase_of word)
+is_formed Watch word = is_some (watch_of word)
 is_formed (Name kind) word = is_name word
 
 -- what is left of the words behind these texts, if they begin with them

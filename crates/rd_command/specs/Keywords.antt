@@ -1,6 +1,6 @@
 -- The keywords of commands and of conditions: how each is written, what its operands are, and what
 -- they make.
-use Rattle.std.specs.Prelude.{ℕ, List, [], ◌∷◌, codes, Option}
+use Rattle.std.specs.Prelude.{ℕ, Bool, true, false, List, [], ◌∷◌, codes, Option}
 use Rattle.std.specs.List.{find}
 use Rattle.std.specs.Str.{bytes_eq}
 use Rattle.rd_text.specs.declared.kind.Kind.{Kind}
@@ -17,6 +17,7 @@ use Rattle.rd_command.specs.declared.keyword.Parameter.{Parameter}
 use Rattle.rd_command.specs.declared.keyword.Parameter.TheVariants.{Core, Count, Register, Index}
 use Rattle.rd_command.specs.declared.keyword.Parameter.TheVariants.{Number, Data, Operator}
 use Rattle.rd_command.specs.declared.keyword.Parameter.TheVariants.{Phase, Name}
+use Rattle.rd_command.specs.declared.keyword.Parameter.TheVariants as parameter
 use Rattle.rd_command.specs.declared.keyword.AmountKeyword.{AmountKeyword}
 use Rattle.rd_command.specs.declared.keyword.AmountKeyword.TheVariants as compared
 use Rattle.rd_command.specs.declared.keyword.ConditionKeyword.{ConditionKeyword}
@@ -26,7 +27,11 @@ use Rattle.rd_command.specs.declared.keyword.EditKeyword.TheVariants as poked
 use Rattle.rd_command.specs.declared.keyword.Keyword.{Keyword}
 use Rattle.rd_command.specs.declared.keyword.Keyword.TheVariants.{Step, Tick, Back, Forward, Redo}
 use Rattle.rd_command.specs.declared.keyword.Keyword.TheVariants.{Until, BackUntil, Poke, Show}
-use Rattle.rd_command.specs.declared.keyword.Keyword.TheVariants.{ShowCores, ShowMoves}
+use Rattle.rd_command.specs.declared.keyword.Keyword.TheVariants.{UntilWatch, BackUntilWatch}
+use Rattle.rd_command.specs.declared.keyword.Keyword.TheVariants.{TakeWheel, GiveWheel}
+use Rattle.rd_command.specs.declared.keyword.Keyword.TheVariants.{Watch, Unwatch}
+use Rattle.rd_command.specs.declared.keyword.Keyword.TheVariants.{ShowCores, ShowMoves, ShowWheel}
+use Rattle.rd_command.specs.declared.keyword.Keyword.TheVariants.{ShowWatches}
 
 -- what a word stands for; a name is that of the thing with this number
 abbrev pub Value : Parameter → Type 0
@@ -38,6 +43,7 @@ Value Number = ℕ
 Value Data = List ℕ
 Value Operator = comparisons.Comparison
 Value Phase = phases.PhaseName
+Value parameter.Watch = ℕ
 Value (Name kind) = ℕ
 
 -- one of these for each choice of values
@@ -195,19 +201,56 @@ row_of Redo = Spelled (codes "redo") [] (Plain (Count ∷ [])) (λ count. bound.
 row_of Until =
     Spelled (codes "until") [] (WithCondition (Count ∷ []))
     (λ condition count. bound.Until condition count)
+row_of UntilWatch =
+    Spelled (codes "until") [] (Plain (parameter.Watch ∷ Count ∷ []))
+    (λ watch count. bound.UntilWatch watch count)
 row_of BackUntil =
     Spelled (codes "back") (codes "until" ∷ []) (WithCondition [])
     (λ condition. bound.BackUntil condition)
+row_of BackUntilWatch =
+    Spelled (codes "back") (codes "until" ∷ []) (Plain (parameter.Watch ∷ []))
+    (λ watch. bound.BackUntilWatch watch)
 row_of (Poke of) = edit_row of
+row_of TakeWheel = Spelled (codes "wheel") (codes "take" ∷ []) (Plain []) bound.TakeWheel
+row_of GiveWheel = Spelled (codes "wheel") (codes "give" ∷ []) (Plain []) bound.GiveWheel
+row_of Watch = Spelled (codes "watch") [] (WithCondition []) (λ condition. bound.Watch condition)
+row_of Unwatch = Spelled (codes "unwatch") [] (Plain (Number ∷ [])) (λ number. bound.Unwatch number)
 row_of (Show kind) = view_row kind
 row_of ShowCores = Spelled (codes "show") (codes "cores" ∷ []) (Plain []) bound.ShowCores
 row_of ShowMoves = Spelled (codes "show") (codes "moves" ∷ []) (Plain []) bound.ShowMoves
+row_of ShowWheel = Spelled (codes "show") (codes "wheel" ∷ []) (Plain []) bound.ShowWheel
+row_of ShowWatches = Spelled (codes "show") (codes "watches" ∷ []) (Plain []) bound.ShowWatches
+
+-- Is a command refused while another session has the wheel? Those that make moves or take them back
+-- are, and to take the wheel.
+abbrev pub needs_wheel : Keyword → Bool
+needs_wheel Step = true
+needs_wheel Tick = true
+needs_wheel Back = true
+needs_wheel Forward = true
+needs_wheel Redo = true
+needs_wheel Until = true
+needs_wheel UntilWatch = true
+needs_wheel BackUntil = true
+needs_wheel BackUntilWatch = true
+needs_wheel (Poke of) = true
+needs_wheel TakeWheel = true
+needs_wheel GiveWheel = false
+needs_wheel Watch = false
+needs_wheel Unwatch = false
+needs_wheel (Show kind) = false
+needs_wheel ShowCores = false
+needs_wheel ShowMoves = false
+needs_wheel ShowWheel = false
+needs_wheel ShowWatches = false
 
 abbrev pub keywords : List Keyword
 keywords =
-    Step ∷ Tick ∷ Back ∷ Forward ∷ Redo ∷ Until ∷ BackUntil
+    Step ∷ Tick ∷ Back ∷ Forward ∷ Redo ∷ Until ∷ UntilWatch ∷ BackUntil ∷ BackUntilWatch
     ∷ Poke poked.Register ∷ Poke poked.Data ∷ Poke poked.Pc ∷ Poke poked.Value
     ∷ Poke poked.Bits ∷ Poke poked.Item ∷ Poke poked.Byte
+    ∷ TakeWheel ∷ GiveWheel ∷ Watch ∷ Unwatch
     ∷ Show kind.Queue ∷ Show kind.QueueSet ∷ Show kind.Stream ∷ Show kind.Message
-    ∷ Show kind.Group ∷ Show kind.Task ∷ ShowCores ∷ ShowMoves
+    ∷ Show kind.Group ∷ Show kind.Task
+    ∷ ShowCores ∷ ShowMoves ∷ ShowWheel ∷ ShowWatches
     ∷ []

@@ -19,8 +19,12 @@ use rd_condition::condition::{Amount, Condition};
 use rd_edits::edit::Edit;
 use rd_text::kind::Kind;
 
+/// How many watches a session has at the most. They are numbered from 0.
+pub const MAX_WATCHES: usize = 16;
+
 /// A command whose names are numbers, and whose cores, registers and notification entries are
-/// there. A count is 1 to 1,000,000.
+/// there. A count is 1 to 1,000,000, the number of a watch in place of a condition 0 to 15. Whether
+/// the session has such a watch is not asked here.
 #[derive(Debug, Drop)]
 pub enum Bound {
     /// `step N`: the move of this core.
@@ -35,16 +39,32 @@ pub enum Bound {
     Back { count: usize },
     /// `until COND COUNT`: moves of the policy until the condition holds, at most so many.
     Until { condition: Condition, count: usize },
+    /// `until wN COUNT`: the same until the condition of the session's watch holds.
+    UntilWatch { watch: usize, count: usize },
     /// `back until COND`: back to the last place before this one where the condition held.
     BackUntil { condition: Condition },
+    /// `back until wN`: the same of the condition of the session's watch.
+    BackUntilWatch { watch: usize },
     /// `poke ..`: something is changed by hand.
     Poke { edit: Edit },
+    /// `wheel take`: nobody but the session makes moves from now on.
+    TakeWheel,
+    /// `wheel give`: everybody may make moves again.
+    GiveWheel,
+    /// `watch COND`: the session keeps the condition.
+    Watch { condition: Condition },
+    /// `unwatch N`: the session drops its watch with this number.
+    Unwatch { number: usize },
     /// `show KIND NAME`: the thing of that kind with this number.
     Show { kind: Kind, number: usize },
     /// `show cores`: who runs, who is ready, the tick and the turn.
     ShowCores,
     /// `show moves`: how many moves were made, and how many of them taken back.
     ShowMoves,
+    /// `show wheel`: which session has the wheel.
+    ShowWheel,
+    /// `show watches`: which of the session's watches hold.
+    ShowWatches,
 }
 
 /// The application has no core, register, notification entry or name like this.
@@ -167,6 +187,15 @@ fn read_until(reader: &mut Reader<'_>) -> Result<Bound, Unknown>
     Ok(Bound::Until { condition, count })
 }
 
+// The command `until` with a watch, of the words after that.
+fn read_until_watch(reader: &mut Reader<'_>) -> Result<Bound, Unknown>
+    ensures { result_ok result ≡ bound_made (row_of keyword.UntilWatch) reader.old }
+{
+    let watch = reader.watch()?;
+    let count = reader.count()?;
+    Ok(Bound::UntilWatch { watch, count })
+}
+
 // The command of a keyword and of its operands.
 fn read_bound(keyword: Keyword, reader: &mut Reader<'_>) -> Result<Bound, Unknown>
     ensures { result_ok result ≡ bound_made (row_of keyword) reader.old }
@@ -186,16 +215,30 @@ fn read_bound(keyword: Keyword, reader: &mut Reader<'_>) -> Result<Bound, Unknow
             count: reader.count()?,
         }),
         Keyword::Until => read_until(reader),
+        Keyword::UntilWatch => read_until_watch(reader),
         Keyword::BackUntil => Ok(Bound::BackUntil {
             condition: read_condition(reader)?,
         }),
+        Keyword::BackUntilWatch => Ok(Bound::BackUntilWatch {
+            watch: reader.watch()?,
+        }),
         Keyword::Poke(keyword) => poke(keyword, reader),
+        Keyword::TakeWheel => Ok(Bound::TakeWheel),
+        Keyword::GiveWheel => Ok(Bound::GiveWheel),
+        Keyword::Watch => Ok(Bound::Watch {
+            condition: read_condition(reader)?,
+        }),
+        Keyword::Unwatch => Ok(Bound::Unwatch {
+            number: reader.number()? as usize,
+        }),
         Keyword::Show(kind) => Ok(Bound::Show {
             kind,
             number: reader.named(kind)?,
         }),
         Keyword::ShowCores => Ok(Bound::ShowCores),
         Keyword::ShowMoves => Ok(Bound::ShowMoves),
+        Keyword::ShowWheel => Ok(Bound::ShowWheel),
+        Keyword::ShowWatches => Ok(Bound::ShowWatches),
     }
 }
 

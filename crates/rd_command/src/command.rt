@@ -4,6 +4,7 @@ ghost use Rattle.std.specs.Prelude.{◌≡◌, Some, IfOk};
 ghost use Rattle.std.specs.Result.{result_ok};
 ghost use Rattle.rd_text.specs.Words.{words_of};
 ghost use Rattle.rd_command.specs.Commands.{CommandView, Spells, command_from, command_of};
+ghost use Rattle.rd_command.specs.Keywords.{needs_wheel};
 ghost use Rattle.rd_command.specs.Tables.{command_in, first_command, row_view, rows_view};
 
 use crate::form::{after_texts, are_operands};
@@ -15,16 +16,37 @@ use std::marker::Model;
 /// the keyword asks for. What they name is looked up by `bind`.
 #[derive(Debug, Drop)]
 pub struct Command<'a> {
+    line: &'a [u8],
     keyword: Keyword,
     operands: Words<'a>,
 }
 
 impl<'a> Model for Command<'a> {
-    ghost use Rattle.rd_command.specs.Commands.{CommandView};
+    ghost use Rattle.std.specs.Prelude.{◌≡◌, Some};
+    ghost use Rattle.rd_text.specs.Words.{words_of};
+    ghost use Rattle.rd_command.specs.Commands.{CommandView, command_of};
 
     ghost Value = { CommandView };
 
     ghost view = { λ c. record { keyword = c.keyword; operands = c.operands } };
+
+    ghost invariant = { λ c. command_of (words_of c.line.now)
+        ≡ Some (record { keyword = c.keyword; operands = c.operands }) };
+}
+
+/// What the words of a line were found to be: a keyword, and the words of its operands.
+#[derive(Debug, Drop)]
+struct Found<'a> {
+    keyword: Keyword,
+    operands: Words<'a>,
+}
+
+impl<'a> Model for Found<'a> {
+    ghost use Rattle.rd_command.specs.Commands.{CommandView};
+
+    ghost Value = { CommandView };
+
+    ghost view = { λ f. record { keyword = f.keyword; operands = f.operands } };
 }
 
 /// The line is no command.
@@ -32,6 +54,31 @@ impl<'a> Model for Command<'a> {
 pub struct Syntax;
 
 impl<'a> Command<'a> {
+    /// The same command. It takes no memory.
+    pub fn copy(&self) -> Command<'a>
+        ensures { result ≡ self.now }
+    {
+        Command {
+            line: self.line,
+            keyword: self.keyword,
+            operands: self.operands.copy(),
+        }
+    }
+
+    /// The line that the command was read from. The line alone says which command it is.
+    pub fn line(&self) -> &'a [u8]
+        ensures { command_of (words_of result.now) ≡ Some self.now }
+    {
+        self.line
+    }
+
+    /// Whether the command is refused while another session has the wheel.
+    pub fn needs_wheel(&self) -> bool
+        ensures { result ≡ needs_wheel self.now.keyword }
+    {
+        self.keyword.needs_wheel()
+    }
+
     /// The words of the operands.
     pub(crate) fn operands(&self) -> Words<'a>
         ensures { result ≡ self.now.operands }
@@ -55,11 +102,18 @@ pub fn parse_line(line: &[u8]) -> Result<Command<'_>, Syntax>
     ensures only { (command : CommandView) → Spells (words_of line.now) command
         → result_ok result ≡ Some command }
 {
-    read_line(line).ok_or(Syntax)
+    match read_line(line) {
+        Some(Found { keyword, operands }) => Ok(Command {
+            line,
+            keyword,
+            operands,
+        }),
+        None => Err(Syntax),
+    }
 }
 
 // The command that the words of the line spell, if they do.
-fn read_line(line: &[u8]) -> Option<Command<'_>>
+fn read_line(line: &[u8]) -> Option<Found<'_>>
     ensures { result ≡ command_of (words_of line.now) }
 {
     let mut words = words_in(line);
@@ -75,7 +129,7 @@ fn words_in(line: &[u8]) -> Words<'_>
 }
 
 // The command that the words spell, of which the first stands apart, if they do.
-fn command_from<'a>(first: &[u8], words: &Words<'a>) -> Option<Command<'a>>
+fn command_from<'a>(first: &[u8], words: &Words<'a>) -> Option<Found<'a>>
     ensures { result ≡ command_from first.now words.now }
 {
     first_command(first, words, &KEYWORDS)
@@ -83,7 +137,7 @@ fn command_from<'a>(first: &[u8], words: &Words<'a>) -> Option<Command<'a>>
 
 // The command of the first of these keywords that the words are spelled with. The first word stands
 // apart.
-fn first_command<'a>(first: &[u8], words: &Words<'a>, rows: &[Row<'_>]) -> Option<Command<'a>>
+fn first_command<'a>(first: &[u8], words: &Words<'a>, rows: &[Row<'_>]) -> Option<Found<'a>>
     ensures { result ≡ first_command (rows_view rows.now) first.now words.now }
 {
     for row in rows {
@@ -96,7 +150,7 @@ fn first_command<'a>(first: &[u8], words: &Words<'a>, rows: &[Row<'_>]) -> Optio
 }
 
 // The command with this keyword, if the words are the keyword's and then its operands.
-fn command_in<'a>(row: &Row<'_>, first: &[u8], words: &Words<'a>) -> Option<Command<'a>>
+fn command_in<'a>(row: &Row<'_>, first: &[u8], words: &Words<'a>) -> Option<Found<'a>>
     ensures { result ≡ command_in (row_view row.now) first.now words.now }
 {
     let (verb, more, operands, keyword) = *row;
@@ -105,7 +159,7 @@ fn command_in<'a>(row: &Row<'_>, first: &[u8], words: &Words<'a>) -> Option<Comm
     }
     let left = after_texts(words, more)?;
     if are_operands(&left, operands) {
-        Some(Command {
+        Some(Found {
             keyword,
             operands: left,
         })

@@ -4,10 +4,12 @@ ghost use Rattle.std.specs.Prelude.{◌≡◌};
 ghost use Rattle.rd_text.specs.Words.{texts};
 ghost use Rattle.rd_command.specs.declared.keyword.Parameter.TheVariants.{Data};
 ghost use Rattle.rd_command.specs.Forms.{count_of, operator_of, phase_of, is_formed};
+ghost use Rattle.rd_command.specs.Forms.{watch_number, watch_of};
 ghost use Rattle.rd_command.specs.Forms.{after_texts, after_words, after_condition};
 ghost use Rattle.rd_command.specs.Forms.{after_operands, are_operands};
 ghost use Rattle.rd_command.specs.Tables.{operands_view};
 
+use crate::binding::MAX_WATCHES;
 use crate::keyword::{Operands, Parameter, condition_keyword_of};
 use rd_condition::condition::{Comparison, PhaseName};
 use rd_text::words::{Words, bytes, is_name, number};
@@ -20,6 +22,26 @@ pub(crate) fn count_of(word: &[u8]) -> Option<u32>
     ensures { result ≡ count_of word.now }
 {
     number(word).filter(|count| (1..=MAX_COUNT).contains(count))
+}
+
+/// The number of a watch, 0 to 15, of a word that is `w` and that number.
+pub(crate) fn watch_of(word: &[u8]) -> Option<usize>
+    ensures { result ≡ watch_of word.now }
+{
+    match word {
+        [b'w', digits @ ..] => watch_number(digits),
+        _ => None,
+    }
+}
+
+// A number below 16.
+fn watch_number(digits: &[u8]) -> Option<usize>
+    ensures { result ≡ watch_number digits.now }
+{
+    match number(digits) {
+        Some(number) if (number as usize) < MAX_WATCHES => Some(number as usize),
+        _ => None,
+    }
 }
 
 /// How an amount is compared: `=`, `<` or `>`.
@@ -68,6 +90,7 @@ fn is_formed(parameter: Parameter, word: &[u8]) -> bool
         Parameter::Data => is_data(word),
         Parameter::Operator => operator_of(word).is_some(),
         Parameter::Phase => phase_of(word).is_some(),
+        Parameter::Watch => watch_of(word).is_some(),
         Parameter::Name(_) => is_name(word),
     }
 }

@@ -1,7 +1,8 @@
 //! The keywords of commands and of conditions: how each is written, and what its operands are.
 
 ghost use Rattle.std.specs.Prelude.{◌≡◌, IfSome, option_map};
-ghost use Rattle.rd_command.specs.Keywords.{condition_keyword_of, condition_row, parameters_of};
+ghost use Rattle.rd_command.specs.Keywords.{condition_keyword_of, condition_row, needs_wheel};
+ghost use Rattle.rd_command.specs.Keywords.{parameters_of};
 ghost use Rattle.rd_command.specs.Tables.{first_condition, conditions_view};
 
 use ConditionKeyword::Compares;
@@ -28,6 +29,8 @@ pub(crate) enum Parameter {
     Operator,
     /// What a phase is called: `run`, `again`, `given`, `wait`, `ended` or `failed`.
     Phase,
+    /// A watch of the session: `w` and its number, 0 to 15.
+    Watch,
     /// The name of a thing of that kind.
     Name(Kind),
 }
@@ -43,7 +46,7 @@ pub(crate) enum Operands<'a> {
 
 /// What an edit changes.
 #[derive(Clone, Copy, Debug, PartialEq, Eq)]
-pub(crate) enum EditKeyword {
+pub enum EditKeyword {
     Register,
     Data,
     Pc,
@@ -55,18 +58,56 @@ pub(crate) enum EditKeyword {
 
 /// What a command does, as its first words say.
 #[derive(Clone, Copy, Debug, PartialEq, Eq)]
-pub(crate) enum Keyword {
+pub enum Keyword {
     Step,
     Tick,
     Back,
     Forward,
     Redo,
     Until,
+    UntilWatch,
     BackUntil,
+    BackUntilWatch,
     Poke(EditKeyword),
+    TakeWheel,
+    GiveWheel,
+    Watch,
+    Unwatch,
     Show(Kind),
     ShowCores,
     ShowMoves,
+    ShowWheel,
+    ShowWatches,
+}
+
+impl Keyword {
+    /// Whether a command is refused while another session has the wheel: one that makes moves or
+    /// takes them back, and one that takes the wheel.
+    pub(crate) fn needs_wheel(self) -> bool
+        ensures { result ≡ needs_wheel self }
+    {
+        match self {
+            Keyword::Step
+            | Keyword::Tick
+            | Keyword::Back
+            | Keyword::Forward
+            | Keyword::Redo
+            | Keyword::Until
+            | Keyword::UntilWatch
+            | Keyword::BackUntil
+            | Keyword::BackUntilWatch
+            | Keyword::Poke(_)
+            | Keyword::TakeWheel => true,
+            Keyword::GiveWheel
+            | Keyword::Watch
+            | Keyword::Unwatch
+            | Keyword::Show(_)
+            | Keyword::ShowCores
+            | Keyword::ShowMoves
+            | Keyword::ShowWheel
+            | Keyword::ShowWatches => false,
+        }
+    }
 }
 
 /// What a condition compares with a number.
@@ -105,6 +146,8 @@ const OPERATOR: Parameter = Parameter::Operator;
 
 const PHASE: Parameter = Parameter::Phase;
 
+const WATCH: Parameter = Parameter::Watch;
+
 const QUEUE: Parameter = Parameter::Name(Kind::Queue);
 
 const QUEUE_SET: Parameter = Parameter::Name(Kind::QueueSet);
@@ -121,14 +164,16 @@ const TASK: Parameter = Parameter::Name(Kind::Task);
 pub(crate) type Row<'a> = (&'a str, &'a [&'a str], Operands<'a>, Keyword);
 
 /// Each keyword of a command. The moves that are asked for most come first.
-pub(crate) static KEYWORDS: [Row<'static>; 22] = [
+pub(crate) static KEYWORDS: [Row<'static>; 30] = [
     ("step", &[], Plain(&[CORE]), Keyword::Step),
     ("tick", &[], Plain(&[]), Keyword::Tick),
     ("back", &[], Plain(&[COUNT]), Keyword::Back),
     ("forward", &[], Plain(&[COUNT]), Keyword::Forward),
     ("redo", &[], Plain(&[COUNT]), Keyword::Redo),
     ("until", &[], WithCondition(&[COUNT]), Keyword::Until),
+    ("until", &[], Plain(&[WATCH, COUNT]), Keyword::UntilWatch),
     ("back", &["until"], WithCondition(&[]), Keyword::BackUntil),
+    ("back", &["until"], Plain(&[WATCH]), Keyword::BackUntilWatch),
     (
         "poke",
         &["reg"],
@@ -171,6 +216,10 @@ pub(crate) static KEYWORDS: [Row<'static>; 22] = [
         Plain(&[STREAM, NUMBER, NUMBER]),
         Poke(EditKeyword::Byte),
     ),
+    ("wheel", &["take"], Plain(&[]), Keyword::TakeWheel),
+    ("wheel", &["give"], Plain(&[]), Keyword::GiveWheel),
+    ("watch", &[], WithCondition(&[]), Keyword::Watch),
+    ("unwatch", &[], Plain(&[NUMBER]), Keyword::Unwatch),
     ("show", &["queue"], Plain(&[QUEUE]), Show(Kind::Queue)),
     ("show", &["set"], Plain(&[QUEUE_SET]), Show(Kind::QueueSet)),
     ("show", &["stream"], Plain(&[STREAM]), Show(Kind::Stream)),
@@ -179,6 +228,8 @@ pub(crate) static KEYWORDS: [Row<'static>; 22] = [
     ("show", &["task"], Plain(&[TASK]), Show(Kind::Task)),
     ("show", &["cores"], Plain(&[]), Keyword::ShowCores),
     ("show", &["moves"], Plain(&[]), Keyword::ShowMoves),
+    ("show", &["wheel"], Plain(&[]), Keyword::ShowWheel),
+    ("show", &["watches"], Plain(&[]), Keyword::ShowWatches),
 ];
 
 // Each keyword of a condition: as it is written, and its operands.

@@ -4,7 +4,7 @@
 pub mod binding;
 pub mod command;
 mod form;
-mod keyword;
+pub mod keyword;
 pub mod laws;
 pub mod lines;
 mod reader;

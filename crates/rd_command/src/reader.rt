@@ -7,7 +7,7 @@ ghost use Rattle.rd_command.specs.Bindings.{Takes, next_keyword, next_value};
 ghost use Rattle.rd_command.specs.Bindings.{number_below, number_named};
 
 use crate::binding::Unknown;
-use crate::form::{count_of, operator_of, phase_of};
+use crate::form::{count_of, operator_of, phase_of, watch_of};
 use crate::keyword::{ConditionKeyword, condition_keyword_of};
 use rd_app::app::App;
 use rd_app::instr::REGISTERS;
@@ -133,6 +133,14 @@ impl<'a> Reader<'a> {
         ensures { Takes (next_value parameter.Phase self.old) result self.new }
     {
         phase_of(self.words.next().ok_or(Unknown)?).ok_or(Unknown)
+    }
+
+    /// The next word, as the number of a watch.
+    #[tactic(auto, unfolding(crate::specs::Bindings::next_value))]
+    pub(crate) fn watch(&mut self) -> Result<usize, Unknown>
+        ensures { Takes (next_value parameter.Watch self.old) result self.new }
+    {
+        watch_of(self.words.next().ok_or(Unknown)?).ok_or(Unknown)
     }
 
     /// The next word, as the number of the thing of that kind that it names.

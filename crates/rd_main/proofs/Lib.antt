@@ -1,2 +1,3 @@
--- Laws that several proofs cite.
-pub mod AnswerLaws
+-- The lemmas of this crate.
+pub mod AskedLaws
+pub mod LineLaws

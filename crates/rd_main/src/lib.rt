@@ -1,19 +1,22 @@
 //! The program: its words, and a session that answers commands line by line.
 #![tactic(auto)]
 
-ghost use Rattle.std.specs.Prelude.{◌≡◌, ◌≢◌, ◌≤◌, length, IfErr};
+ghost use Rattle.std.specs.Prelude.{◌≡◌, ◌≢◌, ◌≤◌, [], length, IfErr, OnErr, OnOk};
 ghost use Rattle.std.specs.IoError.{error_kind};
-ghost use Rattle.rd_start.specs.declared.fault.Fault.TheVariants.{BadCommandLine};
+ghost use Rattle.rd_main.specs.Answers.{IsWholeSession};
+ghost use Rattle.rd_start.specs.Requests.{IsWithinLimits};
+ghost use Rattle.rd_start.specs.declared.fault.Fault.TheVariants.{BadCommandLine, NoMemory};
 
 pub mod answer;
-pub mod ask;
+pub mod pending;
 pub mod session;
 
 use crate::session::Session;
+use rd_desk::desk::{Desk, EnterError};
+use rd_desk::limits::Limits;
 use rd_start::fault::Fault;
 use rd_start::file::load;
 use rd_start::options::{Request, Settings, options};
-use rd_timeline::timeline::Timeline;
 use std::alloc::AllocGlobal;
 use std::io;
 use std::io::{ErrorKind, Read, Write};
@@ -82,6 +85,20 @@ fn run<H: Files + AllocGlobal, R: Read, W: Write>(
     }
 }
 
+// What a desk with these settings has room for.
+fn limits_of(settings: Settings<'_>) -> Limits
+    requires { IsWithinLimits settings }
+    ensures { result ≡ record {
+      moves = settings.entry.moves;
+      history = settings.entry.history;
+    } }
+{
+    Limits {
+        moves: settings.moves as u32,
+        history: settings.history as u32,
+    }
+}
+
 // A session with these settings.
 fn debug<H: Files + AllocGlobal, R: Read, W: Write>(
     handle: &H,
@@ -89,12 +106,42 @@ fn debug<H: Files + AllocGlobal, R: Read, W: Write>(
     reader: &mut R,
     writer: &mut W,
 ) -> Result<(), Fault>
+    requires { IsWithinLimits settings }
     ensures { IfErr result (λ fault. fault ≢ BadCommandLine) }
 {
     let mut session = Session::new(handle.alloc())?;
     let app = load(handle, settings.app)?;
-    let mut timeline = Timeline::new(handle.alloc(), app, settings.moves)?;
-    session.serve(&mut timeline, reader, writer);
-    timeline.close();
-    Ok(())
+    let mut desk = Desk::open(handle.alloc(), app, limits_of(settings))?;
+    let ended = attend(&mut desk, &mut session, reader, writer);
+    desk.close();
+    ended
+}
+
+/// The one session of a desk that was just opened: it enters, its lines are answered, and it
+/// departs. `NoMemory` where a growth was refused at the entering; then nothing has changed.
+pub fn attend<R: Read, W: Write>(
+    desk: &mut Desk,
+    session: &mut Session,
+    reader: &mut R,
+    writer: &mut W,
+) -> Result<(), Fault>
+    requires opened { desk.old.history ≡ [] }
+    requires nobody { desk.old.debugger.sessions ≡ [] }
+    requires room { 2 ≤ desk.old.most_entries }
+    requires held { length session.old.held ≤ 1024 }
+    ensures history { OnOk result (IsWholeSession 1 desk.new.history) }
+    ensures err { IfErr result (λ fault. fault ≡ NoMemory) }
+    ensures err_desk { OnErr result (desk.new ≡ desk.old) }
+{
+    match desk.enter() {
+        Ok(receipt) => {
+            let who = receipt.entry.who;
+            session.serve(desk, who, reader, writer);
+            desk.depart(who);
+            Ok(())
+        }
+        Err(EnterError::NoMemory) => Err(Fault::NoMemory),
+        // (nobody has entered yet, and both places are free)
+        Err(EnterError::Full | EnterError::HistoryFull { .. }) => unreachable!(),
+    }
 }

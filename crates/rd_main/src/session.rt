@@ -1,13 +1,15 @@
 //! A session: it reads lines and answers each.
 
 ghost use Rattle.std.specs.Prelude.{◌≡◌, ◌≤◌, [], length, IfOk, IsErr, OnOk};
-ghost use Rattle.std.specs.Io.KnownBytes.{Appends};
+ghost use Rattle.std.specs.Io.KnownBytes.{append_known};
+ghost use Rattle.rd_desk.specs.Sessions.{IsPresent};
+ghost use Rattle.rd_main.specs.Answers.{HasAsked, IsAnswered};
 
-use crate::answer::put_answer;
+use crate::answer::{answer, refused};
+use crate::pending::{Ended, Pending};
 use rd_command::lines::{Front, Lines};
+use rd_desk::desk::Desk;
 use rd_refusal::refusal::Refusal;
-use rd_reply::reply::{Reply, append_reply};
-use rd_timeline::timeline::Timeline;
 use std::alloc::{AllocError, Global};
 use std::io::{ErrorKind, Read, Write};
 use std::marker::Model;
@@ -15,24 +17,11 @@ use std::marker::Model;
 /// How often a session reads at the most.
 pub const MAX_READS: u32 = 16_777_216;
 
-// Answers are written once they have come to so many bytes.
-const FULL: usize = 32_768;
-
-// The session has ended.
-#[derive(Debug, Drop)]
-struct Ended;
-
-impl From<AllocError> for Ended {
-    fn from(_error: AllocError) -> Ended {
-        Ended
-    }
-}
-
 /// What a session reads into and answers in.
 #[derive(Debug, Drop)]
 pub struct Session {
     lines: Lines,
-    answers: Vec<u8>,
+    pending: Pending,
 }
 
 impl Model for Session {
@@ -40,48 +29,58 @@ impl Model for Session {
 
     ghost Value = { SessionView };
 
-    ghost view = { λ s. record { held = s.lines; pending = s.answers.items } };
+    ghost view = { λ s. record { held = s.lines; pending = s.pending.bytes } };
 }
 
-// Writes the answers.
-fn send<W: Write>(answers: &mut Vec<u8>, writer: &mut W) -> Result<(), Ended>
-    ensures written { OnOk result
-        (Appends (W.contents writer.old) (W.contents writer.new) answers.old.items) }
-    ensures emptied { OnOk result (answers.new.items ≡ []) }
+// Answers a line, behind the answers that are yet to be written. Where there is no room for an
+// answer nothing is done.
+fn answer_line<W: Write>(
+    desk: &mut Desk,
+    who: u32,
+    line: &[u8],
+    pending: &mut Pending,
+    writer: &mut W,
+) -> Result<(), Ended>
+    requires { IsPresent desk.old.debugger.sessions who }
+    ensures answered { OnOk result (IsAnswered desk.old who line.now desk.new
+        (append_known (W.contents writer.old) pending.old.bytes)
+        (append_known (W.contents writer.new) pending.new.bytes)) }
+    ensures asked { HasAsked desk.old who desk.new }
 {
-    if writer.write_all(answers.as_slice()).is_err() || writer.flush().is_err() {
-        return Err(Ended);
-    }
-    answers.clear();
-    Ok(())
+    pending.make_room(writer)?;
+    let reply = answer(desk, who, line);
+    pending.put(writer, &reply)
 }
 
 impl Session {
-    /// A session that has read nothing. All its memory is taken here, but for views of more than
-    /// 32,768 bytes. An `Err` says that there is none.
+    /// A session that has read nothing. All its memory is taken here. An `Err` says that there is
+    /// none.
     pub fn new(alloc: Global) -> Result<Session, AllocError>
         ensures { IfOk result (λ session. session ≡ record { held = []; pending = [] }) }
     {
         Ok(Session {
             lines: Lines::new(alloc)?,
-            answers: Vec::with_capacity(alloc, 2 * FULL)?,
+            pending: Pending::new(alloc)?,
         })
     }
 
-    /// Answers the reader's lines until its end, a fault on either side, a line that is too long,
-    /// which is answered, or `MAX_READS` reads. What stands after the last LF is a line only at the
-    /// end of the input. Answers are written when no whole line is left, or when there are 32,768
-    /// bytes of them.
+    /// Answers the reader's lines for a session that is present, until the reader's end, a fault on
+    /// either side, a line that is too long, which is answered, or `MAX_READS` reads. What stands
+    /// after the last LF is a line only at the end of the input. Answers are written when no whole
+    /// line is left, or when there is no room for more.
     pub fn serve<R: Read, W: Write>(
         &mut self,
-        timeline: &mut Timeline,
+        desk: &mut Desk,
+        who: u32,
         reader: &mut R,
         writer: &mut W,
     )
-        requires { length self.old.held ≤ 1024 }
+        requires held { length self.old.held ≤ 1024 }
+        requires present { IsPresent desk.old.debugger.sessions who }
+        ensures { HasAsked desk.old who desk.new }
     {
         for _ in 0..MAX_READS {
-            if self.turn(timeline, reader, writer).is_err() {
+            if self.turn(desk, who, reader, writer).is_err() {
                 return;
             }
         }
@@ -90,16 +89,19 @@ impl Session {
     // Reads once, and answers the lines that are whole by then.
     fn turn<R: Read, W: Write>(
         &mut self,
-        timeline: &mut Timeline,
+        desk: &mut Desk,
+        who: u32,
         reader: &mut R,
         writer: &mut W,
     ) -> Result<(), Ended>
-        requires { length self.old.held ≤ 1024 }
-        ensures { OnOk result (length self.new.held ≤ 1024) }
+        requires held { length self.old.held ≤ 1024 }
+        requires present { IsPresent desk.old.debugger.sessions who }
+        ensures part { OnOk result (length self.new.held ≤ 1024) }
+        ensures asked { HasAsked desk.old who desk.new }
     {
         match self.lines.read_from(reader) {
-            Ok(0) => self.answer_rest(timeline, writer),
-            Ok(_) => self.answer_lines(timeline, writer),
+            Ok(0) => self.answer_rest(desk, who, writer),
+            Ok(_) => self.answer_lines(desk, who, writer),
             Err(error) if error.kind() == ErrorKind::Interrupted => Ok(()),
             Err(_) => Err(Ended),
         }
@@ -108,45 +110,53 @@ impl Session {
     // Answers all whole lines that were read.
     fn answer_lines<W: Write>(
         &mut self,
-        timeline: &mut Timeline,
+        desk: &mut Desk,
+        who: u32,
         writer: &mut W,
     ) -> Result<(), Ended>
+        requires { IsPresent desk.old.debugger.sessions who }
         ensures part { OnOk result (length self.new.held ≤ 1024) }
         ensures sent { OnOk result (self.new.pending ≡ []) }
+        ensures asked { HasAsked desk.old who desk.new }
     {
         loop {
             match self.lines.front() {
                 Front::Line { len } => {
                     let line = self.lines.line(len);
-                    put_answer(timeline, &mut self.answers, line)?;
+                    answer_line(desk, who, line, &mut self.pending, writer)?;
                     self.lines.advance(len + 1);
-                    if self.answers.len() >= FULL {
-                        send(&mut self.answers, writer)?;
-                    }
                 }
-                Front::TooLong => {
-                    let refusal = Refusal::LineTooLong;
-                    append_reply(&mut self.answers, Reply::Refused { refusal })?;
-                    send(&mut self.answers, writer)?;
-                    return Err(Ended);
-                }
-                Front::Part => return send(&mut self.answers, writer),
+                Front::TooLong => return self.end_at_long_line(writer),
+                Front::Part => return self.pending.send(writer),
             }
         }
+    }
+
+    // Answers a line that is too long. It ends the session.
+    fn end_at_long_line<W: Write>(&mut self, writer: &mut W) -> Result<(), Ended>
+        ensures { IsErr result }
+    {
+        self.pending.make_room(writer)?;
+        self.pending.put(writer, &refused(Refusal::LineTooLong))?;
+        self.pending.send(writer)?;
+        Err(Ended)
     }
 
     // Answers what stands after the last LF, if there is something. It is the last line.
     fn answer_rest<W: Write>(
         &mut self,
-        timeline: &mut Timeline,
+        desk: &mut Desk,
+        who: u32,
         writer: &mut W,
     ) -> Result<(), Ended>
-        ensures { IsErr result }
+        requires { IsPresent desk.old.debugger.sessions who }
+        ensures ended { IsErr result }
+        ensures asked { HasAsked desk.old who desk.new }
     {
         let line = self.lines.rest();
         if !line.is_empty() {
-            put_answer(timeline, &mut self.answers, line)?;
-            send(&mut self.answers, writer)?;
+            answer_line(desk, who, line, &mut self.pending, writer)?;
+            self.pending.send(writer)?;
         }
         Err(Ended)
     }

@@ -1,13 +1,15 @@
 -- The text of replies.
 use Rattle.std.specs.Prelude.{ℕ, zero, suc, ◌==◌, Bool, false, codes, decimal, List, [], ◌∷◌, ◌++◌}
-use Rattle.std.specs.Prelude.{length, Option, Some, None}
+use Rattle.std.specs.Prelude.{length, Option, Some, None, if◌then◌else◌}
 use Rattle.std.specs.List.{flat_map, zip}
 use Rattle.hex.specs.Hex.{encode_lower}
 use Rattle.rd_refusal.specs.declared.refusal.Refusal.{Refusal}
 use Rattle.rd_refusal.specs.declared.refusal.Refusal.TheVariants.{NoTask, TickLimit, TooFar}
 use Rattle.rd_refusal.specs.declared.refusal.Refusal.TheVariants.{NothingUndone, MovesFull, NoSuch}
 use Rattle.rd_refusal.specs.declared.refusal.Refusal.TheVariants.{BadEdit, NoMemory, Syntax}
-use Rattle.rd_refusal.specs.declared.refusal.Refusal.TheVariants.{LineTooLong}
+use Rattle.rd_refusal.specs.declared.refusal.Refusal.TheVariants.{LineTooLong, HistoryFull}
+use Rattle.rd_refusal.specs.declared.refusal.Refusal.TheVariants.{WatchesFull, NoWatch, NotHolder}
+use Rattle.rd_refusal.specs.declared.refusal.Refusal.TheVariants as refusal
 use Rattle.rd_app.specs.Application.{Application}
 use Rattle.rd_group.specs.GroupSnapshot.{GroupSnapshot}
 use Rattle.rd_group.specs.declared.wish.OnMet.{OnMet}
@@ -45,6 +47,7 @@ use Rattle.rd_reply.specs.declared.reply.Reply.{Reply}
 use Rattle.rd_reply.specs.declared.reply.Reply.TheVariants as answer
 use Rattle.rd_reply.specs.declared.reply.SearchEnd.{SearchEnd}
 use Rattle.rd_reply.specs.declared.reply.SearchEnd.TheVariants.{Met, Limit, Start}
+use Rattle.rd_reply.specs.declared.reply.WatchShown.{WatchShown}
 
 -- a text and its LF
 abbrev pub line_of : List ℕ → List ℕ
@@ -52,18 +55,24 @@ line_of text = text ++ 10 ∷ []
 
 -- ---- answers to moves, and refusals
 
--- the cause of a refusal, by its name; behind TooFar stands how many moves are done
+-- the cause of a refusal, by its name; behind TooFar stands how many moves are done, and behind
+-- Held which session has the wheel
 abbrev pub refusal_text : Refusal → List ℕ
 refusal_text NoTask = codes "NoTask"
 refusal_text TickLimit = codes "TickLimit"
 refusal_text (TooFar done) = codes "TooFar " ++ decimal done
 refusal_text NothingUndone = codes "NothingUndone"
 refusal_text MovesFull = codes "MovesFull"
+refusal_text (refusal.Held holder) = codes "Held " ++ decimal holder
 refusal_text NoSuch = codes "NoSuch"
 refusal_text BadEdit = codes "BadEdit"
+refusal_text HistoryFull = codes "HistoryFull"
 refusal_text NoMemory = codes "NoMemory"
 refusal_text Syntax = codes "Syntax"
 refusal_text LineTooLong = codes "LineTooLong"
+refusal_text WatchesFull = codes "WatchesFull"
+refusal_text NoWatch = codes "NoWatch"
+refusal_text NotHolder = codes "NotHolder"
 
 -- how many moves are done now
 abbrev pub done_text : ℕ → List ℕ
@@ -80,10 +89,25 @@ end_text Start = codes "start"
 abbrev pub moves_text : ℕ → ℕ → List ℕ
 moves_text done undone = codes "moves " ++ decimal done ++ codes " undone " ++ decimal undone
 
+-- which session has the wheel; `-` for nobody
+abbrev pub number_or_dash : Option ℕ → List ℕ
+number_or_dash None = codes "-"
+number_or_dash (Some number) = decimal number
+
+abbrev pub holder_text : Option ℕ → List ℕ
+holder_text holder = codes "wheel " ++ number_or_dash holder
+
+-- the number of a watch that is kept now, or was dropped
+abbrev pub watch_text : ℕ → List ℕ
+watch_text number = codes "ok watch " ++ decimal number
+
 abbrev pub reply_text : Reply → List ℕ
 reply_text (answer.Done at) = done_text at
 reply_text (answer.Ended at end) = done_text at ++ codes " " ++ end_text end
 reply_text (answer.Moves done undone) = moves_text done undone
+reply_text answer.Wheel = codes "ok wheel"
+reply_text (answer.Holder holder) = holder_text holder
+reply_text (answer.Watch number) = watch_text number
 reply_text (answer.Refused refusal) = codes "no " ++ refusal_text refusal
 
 -- ---- parts of views
@@ -304,3 +328,12 @@ task_text app name core task =
     codes "task " ++ name ++ codes " core " ++ running_core_text core
     ++ codes " pc " ++ decimal task.pc ++ codes " phase " ++ phase_text app task.phase
     ++ state_text task
+
+-- a watch, by its number, and whether its condition holds
+abbrev pub watch_shown_text : WatchShown → List ℕ
+watch_shown_text watch =
+    decimal watch.number ++ (if watch.holds then codes ":holds" else codes ":fails")
+
+-- the watches of a session
+abbrev pub watches_text : List WatchShown → List ℕ
+watches_text watches = codes "watches " ++ list_text watch_shown_text watches

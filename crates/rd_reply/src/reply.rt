@@ -10,7 +10,8 @@ ghost use Rattle.rd_reply.specs.Names.{name_at, name_or_dash};
 ghost use Rattle.rd_reply.specs.Names.{IsNamed, IsNamedOrNone, PlaceIsNamed};
 ghost use Rattle.rd_reply.specs.Names.{QueueIsNamed, QueueSetIsNamed, SeatedAreNamed};
 ghost use Rattle.rd_reply.specs.Replies.{line_of, refusal_text, reply_text, list_text};
-ghost use Rattle.rd_reply.specs.Replies.{done_text, end_text, moves_text};
+ghost use Rattle.rd_reply.specs.Replies.{done_text, end_text, holder_text, moves_text};
+ghost use Rattle.rd_reply.specs.Replies.{watch_shown_text, watch_text, watches_text};
 ghost use Rattle.rd_reply.specs.Replies.{bytes_text, comma_at};
 ghost use Rattle.rd_reply.specs.Replies.{cause_text, deadline_text, list_name, listed_text};
 ghost use Rattle.rd_reply.specs.Replies.{place_text};
@@ -50,7 +51,7 @@ pub enum SearchEnd {
 }
 
 /// What is answered to a command that makes moves or takes them back, to one that asks how many
-/// there are, or to one that is refused.
+/// there are, to one for the wheel or a watch, or to one that is refused.
 #[derive(Clone, Copy, Debug, PartialEq, Eq)]
 pub enum Reply {
     /// So many moves are done now.
@@ -59,8 +60,23 @@ pub enum Reply {
     Ended { at: usize, end: SearchEnd },
     /// So many moves are done, and so many undone. Nothing has changed.
     Moves { done: usize, undone: usize },
+    /// The wheel was taken, or given.
+    Wheel,
+    /// Which session has the wheel, or that nobody has it. Nothing has changed.
+    Holder { holder: Option<u32> },
+    /// The watch with this number is kept, or was dropped.
+    Watch { number: usize },
     /// Nothing has changed.
     Refused { refusal: Refusal },
+}
+
+/// What is shown of a watch.
+#[derive(Clone, Copy, Debug, PartialEq, Eq)]
+pub struct WatchShown {
+    /// Its number.
+    pub number: usize,
+    /// Whether its condition holds.
+    pub holds: bool,
 }
 
 /// How many bytes the line of a reply has at the most: a `moves N undone N` with two numbers of 20
@@ -115,11 +131,19 @@ fn append_refusal_reserved(page: &mut Vec<u8>, refusal: Refusal)
         }
         Refusal::NothingUndone => append_reserved(page, b"NothingUndone"),
         Refusal::MovesFull => append_reserved(page, b"MovesFull"),
+        Refusal::Held { holder } => {
+            append_reserved(page, b"Held ");
+            append_number_reserved(page, holder as usize);
+        }
         Refusal::NoSuch => append_reserved(page, b"NoSuch"),
         Refusal::BadEdit => append_reserved(page, b"BadEdit"),
+        Refusal::HistoryFull => append_reserved(page, b"HistoryFull"),
         Refusal::NoMemory => append_reserved(page, b"NoMemory"),
         Refusal::Syntax => append_reserved(page, b"Syntax"),
         Refusal::LineTooLong => append_reserved(page, b"LineTooLong"),
+        Refusal::WatchesFull => append_reserved(page, b"WatchesFull"),
+        Refusal::NoWatch => append_reserved(page, b"NoWatch"),
+        Refusal::NotHolder => append_reserved(page, b"NotHolder"),
     }
 }
 
@@ -161,6 +185,31 @@ fn append_moves_reserved(page: &mut Vec<u8>, done: usize, undone: usize)
     append_number_reserved(page, undone);
 }
 
+// Which session has the wheel; `-` for nobody.
+fn append_holder_reserved(page: &mut Vec<u8>, holder: Option<u32>)
+    requires { vec_len page.old + 6 + MAX_DIGITS ≤ vec_capacity page.old }
+    ensures text { page.new.items ≡ page.old.items ++ holder_text holder }
+    ensures len { vec_len page.new ≤ vec_len page.old + 6 + MAX_DIGITS }
+    ensures room { vec_capacity page.old ≤ vec_capacity page.new }
+{
+    append_reserved(page, b"wheel ");
+    match holder {
+        Some(holder) => append_number_reserved(page, holder as usize),
+        None => append_reserved(page, b"-"),
+    }
+}
+
+// Which watch it was.
+fn append_watch_reserved(page: &mut Vec<u8>, number: usize)
+    requires { vec_len page.old + 9 + MAX_DIGITS ≤ vec_capacity page.old }
+    ensures text { page.new.items ≡ page.old.items ++ watch_text number }
+    ensures len { vec_len page.new ≤ vec_len page.old + 9 + MAX_DIGITS }
+    ensures room { vec_capacity page.old ≤ vec_capacity page.new }
+{
+    append_reserved(page, b"ok watch ");
+    append_number_reserved(page, number);
+}
+
 /// Appends the line of a reply, which there is room for.
 pub fn append_reply_reserved(page: &mut Vec<u8>, reply: Reply)
     requires { vec_len page.old + MAX_REPLY ≤ vec_capacity page.old }
@@ -174,6 +223,9 @@ pub fn append_reply_reserved(page: &mut Vec<u8>, reply: Reply)
             append_end_reserved(page, end);
         }
         Reply::Moves { done, undone } => append_moves_reserved(page, done, undone),
+        Reply::Wheel => append_reserved(page, b"ok wheel"),
+        Reply::Holder { holder } => append_holder_reserved(page, holder),
+        Reply::Watch { number } => append_watch_reserved(page, number),
         Reply::Refused { refusal } => {
             append_reserved(page, b"no ");
             append_refusal_reserved(page, refusal);
@@ -636,6 +688,49 @@ fn append_ticks(page: &mut Page<'_>, state: &State)
     append_number(page, state.tick());
     page.append(" turn ");
     append_number(page, state.turn());
+}
+
+// A watch, by its number, and whether its condition holds.
+fn append_watch_shown(page: &mut Page<'_>, watch: WatchShown)
+    ensures { Appends page.old page.new (watch_shown_text watch) }
+{
+    append_number(page, watch.number);
+    page.append(if watch.holds { ":holds" } else { ":fails" });
+}
+
+fn append_watch_list(page: &mut Page<'_>, watches: &[WatchShown])
+    ensures { Appends page.old page.new (list_text watch_shown_text watches.now) }
+{
+    if watches.is_empty() {
+        return page.append("-");
+    }
+    for (index, watch) in watches.iter().enumerate() {
+        append_comma(page, index);
+        append_watch_shown(page, *watch);
+    }
+}
+
+// The line of a session's watches.
+fn append_watches(page: &mut Page<'_>, watches: &[WatchShown])
+    ensures { Appends page.old page.new (line_of (watches_text watches.now)) }
+{
+    page.append("watches ");
+    append_watch_list(page, watches);
+    page.append("\n");
+}
+
+/// Appends the view of a session's watches. An `Err` says that there is no memory for it, and comes
+/// only where the page has no room for it; the page may then have some part of it after what it
+/// had.
+pub fn show_watches(page: &mut Vec<u8>, watches: &[WatchShown]) -> Appended
+    ensures text { OnOk result (page.new.items
+        ≡ page.old.items ++ line_of (watches_text watches.now)) }
+    ensures full { OnErr result (LacksRoom page.old (line_of (watches_text watches.now))) }
+    ensures kept { KeepsFront page.old page.new }
+{
+    let mut line = Page::new(page);
+    append_watches(&mut line, watches);
+    line.end()
 }
 
 /// The core that the task runs on, if it runs.

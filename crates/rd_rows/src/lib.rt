@@ -12,6 +12,8 @@ mod buffers;
 #[cfg(test)]
 mod conditions;
 #[cfg(test)]
+mod desk;
+#[cfg(test)]
 mod edits;
 #[cfg(test)]
 mod groups;
@@ -37,3 +39,5 @@ mod runs;
 mod streams;
 #[cfg(test)]
 mod tasks;
+#[cfg(test)]
+mod watches;

@@ -86,7 +86,7 @@ fn assert_runs<H: Files + AllocGlobal + Abort>(
     Ok(())
 }
 
-const BAD_COMMAND_LINES: [&[&str]; 12] = [
+const BAD_COMMAND_LINES: [&[&str]; 17] = [
     &["", "", ""],
     &["fly"],
     &["--moves", "3"],
@@ -96,12 +96,23 @@ const BAD_COMMAND_LINES: [&[&str]; 12] = [
     &["run", "--moves", "many"],
     &["run", "--moves"],
     &["run", "--moves", "3", "--moves", "3"],
+    &["run", "--history", "1"],
+    &["run", "--history", "1000001"],
+    &["run", "--history", "all"],
+    &["run", "--history"],
+    &["--history", "4"],
     &["run", "--app"],
     &["run", "--fast"],
     &["run", "file.json"],
 ];
 
-const DEFAULTS: [&[&str]; 3] = [&[], &["run"], &["run", "--moves", "1000000"]];
+const DEFAULTS: [&[&str]; 5] = [
+    &[],
+    &["run"],
+    &["run", "--moves", "1000000"],
+    &["run", "--history", "1000000"],
+    &["run", "--history", "4", "--moves", "1"],
+];
 
 const ONE_MOVE: [&[&str]; 3] = [
     &["run", "--moves=1"],
@@ -161,9 +172,10 @@ const HELP_OF_RUN: &str = "Answers commands from standard input
 Usage: rdbg run [OPTIONS]
 
 Options:
-      --app <FILE>     The application file [default: the built-in application]
-      --moves <COUNT>  How many moves may be done at a time, 1 to 1000000 [default: 100000]
-  -h, --help           Print help
+      --app <FILE>       The application file [default: the built-in application]
+      --moves <COUNT>    How many moves may be done at a time, 1 to 1000000 [default: 100000]
+      --history <COUNT>  How many entries the history may have, 2 to 1000000 [default: 100000]
+  -h, --help             Print help
 ";
 
 #[test]

@@ -1,4 +1,4 @@
--- Where nothing is wrong with the words, `clap` finds moves among the options, and as many as may be.
+-- Where nothing is wrong with the words, `clap` finds moves and a history among the options, and as many as may be.
 use Rattle.std.proofs.Common.{◌≡◌, ◌⊎◌, ◌∙◌, ◌&&◌, ◌||◌, ◌==◌, ◌++◌, ℕ, zero, suc, Bool, true, false, not, cond, List, [], ◌∷◌, length, drop, Option, Some, None}
 use Rattle.std.proofs.Common.{IfSome, is_some, option_and_then, option_map, find, fold, codes, slice_get, encode_utf8, inl, inr, ap, arith, eqb-true, refl, subst, sym, true≢false}
 use Rattle.std.specs.Prelude.{⊤}
@@ -14,6 +14,7 @@ use Rattle.clap.specs.Walk.{after_flag, after_step, answers_to, arg_by_id, arg_b
 use Rattle.clap.specs.Walk.{flag_met, has_row, is_pending, long_met, long_or_other, more_values, nothing_held, option_met, option_word, plain_word, reacted}
 use Rattle.clap.specs.Walk.{row_text, rows_after, settled, settled_rows, short_met, short_or_plain, subcommand_met, subcommand_or_other, takes_several, takes_values}
 use Rattle.clap.specs.Walk.{to_positional, used, used_by_id, values_or_missing, walk, walk_from, walked, walked_from, with_default, without, word_met}
+use Rattle.clap.specs.Walk.{default_rows, reading_by}
 use Rattle.clap.specs.Simple.{entered, label_of, names_of, new_shape, rows_at}
 use Rattle.clap.specs.Kinds.{or_else, range_kinds}
 use Rattle.clap.specs.Faults.{bundle_fault, bundle_step_fault, check_fault, defaults_fault, entered_fault, flag_word_fault, flags_fault, level_fault, long_fault, option_fault}
@@ -21,9 +22,10 @@ use Rattle.clap.specs.Faults.{other_fault, positional_fault, react_fault, settle
 use Rattle.clap.specs.declared.error.kind.ErrorKind.{ErrorKind}
 use Rattle.clap.specs.declared.error.kind.ErrorKind.TheVariants as kind
 use Rattle.clap.specs.declared.builder.value_parser.ValueParser.TheVariants.{Unsigned}
+use Rattle.clap.specs.declared.parser.matches.ValueSource.{ValueSource}
 use Rattle.clap.specs.declared.parser.matches.ValueSource.TheVariants.{CommandLine, DefaultValue}
 use Rattle.clap.proofs.ValueTestLemmas.{accepts-Accepts}
-use Rattle.rd_start.specs.Requests.{HasMoves, command_line, faults_of, options_in, options_of}
+use Rattle.rd_start.specs.Requests.{HasLimits, HasNumber, command_line, faults_of, options_in, options_of}
 
 -- ---- steps that all pass
 
@@ -304,77 +306,23 @@ app_rule = rule_at 0 run_shape.rules
 abbrev moves_rule : Rule
 moves_rule = rule_at 1 run_shape.rules
 
+abbrev history_rule : Rule
+history_rule = rule_at 2 run_shape.rules
+
 abbrev help_flag : Rule
-help_flag = rule_at 2 run_shape.rules
+help_flag = rule_at 3 run_shape.rules
 
--- ---- the row of moves: its one value is a number within the limits
+-- An option of one number, as those of moves and history are.
+abbrev number_rule : Text → ℕ → Rule
+number_rule name least = record moves_rule { id = name; long = Some name; parser = Some (Unsigned least 1000000) }
 
-abbrev is_moves : Row → Bool
-is_moves r = bytes_eq r.id (codes "moves")
+moves_are_one : moves_rule ≡ number_rule (codes "moves") 1
+moves_are_one = refl
 
-abbrev IsGoodRow : Row → Type 0
-IsGoodRow r = (text : Text) × (row_text r ≡ Some text) × IsUnsignedIn 1 1000000 text
+history_is_one : history_rule ≡ number_rule (codes "history") 2
+history_is_one = refl
 
-abbrev Good : List Row → Type 0
-Good rows = IfSome (find is_moves rows) IsGoodRow
-
-neither_holds : (a b : Bool) → (a || b) ≡ false → (a ≡ false) × (b ≡ false)
-neither_holds true b e = absurd (true≢false e)
-neither_holds false b e = (refl, e)
-
-not_moves : (r : Row) → bytes_eq r.id (codes "app") ≡ true → is_moves r ≡ false
-not_moves r e = ap (λ (id : Text). bytes_eq id (codes "moves")) ((bytes_eq-Decides r.id (codes "app")).0 e)
-
--- a change of the application's row changes none of moves
-other_row : (change : Row → List Row) (r : Row) (rest after : List Row) → find is_moves after ≡ find is_moves rest
-    → ((t : Row) (ts : List Row) → is_moves t ≡ false → find is_moves (change t ++ ts) ≡ find is_moves ts) → (b : Bool)
-    → bytes_eq r.id (codes "app") ≡ b → find is_moves (cond b (change r ++ rest) (r ∷ after)) ≡ cond (is_moves r) (Some r) (find is_moves rest)
-other_row change r rest after same stay true e =
-    let other = not_moves r e in
-    stay r rest other ∙ sym (ap (λ (b : Bool). cond b (Some r) (find is_moves rest)) other)
-other_row change r rest after same stay false e = ap (λ (o : Option Row). cond (is_moves r) (Some r) o) same
-
-others_stay : (change : Row → List Row) (missing rows : List Row) → find is_moves missing ≡ None
-    → ((t : Row) (ts : List Row) → is_moves t ≡ false → find is_moves (change t ++ ts) ≡ find is_moves ts)
-    → find is_moves (at_row (codes "app") change missing rows) ≡ find is_moves rows
-others_stay change missing [] none stay = none
-others_stay change missing (r ∷ rest) none stay =
-    other_row change r rest _ (others_stay change missing rest none stay) stay (bytes_eq r.id (codes "app")) refl
-
-used_beside : (change : Row → List Row) (missing rows : List Row) → find is_moves missing ≡ None
-    → ((t : Row) (ts : List Row) → is_moves t ≡ false → find is_moves (change t ++ ts) ≡ find is_moves ts) → Good rows
-    → Good (at_row (codes "app") change missing (without (codes "app") rows))
-used_beside change missing rows none stay good =
-    let same = others_stay change missing (without (codes "app") rows) none stay
-    ∙ others_stay (λ (_ : Row). []) [] rows refl (λ t ts other. refl) in
-    subst (λ (o : Option Row). IfSome o IsGoodRow) (sym same) good
-
-app_keeps : (values : List Text) (rows : List Row) → Good rows → Good (used app_rule values rows)
-app_keeps values rows good =
-    used_beside (more_values CommandLine (values_or_missing app_rule values)) _ rows refl (λ t ts other. rw other refl) good
-
--- a row that comes where none was
-left_alone : (rows : List Row) → has_row (codes "moves") rows ≡ false → without (codes "moves") rows ≡ rows
-left_alone [] none = refl
-left_alone (r ∷ rest) none =
-    let parts = neither_holds (is_moves r) _ none in
-    ap (λ (b : Bool). cond b rest (r ∷ without (codes "moves") rest)) parts.0 ∙ ap (λ (t : List Row). r ∷ t) (left_alone rest parts.1)
-
-added_row : (change : Row → List Row) (row : Row) (rows : List Row) → is_moves row ≡ true → has_row (codes "moves") rows ≡ false
-    → find is_moves (at_row (codes "moves") change (row ∷ []) rows) ≡ Some row
-added_row change row [] is none = ap (λ (b : Bool). cond b (Some row) None) is
-added_row change row (r ∷ rest) is none =
-    let parts = neither_holds (is_moves r) _ none in
-    ap (λ (b : Bool). find is_moves (cond b (change r ++ rest) (r ∷ at_row (codes "moves") change (row ∷ []) rest))) parts.0
-    ∙ (ap (λ (b : Bool). cond b (Some r) (find is_moves (at_row (codes "moves") change (row ∷ []) rest))) parts.0
-    ∙ added_row change row rest is parts.1)
-
-used_first : (change : Row → List Row) (row : Row) (rows : List Row) → is_moves row ≡ true → IsGoodRow row → has_row (codes "moves") rows ≡ false
-    → Good (at_row (codes "moves") change (row ∷ []) (without (codes "moves") rows))
-used_first change row rows is good none =
-    let same = ap (λ (rs : List Row). find is_moves (at_row (codes "moves") change (row ∷ []) rs)) (left_alone rows none)
-    ∙ added_row change row rows is none in
-    subst (λ (o : Option Row). IfSome o IsGoodRow) (sym same) good
+-- ---- what is asked of the values of an option
 
 one_value : (n : ℕ) → range_kinds 1 1 n ≡ [] → n ≡ 1
 one_value n e = go (n == 0) (1 == n) refl e
@@ -393,81 +341,16 @@ it_passes : (b : Bool) → or_else (cond b [] (kind.ValueValidation ∷ [])) [] 
 it_passes true e = refl
 it_passes false e = absurd (none_of kind.ValueValidation e)
 
-moves_keep : (values : List Text) (rows : List Row) → use_fault false moves_rule values rows ≡ [] → Good (used moves_rule values rows)
-moves_keep [] rows e = absurd (none_of kind.InvalidValue e)
-moves_keep (v ∷ u ∷ rest) rows e =
-    let one = one_value (length (v ∷ u ∷ rest)) (neither (range_kinds 1 1 (length (v ∷ u ∷ rest))) _ e).0 in
-    absurd (omega arith)
-moves_keep (v ∷ []) rows e =
-    let parts = neither (cond (has_row (codes "moves") rows && true) (kind.ArgumentConflict ∷ []) []) _ e in
-    let none = not_there (has_row (codes "moves") rows) parts.0 in
-    let passed = it_passes (accepts false (Unsigned 1 1000000) v) parts.1 in
-    used_first (more_values CommandLine (v ∷ [])) _ rows refl (v, refl, accepts-Accepts false (Unsigned 1 1000000) v passed) none
-
 help_fails : (values : List Text) (rows : List Row) → use_fault false help_flag values rows ≡ [] → ⊥
 help_fails values rows e = none_of kind.DisplayHelp (neither (range_kinds 0 0 (length values)) _ e).1
 
-among : {X : Type 0} (q : X → Bool) (x y z a : X) → find q (x ∷ y ∷ z ∷ []) ≡ Some a → (a ≡ x) ⊎ ((a ≡ y) ⊎ (a ≡ z))
-among q x y z a is = go (q x) (q y) (q z) is
-  where
-    go : (b c d : Bool) → cond b (Some x) (cond c (Some y) (cond d (Some z) None)) ≡ Some a → (a ≡ x) ⊎ ((a ≡ y) ⊎ (a ≡ z))
-    go true c d e = inl cc
-    go false true d e = inr (inl cc)
-    go false false true e = inr (inr cc)
-    go false false false e = absurd cc
-
-abbrev Keeps : List Text → List Row → Rule → Type 0
-Keeps values rows a = use_fault false a values rows ≡ [] → Good rows → Good (used a values rows)
-
-run_keeps : (q : Rule → Bool) (a : Rule) (values : List Text) (rows : List Row) → find q run_shape.rules ≡ Some a
-    → use_fault run_shape.args_override_self a values rows ≡ [] → Good rows → Good (used a values rows)
-run_keeps q a values rows is = elim (among q app_rule moves_rule help_flag a is) [
-  | inl same ↦ subst (Keeps values rows) (sym same) (λ e good. app_keeps values rows good)
-  | inr more ↦ elim more [
-    | inl same ↦ subst (Keeps values rows) (sym same) (λ e good. moves_keep values rows e)
-    | inr same ↦ subst (Keeps values rows) (sym same) (λ e good. absurd (help_fails values rows e))
-  ]
-]
-
--- ---- at the end of `run`, its default where no row of moves is there
-
-from_row : (rows : List Row) (r : Row) → find is_moves rows ≡ Some r → IsGoodRow r → HasMoves rows
-from_row rows r e good = (good.0, ap (option_and_then row_text) e ∙ good.1, good.2)
-
-found_if : (rows : List Row) → has_row (codes "moves") rows ≡ true → find is_moves rows ≡ None → ⊥
-found_if [] e none = true≢false (sym e)
-found_if (r ∷ rest) e none = go (is_moves r) (found_if rest) e none
-  where
-    go : (b : Bool) → (list_any is_moves rest ≡ true → find is_moves rest ≡ None → ⊥) → (b || list_any is_moves rest) ≡ true
-        → cond b (Some r) (find is_moves rest) ≡ None → ⊥
-    go true then e none = cc
-    go false then e none = then e none
-
-there : (rows : List Row) → has_row (codes "moves") rows ≡ true → Good rows → HasMoves rows
-there rows e good = go (find is_moves rows) refl good
-  where
-    go : (o : Option Row) → find is_moves rows ≡ o → IfSome o IsGoodRow → HasMoves rows
-    go None none good = absurd (found_if rows e none)
-    go (Some r) is good = from_row rows r is good
-
-by_default : (change : Row → List Row) (row : Row) (rows : List Row) → is_moves row ≡ true → IsGoodRow row → has_row (codes "moves") rows ≡ false
-    → HasMoves (at_row (codes "moves") change (row ∷ []) rows)
-by_default change row rows is good none = from_row (at_row (codes "moves") change (row ∷ []) rows) row (added_row change row rows is none) good
-
-one_or_other : (rows other : List Row) (b : Bool) → (b ≡ true → HasMoves rows) → (b ≡ false → HasMoves other) → HasMoves (cond b rows other)
-one_or_other rows other true h d = h refl
-one_or_other rows other false h d = d refl
+neither_holds : (a b : Bool) → (a || b) ≡ false → (a ≡ false) × (b ≡ false)
+neither_holds true b e = absurd (true≢false e)
+neither_holds false b e = (refl, e)
 
 same_either : (b : Bool) (rows : List Row) → cond b rows rows ≡ rows
 same_either true rows = refl
 same_either false rows = refl
-
-default_number : IsUnsignedIn 1 1000000 (codes "100000")
-default_number = accepts-Accepts false (Unsigned 1 1000000) (codes "100000") refl
-
-moves_added : (rows : List Row) → Good rows → HasMoves (with_default rows moves_rule)
-moves_added rows good = one_or_other rows _ (has_row (codes "moves") rows) (λ e. there rows e good)
-    (λ none. by_default (more_values DefaultValue (codes "100000" ∷ [])) _ rows refl (codes "100000", refl, default_number) none)
 
 app_adds_none : (rows : List Row) → with_default rows app_rule ≡ rows
 app_adds_none rows = same_either (has_row (codes "app") rows) rows
@@ -475,16 +358,232 @@ app_adds_none rows = same_either (has_row (codes "app") rows) rows
 help_adds_none : (rows : List Row) → with_default rows help_flag ≡ rows
 help_adds_none rows = same_either (has_row (codes "help") rows) rows
 
-at_end : (rows : List Row) → Good rows → HasMoves (with_default (with_default (with_default rows app_rule) moves_rule) help_flag)
-at_end rows good =
-    let here = moves_added (with_default rows app_rule) (subst Good (sym (app_adds_none rows)) good) in
-    subst HasMoves (sym (help_adds_none (with_default (with_default rows app_rule) moves_rule))) here
+-- ---- the row of a number's option: its one value is a number within the limits
 
-in_run : (words : List Text) → level_fault run_shape [] nothing_held words false [] ≡ [] → HasMoves (rows_after run_shape.rules [] words)
+module _ (name : Text) (least : ℕ) where
+  abbrev is_it : Row → Bool
+  is_it r = bytes_eq r.id name
+
+  abbrev IsGoodRow : Row → Type 0
+  IsGoodRow r = (text : Text) × (row_text r ≡ Some text) × IsUnsignedIn least 1000000 text
+
+  abbrev Good : List Row → Type 0
+  Good rows = IfSome (find is_it rows) IsGoodRow
+
+  abbrev Stays : (Row → List Row) → Type 0
+  Stays change = (t : Row) (ts : List Row) → is_it t ≡ false → find is_it (change t ++ ts) ≡ find is_it ts
+
+  more_stay : (source : ValueSource) (values : List Text) → Stays (more_values source values)
+  more_stay source values t ts other = rw other refl
+
+  none_stay : Stays (λ (_ : Row). [])
+  none_stay t ts other = refl
+
+  not_it : (other : Text) (r : Row) → bytes_eq other name ≡ false → bytes_eq r.id other ≡ true → is_it r ≡ false
+  not_it other r differs e = ap (λ (id : Text). bytes_eq id name) ((bytes_eq-Decides r.id other).0 e) ∙ differs
+
+  absent : (row : Row) → is_it row ≡ false → find is_it (row ∷ []) ≡ None
+  absent row e = ap (λ (b : Bool). cond b (Some row) None) e
+
+  -- a change of another option's row leaves this one
+  other_row : (other : Text) (change : Row → List Row) (r : Row) (rest after : List Row) → bytes_eq other name ≡ false
+      → find is_it after ≡ find is_it rest → Stays change → (b : Bool) → bytes_eq r.id other ≡ b
+      → find is_it (cond b (change r ++ rest) (r ∷ after)) ≡ cond (is_it r) (Some r) (find is_it rest)
+  other_row other change r rest after differs same stay true e =
+      let it = not_it other r differs e in
+      stay r rest it ∙ sym (ap (λ (b : Bool). cond b (Some r) (find is_it rest)) it)
+  other_row other change r rest after differs same stay false e = ap (λ (o : Option Row). cond (is_it r) (Some r) o) same
+
+  others_stay : (other : Text) (change : Row → List Row) (missing rows : List Row) → bytes_eq other name ≡ false → find is_it missing ≡ None
+      → Stays change → find is_it (at_row other change missing rows) ≡ find is_it rows
+  others_stay other change missing [] differs none stay = none
+  others_stay other change missing (r ∷ rest) differs none stay =
+      other_row other change r rest _ differs (others_stay other change missing rest differs none stay) stay (bytes_eq r.id other) refl
+
+  other_keeps : (other : Text) (values : List Text) (row : Row) (rows : List Row) → bytes_eq other name ≡ false → is_it row ≡ false → Good rows
+      → Good (at_row other (more_values CommandLine values) (row ∷ []) (without other rows))
+  other_keeps other values row rows differs new good =
+      let change = more_values CommandLine values in
+      let same = others_stay other change (row ∷ []) (without other rows) differs (absent row new) (more_stay CommandLine values)
+      ∙ others_stay other (λ (_ : Row). []) [] rows differs refl none_stay in
+      subst (λ (o : Option Row). IfSome o IsGoodRow) (sym same) good
+
+  -- a row that comes where none was
+  left_alone : (rows : List Row) → has_row name rows ≡ false → without name rows ≡ rows
+  left_alone [] none = refl
+  left_alone (r ∷ rest) none =
+      let parts = neither_holds (is_it r) _ none in
+      ap (λ (b : Bool). cond b rest (r ∷ without name rest)) parts.0 ∙ ap (λ (t : List Row). r ∷ t) (left_alone rest parts.1)
+
+  added_row : (change : Row → List Row) (row : Row) (rows : List Row) → is_it row ≡ true → has_row name rows ≡ false
+      → find is_it (at_row name change (row ∷ []) rows) ≡ Some row
+  added_row change row [] is none = ap (λ (b : Bool). cond b (Some row) None) is
+  added_row change row (r ∷ rest) is none =
+      let parts = neither_holds (is_it r) _ none in
+      ap (λ (b : Bool). find is_it (cond b (change r ++ rest) (r ∷ at_row name change (row ∷ []) rest))) parts.0
+      ∙ (ap (λ (b : Bool). cond b (Some r) (find is_it (at_row name change (row ∷ []) rest))) parts.0
+      ∙ added_row change row rest is parts.1)
+
+  used_first : (change : Row → List Row) (row : Row) (rows : List Row) → is_it row ≡ true → IsGoodRow row → has_row name rows ≡ false
+      → Good (at_row name change (row ∷ []) (without name rows))
+  used_first change row rows is good none =
+      let same = ap (λ (rs : List Row). find is_it (at_row name change (row ∷ []) rs)) (left_alone rows none)
+      ∙ added_row change row rows is none in
+      subst (λ (o : Option Row). IfSome o IsGoodRow) (sym same) good
+
+  is_itself : bytes_eq name name ≡ true
+  is_itself = (bytes_eq-Decides name name).1 refl
+
+  number_keeps : (values : List Text) (rows : List Row) → use_fault false (number_rule name least) values rows ≡ []
+      → Good (used (number_rule name least) values rows)
+  number_keeps [] rows e = absurd (none_of kind.InvalidValue e)
+  number_keeps (v ∷ u ∷ rest) rows e =
+      let one = one_value (length (v ∷ u ∷ rest)) (neither (range_kinds 1 1 (length (v ∷ u ∷ rest))) _ e).0 in
+      absurd (omega arith)
+  number_keeps (v ∷ []) rows e =
+      let parts = neither (cond (has_row name rows && true) (kind.ArgumentConflict ∷ []) []) _ e in
+      let none = not_there (has_row name rows) parts.0 in
+      let passed = it_passes (accepts false (Unsigned least 1000000) v) parts.1 in
+      used_first (more_values CommandLine (v ∷ [])) _ rows is_itself (v, refl, accepts-Accepts false (Unsigned least 1000000) v passed) none
+
+  -- ---- at the end, its default where no row of it is there
+
+  from_row : (rows : List Row) (r : Row) → find is_it rows ≡ Some r → IsGoodRow r → HasNumber name least rows
+  from_row rows r e good = (good.0, ap (option_and_then row_text) e ∙ good.1, good.2)
+
+  found_if : (rows : List Row) → has_row name rows ≡ true → find is_it rows ≡ None → ⊥
+  found_if [] e none = true≢false (sym e)
+  found_if (r ∷ rest) e none = go (is_it r) (found_if rest) e none
+    where
+      go : (b : Bool) → (list_any is_it rest ≡ true → find is_it rest ≡ None → ⊥) → (b || list_any is_it rest) ≡ true
+          → cond b (Some r) (find is_it rest) ≡ None → ⊥
+      go true then e none = cc
+      go false then e none = then e none
+
+  there : (rows : List Row) → has_row name rows ≡ true → Good rows → HasNumber name least rows
+  there rows e good = go (find is_it rows) refl good
+    where
+      go : (o : Option Row) → find is_it rows ≡ o → IfSome o IsGoodRow → HasNumber name least rows
+      go None none good = absurd (found_if rows e none)
+      go (Some r) is good = from_row rows r is good
+
+  by_default : (change : Row → List Row) (row : Row) (rows : List Row) → is_it row ≡ true → IsGoodRow row → has_row name rows ≡ false
+      → HasNumber name least (at_row name change (row ∷ []) rows)
+  by_default change row rows is good none = from_row (at_row name change (row ∷ []) rows) row (added_row change row rows is none) good
+
+  one_or_other : (rows other : List Row) (b : Bool) → (b ≡ true → HasNumber name least rows) → (b ≡ false → HasNumber name least other)
+      → HasNumber name least (cond b rows other)
+  one_or_other rows other true h d = h refl
+  one_or_other rows other false h d = d refl
+
+  number_added : (rows : List Row) → IsUnsignedIn least 1000000 (codes "100000") → Good rows
+      → HasNumber name least (with_default rows (number_rule name least))
+  number_added rows default good = one_or_other rows _ (has_row name rows) (λ e. there rows e good)
+      (λ none. by_default (more_values DefaultValue (codes "100000" ∷ [])) _ rows is_itself (codes "100000", refl, default) none)
+
+  -- another option's default leaves it
+  default_stays : (other : Text) (from : ℕ) (rows : List Row) → bytes_eq other name ≡ false
+      → find is_it (with_default rows (number_rule other from)) ≡ find is_it rows
+  default_stays other from rows differs = go (has_row other rows)
+    where
+      go : (b : Bool) → find is_it (cond b rows (default_rows other (reading_by (number_rule other from)) (codes "100000" ∷ []) rows))
+          ≡ find is_it rows
+      go true = refl
+      go false = others_stay other (more_values DefaultValue (codes "100000" ∷ [])) _ rows differs (absent _ differs)
+          (more_stay DefaultValue (codes "100000" ∷ []))
+
+  good_stays : (other : Text) (from : ℕ) (rows : List Row) → bytes_eq other name ≡ false → Good rows
+      → Good (with_default rows (number_rule other from))
+  good_stays other from rows differs good =
+      subst (λ (o : Option Row). IfSome o IsGoodRow) (sym (default_stays other from rows differs)) good
+
+  has_stays : (other : Text) (from : ℕ) (rows : List Row) → bytes_eq other name ≡ false → HasNumber name least rows
+      → HasNumber name least (with_default rows (number_rule other from))
+  has_stays other from rows differs has =
+      (has.0, ap (option_and_then row_text) (default_stays other from rows differs) ∙ has.1, has.2)
+
+-- ---- the words behind `run`
+
+among : {X : Type 0} (q : X → Bool) (x y z w a : X) → find q (x ∷ y ∷ z ∷ w ∷ []) ≡ Some a → (a ≡ x) ⊎ ((a ≡ y) ⊎ ((a ≡ z) ⊎ (a ≡ w)))
+among q x y z w a is = go (q x) (q y) (q z) (q w) is
+  where
+    go : (b c d e : Bool) → cond b (Some x) (cond c (Some y) (cond d (Some z) (cond e (Some w) None))) ≡ Some a
+        → (a ≡ x) ⊎ ((a ≡ y) ⊎ ((a ≡ z) ⊎ (a ≡ w)))
+    go true c d e is = inl cc
+    go false true d e is = inr (inl cc)
+    go false false true e is = inr (inr (inl cc))
+    go false false false true is = inr (inr (inr cc))
+    go false false false false is = absurd cc
+
+abbrev Keeps : (List Row → Type 0) → List Text → List Row → Rule → Type 0
+Keeps P values rows a = use_fault false a values rows ≡ [] → P rows → P (used a values rows)
+
+-- what each of the four arguments keeps, a walk keeps
+each_keeps : (P : List Row → Type 0) (values : List Text) (rows : List Row) → Keeps P values rows app_rule → Keeps P values rows moves_rule
+    → Keeps P values rows history_rule → (q : Rule → Bool) (a : Rule) → find q run_shape.rules ≡ Some a → Keeps P values rows a
+each_keeps P values rows app moves history q a is = elim (among q app_rule moves_rule history_rule help_flag a is) [
+  | inl same ↦ subst (Keeps P values rows) (sym same) app
+  | inr more ↦ elim more [
+    | inl same ↦ subst (Keeps P values rows) (sym same) moves
+    | inr rest ↦ elim rest [
+      | inl same ↦ subst (Keeps P values rows) (sym same) history
+      | inr same ↦ subst (Keeps P values rows) (sym same) (λ e good. absurd (help_fails values rows e))
+    ]
+  ]
+]
+
+abbrev GoodMoves : List Row → Type 0
+GoodMoves = Good (codes "moves") 1
+
+abbrev GoodHistory : List Row → Type 0
+GoodHistory = Good (codes "history") 2
+
+moves_kept : (q : Rule → Bool) (a : Rule) (values : List Text) (rows : List Row) → find q run_shape.rules ≡ Some a
+    → use_fault run_shape.args_override_self a values rows ≡ [] → GoodMoves rows → GoodMoves (used a values rows)
+moves_kept q a values rows is =
+    each_keeps GoodMoves values rows
+    (λ e good. other_keeps (codes "moves") 1 (codes "app") (values_or_missing app_rule values) _ rows refl refl good)
+    (λ e good. number_keeps (codes "moves") 1 values rows e)
+    (λ e good. other_keeps (codes "moves") 1 (codes "history") (values_or_missing history_rule values) _ rows refl refl good)
+    q a is
+
+history_kept : (q : Rule → Bool) (a : Rule) (values : List Text) (rows : List Row) → find q run_shape.rules ≡ Some a
+    → use_fault run_shape.args_override_self a values rows ≡ [] → GoodHistory rows → GoodHistory (used a values rows)
+history_kept q a values rows is =
+    each_keeps GoodHistory values rows
+    (λ e good. other_keeps (codes "history") 2 (codes "app") (values_or_missing app_rule values) _ rows refl refl good)
+    (λ e good. other_keeps (codes "history") 2 (codes "moves") (values_or_missing moves_rule values) _ rows refl refl good)
+    (λ e good. number_keeps (codes "history") 2 values rows e)
+    q a is
+
+many_moves : IsUnsignedIn 1 1000000 (codes "100000")
+many_moves = accepts-Accepts false (Unsigned 1 1000000) (codes "100000") refl
+
+many_entries : IsUnsignedIn 2 1000000 (codes "100000")
+many_entries = accepts-Accepts false (Unsigned 2 1000000) (codes "100000") refl
+
+with_all_defaults : (rows : List Row) → GoodMoves rows → GoodHistory rows → HasLimits (with_default (with_default rows moves_rule) history_rule)
+with_all_defaults rows moves history = record {
+  moves = has_stays (codes "moves") 1 (codes "history") 2 (with_default rows moves_rule) refl
+      (number_added (codes "moves") 1 rows many_moves moves);
+  history = number_added (codes "history") 2 (with_default rows moves_rule) many_entries
+      (good_stays (codes "history") 2 (codes "moves") 1 rows refl history);
+}
+
+at_end : (rows : List Row) → GoodMoves rows → GoodHistory rows
+    → HasLimits (with_default (with_default (with_default (with_default rows app_rule) moves_rule) history_rule) help_flag)
+at_end rows moves history =
+    let same = sym (app_adds_none rows) in
+    let here = with_all_defaults (with_default rows app_rule) (subst GoodMoves same moves) (subst GoodHistory same history) in
+    subst HasLimits (sym (help_adds_none (with_default (with_default (with_default rows app_rule) moves_rule) history_rule))) here
+
+in_run : (words : List Text) → level_fault run_shape [] nothing_held words false [] ≡ [] → HasLimits (rows_after run_shape.rules [] words)
 in_run words e =
     let parts = neither (walk_fault run_shape [] (walk_from nothing_held) words) _ e in
     let more = neither (settle_fault run_shape.rules false (walk run_shape.rules [] nothing_held words).held) _ parts.1 in
-    at_end (settled run_shape.rules (walk run_shape.rules [] nothing_held words).held).rows (level_keeps run_shape [] Good run_keeps words parts.0 more.0 tt)
+    at_end (settled run_shape.rules (walk run_shape.rules [] nothing_held words).held).rows
+    (level_keeps run_shape [] GoodMoves moves_kept words parts.0 more.0 tt)
+    (level_keeps run_shape [] GoodHistory history_kept words parts.0 more.0 tt)
 
 -- ---- the whole command line
 
@@ -504,21 +603,21 @@ not_help name other e =
 in_either : (words : List Text) (x y : Bool) → (y ≡ true → ⊥)
     → option_map_or (λ s. level_fault s [] nothing_held words false []) (cond x (Some run_shape) (cond y (Some help_command) None)) [] ≡ []
     → is_some (option_map (λ s. rows_at s words) (cond x (Some run_shape) (cond y (Some help_command) None))) ≡ true
-    → HasMoves (options_of (option_map (λ s. rows_at s words) (cond x (Some run_shape) (cond y (Some help_command) None))))
+    → HasLimits (options_of (option_map (λ s. rows_at s words) (cond x (Some run_shape) (cond y (Some help_command) None))))
 in_either words true y other e some = in_run words e
 in_either words false true other e some = absurd (other refl)
 in_either words false false other e some = absurd (true≢false (sym some))
 
 at_stop : (stop : Option (Text × List Text)) → EndsElsewhere stop → entered_fault line stop ≡ [] → is_some (entered line stop) ≡ true
-    → HasMoves (options_of (entered line stop))
+    → HasLimits (options_of (entered line stop))
 at_stop None elsewhere e some = absurd (true≢false (sym some))
 at_stop (Some p) elsewhere e some =
     in_either p.1 (answers_to p.0 (label_of run_shape)) (answers_to p.0 (label_of help_command)) (not_help p.0 elsewhere) e some
 
--- Words with which nothing is wrong give a number of moves within the limits.
-pub moves_always : (words : List Text) → faults_of words ≡ [] → HasMoves (options_in words)
+-- Words with which nothing is wrong give moves and a history within the limits.
+pub limits_always : (words : List Text) → faults_of words ≡ [] → HasLimits (options_in words)
 unfolding faults_of options_in
-moves_always words e =
+limits_always words e =
     let end = walk line.top.rules (names_of line) nothing_held words in
     let first = neither (walk_fault line.top (names_of line) (walk_from nothing_held) words) _ e in
     let below = neither (entered_fault line end.stopped) _ first.1 in

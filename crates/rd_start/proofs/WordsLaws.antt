@@ -10,8 +10,8 @@ use Rattle.clap.specs.declared.parser.matches.ArgMatches.{ArgMatches}
 use Rattle.clap.specs.declared.parser.matches.Found.{Found}
 use Rattle.clap.proofs.OnLiterals.{clap_on_literals}
 use Rattle.clap.proofs.WalkLemmas.{first_value-rows, one_text-rows}
-use Rattle.rd_start.specs.Requests.{AreSettingsIn, HasMoves, IsAskedBy, IsFaultOfError, IsFaultOfWords, IsHelp, command_line}
-use Rattle.rd_start.specs.Requests.{faults_of, moves_asked, options_in, options_of, words_read}
+use Rattle.rd_start.specs.Requests.{AreSettingsIn, HasNumber, IsAskedBy, IsFaultOfError, IsFaultOfWords, IsHelp, command_line}
+use Rattle.rd_start.specs.Requests.{faults_of, number_asked, options_in, options_of, words_read}
 use Rattle.rd_start.specs.declared.fault.Fault.{Fault}
 use Rattle.rd_start.specs.declared.fault.Fault.TheVariants.{BadCommandLine, CannotRead, App, NoMemory}
 use Rattle.rd_start.specs.declared.options.Settings.{Settings}
@@ -24,18 +24,18 @@ nothing_wrong : faults_of (codes "run" ∷ []) ≡ []
 unfolding clap_on_literals faults_of
 nothing_wrong = refl
 
-defaults : AreSettingsIn (options_in (codes "run" ∷ [])) (record { app = None; moves = 100000 })
+defaults : AreSettingsIn (options_in (codes "run" ∷ [])) (record { app = None; moves = 100000; history = 100000 })
 unfolding clap_on_literals options_in
-defaults = record { app = refl; moves = refl }
+defaults = record { app = refl; moves = refl; history = refl }
 
 no_words : {X : Type 0} (f : X → Text) (words : List X) → length words ≡ 0 → words_read (map f words) ≡ codes "run" ∷ []
 no_words f [] e = refl
 no_words f (word ∷ words) e = absurd (omega arith)
 
 pub no_words_settings : {X : Type 0} (f : X → Text) (words : List X) → length words ≡ 0
-    → AreSettingsIn (options_in (words_read (map f words))) (record { app = None; moves = 100000 })
+    → AreSettingsIn (options_in (words_read (map f words))) (record { app = None; moves = 100000; history = 100000 })
 no_words_settings f words e =
-    subst (λ (ws : List Text). AreSettingsIn (options_in ws) (record { app = None; moves = 100000 })) (sym (no_words f words e)) defaults
+    subst (λ (ws : List Text). AreSettingsIn (options_in ws) (record { app = None; moves = 100000; history = 100000 })) (sym (no_words f words e)) defaults
 
 pub no_words_asked : {X : Type 0} (f : X → Text) (words : List X) → length words ≡ 0 → faults_of (words_read (map f words)) ≡ []
 no_words_asked f words e = ap faults_of (no_words f words e) ∙ nothing_wrong
@@ -71,25 +71,28 @@ pub options_are : (rows : List Row) (sub : Option (Text × List Row)) → Some r
 options_are rows None e = cc
 options_are rows (Some run) e = cc
 
-pub moves_in : (f : Found) (sub : Option (Text × List Row)) → Some (rows_of f) ≡ option_map (λ p. p.1) sub → HasMoves (options_of sub)
-    → (text : Text) × (one_text f (codes "moves") ≡ Some text) × IsUnsignedIn 1 1000000 text
-moves_in f sub e has =
+pub number_in : (name : Text) (least : ℕ) (f : Found) (sub : Option (Text × List Row)) → Some (rows_of f) ≡ option_map (λ p. p.1) sub
+    → HasNumber name least (options_of sub) → (text : Text) × (one_text f name ≡ Some text) × IsUnsignedIn least 1000000 text
+number_in name least f sub e has =
     let same = options_are (rows_of f) sub e in
-    (has.0, one_text-rows f (codes "moves") ∙ (ap (one_of (codes "moves")) (sym same) ∙ has.1), has.2)
+    (has.0, one_text-rows f name ∙ (ap (one_of name) (sym same) ∙ has.1), has.2)
 
-pub moves_read : (one : Option Text) (n : ℕ) → (one ≡ None → Some n ≡ None) → ((text : Text) → one ≡ Some text → n ≡ moves_asked text)
-    → Some n ≡ option_map moves_asked one
-moves_read None n none value = absurd (let bad = none refl in cc)
-moves_read (Some text) n none value = ap Some (value text refl)
+pub number_read : (one : Option Text) (n : ℕ) → (one ≡ None → Some n ≡ None) → ((text : Text) → one ≡ Some text → n ≡ number_asked text)
+    → Some n ≡ option_map number_asked one
+number_read None n none value = absurd (let bad = none refl in cc)
+number_read (Some text) n none value = ap Some (value text refl)
 
 pub settings_in : (f : Found) (sub : Option (Text × List Row)) (settings : Settings) → Some (rows_of f) ≡ option_map (λ p. p.1) sub
     → option_map (λ path. path.now) settings.app ≡ first_value f (codes "app")
-    → Some settings.moves ≡ option_map moves_asked (one_text f (codes "moves")) → AreSettingsIn (options_of sub) settings
-settings_in f sub settings e app moves =
+    → Some settings.moves ≡ option_map number_asked (one_text f (codes "moves"))
+    → Some settings.history ≡ option_map number_asked (one_text f (codes "history")) → AreSettingsIn (options_of sub) settings
+settings_in f sub settings e app moves history =
     let same = options_are (rows_of f) sub e in
+    let found = λ (name : Text). one_text-rows f name ∙ ap (one_of name) (sym same) in
     record {
       app = app ∙ (first_value-rows f (codes "app") ∙ ap (first_of (codes "app")) (sym same));
-      moves = moves ∙ ap (option_map moves_asked) (one_text-rows f (codes "moves") ∙ ap (one_of (codes "moves")) (sym same));
+      moves = moves ∙ ap (option_map number_asked) (found (codes "moves"));
+      history = history ∙ ap (option_map number_asked) (found (codes "history"));
     }
 
 pub settings_of_words : (words read : List Text) (options : List Row) (o : Option Settings) (settings : Settings) → read ≡ words

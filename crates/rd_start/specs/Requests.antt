@@ -22,10 +22,12 @@ use Rattle.rd_start.specs.declared.options.Settings.{Settings}
 use Rattle.rd_start.specs.declared.options.Request.{Request}
 use Rattle.rd_start.specs.declared.options.Request.TheVariants.{Run, Help}
 
--- 1 to 1,000,000 moves
+-- 1 to 1,000,000 moves, and a history of 2 to 1,000,000 entries
 pub record IsWithinLimits (settings : Settings) : Type 0 where
   pub some : 1 ≤ settings.moves
   pub most : settings.moves ≤ 1000000
+  pub two : 2 ≤ settings.history
+  pub most_entries : settings.history ≤ 1000000
 
 abbrev pub IsRequestWithinLimits : Request → Type 0
 IsRequestWithinLimits (Run settings) = IsWithinLimits settings
@@ -51,16 +53,27 @@ moves_option = record (new_rule (codes "moves")) {
   defaults = codes "100000" ∷ [];
 }
 
--- `run` with its two options
+-- `--history COUNT`: 2 to 1,000,000, and 100,000 where it isn't given
+abbrev pub history_option : Rule
+history_option = record (new_rule (codes "history")) {
+  long = Some (codes "history");
+  value_names = 1;
+  parser = Some (Unsigned 2 1000000);
+  defaults = codes "100000" ∷ [];
+}
+
+-- `run` with its three options
 abbrev pub run_line : CommandLine
-run_line = with_rule (with_rule (new_app (codes "run")) app_option) moves_option
+run_line =
+    with_rule (with_rule (with_rule (new_app (codes "run")) app_option) moves_option)
+    history_option
 
 -- No word is the program's own name, and there has to be a subcommand.
 abbrev pub top_line : CommandLine
 top_line = on_top (λ top. record top { no_binary_name = true; subcommand_required = true })
     (new_app (codes "rdbg"))
 
--- The command line: `run [--app FILE] [--moves COUNT]`.
+-- The command line: `run [--app FILE] [--moves COUNT] [--history COUNT]`.
 abbrev pub command_line : CommandLine
 command_line = with_subcommand top_line run_line.top
 
@@ -83,18 +96,25 @@ unfoldable pub options_in : List Text → List Row
 options_in words = options_of (subcommand_of command_line words)
 
 -- A number as it is written: decimal digits, behind a plus or not.
-abbrev pub moves_asked : Text → ℕ
-moves_asked text = digits_value 10 (without_leading_plus text)
+abbrev pub number_asked : Text → ℕ
+number_asked text = digits_value 10 (without_leading_plus text)
 
 -- The settings are the values of these options.
 pub record AreSettingsIn (options : List Row) (settings : Settings) : Type 0 where
   pub app : option_map (λ path. path.now) settings.app ≡ first_of (codes "app") options
-  pub moves : Some settings.moves ≡ option_map moves_asked (one_of (codes "moves") options)
+  pub moves : Some settings.moves ≡ option_map number_asked (one_of (codes "moves") options)
+  pub history : Some settings.history
+      ≡ option_map number_asked (one_of (codes "history") options)
 
--- Among these options are moves, and as many as may be.
-abbrev pub HasMoves : List Row → Type 0
-HasMoves options =
-    (text : Text) × (one_of (codes "moves") options ≡ Some text) × IsUnsignedIn 1 1000000 text
+-- Among these options is one of that name, with a number from the least on up to 1,000,000.
+abbrev pub HasNumber : Text → ℕ → List Row → Type 0
+HasNumber name least options =
+    (text : Text) × (one_of name options ≡ Some text) × IsUnsignedIn least 1000000 text
+
+-- Among these options are moves and a history, and as many as may be.
+pub record HasLimits (options : List Row) : Type 0 where
+  pub moves : HasNumber (codes "moves") 1 options
+  pub history : HasNumber (codes "history") 2 options
 
 -- A session has the settings of the words.
 abbrev pub HasSettingsOf : List Text → Request → Type 0

@@ -1,14 +1,14 @@
 //! The command line.
 
 ghost use Rattle.std.specs.Prelude.{◌≡◌, ◌≢◌, false, None, Ok, length, map, string_bytes};
-ghost use Rattle.std.specs.Prelude.{IfErr, IfOk, IfSome, IsSome};
+ghost use Rattle.std.specs.Prelude.{◌↔◌, IfErr, IfOk, IfSome, IsSome, IsTrue};
 ghost use Rattle.clap.specs.Words.{app_of, kind_of, rule_of, subcommand_rows_of};
 ghost use Rattle.clap.specs.declared.builder.command.Command.TheViews.{out-Command};
-ghost use Rattle.rd_start.specs.Requests.{AreSettingsIn, HasMoves, HasSettingsOf, IsAskedBy};
+ghost use Rattle.rd_start.specs.Requests.{AreSettingsIn, HasLimits, HasSettingsOf, IsAskedBy};
 ghost use Rattle.rd_start.specs.Requests.{IsFaultOfError, IsFaultOfWords, IsHelp};
 ghost use Rattle.rd_start.specs.Requests.{IsRequestWithinLimits, IsWithinLimits, app_option};
-ghost use Rattle.rd_start.specs.Requests.{command_line, moves_option, options_of, run_line};
-ghost use Rattle.rd_start.specs.Requests.{words_read};
+ghost use Rattle.rd_start.specs.Requests.{command_line, history_option, moves_option, options_of};
+ghost use Rattle.rd_start.specs.Requests.{run_line, words_read};
 ghost use Rattle.rd_start.specs.declared.fault.Fault.TheVariants.{BadCommandLine, NoMemory};
 ghost use Rattle.rd_start.specs.declared.options.Request.TheVariants.{Run};
 
@@ -26,6 +26,19 @@ const DEFAULT_MOVES_WORD: &str = "100000";
 /// How many moves may be asked for at the most.
 pub const MAX_MOVES: usize = 1_000_000;
 
+/// How many entries the history may have, where nothing else is asked.
+pub const DEFAULT_HISTORY: usize = 100_000;
+
+// The same as a word of the command line.
+const DEFAULT_HISTORY_WORD: &str = "100000";
+
+/// How many entries may be asked for at the least: one where the session enters, and one where it
+/// leaves.
+pub const MIN_HISTORY: usize = 2;
+
+/// How many entries may be asked for at the most.
+pub const MAX_HISTORY: usize = 1_000_000;
+
 /// The settings of a session.
 #[derive(Clone, Copy, Debug, PartialEq, Eq)]
 pub struct Settings<'a> {
@@ -33,6 +46,17 @@ pub struct Settings<'a> {
     pub app: Option<&'a str>,
     /// How many moves may be done at a time: 1 to 1,000,000.
     pub moves: usize,
+    /// How many entries the history may have: 2 to 1,000,000.
+    pub history: usize,
+}
+
+impl<'a> Settings<'a> {
+    // Whether the numbers are ones that may be asked for.
+    fn are_within_limits(&self) -> bool
+        ensures { IsTrue result ↔ IsWithinLimits self.now }
+    {
+        (1..=MAX_MOVES).contains(&self.moves) && (MIN_HISTORY..=MAX_HISTORY).contains(&self.history)
+    }
 }
 
 /// What a command line asks for.
@@ -68,6 +92,19 @@ fn moves_arg<'a>(alloc: Global) -> Arg<'a>
         .help("How many moves may be done at a time, 1 to 1000000")
 }
 
+// `--history COUNT`.
+fn history_arg<'a>(alloc: Global) -> Arg<'a>
+    ensures rule { rule_of result ≡ history_option }
+    ensures local { result.global ≡ false }
+{
+    Arg::new(alloc, "history")
+        .long("history")
+        .value_name("COUNT")
+        .value_parser(value_parser!(usize).range(MIN_HISTORY as i64..=MAX_HISTORY as i64))
+        .default_value(DEFAULT_HISTORY_WORD)
+        .help("How many entries the history may have, 2 to 1000000")
+}
+
 // `run` with its options.
 fn run_command<'a>(alloc: Global) -> Result<Command<'a>, AllocError>
     ensures line { IfOk result (λ run. app_of run ≡ run_line) }
@@ -76,7 +113,8 @@ fn run_command<'a>(alloc: Global) -> Result<Command<'a>, AllocError>
     Command::new(alloc, "run")
         .about("Answers commands from standard input")
         .arg(app_arg(alloc))?
-        .arg(moves_arg(alloc))
+        .arg(moves_arg(alloc))?
+        .arg(history_arg(alloc))
 }
 
 // What the words are parsed by.
@@ -97,13 +135,16 @@ fn settings_of<'a>(matches: &ArgMatches<'a>) -> Option<Settings<'a>>
     ensures limits { IfSome result IsWithinLimits }
     ensures settings { IfSome result (AreSettingsIn (options_of (subcommand_rows_of
         matches.now))) }
-    ensures some { HasMoves (options_of (subcommand_rows_of matches.now)) → IsSome result }
+    ensures some { HasLimits (options_of (subcommand_rows_of matches.now)) → IsSome result }
 {
     let (_, run) = matches.subcommand()?;
-    let app = run.get_str("app");
-    let moves = run.get_one::<usize>("moves")?;
-    if (1..=MAX_MOVES).contains(&moves) {
-        Some(Settings { app, moves })
+    let settings = Settings {
+        app: run.get_str("app"),
+        moves: run.get_one("moves")?,
+        history: run.get_one("history")?,
+    };
+    if settings.are_within_limits() {
+        Some(settings)
     } else {
         None
     }
@@ -131,13 +172,13 @@ fn without_settings<'a>(alloc: Global, error: &clap::Error) -> Result<Request<'a
 }
 
 /// What the words of the command line ask for, without the program's own name: a session, by
-/// `run [--app FILE] [--moves COUNT]` or no words at all, with 1 to 1,000,000 moves, or help.
-/// `BadCommandLine` where the words are no such line, `NoMemory` where there is no memory to read
-/// them or for the text of help.
+/// `run [--app FILE] [--moves COUNT] [--history COUNT]` or no words at all, with 1 to 1,000,000
+/// moves and a history of 2 to 1,000,000 entries, or help. `BadCommandLine` where the words are no
+/// such line, `NoMemory` where there is no memory to read them or for the text of help.
 pub fn options<'a>(alloc: Global, words: &'a [String]) -> Result<Request<'a>, Fault>
     ensures limits { IfOk result IsRequestWithinLimits }
     ensures no_words { length words.entry.now ≡ 0
-        → result ≡ Ok (Run (record { app = None; moves = 100000 })) }
+        → result ≡ Ok (Run (record { app = None; moves = 100000; history = 100000 })) }
     // What was asked for is what the words say, and no words say `run`.
     ensures settings { IfOk result (HasSettingsOf (words_read (map string_bytes
         words.entry.now))) }
@@ -149,6 +190,7 @@ pub fn options<'a>(alloc: Global, words: &'a [String]) -> Result<Request<'a>, Fa
         let settings = Settings {
             app: None,
             moves: DEFAULT_MOVES,
+            history: DEFAULT_HISTORY,
         };
         return Ok(Request::Run { settings });
     }

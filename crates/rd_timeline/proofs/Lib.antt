@@ -9,6 +9,7 @@ pub mod PolicyLaws
 pub mod BackwardLaws
 pub mod CauseLaws
 pub mod RunsLaws
+pub mod Offered
 pub mod WalkLaws
 pub mod Rows
 pub mod WaitingRows

@@ -115,7 +115,7 @@ pub record IsAt (old : Course) (goal : Option Condition) (made : ℕ) (now : Cou
   pub stands : StandsOn old now
   pub most : IsMost old made now
 
-moves_made : (app : Application) (s : Snapshot) (n : ℕ) → length (moves_by_policy app s n) ≡ n
+pub moves_made : (app : Application) (s : Snapshot) (n : ℕ) → length (moves_by_policy app s n) ≡ n
 moves_made app s zero = refl
 moves_made app s (suc n) =
     let t = state_by_policy app s n in

@@ -1,8 +1,8 @@
 -- The goals of options that the check left open.
 use Rattle.std.proofs.Common.{◌≡◌, ◌∙◌, ◌==◌, Ok, Err, List, length, map, string_bytes, String, Global, eq-eqb, eqb-true, false, refl, subst, sym, true≢false}
 use Rattle.clap.specs.Words.{kind_of}
-use Rattle.rd_start.specs.Requests.{HasMoves}
-use Rattle.rd_start.proofs.WalkLaws.{moves_always}
+use Rattle.rd_start.specs.Requests.{HasLimits}
+use Rattle.rd_start.proofs.WalkLaws.{limits_always}
 use Rattle.rd_start.proofs.WordsLaws.{asked_for_help, fails_by, fault_of_words, no_words_asked, no_words_settings, options_found, settings_of_words, some_words}
 use Rattle.rd_start.proofs.options.options.Goals as goal
 
@@ -24,7 +24,7 @@ returns-in_err-settings-in-Ok-clause-fault c =
     let words = map string_bytes c.args.words.now in
     let found = options_found _ words m c.in_ok-command.ensures c.in-Ok.ensures.matches in
     let none = fails_by _ words words (Ok m) c.in_ok-command.ensures refl c.in-Ok.ensures.kinds in
-    let some = c.settings_of.ensures.some (subst HasMoves (sym found) (moves_always words none)) in
+    let some = c.settings_of.ensures.some (subst HasLimits (sym found) (limits_always words none)) in
     absurd (true≢false (sym (c.in_err-settings-in-Ok.ensures.variant ∙ some)))
 
 pub returns-in_ok-settings-in-Ok-clause-settings : goal.returns-in_ok-settings-in-Ok-clause-settings

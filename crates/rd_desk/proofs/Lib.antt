@@ -1,0 +1,8 @@
+-- The lemmas of this crate.
+pub mod AskingLaws
+pub mod SessionLaws
+pub mod HistoryLaws
+pub mod MachineLaws
+pub mod DeskLaws
+pub mod ViewLaws
+pub mod Offered

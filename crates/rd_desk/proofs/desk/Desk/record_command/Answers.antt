@@ -1,0 +1,64 @@
+-- The goals of record_command that the check left open.
+use Rattle.std.proofs.Common.{◌≡◌, ◌∙◌, ◌++◌, ◌∷◌, [], List, ap, arith, length, subst, sym}
+use Rattle.std.proofs.lemmas.List.{length_push}
+use Rattle.rd_desk.specs.declared.entry.Entry.{Entry}
+use Rattle.rd_desk.specs.declared.entry.Event.TheVariants.{Ask}
+use Rattle.rd_desk.specs.Asked.{asked_by}
+use Rattle.rd_desk.specs.Debugger.{Debugger}
+use Rattle.rd_desk.specs.DeskView.{DeskView, entry_of, used}
+use Rattle.rd_desk.specs.Legal.{IsLegal}
+use Rattle.rd_desk.specs.Serving.{IsAnswered}
+use Rattle.rd_desk.specs.Sessions.{present_count}
+use Rattle.rd_desk.proofs.DeskLaws.{entry_is, legal_push, sessions_stay, view_changes_nothing}
+use Rattle.rd_desk.proofs.desk.Desk.record_command.Goals as goal
+
+pub invariant_of-self-2 : goal.invariant_of-self-2
+invariant_of-self-2 c =
+    let d = c.self.inside in
+    let whole = c.self.invariant in
+    let who = c.args.who in
+    let command = c.args.command.now in
+    let reply = c.in_ok-reply.reply in
+    let there = rw (← c.self.view_is) at c.requires.there in
+    let answered : IsAnswered d.machine who command c.serve.new.self reply = c.in_ok-reply.ensures.ok in
+    let stay = sessions_stay d.machine who command there in
+    let last = entry_of d.machine who (Ask command) in
+    let kept : Entry = record { who = who; event = Ask (asked_by c.line-line.result.now); reply = reply } in
+    let before : c.make_room_for.new.history.entries ≡ d.history.entries = c.make_room_for.ensures.entries ∙ c.make_room.ensures.entries in
+    let entries : c.push.new.self.entries ≡ d.history.entries ++ last ∷ [] =
+    c.push.ensures.entries ∙ ap (λ (es : List Entry). es ++ kept ∷ []) before
+    ∙ ap (λ (e : Entry). d.history.entries ++ e ∷ []) (entry_is d.machine who c.line-line.result.now command reply c.line-line.ensures answered.reply_is) in
+    let longer = ap length entries in
+    let one_more = length_push d.history.entries last in
+    let present = ap (λ (e : Debugger). present_count e.sessions) answered.after ∙ stay.present in
+    let joins = ap (λ (e : Debugger). length e.sessions) answered.after ∙ stay.joins in
+    let seen = ap (λ (v : DeskView). used v) c.self.view_is in
+    let limit = ap (λ (v : DeskView). v.most_entries) c.self.view_is in
+    record {
+      legal = legal_push d.machine d.history.entries who (Ask command) c.serve.new.self c.push.new.self.entries whole.legal there answered.after entries;
+      within = omega (arith, longer, one_more, present, seen, limit, c.requires.free);
+      joins = omega (arith, joins, whole.joins);
+      room = omega (arith, present, c.push.ensures.room, c.make_room_for.ensures.rows, c.in_ok-make_room.ensures.ok_rows, c.present-rows.ensures);
+    }
+
+pub invariant_of-self-in_err-make_room_for : goal.invariant_of-self-in_err-make_room_for
+invariant_of-self-in_err-make_room_for c =
+    let d = c.self.inside in
+    let whole = c.self.invariant in
+    let who = c.args.who in
+    let command = c.args.command.now in
+    let reply = c.in_ok-reply.reply in
+    let answered : IsAnswered d.machine who command c.serve.new.self reply = c.in_ok-reply.ensures.ok in
+    let same : c.serve.new.self ≡ d.machine =
+    answered.after ∙ view_changes_nothing d.machine who command reply answered.reply_is c.in_err-make_room_for.ensures.err in
+    let before : c.make_room_for.new.history.entries ≡ d.history.entries = c.make_room_for.ensures.entries ∙ c.make_room.ensures.entries in
+    let longer = ap length before in
+    let present = ap (λ (e : Debugger). present_count e.sessions) same in
+    let joins = ap (λ (e : Debugger). length e.sessions) same in
+    record {
+      legal = subst (λ (e : Debugger). IsLegal c.make_room_for.new.history.entries e) (sym same)
+          (subst (λ (es : List Entry). IsLegal es d.machine) (sym before) whole.legal);
+      within = omega (arith, longer, present, whole.within);
+      joins = omega (arith, joins, whole.joins);
+      room = omega (arith, present, c.make_room_for.ensures.rows, c.make_room.ensures.kept_rows, whole.room);
+    }

@@ -1,0 +1,21 @@
+-- The value that the fields of a `Desk` stand for.
+use Rattle.std.specs.Prelude.{ℕ, ◌≡◌, ◌≤◌, length}
+use Rattle.rd_desk.specs.declared.desk.Desk.TheInside.{Inside}
+use Rattle.rd_desk.specs.declared.sessions.TheConstants.{MAX_JOINS}
+use Rattle.rd_desk.specs.DeskView.{DeskView, used}
+use Rattle.rd_desk.specs.Legal.{IsLegal}
+use Rattle.rd_desk.specs.Sessions.{present_count}
+
+abbrev pub desk_of : Inside → DeskView
+desk_of d = record {
+  debugger = d.machine;
+  most_entries = d.limit;
+  history = d.history.entries;
+}
+
+-- The history is legal, and has room for each session's departure.
+pub record IsWhole (d : Inside) : Type 0 where
+  pub legal : IsLegal d.history.entries d.machine
+  pub within : used (desk_of d) ≤ d.limit
+  pub joins : length d.machine.sessions ≤ MAX_JOINS
+  pub room : present_count d.machine.sessions ≤ d.history.row_room

@@ -1,0 +1,43 @@
+-- What a contract sees of a desk, and of what a call did to it.
+use Rattle.std.specs.Prelude.{ℕ, ◌≡◌, ◌+◌, ◌≤◌, List, [], ◌∷◌, ◌++◌, length, Ok}
+use Rattle.rd_timeline.specs.History.{state_after}
+use Rattle.rd_desk.specs.declared.entry.Entry.{Entry}
+use Rattle.rd_desk.specs.declared.entry.Event.{Event}
+use Rattle.rd_desk.specs.declared.entry.Receipt.{Receipt}
+use Rattle.rd_desk.specs.declared.sessions.TheConstants.{MAX_JOINS}
+use Rattle.rd_desk.specs.Debugger.{Debugger, target_of}
+use Rattle.rd_desk.specs.Legal.{IsLegal}
+use Rattle.rd_desk.specs.Serving.{MayAct, reply_of, served}
+use Rattle.rd_desk.specs.Sessions.{present_count}
+
+-- the debugger, how many entries the history may have, and the history
+pub record DeskView : Type 0 where
+  pub debugger : Debugger
+  pub most_entries : ℕ
+  pub history : List Entry
+
+-- the places of the history that are taken, or kept for departures
+abbrev pub used : DeskView → ℕ
+used d = length d.history + present_count d.debugger.sessions
+
+-- The history is one of the sequential debugger, and each session that is present has a place for
+-- its departure. The moves done, and not undone, give the target from the start.
+pub record IsKept (d : DeskView) : Type 0 where
+  pub legal : IsLegal d.history d.debugger
+  pub within : used d ≤ d.most_entries
+  pub joins : length d.debugger.sessions ≤ MAX_JOINS
+  pub leads : state_after d.debugger.app d.debugger.moves.done ≡ Ok (target_of d.debugger)
+
+-- the entry of an event
+abbrev pub entry_of : Debugger → ℕ → Event → Entry
+entry_of d who event = record { who = who; event = event; reply = reply_of d who event }
+
+-- The event was done: just its entry was appended, and the receipt is that entry with its place.
+pub record Does (old : DeskView) (who : ℕ) (event : Event) (new : DeskView) (receipt : Receipt)
+    : Type 0 where
+  pub may : MayAct old.debugger who event
+  pub debugger : new.debugger ≡ served old.debugger who event
+  pub history : new.history ≡ old.history ++ entry_of old.debugger who event ∷ []
+  pub most_entries : new.most_entries ≡ old.most_entries
+  pub place : receipt.place ≡ length old.history
+  pub entry : receipt.entry ≡ entry_of old.debugger who event

@@ -1,0 +1,34 @@
+-- What a contract sees of a history.
+use Rattle.std.specs.Prelude.{ℕ, List, []}
+use Rattle.rd_desk.specs.declared.entry.Entry.{Entry}
+use Rattle.rd_desk.specs.declared.entry.Event.{Event}
+use Rattle.rd_desk.specs.declared.entry.Event.TheVariants as event
+use Rattle.rd_desk.specs.declared.history.Deed.{Deed}
+use Rattle.rd_desk.specs.declared.history.Deed.TheVariants.{Enter, Ask, Leave}
+use Rattle.rd_desk.specs.declared.reply.Reply.{Reply}
+use Rattle.rd_desk.specs.declared.reply.Reply.TheVariants.{Done, Told, Shown}
+use Rattle.rd_desk.specs.Asked.{asked_by}
+
+-- the entries, for how many more there is room, and for how many bytes of theirs
+pub record HistoryView : Type 0 where
+  pub entries : List Entry
+  pub row_room : ℕ
+  pub byte_room : ℕ
+
+-- what was done, with the line of the command that was asked for
+abbrev pub deed_event : Deed → List ℕ → Event
+deed_event Enter line = event.Enter
+deed_event Ask line = event.Ask (asked_by line)
+deed_event Leave line = event.Leave
+
+-- the bytes of a reply
+abbrev pub reply_bytes : Reply → List ℕ
+reply_bytes Done = []
+reply_bytes (Told told) = []
+reply_bytes (Shown text) = text
+
+-- The reply is a view.
+abbrev pub IsView : Reply → Type 0
+IsView Done = ⊥
+IsView (Told told) = ⊥
+IsView (Shown text) = Unit {0}

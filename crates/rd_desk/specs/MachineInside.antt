@@ -1,0 +1,19 @@
+-- The debugger that the fields of a `Machine` stand for.
+use Rattle.std.specs.Prelude.{◌≡◌}
+use Rattle.rd_timeline.specs.Runs.{moves_of}
+use Rattle.rd_desk.specs.declared.machine.Machine.TheInside.{Inside}
+use Rattle.rd_desk.specs.Debugger.{Debugger}
+use Rattle.rd_desk.specs.Sessions.{AreSessionsOf}
+
+abbrev pub debugger_of : Inside → Debugger
+debugger_of m = record {
+  app = m.timeline.app;
+  most_moves = m.timeline.limit;
+  moves = moves_of m.timeline;
+  wheel = m.wheel;
+  sessions = m.sessions;
+}
+
+-- Each watch is of what the application has.
+pub record IsMachine (m : Inside) : Type 0 where
+  pub watches : AreSessionsOf m.timeline.app m.sessions

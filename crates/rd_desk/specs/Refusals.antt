@@ -1,0 +1,39 @@
+-- Refusals for want of room in the history.
+use Rattle.std.specs.Prelude.{ℕ, Bool, true, false, length, ⊤, Result, Ok, Err}
+use Rattle.rd_desk.specs.declared.desk.EnterError.{EnterError}
+use Rattle.rd_desk.specs.declared.desk.EnterError.TheVariants as enter
+use Rattle.rd_desk.specs.declared.desk.NotServed.{NotServed}
+use Rattle.rd_desk.specs.declared.desk.NotServed.TheVariants as serve
+use Rattle.rd_desk.specs.DeskView.{DeskView}
+use Rattle.rd_desk.specs.Sessions.{present_count}
+use Rattle.rd_desk.specs.TallyView.{TallyView}
+
+-- the numbers of the desk
+abbrev pub tally_of : DeskView → TallyView
+tally_of d = record {
+  entries = length d.history;
+  present = present_count d.debugger.sessions;
+  limit = d.most_entries;
+}
+
+-- what is known of the tally of a refusal, if it has one
+abbrev pub IfEnterFull : EnterError → (TallyView → Type 0) → Type 0
+IfEnterFull enter.Full P = ⊤
+IfEnterFull (enter.HistoryFull tally) P = P tally
+IfEnterFull enter.NoMemory P = ⊤
+
+abbrev pub IfServeFull : NotServed → (TallyView → Type 0) → Type 0
+IfServeFull (serve.HistoryFull tally) P = P tally
+IfServeFull serve.NoMemory P = ⊤
+
+-- Was there no room to enter, or for a command?
+abbrev pub is_enter_full : {T : Type 0} → Result T EnterError → Bool
+is_enter_full (Ok done) = false
+is_enter_full (Err enter.Full) = false
+is_enter_full (Err (enter.HistoryFull tally)) = true
+is_enter_full (Err enter.NoMemory) = false
+
+abbrev pub is_serve_full : {T : Type 0} → Result T NotServed → Bool
+is_serve_full (Ok done) = false
+is_serve_full (Err (serve.HistoryFull tally)) = true
+is_serve_full (Err serve.NoMemory) = false

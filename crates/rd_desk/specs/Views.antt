@@ -1,0 +1,48 @@
+-- What views show.
+use Rattle.std.specs.Prelude.{ℕ, ◌+◌, List, [], ◌∷◌, ◌++◌, position, Option, None, Some}
+use Rattle.rd_app.specs.Application.{Application, names_of}
+use Rattle.rd_condition.specs.declared.condition.Condition.{Condition}
+use Rattle.rd_condition.specs.Conditions.{holds}
+use Rattle.rd_text.specs.declared.kind.Kind.{Kind}
+use Rattle.rd_text.specs.declared.kind.Kind.TheVariants as kind
+use Rattle.rd_state.specs.Snapshot.{Snapshot, group_at, message_at, queue_at, queue_set_at}
+use Rattle.rd_state.specs.Snapshot.{stream_at, task_at}
+use Rattle.rd_reply.specs.declared.reply.WatchShown.{WatchShown}
+use Rattle.rd_reply.specs.Names.{name_at}
+use Rattle.rd_reply.specs.Replies.{group_text, is_task, message_text, queue_text, queue_set_text}
+use Rattle.rd_reply.specs.Replies.{stream_text, task_text}
+use Rattle.rd_desk.specs.Sessions.{WatchesView}
+
+-- the name of the thing of a kind with that number
+abbrev pub name_in : Application → Kind → ℕ → List ℕ
+name_in app kind number = name_at (names_of kind app) number
+
+-- what a view shows of the thing of a kind with that number, in this state
+abbrev pub view_text : Application → Snapshot → Kind → ℕ → List ℕ
+view_text app s kind.Queue queue =
+    queue_text app (name_in app kind.Queue queue) (queue_at s queue)
+view_text app s kind.QueueSet queue_set =
+    queue_set_text app (name_in app kind.QueueSet queue_set) (queue_set_at s queue_set)
+view_text app s kind.Stream stream =
+    stream_text app (name_in app kind.Stream stream) (stream_at s stream)
+view_text app s kind.Message message =
+    message_text app (name_in app kind.Message message) (message_at s message)
+view_text app s kind.Group group =
+    group_text app (name_in app kind.Group group) (group_at s group)
+view_text app s kind.Task task =
+    task_text app (name_in app kind.Task task) (position (is_task task) s.cores) (task_at s task)
+
+-- a watch with that number, if there is one, and whether its condition holds in this state
+abbrev pub shown_at : Snapshot → ℕ → Option Condition → List WatchShown
+shown_at s number None = []
+shown_at s number (Some condition) =
+    record { number = number; holds = holds s condition } ∷ []
+
+-- the watches from that number on, by rising number
+abbrev pub shown_from : Snapshot → ℕ → WatchesView → List WatchShown
+shown_from s number [] = []
+shown_from s number (watch ∷ others) =
+    shown_at s number watch ++ shown_from s (number + 1) others
+
+abbrev pub watches_shown : Snapshot → WatchesView → List WatchShown
+watches_shown s watches = shown_from s 0 watches

@@ -1,0 +1,296 @@
+//! The sequential debugger with its history.
+
+ghost use Rattle.std.specs.Prelude.{◌≡◌, ◌↔◌, ◌+◌, ◌<◌, ◌≤◌, ◌∷◌, ◌++◌, [], length, IfErr, IfOk};
+ghost use Rattle.std.specs.Prelude.{IsErrOf, IsTrue, OnErr, OnOk};
+ghost use Rattle.rd_desk.specs.declared.entry.Event.TheVariants.{Enter, Ask, Leave};
+ghost use Rattle.rd_desk.specs.Debugger.{opening, target_of};
+ghost use Rattle.rd_desk.specs.DeskView.{entry_of, used, Does, IsKept};
+ghost use Rattle.rd_desk.specs.HistoryView.{reply_bytes, IsView};
+ghost use Rattle.rd_desk.specs.Serving.{entered};
+ghost use Rattle.rd_desk.specs.Refusals.{tally_of, IfEnterFull, IfServeFull, is_enter_full};
+ghost use Rattle.rd_desk.specs.Refusals.{is_serve_full};
+ghost use Rattle.rd_desk.specs.Sessions.{IsPresent, present_count};
+
+use crate::asked::Asked;
+use crate::entry::{Entry, Event, Receipt};
+use crate::history::{Deed, History};
+use crate::limits::Limits;
+use crate::machine::Machine;
+use crate::reply::Reply;
+use crate::sessions::MAX_JOINS;
+use crate::tally::Tally;
+use rd_app::app::App;
+use rd_bytes::no_memory::NoMemory;
+use rd_command::command::Command;
+use rd_state::state::State;
+use std::alloc::Global;
+use std::marker::Model;
+
+/// Why a session couldn't enter. Nothing has changed.
+#[derive(Drop)]
+pub enum EnterError {
+    /// As many have entered as may.
+    Full,
+    /// Fewer than two places of the history are free.
+    HistoryFull { tally: Tally },
+    /// A growth was refused.
+    NoMemory,
+}
+
+/// Why a command wasn't served. Nothing has changed.
+#[derive(Drop)]
+pub enum NotServed {
+    /// No place of the history is free.
+    HistoryFull { tally: Tally },
+    /// A growth was refused.
+    NoMemory,
+}
+
+/// The sequential debugger with its history. It can't be dropped: it ends in `close`.
+pub struct Desk {
+    alloc: Global,
+    machine: Machine,
+    limit: usize,
+    history: History,
+}
+
+impl Model for Desk {
+    ghost use Rattle.rd_desk.specs.DeskView.{DeskView};
+
+    ghost Value = { DeskView };
+
+    ghost use Rattle.rd_desk.specs.DeskInside.{desk_of, IsWhole};
+
+    ghost view = { desk_of };
+
+    ghost invariant = { IsWhole };
+}
+
+// Lets the next session in, where there is room for its entry.
+fn admit(machine: &mut Machine, history: &mut History) -> Receipt
+    requires joins { length machine.old.sessions < MAX_JOINS }
+    requires room { 0 < history.old.row_room }
+    ensures machine { machine.new ≡ entered machine.old }
+    ensures present { present_count machine.new.sessions ≡ present_count machine.old.sessions + 1 }
+    ensures history { history.new.entries ≡ history.old.entries
+        ++ entry_of machine.old (length machine.old.sessions + 1) Enter ∷ [] }
+    ensures room { history.new.row_room + 1 ≡ history.old.row_room }
+    ensures place { result.place ≡ length history.old.entries }
+    ensures entry { result.entry
+        ≡ entry_of machine.old (length machine.old.sessions + 1) Enter }
+{
+    let who = machine.joins() as u32 + 1;
+    let place = history.len();
+    machine.enter();
+    history.push(who, Deed::Enter, &[], &Reply::Done);
+    Receipt {
+        place,
+        entry: Entry {
+            who,
+            event: Event::Enter,
+            reply: Reply::Done,
+        },
+    }
+}
+
+// Makes room for so many entries and for the bytes of the first one, where there is room but for
+// those of its reply. An `Err` says that there is no memory for them; only a view has some.
+fn make_room_for(
+    history: &mut History,
+    rows: usize,
+    line: &[u8],
+    reply: &Reply,
+) -> Result<(), NoMemory>
+    requires rows { rows ≤ history.old.row_room }
+    requires line { length line.now ≤ history.old.byte_room }
+    ensures entries { history.new.entries ≡ history.old.entries }
+    ensures rows { history.old.row_room ≤ history.new.row_room }
+    ensures bytes { OnOk result
+        (length line.now + length (reply_bytes reply.now) ≤ history.new.byte_room) }
+    ensures err { OnErr result (IsView reply.now) }
+{
+    match reply {
+        Reply::Shown { text } => history.make_room(rows, line.len() + text.as_slice().len()),
+        Reply::Done | Reply::Told { .. } => Ok(()),
+    }
+}
+
+impl Desk {
+    /// A debugger at its opening, with no entry. A refusal drops the application.
+    pub fn open(alloc: Global, app: App, limits: Limits) -> Result<Desk, NoMemory>
+        ensures { IfOk result (λ desk. desk ≡ record {
+          debugger = opening app limits.moves;
+          most_entries = limits.history;
+          history = [];
+        }) }
+    {
+        Ok(Desk {
+            alloc,
+            machine: Machine::new(alloc, app, limits.moves)?,
+            limit: limits.history as usize,
+            history: History::new(alloc),
+        })
+    }
+
+    /// The history is one of the sequential debugger, each session that is present has a place for
+    /// its departure, and the moves done, and not undone, give the target from the start.
+    pub fn keeps(&self)
+        ensures { IsKept self.now }
+    {
+        self.machine.keeps();
+    }
+
+    /// The target.
+    pub fn target(&self) -> &State
+        ensures { result.now ≡ target_of self.now.debugger }
+    {
+        self.machine.target()
+    }
+
+    /// The application.
+    pub fn app(&self) -> &App
+        ensures { result.now ≡ self.now.debugger.app }
+    {
+        self.machine.app()
+    }
+
+    /// How many entries the history has.
+    pub fn entries(&self) -> usize
+        ensures { result ≡ length self.now.history }
+    {
+        self.history.len()
+    }
+
+    /// Whether a session has entered, and not departed.
+    pub fn is_present(&self, who: u32) -> bool
+        ensures { IsTrue result ↔ IsPresent self.now.debugger.sessions who }
+    {
+        self.machine.is_present(who)
+    }
+
+    // How many places are free beyond those that are kept for departures.
+    fn free(&self) -> usize
+        ensures { result + used self.now ≡ self.now.most_entries }
+    {
+        self.limit - (self.history.len() + self.machine.present())
+    }
+
+    fn tally(&self) -> Tally
+        requires { self.now.most_entries < used self.now + 2 }
+        ensures { result ≡ tally_of self.now }
+    {
+        Tally::new(self.history.len(), self.machine.present(), self.limit)
+    }
+
+    /// A session enters, and gets the next number, from 1 on. `Full` where 64 have entered, else
+    /// `HistoryFull` where fewer than two places are free, else `NoMemory` where a growth was
+    /// refused. The place for its departure is kept from now on. A refusal changes nothing.
+    pub fn enter(&mut self) -> Result<Receipt, EnterError>
+        ensures ok { IfOk result (λ receipt.
+            Does self.old (length self.old.debugger.sessions + 1) Enter self.new receipt) }
+        ensures full { IsErrOf result EnterError.Full
+            ↔ (length self.old.debugger.sessions ≡ MAX_JOINS) }
+        ensures history_full { IsTrue (is_enter_full result)
+            ↔ ((length self.old.debugger.sessions < MAX_JOINS)
+            × (self.old.most_entries < used self.old + 2)) }
+        ensures room { OnOk result (used self.old + 2 ≤ self.old.most_entries) }
+        ensures tally { IfErr result (λ error. IfEnterFull error (λ tally.
+            (tally ≡ tally_of self.old) × (tally.limit < tally.entries + tally.present + 2))) }
+        ensures err { OnErr result (self.new ≡ self.old) }
+    {
+        if self.machine.joins() == MAX_JOINS {
+            return Err(EnterError::Full);
+        }
+        if self.free() < 2 {
+            return Err(EnterError::HistoryFull {
+                tally: self.tally(),
+            });
+        }
+        let room = self.machine.present() + 2;
+        match self.history.make_room(room, 0) {
+            Ok(()) => Ok(admit(&mut self.machine, &mut self.history)),
+            Err(NoMemory) => Err(EnterError::NoMemory),
+        }
+    }
+
+    /// Serves a command of a session that is present. `HistoryFull` where no place is free, else
+    /// `NoMemory` where a growth was refused; then nothing has changed. All other refusals are
+    /// replies, and take a place in the history.
+    pub fn serve(&mut self, who: u32, command: &Command<'_>) -> Result<Receipt, NotServed>
+        requires { IsPresent self.old.debugger.sessions who }
+        ensures ok { IfOk result (Does self.old who (Ask command.now) self.new) }
+        ensures history_full { IsTrue (is_serve_full result)
+            ↔ (self.old.most_entries ≡ used self.old) }
+        ensures room { OnOk result (used self.old < self.old.most_entries) }
+        ensures tally { IfErr result (λ error. IfServeFull error (λ tally.
+            (tally ≡ tally_of self.old) × (tally.limit ≡ tally.entries + tally.present))) }
+        ensures err { OnErr result (self.new ≡ self.old) }
+    {
+        if self.free() == 0 {
+            return Err(NotServed::HistoryFull {
+                tally: self.tally(),
+            });
+        }
+        match self.record_command(who, command) {
+            Ok(receipt) => Ok(receipt),
+            Err(NoMemory) => Err(NotServed::NoMemory),
+        }
+    }
+
+    // Serves a command where a place is free.
+    fn record_command(&mut self, who: u32, command: &Command<'_>) -> Result<Receipt, NoMemory>
+        requires there { IsPresent self.old.debugger.sessions who }
+        requires free { used self.old < self.old.most_entries }
+        ensures ok { IfOk result (Does self.old who (Ask command.now) self.new) }
+        ensures err { OnErr result (self.new ≡ self.old) }
+    {
+        let line = command.line();
+        let rows = self.machine.present() + 1;
+        self.history.make_room(rows, line.len())?;
+        let asked = Asked::new(self.alloc, command)?;
+        let reply = self.machine.serve(who, command)?;
+        make_room_for(&mut self.history, rows, line, &reply)?;
+        let place = self.history.len();
+        self.history.push(who, Deed::Ask, line, &reply);
+        Ok(Receipt {
+            place,
+            entry: Entry {
+                who,
+                event: Event::Ask { command: asked },
+                reply,
+            },
+        })
+    }
+
+    /// A session departs: it has no wheel and no watches any more. It takes no memory.
+    pub fn depart(&mut self, who: u32) -> Receipt
+        requires { IsPresent self.old.debugger.sessions who }
+        ensures { Does self.old who Leave self.new result }
+    {
+        let place = self.history.len();
+        self.machine.leave(who);
+        self.history.push(who, Deed::Leave, &[], &Reply::Done);
+        Receipt {
+            place,
+            entry: Entry {
+                who,
+                event: Event::Leave,
+                reply: Reply::Done,
+            },
+        }
+    }
+
+    /// Ends the debugger, and hands its history out. It takes no memory.
+    pub fn close(self) -> History
+        ensures { result.entries ≡ self.history }
+    {
+        let Desk {
+            alloc: _,
+            machine,
+            limit: _,
+            history,
+        } = self;
+        machine.close();
+        history
+    }
+}

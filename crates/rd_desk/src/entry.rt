@@ -1,0 +1,35 @@
+//! What the history says: who did what, and what was replied.
+
+use crate::asked::Asked;
+use crate::reply::Reply;
+
+/// What a session does.
+#[derive(Drop)]
+pub enum Event {
+    /// It enters.
+    Enter,
+    /// It asks for something.
+    Ask { command: Asked },
+    /// It leaves.
+    Leave,
+}
+
+/// What a session did, and what was replied.
+#[derive(Drop)]
+pub struct Entry {
+    /// The session's number, from 1 on.
+    pub who: u32,
+    /// What it did.
+    pub event: Event,
+    /// What was replied.
+    pub reply: Reply,
+}
+
+/// An entry with its place in the history.
+#[derive(Drop)]
+pub struct Receipt {
+    /// The place, counted from 0.
+    pub place: usize,
+    /// The entry.
+    pub entry: Entry,
+}

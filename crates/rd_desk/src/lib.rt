@@ -1,0 +1,16 @@
+//! A sequential debugger of many sessions, with its history: who did what, and what was replied.
+#![tactic(auto)]
+
+pub mod asked;
+mod asking;
+pub mod desk;
+pub mod entry;
+pub mod history;
+pub mod limits;
+pub mod machine;
+pub mod reply;
+pub mod sessions;
+mod showing;
+pub mod tally;
+pub mod text;
+pub mod watches;

@@ -1,0 +1,59 @@
+//! How full a history is that has no room.
+
+ghost use Rattle.std.specs.Prelude.{◌≡◌, ◌+◌, ◌<◌};
+
+use std::marker::Model;
+
+/// How full a history is: fewer than two places of it are free. Entries and sessions that are
+/// present, of which each has a place for its departure, leave fewer than two of the limit.
+#[derive(Drop)]
+pub struct Tally {
+    entries: usize,
+    present: usize,
+    limit: usize,
+}
+
+impl Model for Tally {
+    ghost use Rattle.std.specs.Prelude.{◌+◌, ◌<◌};
+    ghost use Rattle.rd_desk.specs.TallyView.{TallyView};
+
+    ghost Value = { TallyView };
+
+    ghost view = { λ t. record { entries = t.entries; present = t.present; limit = t.limit } };
+
+    ghost invariant = { λ t. t.limit < t.entries + t.present + 2 };
+}
+
+impl Tally {
+    pub(crate) fn new(entries: usize, present: usize, limit: usize) -> Tally
+        requires { limit < entries + present + 2 }
+        ensures { result ≡ record { entries = entries; present = present; limit = limit } }
+    {
+        Tally {
+            entries,
+            present,
+            limit,
+        }
+    }
+
+    /// How many entries there are.
+    pub fn entries(&self) -> usize
+        ensures { result ≡ self.now.entries }
+    {
+        self.entries
+    }
+
+    /// How many sessions are present.
+    pub fn present(&self) -> usize
+        ensures { result ≡ self.now.present }
+    {
+        self.present
+    }
+
+    /// How many entries there may be.
+    pub fn limit(&self) -> usize
+        ensures { result ≡ self.now.limit }
+    {
+        self.limit
+    }
+}

@@ -1,0 +1,456 @@
+//! Sessions of a desk, by calls.
+
+ghost use Rattle.std.specs.Prelude.{◌≡◌};
+ghost use Rattle.rd_desk.specs.Sessions.{IsPresent};
+
+use crate::asserts::assert_same;
+use rd_app::app::App;
+use rd_command::command::parse_line;
+use rd_desk::desk::{Desk, EnterError, NotServed};
+use rd_desk::entry::Receipt;
+use rd_desk::limits::Limits;
+use rd_desk::reply::Reply;
+use rd_desk::tally::Tally;
+use rd_main::pending::Pending;
+use std::alloc::AllocGlobal;
+use std::process::Abort;
+use std::test::Fail;
+
+// A line that a session asks, and what it is answered.
+#[derive(Clone, Copy)]
+struct Asked {
+    who: u32,
+    line: &'static str,
+    reply: &'static str,
+}
+
+// A desk over the built-in application, with a history of so many entries.
+fn open<H: AllocGlobal>(rt: &H, history: u32) -> Result<Desk, Fail> {
+    let app = App::builtin(rt.alloc())?;
+    let limits = Limits {
+        moves: 100,
+        history,
+    };
+    Ok(Desk::open(rt.alloc(), app, limits)?)
+}
+
+// The receipt says who did something at that place.
+fn assert_receipt(rt: &impl Abort, receipt: &Receipt, place: usize, who: u32) {
+    assert_same(rt, receipt.place, place);
+    assert_same(rt, receipt.entry.who, who);
+}
+
+// The next session enters, and has this number.
+fn assert_enters(rt: &impl Abort, desk: &mut Desk, who: u32) {
+    let place = desk.entries();
+    match desk.enter() {
+        Ok(receipt) => assert_receipt(rt, &receipt, place, who),
+        Err(_) => assert!(rt; false, "session {who} can't enter"),
+    }
+}
+
+// The session is present.
+fn assert_present(rt: &impl Abort, desk: &Desk, who: u32)
+    ensures { IsPresent desk.now.debugger.sessions who }
+{
+    assert!(rt; desk.is_present(who), "session {who} isn't present");
+}
+
+fn assert_departs(rt: &impl Abort, desk: &mut Desk, who: u32) {
+    assert_present(rt, desk, who);
+    let place = desk.entries();
+    let receipt = desk.depart(who);
+    assert_receipt(rt, &receipt, place, who);
+    assert!(rt; !desk.is_present(who), "session {who} is still present");
+}
+
+// The line of a reply.
+fn line_of<H: AllocGlobal + Abort>(rt: &H, reply: &Reply) -> Result<Vec<u8>, Fail> {
+    let mut line = Vec::new(rt.alloc());
+    let mut pending = Pending::new(rt.alloc())?;
+    assert!(rt; pending.put(&mut line, reply).is_ok());
+    assert!(rt; pending.send(&mut line).is_ok());
+    Ok(line)
+}
+
+// The receipt has the command, and this reply.
+fn assert_answer<H: AllocGlobal + Abort>(
+    rt: &H,
+    receipt: &Receipt,
+    asked: Asked,
+) -> Result<(), Fail> {
+    let line = line_of(rt, &receipt.entry.reply)?;
+    assert_eq!(rt;
+        line.as_slice(),
+        asked.reply.as_bytes(),
+        "to {}",
+        asked.line
+    );
+    let copied = receipt.entry.reply.copy(rt.alloc())?;
+    let line = line_of(rt, &copied)?;
+    assert_same(rt, line.as_slice(), asked.reply.as_bytes());
+    Ok(())
+}
+
+// The session is answered so.
+fn assert_asked<H: AllocGlobal + Abort>(rt: &H, desk: &mut Desk, asked: Asked) -> Result<(), Fail> {
+    let place = desk.entries();
+    let Ok(command) = parse_line(asked.line.as_bytes()) else {
+        panic!(rt; "{} is no command", asked.line);
+    };
+    assert_present(rt, desk, asked.who);
+    match desk.serve(asked.who, &command) {
+        Ok(receipt) => {
+            assert_receipt(rt, &receipt, place, asked.who);
+            assert_answer(rt, &receipt, asked)
+        }
+        Err(_) => panic!(rt; "{} isn't served", asked.line),
+    }
+}
+
+fn assert_all_asked<H: AllocGlobal + Abort>(
+    rt: &H,
+    desk: &mut Desk,
+    all: &[Asked],
+) -> Result<(), Fail> {
+    for asked in all {
+        assert_asked(rt, desk, *asked)?;
+    }
+    Ok(())
+}
+
+// Two sessions enter, ask all this, and depart.
+fn two_sessions<H: AllocGlobal + Abort>(
+    rt: &H,
+    desk: &mut Desk,
+    all: &[Asked],
+) -> Result<(), Fail> {
+    assert_enters(rt, desk, 1);
+    assert_enters(rt, desk, 2);
+    assert_all_asked(rt, desk, all)?;
+    assert_departs(rt, desk, 1);
+    assert_departs(rt, desk, 2);
+    Ok(())
+}
+
+const THE_WHEEL: [Asked; 5] = [
+    Asked {
+        who: 1,
+        line: "wheel take",
+        reply: "ok wheel\n",
+    },
+    Asked {
+        who: 2,
+        line: "step 0",
+        reply: "no Held 1\n",
+    },
+    Asked {
+        who: 2,
+        line: "show wheel",
+        reply: "wheel 1\n",
+    },
+    Asked {
+        who: 1,
+        line: "poke reg t0 0 7",
+        reply: "ok at 1\n",
+    },
+    Asked {
+        who: 1,
+        line: "show task t0",
+        reply: "task t0 core 0 pc 0 phase run regs 7,0,0,0,0,0,0,0 data - notes 0:idle\n",
+    },
+];
+
+#[test]
+fn the_wheel(rt: HostRuntime) -> Result<(), Fail> {
+    let mut desk = open(&rt, 100)?;
+    let ended = two_sessions(&rt, &mut desk, &THE_WHEEL);
+    let history = desk.close();
+    assert_same(&rt, history.len(), 9);
+    ended
+}
+
+// What the wheel refuses comes before all other refusals. It refuses no view and no watch.
+const HELD: [Asked; 16] = [
+    Asked {
+        who: 2,
+        line: "wheel take",
+        reply: "ok wheel\n",
+    },
+    Asked {
+        who: 2,
+        line: "wheel take",
+        reply: "ok wheel\n",
+    },
+    Asked {
+        who: 1,
+        line: "wheel take",
+        reply: "no Held 2\n",
+    },
+    Asked {
+        who: 1,
+        line: "wheel give",
+        reply: "no NotHolder\n",
+    },
+    Asked {
+        who: 1,
+        line: "step 9",
+        reply: "no Held 2\n",
+    },
+    Asked {
+        who: 1,
+        line: "until w0 1",
+        reply: "no Held 2\n",
+    },
+    Asked {
+        who: 1,
+        line: "back 1",
+        reply: "no Held 2\n",
+    },
+    Asked {
+        who: 1,
+        line: "redo 1",
+        reply: "no Held 2\n",
+    },
+    Asked {
+        who: 1,
+        line: "poke pc t9 0",
+        reply: "no Held 2\n",
+    },
+    Asked {
+        who: 1,
+        line: "watch tick = 0",
+        reply: "ok watch 0\n",
+    },
+    Asked {
+        who: 1,
+        line: "unwatch 1",
+        reply: "no NoWatch\n",
+    },
+    Asked {
+        who: 1,
+        line: "show cores",
+        reply: "cores t0 ready - tick 0 turn 0\n",
+    },
+    Asked {
+        who: 2,
+        line: "forward 1",
+        reply: "ok at 1\n",
+    },
+    Asked {
+        who: 2,
+        line: "wheel give",
+        reply: "ok wheel\n",
+    },
+    Asked {
+        who: 1,
+        line: "show wheel",
+        reply: "wheel -\n",
+    },
+    Asked {
+        who: 1,
+        line: "back 1",
+        reply: "ok at 0\n",
+    },
+];
+
+#[test]
+fn held(rt: HostRuntime) -> Result<(), Fail> {
+    let mut desk = open(&rt, 100)?;
+    let ended = two_sessions(&rt, &mut desk, &HELD);
+    desk.close();
+    ended
+}
+
+// Watches are numbered in each session by itself, and no other session sees or drops them.
+const OWN_WATCHES: [Asked; 10] = [
+    Asked {
+        who: 1,
+        line: "watch tick > 0",
+        reply: "ok watch 0\n",
+    },
+    Asked {
+        who: 2,
+        line: "watch tick = 0",
+        reply: "ok watch 0\n",
+    },
+    Asked {
+        who: 2,
+        line: "watch pc t0 = 0",
+        reply: "ok watch 1\n",
+    },
+    Asked {
+        who: 1,
+        line: "show watches",
+        reply: "watches 0:fails\n",
+    },
+    Asked {
+        who: 2,
+        line: "show watches",
+        reply: "watches 0:holds,1:holds\n",
+    },
+    Asked {
+        who: 1,
+        line: "unwatch 1",
+        reply: "no NoWatch\n",
+    },
+    Asked {
+        who: 1,
+        line: "unwatch 0",
+        reply: "ok watch 0\n",
+    },
+    Asked {
+        who: 1,
+        line: "show watches",
+        reply: "watches -\n",
+    },
+    Asked {
+        who: 2,
+        line: "unwatch 0",
+        reply: "ok watch 0\n",
+    },
+    Asked {
+        who: 2,
+        line: "show watches",
+        reply: "watches 1:holds\n",
+    },
+];
+
+#[test]
+fn own_watches(rt: HostRuntime) -> Result<(), Fail> {
+    let mut desk = open(&rt, 100)?;
+    let ended = two_sessions(&rt, &mut desk, &OWN_WATCHES);
+    desk.close();
+    ended
+}
+
+const BEFORE_DEPARTURE: [Asked; 2] = [
+    Asked {
+        who: 1,
+        line: "wheel take",
+        reply: "ok wheel\n",
+    },
+    Asked {
+        who: 1,
+        line: "watch tick = 0",
+        reply: "ok watch 0\n",
+    },
+];
+
+const AFTER_DEPARTURE: [Asked; 4] = [
+    Asked {
+        who: 2,
+        line: "show wheel",
+        reply: "wheel -\n",
+    },
+    Asked {
+        who: 3,
+        line: "show watches",
+        reply: "watches -\n",
+    },
+    Asked {
+        who: 3,
+        line: "wheel take",
+        reply: "ok wheel\n",
+    },
+    Asked {
+        who: 2,
+        line: "tick",
+        reply: "no Held 3\n",
+    },
+];
+
+// Who departs has no wheel and no watches any more, and the next to enter has another number. The
+// wheel of another stays where it is.
+fn depart_and_enter<H: AllocGlobal + Abort>(rt: &H, desk: &mut Desk) -> Result<(), Fail> {
+    assert_enters(rt, desk, 1);
+    assert_enters(rt, desk, 2);
+    assert_all_asked(rt, desk, &BEFORE_DEPARTURE)?;
+    assert_departs(rt, desk, 1);
+    assert_enters(rt, desk, 3);
+    assert_all_asked(rt, desk, &AFTER_DEPARTURE)?;
+    assert_departs(rt, desk, 2);
+    let asked = Asked {
+        who: 3,
+        line: "show wheel",
+        reply: "wheel 3\n",
+    };
+    assert_asked(rt, desk, asked)
+}
+
+#[test]
+fn departures(rt: HostRuntime) -> Result<(), Fail> {
+    let mut desk = open(&rt, 100)?;
+    let ended = depart_and_enter(&rt, &mut desk);
+    desk.close();
+    ended
+}
+
+// The numbers of a full history.
+fn assert_tally(rt: &impl Abort, tally: &Tally, entries: usize, present: usize, limit: usize) {
+    assert_same(rt, tally.entries(), entries);
+    assert_same(rt, tally.present(), present);
+    assert_same(rt, tally.limit(), limit);
+}
+
+// The 65th isn't let in, also where some have left.
+fn enter_64_times(rt: &impl Abort, desk: &mut Desk) {
+    for who in 1..=64 {
+        assert_enters(rt, desk, who);
+    }
+    assert!(rt; matches!(desk.enter(), Err(EnterError::Full)));
+    assert_departs(rt, desk, 64);
+    assert!(rt; matches!(desk.enter(), Err(EnterError::Full)));
+    assert_same(rt, desk.entries(), 65);
+}
+
+#[test]
+fn joins(rt: HostRuntime) -> Result<(), Fail> {
+    let mut desk = open(&rt, 1_000)?;
+    enter_64_times(&rt, &mut desk);
+    desk.close();
+    Ok(())
+}
+
+// One session is present, and fills a history of two places: no other is let in.
+fn assert_no_way_in(rt: &impl Abort, desk: &mut Desk) {
+    match desk.enter() {
+        Ok(_receipt) => assert!(rt; false, "the history isn't full"),
+        Err(error) => match error {
+            EnterError::HistoryFull { tally } => assert_tally(rt, &tally, 1, 1, 2),
+            EnterError::Full | EnterError::NoMemory => assert!(rt; false, "it isn't that"),
+        },
+    }
+}
+
+// Nor is its own command served.
+fn assert_no_place(rt: &impl Abort, desk: &mut Desk) {
+    let Ok(command) = parse_line(b"tick") else {
+        panic!(rt; "no command");
+    };
+    assert_present(rt, desk, 1);
+    match desk.serve(1, &command) {
+        Ok(_receipt) => assert!(rt; false, "the history isn't full"),
+        Err(refusal) => match refusal {
+            NotServed::HistoryFull { tally } => assert_tally(rt, &tally, 1, 1, 2),
+            NotServed::NoMemory => assert!(rt; false, "no memory"),
+        },
+    }
+}
+
+// With two places one session can enter and depart, and nothing else.
+fn fill_two_places(rt: &impl Abort, desk: &mut Desk) {
+    assert_enters(rt, desk, 1);
+    assert_no_way_in(rt, desk);
+    assert_no_place(rt, desk);
+    assert_departs(rt, desk, 1);
+    assert_same(rt, desk.entries(), 2);
+}
+
+#[test]
+fn two_places(rt: HostRuntime) -> Result<(), Fail> {
+    let mut desk = open(&rt, 2)?;
+    fill_two_places(&rt, &mut desk);
+    desk.close();
+    Ok(())
+}
