@@ -1,6 +1,6 @@
 -- What requests leave of the moves, and what is replied.
-use Rattle.std.proofs.Common.{◌≡◌, ◌≢◌, ◌∙◌, ℕ, ◌+◌, ◌-◌, ◌<◌, ◌≤◌, List, [], ◌∷◌, ◌++◌, inl, inr, true, false, cond, length, take, drop, refl, ap, subst, sym, arith, length-append}
-use Rattle.std.specs.Prelude.{◌&&◌, Bool, not, nat_eq, nat_le, is_ok, min, Option, None, Some, Result, Ok, Err, IfErr, IfOk, IsErr, IsErrOf, IsOk, OnErr, OnOk, ◌↔◌}
+use Rattle.std.proofs.Common.{◌≡◌, ◌≢◌, ◌∙◌, ℕ, ◌+◌, ◌-◌, ◌<◌, ◌≤◌, List, [], ◌∷◌, ◌++◌, inl, inr, true, false, cond, length, take, refl, ap, subst, sym, arith, length-append}
+use Rattle.std.specs.Prelude.{◌&&◌, Bool, not, nat_eq, nat_le, is_ok, Option, None, Some, Result, Ok, Err, IfErr, IfOk, IsErr, IsErrOf, IsOk, OnErr, OnOk, ◌↔◌}
 use Rattle.std.proofs.lemmas.Bool.{cases_lt, false≢true, le-leb, lt-leb, eq-eqb, ne_eqb}
 use Rattle.std.proofs.lemmas.List.{length_push, length-take-le}
 use Rattle.rd_app.specs.Application.{Application}
@@ -14,16 +14,16 @@ use Rattle.rd_calls.specs.Step.{step}
 use Rattle.rd_condition.specs.declared.condition.Condition.{Condition}
 use Rattle.rd_timeline.specs.declared.running.Found.{Found}
 use Rattle.rd_timeline.specs.declared.runs.Request.TheVariants.{Go, Back, Forward, Redo, Until, BackUntil}
-use Rattle.rd_timeline.specs.Backward.{GoesBack, GoesBackTo, HasRedone, IsWhyNoRedo, last_met}
+use Rattle.rd_timeline.specs.Backward.{GoesBack, GoesBackTo, HasRedone, IsWhyNoRedo}
 use Rattle.rd_timeline.specs.Course.{Course, GoesOn, IsWhyNot}
 use Rattle.rd_timeline.specs.History.{state_after}
-use Rattle.rd_timeline.specs.Policy.{EndsRun, IsWhyNoRun, Run, Going, Met as MetAfter, Refused as RefusedRun, ended, moves_by_policy, ran, run_from, state_or}
+use Rattle.rd_timeline.specs.Policy.{EndsRun, IsWhyNoRun, Going, Refused as RefusedRun, ended, moves_by_policy, ran, run_from, state_or}
 use Rattle.rd_timeline.specs.Runs.{Moves, answered, back_at, can_make, moves_of, run_of, state_of}
 use Rattle.rd_timeline.proofs.Offered.{back_until_leaves, moves_made, redo_leaves, redo_refused, run_leaves, run_refused, state_after-push}
 use Rattle.rd_reply.specs.declared.reply.Reply.{Reply}
 use Rattle.rd_reply.specs.declared.reply.Reply.TheVariants.{Done, Ended, Refused}
 use Rattle.rd_reply.specs.declared.reply.SearchEnd.TheVariants.{Met, Limit, Start}
-use Rattle.rd_desk.specs.Asking.{Obeys, ended_reply, move_reply, run_reply, search_reply, stepped_reply, way_back_reply}
+use Rattle.rd_desk.specs.Asking.{Obeys, ended_reply, run_reply, search_reply, stepped_reply, way_back_reply}
 
 -- ---- what is told of a request
 

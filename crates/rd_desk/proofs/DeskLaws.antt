@@ -1,8 +1,7 @@
 -- A history with one entry more, and what no event changes.
-use Rattle.std.proofs.Common.{◌≡◌, ◌≢◌, ◌∙◌, ℕ, ◌+◌, List, [], ◌∷◌, ◌++◌, true, false, cond, length, refl, ap, subst, sym, arith}
+use Rattle.std.proofs.Common.{◌≡◌, ◌≢◌, ◌∙◌, ℕ, List, [], ◌∷◌, ◌++◌, true, false, length, refl, ap, subst, sym}
 use Rattle.std.specs.Prelude.{Bool, Result, Ok, Err, IfOk, OnErr, Option, None, Some, ◌-◌, is_none, position, slice_set, unwrap_or}
 use Rattle.std.proofs.lemmas.List.{length-set}
-use Rattle.rd_app.specs.Application.{Application}
 use Rattle.rd_condition.specs.declared.condition.Condition.{Condition}
 use Rattle.rd_timeline.specs.declared.runs.Request.{Request}
 use Rattle.rd_timeline.specs.declared.runs.Request.TheVariants as request

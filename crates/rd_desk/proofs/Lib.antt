@@ -5,4 +5,5 @@ pub mod HistoryLaws
 pub mod MachineLaws
 pub mod DeskLaws
 pub mod ViewLaws
+pub mod Counting
 pub mod Offered

@@ -5,7 +5,6 @@ use Rattle.rd_timeline.specs.Course.{Course}
 use Rattle.rd_timeline.specs.declared.runs.Request.{Request}
 use Rattle.rd_timeline.specs.Runs.{Moves, moves_of}
 use Rattle.rd_reply.specs.declared.reply.Reply as short
-use Rattle.rd_desk.specs.declared.reply.Reply.{Reply}
 use Rattle.rd_desk.specs.declared.reply.Reply.TheVariants.{Told}
 use Rattle.rd_desk.specs.Asking.{Obeys}
 use Rattle.rd_desk.specs.Debugger.{Debugger}

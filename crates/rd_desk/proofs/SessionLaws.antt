@@ -1,13 +1,12 @@
 -- Sessions and their watches.
-use Rattle.std.proofs.Common.{◌≡◌, ◌∙◌, ℕ, ◌+◌, ◌-◌, ◌<◌, List, [], ◌∷◌, ◌++◌, true, false, cond, length, inl, inr, refl, ap, sym, subst, arith}
-use Rattle.std.specs.Prelude.{All, Bool, IfSome, IsSome, Option, None, Some, count_by, is_none, is_some, position, slice_index_or, slice_set, unwrap_or}
+use Rattle.std.proofs.Common.{◌≡◌, ◌∙◌, ℕ, ◌-◌, ◌<◌, List, [], true, cond, length, inl, inr, refl, ap, sym, subst, arith}
+use Rattle.std.specs.Prelude.{All, Bool, IfSome, IsSome, Option, None, Some, is_some, slice_index_or, slice_set, unwrap_or}
 use Rattle.std.proofs.lemmas.Bool.{cases_eq, cases_lt, false≢true}
 use Rattle.std.proofs.lemmas.Grind.{get_or-set_at}
 use Rattle.std.proofs.lemmas.List.Elements.{All-set}
 use Rattle.std.proofs.lemmas.List.{get_or-set_other, get_or_past, length-set}
 use Rattle.std.proofs.lemmas.List.Sums.{sum_by-set}
 use Rattle.rd_app.specs.Application.{Application}
-use Rattle.rd_command.specs.declared.binding.TheConstants.{MAX_WATCHES}
 use Rattle.rd_condition.specs.declared.condition.Condition.{Condition}
 use Rattle.rd_condition.specs.Conditions.{IsConditionOf}
 use Rattle.rd_desk.specs.Sessions.{AreSessionsOf, AreWatchesOf, IsPresent, SessionsView, WatchesView, present_count, session_at, watch_at, watches_of, with_watches}

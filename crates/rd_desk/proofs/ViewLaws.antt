@@ -1,7 +1,7 @@
 -- What views show has names, and the watches that are shown.
-use Rattle.std.proofs.Common.{◌≡◌, ◌∙◌, ℕ, ◌+◌, ◌<◌, ◌≤◌, List, [], ◌∷◌, ◌++◌, length, drop, Option, None, refl, ap, subst, sym, arith, add-one, drop-cons, append_assoc}
+use Rattle.std.proofs.Common.{◌≡◌, ◌∙◌, ℕ, ◌+◌, ◌<◌, ◌≤◌, List, ◌∷◌, ◌++◌, length, drop, None, ap, subst, sym, arith, add-one, drop-cons, append_assoc}
 use Rattle.std.proofs.lemmas.List.{append-nil, drop_all}
-use Rattle.std.specs.Prelude.{All, IfSome, slice_index_or}
+use Rattle.std.specs.Prelude.{All, IfSome}
 use Rattle.rd_app.specs.Application.{Application, IsApplication}
 use Rattle.rd_state.specs.Snapshot.{Snapshot}
 use Rattle.rd_state.specs.Valid.{IsValid}

@@ -1,5 +1,5 @@
 -- The sequential debugger: what it has, and the target that it shows.
-use Rattle.std.specs.Prelude.{ℕ, ◌≡◌, ◌∷◌, ◌++◌, Option, None, Some, [], nat_eq, if◌then◌else◌, Bool}
+use Rattle.std.specs.Prelude.{ℕ, Option, None, Some, [], nat_eq, if◌then◌else◌, Bool}
 use Rattle.std.specs.Prelude.{false}
 use Rattle.rd_app.specs.Application.{Application}
 use Rattle.rd_state.specs.Snapshot.{Snapshot}

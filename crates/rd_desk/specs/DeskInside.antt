@@ -1,5 +1,5 @@
 -- The value that the fields of a `Desk` stand for.
-use Rattle.std.specs.Prelude.{ℕ, ◌≡◌, ◌≤◌, length}
+use Rattle.std.specs.Prelude.{◌≤◌, length}
 use Rattle.rd_desk.specs.declared.desk.Desk.TheInside.{Inside}
 use Rattle.rd_desk.specs.declared.sessions.TheConstants.{MAX_JOINS}
 use Rattle.rd_desk.specs.DeskView.{DeskView, used}

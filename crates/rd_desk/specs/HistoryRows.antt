@@ -1,5 +1,5 @@
 -- What is kept of an entry.
-use Rattle.std.specs.Prelude.{ℕ, ◌≤◌, List, map, length, All, slice_range}
+use Rattle.std.specs.Prelude.{ℕ, ◌≤◌, List, map, slice_range}
 use Rattle.rd_desk.specs.declared.entry.Entry.{Entry}
 use Rattle.rd_desk.specs.declared.history.Kept.{Kept}
 use Rattle.rd_desk.specs.declared.history.Kept.TheVariants as kept

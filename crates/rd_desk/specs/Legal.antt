@@ -1,5 +1,5 @@
 -- Histories that the sequential debugger could have made.
-use Rattle.std.specs.Prelude.{ℕ, ◌≡◌, List, [], ◌∷◌}
+use Rattle.std.specs.Prelude.{◌≡◌, List, [], ◌∷◌}
 use Rattle.rd_desk.specs.declared.entry.Entry.{Entry}
 use Rattle.rd_desk.specs.Debugger.{Debugger, opening}
 use Rattle.rd_desk.specs.Serving.{MayAct, reply_of, served}

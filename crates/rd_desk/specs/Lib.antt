@@ -15,3 +15,4 @@ pub mod Legal
 pub mod DeskView
 pub mod DeskInside
 pub mod Refusals
+pub mod Laws

@@ -1,5 +1,4 @@
 -- The debugger that the fields of a `Machine` stand for.
-use Rattle.std.specs.Prelude.{◌≡◌}
 use Rattle.rd_timeline.specs.Runs.{moves_of}
 use Rattle.rd_desk.specs.declared.machine.Machine.TheInside.{Inside}
 use Rattle.rd_desk.specs.Debugger.{Debugger}

@@ -1,5 +1,5 @@
 -- Refusals for want of room in the history.
-use Rattle.std.specs.Prelude.{ℕ, Bool, true, false, length, ⊤, Result, Ok, Err}
+use Rattle.std.specs.Prelude.{Bool, true, false, length, ⊤, Result, Ok, Err}
 use Rattle.rd_desk.specs.declared.desk.EnterError.{EnterError}
 use Rattle.rd_desk.specs.declared.desk.EnterError.TheVariants as enter
 use Rattle.rd_desk.specs.declared.desk.NotServed.{NotServed}

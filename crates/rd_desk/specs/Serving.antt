@@ -14,7 +14,6 @@ use Rattle.rd_command.specs.Commands.{CommandView}
 use Rattle.rd_command.specs.Keywords.{needs_wheel}
 use Rattle.rd_command.specs.declared.binding.Bound.{Bound}
 use Rattle.rd_command.specs.declared.binding.Bound.TheVariants as bound
-use Rattle.rd_reply.specs.declared.reply.Reply as short
 use Rattle.rd_reply.specs.declared.reply.Reply.TheVariants.{Holder, Moves, Refused, Watch, Wheel}
 use Rattle.rd_reply.specs.Replies.{cores_text, line_of, watches_text}
 use Rattle.rd_desk.specs.declared.entry.Event.{Event}

@@ -6,6 +6,7 @@ mod asking;
 pub mod desk;
 pub mod entry;
 pub mod history;
+pub mod laws;
 pub mod limits;
 pub mod machine;
 pub mod reply;

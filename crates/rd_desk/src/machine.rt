@@ -1,6 +1,7 @@
 //! The sequential debugger without its history: what each event makes of it, and what is replied.
 
-ghost use Rattle.std.specs.Prelude.{◌≡◌, ◌↔◌, ◌+◌, ◌<◌, length, IfOk, IfSome, IsTrue, OnErr, Ok, slice_set};
+ghost use Rattle.std.specs.Prelude.{◌≡◌, ◌↔◌, ◌+◌, ◌<◌, length, slice_set};
+ghost use Rattle.std.specs.Prelude.{IfOk, IfSome, IsTrue, OnErr, Ok};
 ghost use Rattle.rd_calls.specs.declared.moves.Move.TheVariants as move;
 ghost use Rattle.rd_command.specs.Bindings.{IsBoundOf};
 ghost use Rattle.rd_command.specs.declared.binding.Bound.TheVariants as bound;

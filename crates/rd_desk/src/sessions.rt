@@ -1,7 +1,6 @@
 //! The sessions of a debugger: who has entered, and who is present.
 
-ghost use Rattle.std.specs.Prelude.{◌≡◌, ◌↔◌, ◌+◌, ◌<◌, [], length, slice_set, IfOk, IsTrue, is_none};
-ghost use Rattle.std.specs.Prelude.{position};
+ghost use Rattle.std.specs.Prelude.{◌≡◌, ◌↔◌, ◌+◌, ◌<◌, [], length, IfOk, IsTrue};
 ghost use Rattle.rd_desk.specs.Sessions.{IsPresent, joined, present_count, watch_at};
 ghost use Rattle.rd_desk.specs.Sessions.{watches_of, with_watches, without};
 

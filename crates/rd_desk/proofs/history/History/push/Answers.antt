@@ -1,5 +1,5 @@
 -- The goal of push that the check left open.
-use Rattle.std.proofs.Common.{◌≡◌, ◌∙◌, ◌+◌, ◌++◌, ◌∷◌, [], List, ℕ, length, ap, arith}
+use Rattle.std.proofs.Common.{◌≡◌, ◌∙◌, ◌++◌, ◌∷◌, [], List, ℕ, length, ap, arith}
 use Rattle.rd_desk.specs.declared.entry.Entry.{Entry}
 use Rattle.rd_desk.specs.declared.history.Row.{Row}
 use Rattle.rd_desk.specs.HistoryRows.{entries_in}
