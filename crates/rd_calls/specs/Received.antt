@@ -45,7 +45,8 @@ looks_at task (instr.Notify call) target index = call_looks_at task call target 
 -- a move, by the instruction of its core's task; ticks and edits look at none
 abbrev pub move_looks_at : Application → Snapshot → Move → ℕ → ℕ → Bool
 move_looks_at app s (Core core) target index =
-    option_map_or (λ task. looks_at task (next_instr app s task) target index) (core_at s core) false
+    option_map_or (λ task. looks_at task (next_instr app s task) target index) (core_at s core)
+    false
 move_looks_at app s Tick target index = false
 move_looks_at app s (Edit edit) target index = false
 

@@ -1,7 +1,8 @@
 //! Moves, made whole or not at all.
 
 ghost use Rattle.std.specs.Prelude.{◌≡◌, ◌↔◌, ◌<◌, ◌≤◌, ◌⊎◌, length, take, Ok, Err};
-ghost use Rattle.std.specs.Prelude.{None, Some, true, IfErr, IfOk, IfSome, OnOk, OnErr, IsErrOf, IsOk};
+ghost use Rattle.std.specs.Prelude.{None, Some, true, IfErr, IfOk, IfSome};
+ghost use Rattle.std.specs.Prelude.{IsErrOf, IsOk, OnErr, OnOk};
 ghost use Rattle.rd_state.specs.Edit.{added, capacity_of, room_for, GoesOn};
 ghost use Rattle.rd_state.specs.PackedChanges.{IsPackable};
 ghost use Rattle.rd_state.specs.Sizes.{IsSized};

@@ -1,5 +1,6 @@
 -- The forms of the words of a command, whatever they name.
-use Rattle.std.specs.Prelude.{ℕ, ◌&&◌, Bool, true, false, nat_eq, nat_lt, nat_le, if◌then◌else◌, codes}
+use Rattle.std.specs.Prelude.{ℕ, ◌&&◌, Bool, true, false, nat_eq, nat_lt, nat_le}
+use Rattle.std.specs.Prelude.{if◌then◌else◌, codes}
 use Rattle.std.specs.Prelude.{List, [], ◌∷◌, Option, Some, None, is_some, option_and_then}
 use Rattle.std.specs.Str.{bytes_eq}
 use Rattle.rd_text.specs.Words.{number_of, bytes_of, is_name}

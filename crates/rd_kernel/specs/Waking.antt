@@ -1,6 +1,6 @@
 -- Block times: tasks that begin to wait, and tasks that are woken.
-use Rattle.std.specs.Prelude.{ℕ, ◌≡◌, zero, suc, ◌+◌, ◌<◌, ◌≤◌, ◌++◌, ◌∷◌, ◌&&◌, [], Bool, true, List}
-use Rattle.std.specs.Prelude.{is_some}
+use Rattle.std.specs.Prelude.{ℕ, ◌≡◌, zero, suc, ◌+◌, ◌<◌, ◌≤◌, ◌++◌, ◌∷◌, ◌&&◌}
+use Rattle.std.specs.Prelude.{[], Bool, true, List, is_some}
 use Rattle.std.specs.Prelude.{length, nat_eq, nat_lt, not, position, remove, slice_get}
 use Rattle.std.specs.Prelude.{if◌then◌else◌, Option, None, Some}
 use Rattle.std.specs.List.{fold}

@@ -1,6 +1,7 @@
 //! Tasks that wait for a notification entry of their own, and how they are told through it.
 
-ghost use Rattle.std.specs.Prelude.{◌≡◌, ◌<◌, ◌≤◌, ◌^◌, false, length, IfOk, IsSome, IsOk, OnOk, OnErr};
+ghost use Rattle.std.specs.Prelude.{◌≡◌, ◌<◌, ◌≤◌, ◌^◌, false, length};
+ghost use Rattle.std.specs.Prelude.{IfOk, IsOk, IsSome, OnErr, OnOk};
 ghost use Rattle.std.specs.Option.{option_and_then};
 ghost use Rattle.rd_app.specs.Application.{IsOperand};
 ghost use Rattle.rd_notify.specs.declared.entries.TheConstants.{MAX_ENTRIES};

@@ -11,8 +11,8 @@ ghost use Rattle.rd_kernel.specs.Outcomes.{DoesCall, IsCalling};
 ghost use Rattle.rd_kernel.specs.Tasks.{entry_at, HasEntry, KeepsPc};
 ghost use Rattle.rd_kernel.specs.Telling.{notified, waits_once};
 ghost use Rattle.rd_notify_calls.specs.NotifyCalls.{answer_to, clear_state_outcome};
-ghost use Rattle.rd_notify_calls.specs.NotifyCalls.{clear_value_outcome, entry_closed, entry_opened};
-ghost use Rattle.rd_notify_calls.specs.NotifyCalls.{notify_call_cost};
+ghost use Rattle.rd_notify_calls.specs.NotifyCalls.{clear_value_outcome, entry_closed};
+ghost use Rattle.rd_notify_calls.specs.NotifyCalls.{entry_opened, notify_call_cost};
 ghost use Rattle.rd_notify_calls.specs.NotifyCalls.{notify_call_outcome, notify_wait_outcome};
 ghost use Rattle.rd_notify_calls.specs.NotifyCalls.{take_outcome, NotifyCallChangesNothing};
 

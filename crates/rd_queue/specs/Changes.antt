@@ -1,5 +1,6 @@
 -- The primitive changes of a queue: what each does, at which queues it fits, and what undoes it.
-use Rattle.std.specs.Prelude.{ℕ, ◌≡◌, ◌-◌, ◌*◌, ◌<◌, ◌≤◌, List, [], ◌∷◌, ◌++◌, length, take, drop, Option}
+use Rattle.std.specs.Prelude.{ℕ, ◌≡◌, ◌-◌, ◌*◌, ◌<◌, ◌≤◌, List, [], ◌∷◌, ◌++◌}
+use Rattle.std.specs.Prelude.{length, take, drop, Option}
 use Rattle.std.specs.Prelude.{insert, remove, slice_index, slice_index_or, slice_set, IfSome}
 use Rattle.std.specs.List.{concat}
 use Rattle.rd_queue.specs.declared.end.End.{End}

@@ -88,8 +88,9 @@ const OF_OBJECTS: [Row; 3] = [
         name: "an item",
         app: PARTS,
         commands: "step 0\nstep 0\npoke item q0 0 ff00\nshow queue q0\npoke item q0 1 ff00\n\
-                   poke item q0 0 ff\npoke item q0 0 ff00ff\npoke item q0 0 -\npoke item q1 0 ff00\n\
-                   poke item b0 0 ff00\npoke item q0 0 f\nback 1\nshow queue q0\n",
+                   poke item q0 0 ff\npoke item q0 0 ff00ff\npoke item q0 0 -\n\
+                   poke item q1 0 ff00\npoke item b0 0 ff00\npoke item q0 0 f\n\
+                   back 1\nshow queue q0\n",
         replies: "ok at 1\nok at 2\nok at 3\nqueue q0 1/2 items ff00 recv - send - set -\n\
                   no BadEdit\nno BadEdit\nno BadEdit\nno BadEdit\nno NoSuch\nno NoSuch\n\
                   no Syntax\nok at 2\nqueue q0 1/2 items 4142 recv - send - set -\n",

@@ -173,7 +173,7 @@ const ROWS: [Row; 15] = [
                   task t0 core 0 pc 0 phase run regs 0,0,0,0,0,0,0,0 data - notes 0:idle\n",
     },
     Row {
-        name: "a wait keeps its entry bits where something has come, and clears them where it does not wait",
+        name: "a wait keeps its entry bits where something has come, and else clears them",
         app: concat!(
             r#"{"profile":1,"cores":1,"tasks":[{"name":"t0","priority":1,"#,
             r#""code":["notify t0 0 6 set","nwait 0 6 0 0","nwait 0 2 4 0","end"]}]}"#,

@@ -14,7 +14,8 @@ use Rattle.rd_queue.specs.PackedChanges.{queue_packed, QueueHasBytes}
 use Rattle.rd_queue.specs.PackedQueueSetChanges.{last_queue_set, last_queue_set_change}
 use Rattle.rd_queue.specs.PackedQueueSetChanges.{queue_set_change_length, queue_set_packed}
 use Rattle.rd_queue.specs.PackedQueueSetChanges.{QueueSetHasBytes}
-use Rattle.rd_state.specs.Change.{Change, SetTick, SetTurn, SetCore, InsReady, DelReady, Task, Object}
+use Rattle.rd_state.specs.Change.{Change, SetTick, SetTurn, SetCore, InsReady, DelReady, Task}
+use Rattle.rd_state.specs.Change.{Object}
 use Rattle.rd_state.specs.Objects.{ObjectChange, Queue, QueueSet, Stream, Message, Group}
 use Rattle.rd_stream.specs.PackedMessageChanges.{last_message_buffer, last_message_change}
 use Rattle.rd_stream.specs.PackedMessageChanges.{message_change_length, message_packed}

@@ -4,7 +4,8 @@ use Rattle.std.specs.Prelude.{Option, Some, None}
 use Rattle.std.specs.Prelude.{IfSome, List, [], ◌∷◌, ◌++◌, length, nat_lt}
 use Rattle.std.specs.Int.{w16, w32, w64, to_le_bytes}
 use Rattle.rd_bytes.specs.Ends.{all_but, bytes_before, end_byte, end_long, end_short, end_word}
-use Rattle.rd_bytes.specs.declared.tag.TheConstants.{SET_PC, SET_REG, SET_PHASE, SET_ENTRY, SET_DATA}
+use Rattle.rd_bytes.specs.declared.tag.TheConstants.{SET_PC, SET_REG, SET_PHASE, SET_ENTRY}
+use Rattle.rd_bytes.specs.declared.tag.TheConstants.{SET_DATA}
 use Rattle.rd_bytes.specs.declared.tag.TheConstants.{OWN_ENTRY, SELECTING_LIST, READING_STREAM}
 use Rattle.rd_bytes.specs.declared.tag.TheConstants.{WRITING_STREAM, READING_MESSAGES}
 use Rattle.rd_bytes.specs.declared.tag.TheConstants.{WRITING_MESSAGES, WAITING_GROUP}
