@@ -6,3 +6,5 @@ pub mod LineLaws
 pub mod Steps
 pub mod TableLaws
 pub mod ThereLaws
+pub mod KeywordLaws
+pub mod Offered

@@ -12,11 +12,17 @@ use Rattle.rd_app.specs.Application.{Application, names_of}
 use Rattle.rd_condition.specs.declared.condition.Condition.{Condition}
 use Rattle.rd_condition.specs.Conditions.{IsConditionOf}
 use Rattle.rd_edits.specs.Edits.{IsEditOf}
+use Rattle.rd_edits.specs.declared.edit.Edit.{Edit}
+use Rattle.rd_edits.specs.declared.edit.Edit.TheVariants as edit
 use Rattle.rd_command.specs.declared.binding.Bound.{Bound}
 use Rattle.rd_command.specs.declared.binding.Bound.TheVariants as bound
 use Rattle.rd_command.specs.declared.binding.TheConstants.{MAX_WATCHES}
 use Rattle.rd_command.specs.declared.binding.Unknown.{Unknown}
 use Rattle.rd_command.specs.declared.keyword.ConditionKeyword.{ConditionKeyword}
+use Rattle.rd_command.specs.declared.keyword.EditKeyword.{EditKeyword}
+use Rattle.rd_command.specs.declared.keyword.EditKeyword.TheVariants as poked
+use Rattle.rd_command.specs.declared.keyword.Keyword.{Keyword}
+use Rattle.rd_command.specs.declared.keyword.Keyword.TheVariants as keyword
 use Rattle.rd_command.specs.declared.keyword.Parameter.{Parameter}
 use Rattle.rd_command.specs.declared.keyword.Parameter.TheVariants.{Core, Count, Register, Index}
 use Rattle.rd_command.specs.declared.keyword.Parameter.TheVariants.{Number, Data, Operator}
@@ -59,6 +65,38 @@ IsBoundOf app bound.ShowCores = Unit {0}
 IsBoundOf app bound.ShowMoves = Unit {0}
 IsBoundOf app bound.ShowWheel = Unit {0}
 IsBoundOf app bound.ShowWatches = Unit {0}
+
+-- the keyword of an edit
+abbrev pub edit_keyword_of : Edit → EditKeyword
+edit_keyword_of (edit.Register task register value) = poked.Register
+edit_keyword_of (edit.Data task bytes) = poked.Data
+edit_keyword_of (edit.Pc task pc) = poked.Pc
+edit_keyword_of (edit.Value task index value) = poked.Value
+edit_keyword_of (edit.Bits group bits) = poked.Bits
+edit_keyword_of (edit.Item queue index bytes) = poked.Item
+edit_keyword_of (edit.Byte stream index value) = poked.Byte
+
+-- the keyword of the command that was bound
+abbrev pub keyword_of : Bound → Keyword
+keyword_of (bound.Step core) = keyword.Step
+keyword_of bound.Tick = keyword.Tick
+keyword_of (bound.Forward count) = keyword.Forward
+keyword_of (bound.Redo count) = keyword.Redo
+keyword_of (bound.Back count) = keyword.Back
+keyword_of (bound.Until condition count) = keyword.Until
+keyword_of (bound.UntilWatch watch count) = keyword.UntilWatch
+keyword_of (bound.BackUntil condition) = keyword.BackUntil
+keyword_of (bound.BackUntilWatch watch) = keyword.BackUntilWatch
+keyword_of (bound.Poke edit) = keyword.Poke (edit_keyword_of edit)
+keyword_of bound.TakeWheel = keyword.TakeWheel
+keyword_of bound.GiveWheel = keyword.GiveWheel
+keyword_of (bound.Watch condition) = keyword.Watch
+keyword_of (bound.Unwatch number) = keyword.Unwatch
+keyword_of (bound.Show kind number) = keyword.Show kind
+keyword_of bound.ShowCores = keyword.ShowCores
+keyword_of bound.ShowMoves = keyword.ShowMoves
+keyword_of bound.ShowWheel = keyword.ShowWheel
+keyword_of bound.ShowWatches = keyword.ShowWatches
 
 -- ---- what a word stands for
 

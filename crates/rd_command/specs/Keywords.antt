@@ -246,11 +246,12 @@ needs_wheel ShowWatches = false
 
 abbrev pub keywords : List Keyword
 keywords =
-    Step ∷ Tick ∷ Back ∷ Forward ∷ Redo ∷ Until ∷ UntilWatch ∷ BackUntil ∷ BackUntilWatch
+    Step ∷ Tick ∷ Back ∷ BackUntil ∷ BackUntilWatch ∷ Forward
+    ∷ Show kind.Task ∷ Show kind.Queue ∷ Show kind.QueueSet ∷ Show kind.Stream
+    ∷ Show kind.Message ∷ Show kind.Group
+    ∷ ShowCores ∷ ShowMoves ∷ ShowWheel ∷ ShowWatches
+    ∷ Redo ∷ Until ∷ UntilWatch
     ∷ Poke poked.Register ∷ Poke poked.Data ∷ Poke poked.Pc ∷ Poke poked.Value
     ∷ Poke poked.Bits ∷ Poke poked.Item ∷ Poke poked.Byte
     ∷ TakeWheel ∷ GiveWheel ∷ Watch ∷ Unwatch
-    ∷ Show kind.Queue ∷ Show kind.QueueSet ∷ Show kind.Stream ∷ Show kind.Message
-    ∷ Show kind.Group ∷ Show kind.Task
-    ∷ ShowCores ∷ ShowMoves ∷ ShowWheel ∷ ShowWatches
     ∷ []

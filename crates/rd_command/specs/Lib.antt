@@ -5,3 +5,4 @@ pub mod Forms
 pub mod Keywords
 pub mod Lines
 pub mod Tables
+pub mod Pokes

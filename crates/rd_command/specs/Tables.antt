@@ -1,18 +1,18 @@
 -- The code's tables of keywords, and how a keyword is found in them.
 use denote.Ref.{Bor}
-use Rattle.std.specs.Prelude.{ℕ, List, [], ◌∷◌, map, if◌then◌else◌}
+use Rattle.std.specs.Prelude.{ℕ, List, [], ◌∷◌, map, if◌then◌else◌, ◌&&◌}
 use Rattle.std.specs.Prelude.{Option, Some, None}
 use Rattle.std.specs.Option.{option_or}
 use Rattle.std.specs.Str.{bytes_eq}
-use Rattle.rd_text.specs.Words.{texts}
 use Rattle.rd_command.specs.declared.keyword.Operands as code
 use Rattle.rd_command.specs.declared.keyword.Operands.TheVariants as kept
 use Rattle.rd_command.specs.declared.keyword.ConditionKeyword.{ConditionKeyword}
 use Rattle.rd_command.specs.declared.keyword.Keyword.{Keyword}
 use Rattle.rd_command.specs.declared.keyword.Parameter.{Parameter}
-use Rattle.rd_command.specs.Commands.{CommandView, command_with}
-use Rattle.rd_command.specs.Keywords.{Operands, Plain, WithCondition, condition_row, more_of}
-use Rattle.rd_command.specs.Keywords.{operands_of, parameters_of, row_of, text_of, verb_of}
+use Rattle.rd_command.specs.Commands.{CommandView}
+use Rattle.rd_command.specs.Forms.{are_operands}
+use Rattle.rd_command.specs.Keywords.{Operands, Plain, WithCondition, condition_row}
+use Rattle.rd_command.specs.Keywords.{parameters_of, text_of}
 
 -- ---- conditions: the text of each, its operands, and the keyword
 
@@ -33,33 +33,72 @@ first_condition word [] = None
 first_condition word (row ∷ others) =
     if bytes_eq word row.0 then Some (row.1, row.2) else first_condition word others
 
--- ---- commands: the first word of each, its other words, its operands, and the keyword
+-- ---- commands: first words, each with the keywords that are this word alone, and those that have a
+-- second word
 
 abbrev pub operands_view : code.Operands → Operands
 operands_view (kept.Plain parameters) = Plain parameters.now
 operands_view (kept.WithCondition parameters) = WithCondition parameters.now
 
-abbrev pub TableRow : Type 0
-TableRow = List ℕ × List (List ℕ) × Operands × Keyword
+-- the operands of a keyword that is its first word alone, and the keyword
+abbrev pub Alone : Type 0
+Alone = Operands × Keyword
 
-abbrev pub rows_of : List Keyword → List TableRow
-rows_of keywords =
-    map (λ k. (verb_of (row_of k), more_of (row_of k), operands_of (row_of k), k)) keywords
+abbrev pub alone_view : List (code.Operands × Keyword) → List Alone
+alone_view rows = map (λ row. (operands_view row.0, row.1)) rows
 
-abbrev pub row_view : Bor (List ℕ) × Bor (List (Bor (List ℕ))) × code.Operands × Keyword
-    → TableRow
-row_view row = (row.0.now, texts row.1.now, operands_view row.2, row.3)
+-- the second word of a keyword that has one, its operands, and the keyword
+abbrev pub Longer : Type 0
+Longer = List ℕ × Operands × Keyword
 
-abbrev pub rows_view : List (Bor (List ℕ) × Bor (List (Bor (List ℕ))) × code.Operands × Keyword)
-    → List TableRow
-rows_view rows = map row_view rows
+abbrev pub longer_view : List (Bor (List ℕ) × code.Operands × Keyword) → List Longer
+longer_view rows = map (λ row. (row.0.now, operands_view row.1, row.2)) rows
 
--- the command of a row, if the words are spelled with its keyword
-abbrev pub command_in : TableRow → List ℕ → List (List ℕ) → Option CommandView
-command_in row first words = command_with row.0 row.1 row.2 row.3 first words
+-- a first word, with its keywords of both kinds
+abbrev pub Verb : Type 0
+Verb = List ℕ × List Alone × List Longer
 
--- the command of the first of these rows that the words are spelled with
-abbrev pub first_command : List TableRow → List ℕ → List (List ℕ) → Option CommandView
-first_command [] first words = None
-first_command (row ∷ others) first words =
-    option_or (command_in row first words) (first_command others first words)
+-- how the code keeps it
+abbrev pub VerbKept : Type 0
+VerbKept =
+    Bor (List ℕ)
+    × Bor (List (code.Operands × Keyword))
+    × Bor (List (Bor (List ℕ) × code.Operands × Keyword))
+
+abbrev pub verb_view : VerbKept → Verb
+verb_view verb = (verb.0.now, alone_view verb.1.now, longer_view verb.2.now)
+
+abbrev pub verbs_view : List VerbKept → List Verb
+verbs_view verbs = map verb_view verbs
+
+-- the command of the first of these keywords that the words are the operands of
+abbrev pub command_alone : List Alone → List (List ℕ) → Option CommandView
+command_alone [] words = None
+command_alone (row ∷ others) words =
+    if are_operands row.0 words then Some (record { keyword = row.1; operands = words })
+    else command_alone others words
+
+-- the command of the first of these that has this second word, and the words as its operands
+abbrev pub command_with_second : List Longer → List ℕ → List (List ℕ) → Option CommandView
+command_with_second [] second words = None
+command_with_second (row ∷ others) second words =
+    if bytes_eq second row.0 && are_operands row.1 words
+    then Some (record { keyword = row.2; operands = words })
+    else command_with_second others second words
+
+-- the command of those that have a second word, which the words begin with
+abbrev pub command_longer : List Longer → List (List ℕ) → Option CommandView
+command_longer rows [] = None
+command_longer rows (second ∷ words) = command_with_second rows second words
+
+-- the command that the words spell behind a first word
+abbrev pub command_behind : Verb → List (List ℕ) → Option CommandView
+command_behind verb words =
+    option_or (command_alone verb.1 words) (command_longer verb.2 words)
+
+-- the command that the words spell behind their first word, if that is one of these
+abbrev pub command_by_verb : List Verb → List ℕ → List (List ℕ) → Option CommandView
+command_by_verb [] first words = None
+command_by_verb (verb ∷ others) first words =
+    if bytes_eq first verb.0 then command_behind verb words
+    else command_by_verb others first words

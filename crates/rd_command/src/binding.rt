@@ -13,10 +13,10 @@ ghost use Rattle.rd_command.specs.Keywords.{amount_row, edit_row, row_of};
 
 use crate::command::Command;
 use crate::keyword::{AmountKeyword, ConditionKeyword, EditKeyword, Keyword};
+use crate::poke::{Parts, Poke};
 use crate::reader::Reader;
 use rd_app::app::App;
 use rd_condition::condition::{Amount, Condition};
-use rd_edits::edit::Edit;
 use rd_text::kind::Kind;
 
 /// How many watches a session has at the most. They are numbered from 0.
@@ -25,8 +25,8 @@ pub const MAX_WATCHES: usize = 16;
 /// A command whose names are numbers, and whose cores, registers and notification entries are
 /// there. A count is 1 to 1,000,000, the number of a watch in place of a condition 0 to 15. Whether
 /// the session has such a watch is not asked here.
-#[derive(Debug, Drop)]
-pub enum Bound {
+#[derive(Drop)]
+pub enum Bound<'a> {
     /// `step N`: the move of this core.
     Step { core: usize },
     /// `tick`: a tick passes.
@@ -46,7 +46,7 @@ pub enum Bound {
     /// `back until wN`: the same of the condition of the session's watch.
     BackUntilWatch { watch: usize },
     /// `poke ..`: something is changed by hand.
-    Poke { edit: Edit },
+    Poke { edit: Poke<'a> },
     /// `wheel take`: nobody but the session makes moves from now on.
     TakeWheel,
     /// `wheel give`: everybody may make moves again.
@@ -72,7 +72,7 @@ pub enum Bound {
 pub struct Unknown;
 
 // The condition that compares this amount, of the words after it.
-fn read_compared(amount: Amount, reader: &mut Reader<'_>) -> Result<Condition, Unknown>
+fn read_compared(amount: Amount, reader: &mut Reader<'_, '_>) -> Result<Condition, Unknown>
     ensures { Takes (made_of conditions.Condition (parameter.Operator ∷ parameter.Number ∷ [])
         (λ operator bound. condition.Compares amount operator bound) reader.old) result reader.new }
 {
@@ -86,7 +86,10 @@ fn read_compared(amount: Amount, reader: &mut Reader<'_>) -> Result<Condition, U
 }
 
 // The condition of such a keyword, of the words after it.
-fn read_comparison(keyword: AmountKeyword, reader: &mut Reader<'_>) -> Result<Condition, Unknown>
+fn read_comparison(
+    keyword: AmountKeyword,
+    reader: &mut Reader<'_, '_>,
+) -> Result<Condition, Unknown>
     ensures { Takes (condition_made (amount_row keyword) reader.old) result reader.new }
 {
     match keyword {
@@ -125,7 +128,7 @@ fn read_comparison(keyword: AmountKeyword, reader: &mut Reader<'_>) -> Result<Co
 }
 
 // The condition that the words begin with.
-fn read_condition(reader: &mut Reader<'_>) -> Result<Condition, Unknown>
+fn read_condition(reader: &mut Reader<'_, '_>) -> Result<Condition, Unknown>
     ensures { Takes (next_condition reader.old) result reader.new }
 {
     match reader.condition_keyword()? {
@@ -138,48 +141,50 @@ fn read_condition(reader: &mut Reader<'_>) -> Result<Condition, Unknown>
 }
 
 // The edit of such a keyword, of the words after it.
-fn poke(keyword: EditKeyword, reader: &mut Reader<'_>) -> Result<Bound, Unknown>
+fn poke<'a>(keyword: EditKeyword, reader: &mut Reader<'_, 'a>) -> Result<Bound<'a>, Unknown>
     ensures { result_ok result ≡ bound_made (edit_row keyword) reader.old }
 {
-    let edit = match keyword {
-        EditKeyword::Register => Edit::Register {
+    let parts = match keyword {
+        EditKeyword::Register => Parts::Register {
             task: reader.named(Kind::Task)?,
             register: reader.register()?,
             value: reader.number()?,
         },
-        EditKeyword::Data => Edit::Data {
+        EditKeyword::Data => Parts::Data {
             task: reader.named(Kind::Task)?,
-            bytes: reader.data()?,
+            digits: reader.data()?,
         },
-        EditKeyword::Pc => Edit::Pc {
+        EditKeyword::Pc => Parts::Pc {
             task: reader.named(Kind::Task)?,
             pc: reader.number()? as usize,
         },
-        EditKeyword::Value => Edit::Value {
+        EditKeyword::Value => Parts::Value {
             task: reader.named(Kind::Task)?,
             index: reader.index()?,
             value: reader.number()?,
         },
-        EditKeyword::Bits => Edit::Bits {
+        EditKeyword::Bits => Parts::Bits {
             group: reader.named(Kind::Group)?,
             bits: reader.number()?,
         },
-        EditKeyword::Item => Edit::Item {
+        EditKeyword::Item => Parts::Item {
             queue: reader.named(Kind::Queue)?,
             index: reader.number()? as usize,
-            bytes: reader.data()?,
+            digits: reader.data()?,
         },
-        EditKeyword::Byte => Edit::Byte {
+        EditKeyword::Byte => Parts::Byte {
             stream: reader.named(Kind::Stream)?,
             index: reader.number()? as usize,
             value: reader.number()?,
         },
     };
-    Ok(Bound::Poke { edit })
+    Ok(Bound::Poke {
+        edit: Poke::new(parts),
+    })
 }
 
 // The command `until`, of the words after that.
-fn read_until(reader: &mut Reader<'_>) -> Result<Bound, Unknown>
+fn read_until<'a>(reader: &mut Reader<'_, 'a>) -> Result<Bound<'a>, Unknown>
     ensures { result_ok result ≡ bound_made (row_of keyword.Until) reader.old }
 {
     let condition = read_condition(reader)?;
@@ -188,7 +193,7 @@ fn read_until(reader: &mut Reader<'_>) -> Result<Bound, Unknown>
 }
 
 // The command `until` with a watch, of the words after that.
-fn read_until_watch(reader: &mut Reader<'_>) -> Result<Bound, Unknown>
+fn read_until_watch<'a>(reader: &mut Reader<'_, 'a>) -> Result<Bound<'a>, Unknown>
     ensures { result_ok result ≡ bound_made (row_of keyword.UntilWatch) reader.old }
 {
     let watch = reader.watch()?;
@@ -197,7 +202,7 @@ fn read_until_watch(reader: &mut Reader<'_>) -> Result<Bound, Unknown>
 }
 
 // The command of a keyword and of its operands.
-fn read_bound(keyword: Keyword, reader: &mut Reader<'_>) -> Result<Bound, Unknown>
+fn read_bound<'a>(keyword: Keyword, reader: &mut Reader<'_, 'a>) -> Result<Bound<'a>, Unknown>
     ensures { result_ok result ≡ bound_made (row_of keyword) reader.old }
 {
     match keyword {
@@ -245,7 +250,7 @@ fn read_bound(keyword: Keyword, reader: &mut Reader<'_>) -> Result<Bound, Unknow
 /// Looks up what a command names: cores below those of the application, registers below 8,
 /// notification entries below those of each task, and names of each kind, also inside a condition.
 /// `Unknown` exactly where one of these isn't there.
-pub fn bind(command: &Command<'_>, app: &App) -> Result<Bound, Unknown>
+pub fn bind<'a>(command: &Command<'a>, app: &App) -> Result<Bound<'a>, Unknown>
     ensures bound { result_ok result ≡ bound_of app.now command.now }
     // What is bound is there.
     ensures named { IfOk result (IsBoundOf app.now) }

@@ -5,10 +5,12 @@ ghost use Rattle.std.specs.Result.{result_ok};
 ghost use Rattle.rd_text.specs.Words.{words_of};
 ghost use Rattle.rd_command.specs.Commands.{CommandView, Spells, command_from, command_of};
 ghost use Rattle.rd_command.specs.Keywords.{needs_wheel};
-ghost use Rattle.rd_command.specs.Tables.{command_in, first_command, row_view, rows_view};
+ghost use Rattle.rd_command.specs.Tables.{alone_view, longer_view, verb_view, verbs_view};
+ghost use Rattle.rd_command.specs.Tables.{command_alone, command_behind, command_by_verb};
+ghost use Rattle.rd_command.specs.Tables.{command_longer, command_with_second};
 
-use crate::form::{after_texts, are_operands};
-use crate::keyword::{KEYWORDS, Keyword, Row};
+use crate::form::are_operands;
+use crate::keyword::{Alone, KEYWORDS, Keyword, Longer, Verb};
 use rd_text::words::Words;
 use std::marker::Model;
 
@@ -132,38 +134,73 @@ fn words_in(line: &[u8]) -> Words<'_>
 fn command_from<'a>(first: &[u8], words: &Words<'a>) -> Option<Found<'a>>
     ensures { result ≡ command_from first.now words.now }
 {
-    first_command(first, words, &KEYWORDS)
+    command_by_verb(first, words, &KEYWORDS)
 }
 
-// The command of the first of these keywords that the words are spelled with. The first word stands
-// apart.
-fn first_command<'a>(first: &[u8], words: &Words<'a>, rows: &[Row<'_>]) -> Option<Found<'a>>
-    ensures { result ≡ first_command (rows_view rows.now) first.now words.now }
+// The command of the keywords that begin with the first word, which stands apart.
+fn command_by_verb<'a>(first: &[u8], words: &Words<'a>, verbs: &[Verb<'_>]) -> Option<Found<'a>>
+    ensures { result ≡ command_by_verb (verbs_view verbs.now) first.now words.now }
 {
-    for row in rows {
-        let command = command_in(row, first, words);
-        if command.is_some() {
-            return command;
+    for verb in verbs {
+        if first == verb.0.as_bytes() {
+            return command_behind(words, verb);
         }
     }
     None
 }
 
-// The command with this keyword, if the words are the keyword's and then its operands.
-fn command_in<'a>(row: &Row<'_>, first: &[u8], words: &Words<'a>) -> Option<Found<'a>>
-    ensures { result ≡ command_in (row_view row.now) first.now words.now }
+// The command that the words spell behind this first word.
+fn command_behind<'a>(words: &Words<'a>, verb: &Verb<'_>) -> Option<Found<'a>>
+    ensures { result ≡ command_behind (verb_view verb.now) words.now }
 {
-    let (verb, more, operands, keyword) = *row;
-    if first != verb.as_bytes() {
-        return None;
-    }
-    let left = after_texts(words, more)?;
-    if are_operands(&left, operands) {
-        Some(Found {
-            keyword,
-            operands: left,
-        })
+    let (_, alone, longer) = *verb;
+    let found = command_alone(words, alone);
+    if found.is_some() {
+        found
     } else {
-        None
+        command_longer(words, longer)
     }
+}
+
+// The command of the first of these keywords that the words are the operands of.
+fn command_alone<'a>(words: &Words<'a>, rows: &[Alone<'_>]) -> Option<Found<'a>>
+    ensures { result ≡ command_alone (alone_view rows.now) words.now }
+{
+    for (operands, keyword) in rows {
+        if are_operands(words, *operands) {
+            return Some(Found {
+                keyword: *keyword,
+                operands: words.copy(),
+            });
+        }
+    }
+    None
+}
+
+// The command of the keywords that have a second word. It is read once for all of them.
+fn command_longer<'a>(words: &Words<'a>, rows: &[Longer<'_>]) -> Option<Found<'a>>
+    ensures { result ≡ command_longer (longer_view rows.now) words.now }
+{
+    let mut left = words.copy();
+    let second = left.next()?;
+    command_with_second(second, &left, rows)
+}
+
+// The command of the first of these keywords that has this second word, and the words as operands.
+fn command_with_second<'a>(
+    second: &[u8],
+    words: &Words<'a>,
+    rows: &[Longer<'_>],
+) -> Option<Found<'a>>
+    ensures { result ≡ command_with_second (longer_view rows.now) second.now words.now }
+{
+    for (text, operands, keyword) in rows {
+        if second == text.as_bytes() && are_operands(words, *operands) {
+            return Some(Found {
+                keyword: *keyword,
+                operands: words.copy(),
+            });
+        }
+    }
+    None
 }

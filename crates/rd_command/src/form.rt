@@ -1,12 +1,11 @@
 //! The forms of the words of a command, whatever they name.
 
 ghost use Rattle.std.specs.Prelude.{◌≡◌};
-ghost use Rattle.rd_text.specs.Words.{texts};
 ghost use Rattle.rd_command.specs.declared.keyword.Parameter.TheVariants.{Data};
 ghost use Rattle.rd_command.specs.Forms.{count_of, operator_of, phase_of, is_formed};
 ghost use Rattle.rd_command.specs.Forms.{watch_number, watch_of};
-ghost use Rattle.rd_command.specs.Forms.{after_texts, after_words, after_condition};
-ghost use Rattle.rd_command.specs.Forms.{after_operands, are_operands};
+ghost use Rattle.rd_command.specs.Forms.{after_words, after_condition};
+ghost use Rattle.rd_command.specs.Forms.{are_operands, is_all};
 ghost use Rattle.rd_command.specs.Tables.{operands_view};
 
 use crate::binding::MAX_WATCHES;
@@ -71,14 +70,16 @@ pub(crate) fn phase_of(word: &[u8]) -> Option<PhaseName>
     }
 }
 
-// Whether a word is bytes. (By itself, since a check of any other form would clear room for them.)
-fn is_data(word: &[u8]) -> bool
+/// Whether a word is bytes. (By itself, since a check of any other form would clear room for them.)
+pub(crate) fn is_data(word: &[u8]) -> bool
     ensures { result ≡ is_formed Data word.now }
 {
     bytes(word).is_some()
 }
 
-// Whether a word has the form of such an operand.
+// Whether a word has the form of such an operand. (Inlined, as `are_operands`: most lines are moves
+// of two words, for which two calls more are a tenth of what it takes to read them.)
+#[inline(always)]
 fn is_formed(parameter: Parameter, word: &[u8]) -> bool
     ensures { result ≡ is_formed parameter word.now }
 {
@@ -93,19 +94,6 @@ fn is_formed(parameter: Parameter, word: &[u8]) -> bool
         Parameter::Watch => watch_of(word).is_some(),
         Parameter::Name(_) => is_name(word),
     }
-}
-
-/// What is left of the words behind these texts, if they begin with them.
-pub(crate) fn after_texts<'a>(words: &Words<'a>, more: &[&str]) -> Option<Words<'a>>
-    ensures { result ≡ after_texts (texts more.now) words.now }
-{
-    let mut left = words.copy();
-    for text in more {
-        if left.next()? != text.as_bytes() {
-            return None;
-        }
-    }
-    Some(left)
 }
 
 // What is left of the words behind one for each of these operands, if they have the forms.
@@ -130,22 +118,32 @@ fn after_condition<'a>(words: &Words<'a>) -> Option<Words<'a>>
     after_words(&left, parameters)
 }
 
-// What is left of the words behind these operands, if they have the forms.
-fn after_operands<'a>(words: &Words<'a>, operands: Operands<'_>) -> Option<Words<'a>>
-    ensures { result ≡ after_operands (operands_view operands.entry) words.now }
+// Whether the words are one for each of these operands, with the forms, and no more.
+fn are_formed(words: &Words<'_>, parameters: &[Parameter]) -> bool
+    ensures { result ≡ is_all (after_words parameters.now words.now) }
 {
-    match operands {
-        Operands::Plain(parameters) => after_words(words, parameters),
-        Operands::WithCondition(parameters) => after_words(&after_condition(words)?, parameters),
+    let mut left = words.copy();
+    for parameter in parameters {
+        let Some(word) = left.next() else {
+            return false;
+        };
+        if !is_formed(*parameter, word) {
+            return false;
+        }
     }
+    left.next().is_none()
 }
 
 /// Whether the words are such operands, and no more.
+#[inline(always)]
 pub(crate) fn are_operands(words: &Words<'_>, operands: Operands<'_>) -> bool
     ensures { result ≡ are_operands (operands_view operands.entry) words.now }
 {
-    match after_operands(words, operands) {
-        Some(mut left) => left.next().is_none(),
-        None => false,
+    match operands {
+        Operands::Plain(parameters) => are_formed(words, parameters),
+        Operands::WithCondition(parameters) => match after_condition(words) {
+            Some(left) => are_formed(&left, parameters),
+            None => false,
+        },
     }
 }

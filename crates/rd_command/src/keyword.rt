@@ -160,76 +160,92 @@ const GROUP: Parameter = Parameter::Name(Kind::Group);
 
 const TASK: Parameter = Parameter::Name(Kind::Task);
 
-/// A keyword of a command: its first word, its other words, and its operands.
-pub(crate) type Row<'a> = (&'a str, &'a [&'a str], Operands<'a>, Keyword);
+/// The operands of a keyword that is its first word alone, and the keyword.
+pub(crate) type Alone<'a> = (Operands<'a>, Keyword);
 
-/// Each keyword of a command. The moves that are asked for most come first.
-pub(crate) static KEYWORDS: [Row<'static>; 30] = [
-    ("step", &[], Plain(&[CORE]), Keyword::Step),
-    ("tick", &[], Plain(&[]), Keyword::Tick),
-    ("back", &[], Plain(&[COUNT]), Keyword::Back),
-    ("forward", &[], Plain(&[COUNT]), Keyword::Forward),
-    ("redo", &[], Plain(&[COUNT]), Keyword::Redo),
-    ("until", &[], WithCondition(&[COUNT]), Keyword::Until),
-    ("until", &[], Plain(&[WATCH, COUNT]), Keyword::UntilWatch),
-    ("back", &["until"], WithCondition(&[]), Keyword::BackUntil),
-    ("back", &["until"], Plain(&[WATCH]), Keyword::BackUntilWatch),
+/// The second word of a keyword that has one, its operands, and the keyword.
+pub(crate) type Longer<'a> = (&'a str, Operands<'a>, Keyword);
+
+/// A first word, the keywords that are this word alone, and those that have a second one.
+pub(crate) type Verb<'a> = (&'a str, &'a [Alone<'a>], &'a [Longer<'a>]);
+
+/// Each keyword of a command, by its first word. What is asked for most comes first.
+pub(crate) static KEYWORDS: [Verb<'static>; 11] = [
+    ("step", &[(Plain(&[CORE]), Keyword::Step)], &[]),
+    ("tick", &[(Plain(&[]), Keyword::Tick)], &[]),
     (
-        "poke",
-        &["reg"],
-        Plain(&[TASK, REGISTER, NUMBER]),
-        Poke(EditKeyword::Register),
+        "back",
+        &[(Plain(&[COUNT]), Keyword::Back)],
+        &[
+            ("until", WithCondition(&[]), Keyword::BackUntil),
+            ("until", Plain(&[WATCH]), Keyword::BackUntilWatch),
+        ],
+    ),
+    ("forward", &[(Plain(&[COUNT]), Keyword::Forward)], &[]),
+    (
+        "show",
+        &[],
+        &[
+            ("task", Plain(&[TASK]), Show(Kind::Task)),
+            ("queue", Plain(&[QUEUE]), Show(Kind::Queue)),
+            ("set", Plain(&[QUEUE_SET]), Show(Kind::QueueSet)),
+            ("stream", Plain(&[STREAM]), Show(Kind::Stream)),
+            ("message", Plain(&[MESSAGE]), Show(Kind::Message)),
+            ("group", Plain(&[GROUP]), Show(Kind::Group)),
+            ("cores", Plain(&[]), Keyword::ShowCores),
+            ("moves", Plain(&[]), Keyword::ShowMoves),
+            ("wheel", Plain(&[]), Keyword::ShowWheel),
+            ("watches", Plain(&[]), Keyword::ShowWatches),
+        ],
+    ),
+    ("redo", &[(Plain(&[COUNT]), Keyword::Redo)], &[]),
+    (
+        "until",
+        &[
+            (WithCondition(&[COUNT]), Keyword::Until),
+            (Plain(&[WATCH, COUNT]), Keyword::UntilWatch),
+        ],
+        &[],
     ),
     (
         "poke",
-        &["data"],
-        Plain(&[TASK, DATA]),
-        Poke(EditKeyword::Data),
+        &[],
+        &[
+            (
+                "reg",
+                Plain(&[TASK, REGISTER, NUMBER]),
+                Poke(EditKeyword::Register),
+            ),
+            ("data", Plain(&[TASK, DATA]), Poke(EditKeyword::Data)),
+            ("pc", Plain(&[TASK, NUMBER]), Poke(EditKeyword::Pc)),
+            (
+                "note",
+                Plain(&[TASK, INDEX, NUMBER]),
+                Poke(EditKeyword::Value),
+            ),
+            ("group", Plain(&[GROUP, NUMBER]), Poke(EditKeyword::Bits)),
+            (
+                "item",
+                Plain(&[QUEUE, NUMBER, DATA]),
+                Poke(EditKeyword::Item),
+            ),
+            (
+                "byte",
+                Plain(&[STREAM, NUMBER, NUMBER]),
+                Poke(EditKeyword::Byte),
+            ),
+        ],
     ),
     (
-        "poke",
-        &["pc"],
-        Plain(&[TASK, NUMBER]),
-        Poke(EditKeyword::Pc),
+        "wheel",
+        &[],
+        &[
+            ("take", Plain(&[]), Keyword::TakeWheel),
+            ("give", Plain(&[]), Keyword::GiveWheel),
+        ],
     ),
-    (
-        "poke",
-        &["note"],
-        Plain(&[TASK, INDEX, NUMBER]),
-        Poke(EditKeyword::Value),
-    ),
-    (
-        "poke",
-        &["group"],
-        Plain(&[GROUP, NUMBER]),
-        Poke(EditKeyword::Bits),
-    ),
-    (
-        "poke",
-        &["item"],
-        Plain(&[QUEUE, NUMBER, DATA]),
-        Poke(EditKeyword::Item),
-    ),
-    (
-        "poke",
-        &["byte"],
-        Plain(&[STREAM, NUMBER, NUMBER]),
-        Poke(EditKeyword::Byte),
-    ),
-    ("wheel", &["take"], Plain(&[]), Keyword::TakeWheel),
-    ("wheel", &["give"], Plain(&[]), Keyword::GiveWheel),
-    ("watch", &[], WithCondition(&[]), Keyword::Watch),
-    ("unwatch", &[], Plain(&[NUMBER]), Keyword::Unwatch),
-    ("show", &["queue"], Plain(&[QUEUE]), Show(Kind::Queue)),
-    ("show", &["set"], Plain(&[QUEUE_SET]), Show(Kind::QueueSet)),
-    ("show", &["stream"], Plain(&[STREAM]), Show(Kind::Stream)),
-    ("show", &["message"], Plain(&[MESSAGE]), Show(Kind::Message)),
-    ("show", &["group"], Plain(&[GROUP]), Show(Kind::Group)),
-    ("show", &["task"], Plain(&[TASK]), Show(Kind::Task)),
-    ("show", &["cores"], Plain(&[]), Keyword::ShowCores),
-    ("show", &["moves"], Plain(&[]), Keyword::ShowMoves),
-    ("show", &["wheel"], Plain(&[]), Keyword::ShowWheel),
-    ("show", &["watches"], Plain(&[]), Keyword::ShowWatches),
+    ("watch", &[(WithCondition(&[]), Keyword::Watch)], &[]),
+    ("unwatch", &[(Plain(&[NUMBER]), Keyword::Unwatch)], &[]),
 ];
 
 // Each keyword of a condition: as it is written, and its operands.

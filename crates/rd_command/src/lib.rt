@@ -7,4 +7,5 @@ mod form;
 pub mod keyword;
 pub mod laws;
 pub mod lines;
+pub mod poke;
 mod reader;

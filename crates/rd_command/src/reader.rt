@@ -9,12 +9,12 @@ ghost use Rattle.rd_command.specs.Bindings.{number_below, number_named};
 use crate::binding::Unknown;
 use crate::form::{count_of, operator_of, phase_of, watch_of};
 use crate::keyword::{ConditionKeyword, condition_keyword_of};
+use crate::poke::Digits;
 use rd_app::app::App;
 use rd_app::instr::REGISTERS;
-use rd_bytes::bytes::Bytes;
 use rd_condition::condition::{Comparison, PhaseName};
 use rd_text::kind::Kind;
-use rd_text::words::{Words, bytes, name, number};
+use rd_text::words::{Words, name, number};
 use std::marker::Model;
 
 // A number below a limit.
@@ -38,12 +38,12 @@ fn number_named(word: &[u8], kind: Kind, app: &App) -> Result<usize, Unknown>
 /// Reads the operands of a command, which have their forms, and answers `Unknown` to one that the
 /// application doesn't have.
 #[derive(Drop)]
-pub(crate) struct Reader<'a> {
-    app: &'a App,
+pub(crate) struct Reader<'r, 'a> {
+    app: &'r App,
     words: Words<'a>,
 }
 
-impl<'a> Model for Reader<'a> {
+impl<'r, 'a> Model for Reader<'r, 'a> {
     ghost use Rattle.rd_command.specs.Bindings.{Reading};
 
     ghost Value = { Reading };
@@ -51,9 +51,9 @@ impl<'a> Model for Reader<'a> {
     ghost view = { λ r. record { app = r.app.now; words = r.words } };
 }
 
-impl<'a> Reader<'a> {
+impl<'r, 'a> Reader<'r, 'a> {
     /// Reads these words.
-    pub(crate) fn new(app: &'a App, words: Words<'a>) -> Reader<'a>
+    pub(crate) fn new(app: &'r App, words: Words<'a>) -> Reader<'r, 'a>
         ensures { result ≡ record { app = app.now; words = words.entry } }
     {
         Reader { app, words }
@@ -111,12 +111,12 @@ impl<'a> Reader<'a> {
         number(self.words.next().ok_or(Unknown)?).ok_or(Unknown)
     }
 
-    /// The next word, as bytes.
+    /// The next word, as the digits of bytes.
     #[tactic(auto, unfolding(crate::specs::Bindings::next_value))]
-    pub(crate) fn data(&mut self) -> Result<Bytes, Unknown>
+    pub(crate) fn data(&mut self) -> Result<Digits<'a>, Unknown>
         ensures { Takes (next_value parameter.Data self.old) result self.new }
     {
-        bytes(self.words.next().ok_or(Unknown)?).ok_or(Unknown)
+        Digits::new(self.words.next().ok_or(Unknown)?).ok_or(Unknown)
     }
 
     /// The next word, as how an amount is compared.

@@ -1,14 +1,14 @@
 -- A history with one entry more.
-use Rattle.std.proofs.Common.{◌≡◌, ◌∙◌, ℕ, ◌+◌, ◌-◌, ◌≤◌, List, [], ◌∷◌, ◌++◌, length, map, take, drop, refl, ap, sym, arith, append_assoc, length-append, suc}
-use Rattle.std.specs.Prelude.{All, slice_range}
+use Rattle.std.proofs.Common.{◌≡◌, ◌∙◌, ℕ, ◌+◌, ◌-◌, ◌≤◌, List, [], ◌∷◌, ◌++◌, length, map, take, drop, refl, ap, subst, sym, arith, append_assoc, length-append, suc}
+use Rattle.std.specs.Prelude.{All, slice_index_or, slice_range}
 use Rattle.std.proofs.lemmas.List.{append-nil, drop-append-le, length-drop, take-append-le, take_all}
 use Rattle.std.proofs.lemmas.List.Elements.{All-push}
 use Rattle.rd_desk.specs.declared.entry.Entry.{Entry}
 use Rattle.rd_desk.specs.declared.history.Row.{Row}
 use Rattle.rd_desk.specs.declared.reply.Reply.{Reply}
 use Rattle.rd_desk.specs.declared.reply.Reply.TheVariants.{Done, Told, Shown}
-use Rattle.rd_desk.specs.HistoryRows.{IsWithin, entries_in, entry_in, kept_of, reply_from}
-use Rattle.rd_desk.specs.HistoryView.{deed_event, reply_bytes}
+use Rattle.rd_desk.specs.HistoryRows.{IsRowOf, entries_in, entry_in, kept_of, reply_from}
+use Rattle.rd_desk.specs.HistoryView.{IsLineOf, deed_event, reply_bytes}
 
 -- ---- parts of bytes, where others came behind
 
@@ -35,7 +35,7 @@ range_behind bytes line others from to starts ends =
 
 -- ---- entries
 
-entry_before : (bytes more : List ℕ) (row : Row) → IsWithin (length bytes) row → entry_in (bytes ++ more) row ≡ entry_in bytes row
+entry_before : (bytes more : List ℕ) (row : Row) → IsRowOf bytes row → entry_in (bytes ++ more) row ≡ entry_in bytes row
 entry_before bytes more row within =
     ap (λ (line : List ℕ). record {
       who = row.who;
@@ -49,14 +49,14 @@ entry_before bytes more row within =
     }) (range_before bytes more row.middle row.end within.middles within.ends)
 
 -- all rows but the first
-others_within : (count : ℕ) (row : Row) (rows : List Row) → All (IsWithin count) (row ∷ rows) → All (IsWithin count) rows
-others_within count row rows all k d within = all (suc k) d (omega (arith, within))
+other_rows : (bytes : List ℕ) (row : Row) (rows : List Row) → All (IsRowOf bytes) (row ∷ rows) → All (IsRowOf bytes) rows
+other_rows bytes row rows all k d within = all (suc k) d (omega (arith, within))
 
-entries_before : (bytes more : List ℕ) (rows : List Row) → All (IsWithin (length bytes)) rows → entries_in (bytes ++ more) rows ≡ entries_in bytes rows
+entries_before : (bytes more : List ℕ) (rows : List Row) → All (IsRowOf bytes) rows → entries_in (bytes ++ more) rows ≡ entries_in bytes rows
 entries_before bytes more [] all = refl
 entries_before bytes more (row ∷ rows) all =
     ap (λ (entry : Entry). entry ∷ entries_in (bytes ++ more) rows) (entry_before bytes more row (all 0 row (omega arith)))
-    ∙ ap (λ (entries : List Entry). entry_in bytes row ∷ entries) (entries_before bytes more rows (others_within (length bytes) row rows all))
+    ∙ ap (λ (entries : List Entry). entry_in bytes row ∷ entries) (entries_before bytes more rows (other_rows bytes row rows all))
 
 map_push : {X Y : Type 0} (f : X → Y) (xs : List X) (x : X) → map f (xs ++ x ∷ []) ≡ map f xs ++ f x ∷ []
 map_push f [] x = refl
@@ -68,7 +68,7 @@ kept_again (Told told) = refl
 kept_again (Shown text) = refl
 
 -- one row more, whose bytes came behind the others
-pub entries_push : (bytes line : List ℕ) (rows : List Row) (row : Row) (reply : Reply) → All (IsWithin (length bytes)) rows
+pub entries_push : (bytes line : List ℕ) (rows : List Row) (row : Row) (reply : Reply) → All (IsRowOf bytes) rows
     → row.start ≡ length bytes → row.middle ≡ length bytes + length line → row.end ≡ length bytes + length line + length (reply_bytes reply)
     → row.kept ≡ kept_of reply
     → entries_in ((bytes ++ line) ++ reply_bytes reply) (rows ++ row ∷ [])
@@ -91,12 +91,31 @@ entries_push bytes line rows row reply all starts middles ends keeps =
     (ap (λ (all : List ℕ). entries_in all rows) whole ∙ entries_before bytes (line ++ text) rows all)
     ∙ ap (λ (entry : Entry). entries_in bytes rows ++ entry ∷ []) last
 
--- the bytes of all are there
-within_more : (count more : ℕ) (rows : List Row) → count ≤ more → All (IsWithin count) rows → All (IsWithin more) rows
-within_more count more rows less all k d there =
-    let within = all k d there in
-    record { ends = omega (arith, within.ends, less); middles = within.middles; starts = within.starts }
+-- ---- each row has its bytes
 
-pub rows_push : (count more : ℕ) (rows : List Row) (row : Row) → count ≤ more → All (IsWithin count) rows → IsWithin more row
-    → All (IsWithin more) (rows ++ row ∷ [])
-rows_push count more rows row less all within = All-push (IsWithin more) rows row (within_more count more rows less all) within
+row_before : (bytes more : List ℕ) (row : Row) → IsRowOf bytes row → IsRowOf (bytes ++ more) row
+row_before bytes more row is = record {
+  ends = omega (arith, length-append bytes more, is.ends);
+  middles = is.middles;
+  starts = is.starts;
+  line = subst (IsLineOf row.deed) (sym (range_before bytes more row.start row.middle is.starts (omega (arith, is.middles, is.ends)))) is.line;
+}
+
+rows_before : (bytes more : List ℕ) (rows : List Row) → All (IsRowOf bytes) rows → All (IsRowOf (bytes ++ more)) rows
+rows_before bytes more rows all k d there = row_before bytes more (slice_index_or rows k d) (all k d there)
+
+-- one row more, whose bytes came behind the others
+pub rows_push : (bytes line text : List ℕ) (rows : List Row) (row : Row) → All (IsRowOf bytes) rows → row.start ≡ length bytes
+    → row.middle ≡ length bytes + length line → row.end ≡ length bytes + length line + length text → IsLineOf row.deed line
+    → All (IsRowOf ((bytes ++ line) ++ text)) (rows ++ row ∷ [])
+rows_push bytes line text rows row all starts middles ends is =
+    let longer = length-append bytes (line ++ text) in
+    let longer_line = length-append line text in
+    let last : IsRowOf (bytes ++ (line ++ text)) row = record {
+      ends = omega (arith, longer, longer_line, ends);
+      middles = omega (arith, middles, ends);
+      starts = omega (arith, starts, middles);
+      line = subst (IsLineOf row.deed) (sym (range_behind bytes line text row.start row.middle starts middles)) is;
+    } in
+    subst (λ (bytes_now : List ℕ). All (IsRowOf bytes_now) (rows ++ row ∷ [])) (sym (append_assoc bytes line text))
+    (All-push (IsRowOf (bytes ++ (line ++ text))) rows row (rows_before bytes (line ++ text) rows all) last)

@@ -1,9 +1,12 @@
 -- The lemmas of this crate.
 pub mod AskingLaws
 pub mod SessionLaws
+pub mod AskedLaws
 pub mod HistoryLaws
 pub mod MachineLaws
 pub mod DeskLaws
 pub mod ViewLaws
 pub mod Counting
+pub mod WheelLaws
+pub mod WatchLaws
 pub mod Offered

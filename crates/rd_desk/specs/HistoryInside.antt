@@ -1,7 +1,7 @@
 -- The history that the fields of a `History` stand for.
-use Rattle.std.specs.Prelude.{◌-◌, All, length, vec_capacity, vec_len}
+use Rattle.std.specs.Prelude.{◌-◌, All, vec_capacity, vec_len}
 use Rattle.rd_desk.specs.declared.history.History.TheInside.{Inside}
-use Rattle.rd_desk.specs.HistoryRows.{entries_in, IsWithin}
+use Rattle.rd_desk.specs.HistoryRows.{entries_in, IsRowOf}
 use Rattle.rd_desk.specs.HistoryView.{HistoryView}
 
 abbrev pub history_of : Inside → HistoryView
@@ -13,4 +13,4 @@ history_of h = record {
 
 -- Each entry has its bytes.
 pub record IsHistory (h : Inside) : Type 0 where
-  pub rows : All (IsWithin (length h.bytes.items)) h.rows.items
+  pub rows : All (IsRowOf h.bytes.items) h.rows.items

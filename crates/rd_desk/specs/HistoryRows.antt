@@ -1,12 +1,12 @@
 -- What is kept of an entry.
-use Rattle.std.specs.Prelude.{ℕ, ◌≤◌, List, map, slice_range}
+use Rattle.std.specs.Prelude.{ℕ, ◌≤◌, List, length, map, slice_range}
 use Rattle.rd_desk.specs.declared.entry.Entry.{Entry}
 use Rattle.rd_desk.specs.declared.history.Kept.{Kept}
 use Rattle.rd_desk.specs.declared.history.Kept.TheVariants as kept
 use Rattle.rd_desk.specs.declared.history.Row.{Row}
 use Rattle.rd_desk.specs.declared.reply.Reply.{Reply}
 use Rattle.rd_desk.specs.declared.reply.Reply.TheVariants.{Done, Told, Shown}
-use Rattle.rd_desk.specs.HistoryView.{deed_event}
+use Rattle.rd_desk.specs.HistoryView.{deed_event, IsLineOf}
 
 -- what is kept of a reply, but for its bytes
 abbrev pub kept_of : Reply → Kept
@@ -31,8 +31,9 @@ entry_in bytes row = record {
 abbrev pub entries_in : List ℕ → List Row → List Entry
 entries_in bytes rows = map (entry_in bytes) rows
 
--- The bytes of a row are there.
-pub record IsWithin (count : ℕ) (row : Row) : Type 0 where
-  pub ends : row.end ≤ count
+-- The bytes of a row are there, and its line is a command's, if one was asked for.
+pub record IsRowOf (bytes : List ℕ) (row : Row) : Type 0 where
+  pub ends : row.end ≤ length bytes
   pub middles : row.middle ≤ row.end
   pub starts : row.start ≤ row.middle
+  pub line : IsLineOf row.deed (slice_range bytes row.start row.middle)

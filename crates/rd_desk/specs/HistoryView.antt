@@ -1,8 +1,11 @@
 -- What a contract sees of a history.
-use Rattle.std.specs.Prelude.{ℕ, List, []}
+use Rattle.std.specs.Prelude.{ℕ, ◌≡◌, ⊤, List, [], IsSome, Some, slice_get}
+use Rattle.rd_text.specs.Words.{words_of}
+use Rattle.rd_command.specs.Commands.{command_of}
 use Rattle.rd_desk.specs.declared.entry.Entry.{Entry}
 use Rattle.rd_desk.specs.declared.entry.Event.{Event}
 use Rattle.rd_desk.specs.declared.entry.Event.TheVariants as event
+use Rattle.rd_desk.specs.declared.entry.Receipt.{Receipt}
 use Rattle.rd_desk.specs.declared.history.Deed.{Deed}
 use Rattle.rd_desk.specs.declared.history.Deed.TheVariants.{Enter, Ask, Leave}
 use Rattle.rd_desk.specs.declared.reply.Reply.{Reply}
@@ -20,6 +23,16 @@ abbrev pub deed_event : Deed → List ℕ → Event
 deed_event Enter line = event.Enter
 deed_event Ask line = event.Ask (asked_by line)
 deed_event Leave line = event.Leave
+
+-- The line is one of a command, if one was asked for.
+abbrev pub IsLineOf : Deed → List ℕ → Type 0
+IsLineOf Enter line = ⊤
+IsLineOf Ask line = IsSome (command_of (words_of line))
+IsLineOf Leave line = ⊤
+
+-- The receipt is the entry at its place.
+abbrev pub IsEntered : List Entry → Receipt → Type 0
+IsEntered entries receipt = slice_get entries receipt.place ≡ Some receipt.entry
 
 -- the bytes of a reply
 abbrev pub reply_bytes : Reply → List ℕ

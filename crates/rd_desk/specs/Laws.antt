@@ -1,15 +1,22 @@
 -- What one may count on, whatever is asked by whom.
-use Rattle.std.specs.Prelude.{ℕ, ◌≡◌, Ok}
+use Rattle.std.specs.Prelude.{ℕ, ◌≡◌, ◌≢◌, ◌<◌, List, None, Ok, length, slice_get}
 use Rattle.rd_refusal.specs.declared.refusal.Refusal.{Refusal}
 use Rattle.rd_calls.specs.declared.moves.Move.{Move}
 use Rattle.rd_timeline.specs.declared.runs.Request.TheVariants.{Go, Back}
 use Rattle.rd_timeline.specs.History.{state_after}
 use Rattle.rd_command.specs.Commands.{CommandView}
 use Rattle.rd_reply.specs.declared.reply.Reply.TheVariants as short
+use Rattle.rd_desk.specs.declared.entry.Entry.{Entry}
+use Rattle.rd_desk.specs.declared.entry.Event.{Event}
+use Rattle.rd_desk.specs.declared.entry.Receipt.{Receipt}
 use Rattle.rd_desk.specs.declared.reply.Reply.TheVariants.{Told}
-use Rattle.rd_desk.specs.Debugger.{Debugger, target_of}
-use Rattle.rd_desk.specs.Serving.{after_command, after_request, refused, reply_to_command}
-use Rattle.rd_desk.specs.Serving.{reply_to_request}
+use Rattle.rd_desk.specs.Debugger.{Debugger, own_watches, target_of, watching}
+use Rattle.rd_desk.specs.DeskView.{DeskView, Does}
+use Rattle.rd_desk.specs.Legal.{IsLegal}
+use Rattle.rd_desk.specs.Serving.{after_command, after_request, refused, reply_of}
+use Rattle.rd_desk.specs.Serving.{reply_to_command, reply_to_request, served, MayAct}
+use Rattle.rd_desk.specs.Sessions.{IsPresent, WatchesView}
+use Rattle.rd_desk.specs.Wheel.{holder_after}
 
 -- The moves done, and not undone, give the target from the start.
 abbrev pub IsMade : Debugger → Type 0
@@ -27,3 +34,30 @@ BackGivesTheTargetBack =
     (d : Debugger) (move : Move) (at : ℕ) → IsMade d
     → reply_to_request d (Go move) ≡ Told (short.Done at)
     → target_of (after_request (after_request d (Go move)) (Back 1)) ≡ target_of d
+
+-- Who has the wheel is the last who took it, and neither gave it nor left: the history alone tells.
+abbrev pub TheHolderTookTheWheelLast : Type 0
+TheHolderTookTheWheelLast =
+    (d : Debugger) (history : List Entry) → IsLegal history d → d.wheel ≡ holder_after None history
+
+-- What a session does leaves the watches of every other as they are.
+abbrev pub WatchesAreDroppedByTheirSession : Type 0
+WatchesAreDroppedByTheirSession =
+    (d : Debugger) (who other : ℕ) (event : Event) → MayAct d who event
+    → IsPresent d.sessions other → who ≢ other
+    → own_watches (served d who event) other ≡ own_watches d other
+
+-- What is replied to a session is the same whatever the others watch.
+abbrev pub WatchesAreSeenByTheirSession : Type 0
+WatchesAreSeenByTheirSession =
+    (d : Debugger) (who other : ℕ) (watches : WatchesView) (event : Event) → MayAct d who event
+    → IsPresent d.sessions other → who ≢ other
+    → reply_of (watching d other watches) who event ≡ reply_of d who event
+
+-- No entry of the history is lost or changed.
+abbrev pub TheHistoryStays : Type 0
+TheHistoryStays =
+    (old new : DeskView) (who : ℕ) (event : Event) (receipt : Receipt)
+    → Does old who event new receipt
+    → (place : ℕ) → place < length old.history
+    → slice_get new.history place ≡ slice_get old.history place

@@ -15,4 +15,5 @@ pub mod Legal
 pub mod DeskView
 pub mod DeskInside
 pub mod Refusals
+pub mod Wheel
 pub mod Laws

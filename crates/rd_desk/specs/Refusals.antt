@@ -25,6 +25,7 @@ IfEnterFull enter.NoMemory P = ⊤
 abbrev pub IfServeFull : NotServed → (TallyView → Type 0) → Type 0
 IfServeFull (serve.HistoryFull tally) P = P tally
 IfServeFull serve.NoMemory P = ⊤
+IfServeFull serve.Broken P = ⊤
 
 -- Was there no room to enter, or for a command?
 abbrev pub is_enter_full : {T : Type 0} → Result T EnterError → Bool
@@ -37,3 +38,4 @@ abbrev pub is_serve_full : {T : Type 0} → Result T NotServed → Bool
 is_serve_full (Ok done) = false
 is_serve_full (Err (serve.HistoryFull tally)) = true
 is_serve_full (Err serve.NoMemory) = false
+is_serve_full (Err serve.Broken) = false

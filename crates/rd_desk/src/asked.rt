@@ -1,11 +1,14 @@
 //! A command that is kept.
 
-ghost use Rattle.std.specs.Prelude.{◌≡◌, IfOk, Some};
+ghost use Rattle.std.specs.Prelude.{◌≡◌, ◌↔◌, IfOk, IsSome, IsTrue, Some};
 ghost use Rattle.rd_text.specs.Words.{words_of};
 ghost use Rattle.rd_command.specs.Commands.{command_of};
+ghost use Rattle.rd_desk.specs.Asked.{asked_by};
 
 use rd_bytes::no_memory::NoMemory;
 use rd_command::command::Command;
+use rd_command::laws::what_is_spelled_is_found;
+use rd_text::words::Words;
 use smallvec::SmallVec;
 use std::alloc::Global;
 use std::marker::Model;
@@ -49,4 +52,27 @@ impl Asked {
     {
         self.line.as_slice()
     }
+
+    /// Whether the line of a command is one of this command. (It may have other spaces.)
+    pub(crate) fn is_of(&self, line: &[u8]) -> bool
+        requires { IsSome (command_of (words_of line.now)) }
+        ensures { IsTrue result ↔ (self.now ≡ asked_by line.now) }
+    {
+        what_is_spelled_is_found();
+        have_same_words(self.line(), line)
+    }
+}
+
+// Whether two lines have the same words.
+fn have_same_words(line: &[u8], other: &[u8]) -> bool
+    ensures { IsTrue result ↔ (words_of line.now ≡ words_of other.now) }
+{
+    let mut words = Words::new(line);
+    let mut others = Words::new(other);
+    while let Some(word) = words.next() {
+        if others.next() != Some(word) {
+            return false;
+        }
+    }
+    others.next().is_none()
 }

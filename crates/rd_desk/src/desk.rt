@@ -1,7 +1,9 @@
 //! The sequential debugger with its history.
 
-ghost use Rattle.std.specs.Prelude.{◌≡◌, ◌↔◌, ◌+◌, ◌<◌, ◌≤◌, ◌∷◌, ◌++◌, [], length, IfErr, IfOk};
+ghost use Rattle.std.specs.Prelude.{◌≡◌, ◌≢◌, ◌↔◌, ◌+◌, ◌<◌, ◌≤◌, ◌∷◌, ◌++◌, [], length, IfErr, IfOk};
 ghost use Rattle.std.specs.Prelude.{IsErrOf, IsTrue, OnErr, OnOk};
+ghost use Rattle.std.specs.Result.{result_ok};
+ghost use Rattle.rd_command.specs.Bindings.{bound_of};
 ghost use Rattle.rd_desk.specs.declared.entry.Event.TheVariants.{Enter, Ask, Leave};
 ghost use Rattle.rd_desk.specs.Debugger.{opening, target_of};
 ghost use Rattle.rd_desk.specs.DeskView.{entry_of, used, Does, IsKept};
@@ -21,6 +23,7 @@ use crate::sessions::MAX_JOINS;
 use crate::tally::Tally;
 use rd_app::app::App;
 use rd_bytes::no_memory::NoMemory;
+use rd_command::binding::{Bound, Unknown};
 use rd_command::command::Command;
 use rd_state::state::State;
 use std::alloc::Global;
@@ -44,6 +47,19 @@ pub enum NotServed {
     HistoryFull { tally: Tally },
     /// A growth was refused.
     NoMemory,
+    /// The session's own receipts aren't those of the history. A desk never says so: only a hall,
+    /// whose sessions keep their receipts, can.
+    Broken,
+}
+
+impl From<NoMemory> for NotServed {
+    ghost use Rattle.rd_desk.specs.declared.desk.NotServed.{NotServed};
+
+    ghost from_gives = { λ _ error. error ≡ NotServed.NoMemory };
+
+    fn from(_error: NoMemory) -> NotServed {
+        NotServed::NoMemory
+    }
 }
 
 /// The sequential debugger with its history. It can't be dropped: it ends in `close`.
@@ -213,17 +229,26 @@ impl Desk {
         }
     }
 
-    /// Serves a command of a session that is present. `HistoryFull` where no place is free, else
-    /// `NoMemory` where a growth was refused; then nothing has changed. All other refusals are
+    /// Serves a command of a session that is present, with what `bind` made of it for the
+    /// application of this desk. `HistoryFull` where no place is free, else `NoMemory` where a
+    /// growth was refused: for the entry, for the copy of a command of more than 24 bytes, for the
+    /// record of a move or for the text of a view. Then nothing has changed. All other refusals are
     /// replies, and take a place in the history.
-    pub fn serve(&mut self, who: u32, command: &Command<'_>) -> Result<Receipt, NotServed>
-        requires { IsPresent self.old.debugger.sessions who }
+    pub fn serve(
+        &mut self,
+        who: u32,
+        command: &Command<'_>,
+        bound: &Result<Bound<'_>, Unknown>,
+    ) -> Result<Receipt, NotServed>
+        requires there { IsPresent self.old.debugger.sessions who }
+        requires bound { result_ok bound.now ≡ bound_of self.old.debugger.app command.now }
         ensures ok { IfOk result (Does self.old who (Ask command.now) self.new) }
         ensures history_full { IsTrue (is_serve_full result)
             ↔ (self.old.most_entries ≡ used self.old) }
         ensures room { OnOk result (used self.old < self.old.most_entries) }
         ensures tally { IfErr result (λ error. IfServeFull error (λ tally.
             (tally ≡ tally_of self.old) × (tally.limit ≡ tally.entries + tally.present))) }
+        ensures not_broken { IfErr result (λ error. error ≢ NotServed.Broken) }
         ensures err { OnErr result (self.new ≡ self.old) }
     {
         if self.free() == 0 {
@@ -231,24 +256,28 @@ impl Desk {
                 tally: self.tally(),
             });
         }
-        match self.record_command(who, command) {
-            Ok(receipt) => Ok(receipt),
-            Err(NoMemory) => Err(NotServed::NoMemory),
-        }
+        self.record_command(who, command, bound)
     }
 
     // Serves a command where a place is free.
-    fn record_command(&mut self, who: u32, command: &Command<'_>) -> Result<Receipt, NoMemory>
+    fn record_command(
+        &mut self,
+        who: u32,
+        command: &Command<'_>,
+        bound: &Result<Bound<'_>, Unknown>,
+    ) -> Result<Receipt, NotServed>
         requires there { IsPresent self.old.debugger.sessions who }
+        requires bound { result_ok bound.now ≡ bound_of self.old.debugger.app command.now }
         requires free { used self.old < self.old.most_entries }
         ensures ok { IfOk result (Does self.old who (Ask command.now) self.new) }
+        ensures no_memory { IfErr result (λ error. error ≡ NotServed.NoMemory) }
         ensures err { OnErr result (self.new ≡ self.old) }
     {
         let line = command.line();
         let rows = self.machine.present() + 1;
         self.history.make_room(rows, line.len())?;
         let asked = Asked::new(self.alloc, command)?;
-        let reply = self.machine.serve(who, command)?;
+        let reply = self.machine.serve(who, command, bound)?;
         make_room_for(&mut self.history, rows, line, &reply)?;
         let place = self.history.len();
         self.history.push(who, Deed::Ask, line, &reply);

@@ -1,10 +1,11 @@
 //! The history: entries that are kept one behind the other, with their bytes in one place.
 
-ghost use Rattle.std.specs.Prelude.{◌≡◌, ◌+◌, ◌≤◌, ◌<◌, ◌∷◌, ◌++◌, [], length, IsOk, OnErr, OnOk};
-ghost use Rattle.std.specs.Prelude.{vec_capacity, vec_len};
-ghost use Rattle.rd_desk.specs.HistoryView.{deed_event, reply_bytes};
-ghost use Rattle.rd_desk.specs.HistoryRows.{kept_of};
+ghost use Rattle.std.specs.Prelude.{◌≡◌, ◌↔◌, ◌+◌, ◌≤◌, ◌<◌, ◌∷◌, ◌++◌, [], length, OnOk};
+ghost use Rattle.std.specs.Prelude.{vec_capacity, vec_len, IsTrue};
+ghost use Rattle.rd_desk.specs.HistoryView.{deed_event, reply_bytes, IsEntered, IsLineOf};
+ghost use Rattle.rd_desk.specs.HistoryRows.{entry_in, kept_of, reply_from, IsRowOf};
 
+use crate::entry::{Entry, Event, Receipt};
 use crate::reply::Reply;
 use rd_bytes::no_memory::NoMemory;
 use rd_reply::reply::Reply as Short;
@@ -93,6 +94,53 @@ fn append_reserved(bytes: &mut Vec<u8>, more: &[u8])
     bytes.extend_from_slice(more).unwrap();
 }
 
+// Makes room for so many items more. Where a list can't grow by half its length, which is what it
+// takes so that it seldom grows, it grows by just these.
+fn reserve<T>(list: &mut Vec<T>, more: usize) -> Result<(), NoMemory>
+    ensures items { list.new.items ≡ list.old.items }
+    ensures ok { OnOk result (vec_len list.new + more ≤ vec_capacity list.new) }
+    ensures kept { vec_capacity list.old ≤ vec_capacity list.new }
+{
+    if list.reserve(more).is_err() {
+        list.reserve_exact(more)?;
+    }
+    Ok(())
+}
+
+// Whether the event is what is kept of one.
+fn is_event(deed: Deed, line: &[u8], event: &Event) -> bool
+    requires { IsLineOf deed line.now }
+    ensures { IsTrue result ↔ (event.now ≡ deed_event deed line.now) }
+{
+    match (deed, event) {
+        (Deed::Enter, Event::Enter) | (Deed::Leave, Event::Leave) => true,
+        (Deed::Ask, Event::Ask { command }) => command.is_of(line),
+        _ => false,
+    }
+}
+
+// Whether the reply is what is kept of one.
+fn is_reply(kept: Kept, bytes: &[u8], reply: &Reply) -> bool
+    ensures { IsTrue result ↔ (reply.now ≡ reply_from kept bytes.now) }
+{
+    match (kept, reply) {
+        (Kept::Done, Reply::Done) => true,
+        (Kept::Told { told: kept }, Reply::Told { told }) => kept == *told,
+        (Kept::Shown, Reply::Shown { text }) => text.as_slice() == bytes,
+        _ => false,
+    }
+}
+
+// Whether the entry is that of a row.
+fn is_entry(bytes: &[u8], row: Row, entry: &Entry) -> bool
+    requires { IsRowOf bytes.now row }
+    ensures { IsTrue result ↔ (entry.now ≡ entry_in bytes.now row) }
+{
+    row.who == entry.who
+        && is_event(row.deed, &bytes[row.start..row.middle], &entry.event)
+        && is_reply(row.kept, &bytes[row.middle..row.end], &entry.reply)
+}
+
 impl History {
     /// No entries. It takes no memory.
     pub fn new(alloc: Global) -> History
@@ -111,6 +159,16 @@ impl History {
         self.rows.len()
     }
 
+    /// Whether a receipt is the entry at its place.
+    pub fn has(&self, receipt: &Receipt) -> bool
+        ensures { IsTrue result ↔ IsEntered self.now.entries receipt.now }
+    {
+        match self.rows.get(receipt.place) {
+            Some(row) => is_entry(self.bytes.as_slice(), *row, &receipt.entry),
+            None => false,
+        }
+    }
+
     /// Makes room for so many entries more, and for so many bytes of theirs. Where there is no
     /// memory for them, the entries stay, and there is no less room.
     pub fn make_room(&mut self, rows: usize, bytes: usize) -> Result<(), NoMemory>
@@ -120,19 +178,21 @@ impl History {
         ensures kept_rows { self.old.row_room ≤ self.new.row_room }
         ensures kept_bytes { self.old.byte_room ≤ self.new.byte_room }
     {
-        self.rows.reserve(rows)?;
-        self.bytes.reserve(bytes)?;
-        Ok(())
+        reserve(&mut self.rows, rows)?;
+        reserve(&mut self.bytes, bytes)
     }
 
     /// Appends an entry, which there is room for. The line is that of the command, if one was asked
     /// for.
     pub fn push(&mut self, who: u32, deed: Deed, line: &[u8], reply: &Reply)
+        requires line { IsLineOf deed line.now }
         requires row { 0 < self.old.row_room }
         requires bytes { length line.now + length (reply_bytes reply.now) ≤ self.old.byte_room }
         ensures entries { self.new.entries ≡ self.old.entries
             ++ record { who = who; event = deed_event deed line.now; reply = reply.now } ∷ [] }
         ensures room { self.new.row_room + 1 ≡ self.old.row_room }
+        ensures byte_room { self.old.byte_room
+            ≤ self.new.byte_room + (length line.now + length (reply_bytes reply.now)) }
     {
         let start = self.bytes.len();
         append_reserved(&mut self.bytes, line);

@@ -1,6 +1,8 @@
 //! Laws of the sequential debugger, in their own words.
 
 ghost use Rattle.rd_desk.specs.Laws.{BackGivesTheTargetBack, RefusedCommandsChangeNothing};
+ghost use Rattle.rd_desk.specs.Laws.{TheHistoryStays, TheHolderTookTheWheelLast};
+ghost use Rattle.rd_desk.specs.Laws.{WatchesAreDroppedByTheirSession, WatchesAreSeenByTheirSession};
 
 /// A command that is refused changes nothing.
 pub fn refused_commands_change_nothing()
@@ -10,4 +12,20 @@ pub fn refused_commands_change_nothing()
 /// Taking back a move gives back the whole target before it.
 pub fn back_gives_the_target_back()
     ensures { BackGivesTheTargetBack }
+{}
+
+/// Who has the wheel is the last who took it, and neither gave it nor left.
+pub fn the_holder_took_the_wheel_last()
+    ensures { TheHolderTookTheWheelLast }
+{}
+
+/// A watch is its own session's: no other sees it, and no other drops it.
+pub fn watches_are_ones_own()
+    ensures seen { WatchesAreSeenByTheirSession }
+    ensures dropped { WatchesAreDroppedByTheirSession }
+{}
+
+/// No entry of the history is lost or changed.
+pub fn the_history_stays()
+    ensures { TheHistoryStays }
 {}

@@ -3,7 +3,8 @@
 ghost use Rattle.std.specs.Prelude.{◌≡◌, ◌↔◌, ◌+◌, ◌<◌, length, slice_set};
 ghost use Rattle.std.specs.Prelude.{IfOk, IfSome, IsTrue, OnErr, Ok};
 ghost use Rattle.rd_calls.specs.declared.moves.Move.TheVariants as move;
-ghost use Rattle.rd_command.specs.Bindings.{IsBoundOf};
+ghost use Rattle.std.specs.Result.{result_ok};
+ghost use Rattle.rd_command.specs.Bindings.{IsBoundOf, bound_of};
 ghost use Rattle.rd_command.specs.declared.binding.Bound.TheVariants as bound;
 ghost use Rattle.rd_condition.specs.Conditions.{IsConditionOf};
 ghost use Rattle.rd_timeline.specs.History.{state_after};
@@ -27,10 +28,10 @@ use crate::text::Text;
 use rd_app::app::App;
 use rd_bytes::no_memory::NoMemory;
 use rd_calls::moves::Move;
-use rd_command::binding::{Bound, bind};
+use rd_command::binding::{Bound, Unknown};
 use rd_command::command::Command;
+use rd_command::poke::Poke;
 use rd_condition::condition::Condition;
-use rd_edits::edit::Edit;
 use rd_refusal::refusal::Refusal;
 use rd_reply::reply::Reply as Short;
 use rd_state::state::State;
@@ -214,15 +215,16 @@ impl Machine {
 
     // Changes something by hand.
     #[inline(never)]
-    fn poke(&mut self, edit: Edit) -> Result<Reply, NoMemory>
-        requires { IsMoveOf self.old.app (move.Edit edit) }
+    fn poke(&mut self, edit: &Poke<'_>) -> Result<Reply, NoMemory>
+        requires { IsMoveOf self.old.app (move.Edit edit.now) }
         ensures after { IfOk result (λ reply.
-            self.new ≡ after_request self.old (request.Go (move.Edit edit))) }
+            self.new ≡ after_request self.old (request.Go (move.Edit edit.now))) }
         ensures reply { IfOk result (λ reply.
-            reply ≡ reply_to_request self.old (request.Go (move.Edit edit))) }
+            reply ≡ reply_to_request self.old (request.Go (move.Edit edit.now))) }
         ensures err { OnErr result (self.new ≡ self.old) }
     {
-        let told = asking::go(&mut self.timeline, Move::Edit { edit })?;
+        let action = Move::Edit { edit: edit.edit() };
+        let told = asking::go(&mut self.timeline, action)?;
         Ok(Reply::Told { told })
     }
 
@@ -427,7 +429,7 @@ impl Machine {
     }
 
     // Does what a command asks for.
-    fn obey(&mut self, who: u32, command: &Bound) -> Result<Reply, NoMemory>
+    fn obey(&mut self, who: u32, command: &Bound<'_>) -> Result<Reply, NoMemory>
         requires there { IsPresent self.old.sessions who }
         requires named { IsBoundOf self.old.app command.now }
         ensures ok { IfOk result (IsDone self.old who command.now self.new) }
@@ -443,7 +445,7 @@ impl Machine {
             Bound::UntilWatch { watch, count } => self.until_watch(who, *watch, *count),
             Bound::BackUntil { condition } => Ok(self.back_until(*condition)),
             Bound::BackUntilWatch { watch } => self.back_until_watch(who, *watch),
-            Bound::Poke { edit } => self.poke(edit.copy()),
+            Bound::Poke { edit } => self.poke(edit),
             Bound::TakeWheel => Ok(self.take_wheel(who)),
             Bound::GiveWheel => Ok(self.give_wheel(who)),
             Bound::Watch { condition } => Ok(self.watch(who, *condition)),
@@ -471,17 +473,25 @@ impl Machine {
     /// another session has the wheel, that what is named isn't there, that there is no such watch,
     /// that there is no room for a watch, that the session doesn't have the wheel that it would
     /// give, and then those of the timeline. They are replies, and change nothing. An `Err` says
-    /// that there is no memory for the command; then nothing has changed either.
-    pub fn serve(&mut self, who: u32, command: &Command<'_>) -> Result<Reply, NoMemory>
-        requires { IsPresent self.old.sessions who }
+    /// that there is no memory for the command; then nothing has changed either. What the command
+    /// names was looked up before, by `bind`.
+    pub fn serve(
+        &mut self,
+        who: u32,
+        command: &Command<'_>,
+        bound: &Result<Bound<'_>, Unknown>,
+    ) -> Result<Reply, NoMemory>
+        requires there { IsPresent self.old.sessions who }
+        requires bound { result_ok bound.now ≡ bound_of self.old.app command.now }
         ensures ok { IfOk result (IsAnswered self.old who command.now self.new) }
         ensures err { OnErr result (self.new ≡ self.old) }
     {
         if let Some(holder) = self.held_by(who, command) {
             return Ok(refused(Refusal::Held { holder }));
         }
-        match bind(command, self.timeline.app()) {
-            Ok(bound) => self.obey(who, &bound),
+        self.timeline.app().limits();
+        match bound {
+            Ok(bound) => self.obey(who, bound),
             Err(_) => Ok(refused(Refusal::NoSuch)),
         }
     }

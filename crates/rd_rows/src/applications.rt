@@ -6,9 +6,12 @@ use crate::programs::{assert_ending, run_file};
 use crate::tasks::{Row, assert_rows};
 use rd_script::error::AppError;
 use std::alloc::AllocGlobal;
+use std::net::{Net, TcpListener, TcpStream};
 use std::process::Abort;
 use std::rt::Files;
+use std::sync::Wait;
 use std::test::Fail;
+use std::thread::Threads;
 
 // The file of one core, the queue q0 for two items of one byte, and the task t0 with this code.
 macro_rules! file_with_code {
@@ -123,7 +126,11 @@ struct Refused {
     errors: &'static str,
 }
 
-fn assert_refused<H: Files + AllocGlobal + Abort>(rt: &H, files: &[Refused]) -> Result<(), Fail> {
+fn assert_refused<H>(rt: &H, files: &[Refused]) -> Result<(), Fail>
+where
+    H: Files + AllocGlobal + Abort + Wait + Sync + Threads,
+    H: Net<Listener = TcpListener, Stream = TcpStream>,
+{
     for file in files {
         let Refused { text, errors } = *file;
         let ending = run_file(rt, "refused.json", text.as_bytes(), &[], "step 0\n")?;

@@ -5,14 +5,15 @@ ghost use Rattle.rd_desk.specs.Sessions.{IsPresent};
 
 use crate::asserts::assert_same;
 use rd_app::app::App;
+use rd_command::binding::bind;
 use rd_command::command::parse_line;
 use rd_desk::desk::{Desk, EnterError, NotServed};
 use rd_desk::entry::Receipt;
 use rd_desk::limits::Limits;
 use rd_desk::reply::Reply;
 use rd_desk::tally::Tally;
-use rd_main::pending::Pending;
-use std::alloc::AllocGlobal;
+use rd_reply::reply::{MAX_REPLY, append_reply_reserved};
+use std::alloc::{AllocError, AllocGlobal};
 use std::process::Abort;
 use std::test::Fail;
 
@@ -64,12 +65,14 @@ fn assert_departs(rt: &impl Abort, desk: &mut Desk, who: u32) {
     assert!(rt; !desk.is_present(who), "session {who} is still present");
 }
 
-// The line of a reply.
-fn line_of<H: AllocGlobal + Abort>(rt: &H, reply: &Reply) -> Result<Vec<u8>, Fail> {
-    let mut line = Vec::new(rt.alloc());
-    let mut pending = Pending::new(rt.alloc())?;
-    assert!(rt; pending.put(&mut line, reply).is_ok());
-    assert!(rt; pending.send(&mut line).is_ok());
+/// The line of a reply.
+pub fn line_of<H: AllocGlobal>(rt: &H, reply: &Reply) -> Result<Vec<u8>, AllocError> {
+    let mut line = Vec::with_capacity(rt.alloc(), MAX_REPLY)?;
+    match reply {
+        Reply::Done => {}
+        Reply::Told { told } => append_reply_reserved(&mut line, *told),
+        Reply::Shown { text } => line.extend_from_slice(text.as_slice())?,
+    }
     Ok(line)
 }
 
@@ -99,7 +102,8 @@ fn assert_asked<H: AllocGlobal + Abort>(rt: &H, desk: &mut Desk, asked: Asked) -
         panic!(rt; "{} is no command", asked.line);
     };
     assert_present(rt, desk, asked.who);
-    match desk.serve(asked.who, &command) {
+    let bound = bind(&command, desk.app());
+    match desk.serve(asked.who, &command, &bound) {
         Ok(receipt) => {
             assert_receipt(rt, &receipt, place, asked.who);
             assert_answer(rt, &receipt, asked)
@@ -429,11 +433,12 @@ fn assert_no_place(rt: &impl Abort, desk: &mut Desk) {
         panic!(rt; "no command");
     };
     assert_present(rt, desk, 1);
-    match desk.serve(1, &command) {
+    let bound = bind(&command, desk.app());
+    match desk.serve(1, &command, &bound) {
         Ok(_receipt) => assert!(rt; false, "the history isn't full"),
         Err(refusal) => match refusal {
             NotServed::HistoryFull { tally } => assert_tally(rt, &tally, 1, 1, 2),
-            NotServed::NoMemory => assert!(rt; false, "no memory"),
+            NotServed::NoMemory | NotServed::Broken => assert!(rt; false, "it isn't that"),
         },
     }
 }
@@ -452,5 +457,47 @@ fn two_places(rt: HostRuntime) -> Result<(), Fail> {
     let mut desk = open(&rt, 2)?;
     fill_two_places(&rt, &mut desk);
     desk.close();
+    Ok(())
+}
+
+// A session is served, and gets its receipt.
+fn serve(rt: &impl Abort, desk: &mut Desk, who: u32, line: &str) -> Receipt {
+    let Ok(command) = parse_line(line.as_bytes()) else {
+        panic!(rt; "{line} is no command");
+    };
+    assert_present(rt, desk, who);
+    let bound = bind(&command, desk.app());
+    match desk.serve(who, &command, &bound) {
+        Ok(receipt) => receipt,
+        Err(_) => panic!(rt; "{line} isn't served"),
+    }
+}
+
+// A session ticks, looks at the wheel twice, in lines of other spaces, and departs.
+fn serve_three(rt: &impl Abort, desk: &mut Desk) -> (Receipt, Receipt, Receipt) {
+    assert_enters(rt, desk, 1);
+    let ticked = serve(rt, desk, 1, "tick");
+    let first = serve(rt, desk, 1, "show wheel");
+    let second = serve(rt, desk, 1, " show  wheel ");
+    assert_departs(rt, desk, 1);
+    (ticked, first, second)
+}
+
+// A history has a receipt at its own place, and at that of an equal entry, and nowhere else.
+#[test]
+fn receipts(rt: HostRuntime) -> Result<(), Fail> {
+    let mut desk = open(&rt, 100)?;
+    let (ticked, mut first, second) = serve_three(&rt, &mut desk);
+    let history = desk.close();
+    assert_same(&rt, history.len(), 5);
+    for receipt in [&ticked, &first, &second] {
+        assert!(&rt; history.has(receipt));
+    }
+    first.place = second.place;
+    assert!(&rt; history.has(&first));
+    for place in [0, ticked.place, 4, 5] {
+        first.place = place;
+        assert!(&rt; !history.has(&first));
+    }
     Ok(())
 }

@@ -12,11 +12,15 @@ mod buffers;
 #[cfg(test)]
 mod conditions;
 #[cfg(test)]
+mod connections;
+#[cfg(test)]
 mod desk;
 #[cfg(test)]
 mod edits;
 #[cfg(test)]
 mod groups;
+#[cfg(test)]
+mod hall;
 #[cfg(test)]
 mod locals;
 #[cfg(test)]
@@ -39,5 +43,7 @@ mod runs;
 mod streams;
 #[cfg(test)]
 mod tasks;
+#[cfg(test)]
+mod together;
 #[cfg(test)]
 mod watches;

@@ -5,9 +5,12 @@ use crate::asserts::assert_same;
 use crate::memory::Target;
 use rd_main::run_main;
 use std::alloc::{AllocError, AllocGlobal};
+use std::net::{Net, TcpListener, TcpStream};
 use std::process::Abort;
 use std::rt::Files;
+use std::sync::Wait;
 use std::test::Fail;
+use std::thread::Threads;
 use std::{fs, io};
 
 /// What a run left.
@@ -19,11 +22,11 @@ pub struct Ending {
 }
 
 // Runs the program on these words and commands.
-fn run<H: Files + AllocGlobal>(
-    rt: &H,
-    words: &[&str],
-    commands: &str,
-) -> Result<Ending, AllocError> {
+fn run<H>(rt: &H, words: &[&str], commands: &str) -> Result<Ending, AllocError>
+where
+    H: Files + AllocGlobal + Abort + Wait + Sync + Threads,
+    H: Net<Listener = TcpListener, Stream = TcpStream>,
+{
     let mut texts = Vec::new(rt.alloc());
     for word in words {
         let word: &str = *word;
@@ -46,13 +49,17 @@ fn run<H: Files + AllocGlobal>(
 }
 
 /// Runs the program on an application file of this text, with more words and commands.
-pub fn run_file<H: Files + AllocGlobal>(
+pub fn run_file<H>(
     rt: &H,
     path: &str,
     app: &[u8],
     words: &[&str],
     commands: &str,
-) -> io::Result<Ending> {
+) -> io::Result<Ending>
+where
+    H: Files + AllocGlobal + Abort + Wait + Sync + Threads,
+    H: Net<Listener = TcpListener, Stream = TcpStream>,
+{
     fs::write(rt, path, app)?;
     let mut all = Vec::new(rt.alloc());
     all.extend_from_slice(&["run", "--app", path])?;
@@ -70,14 +77,18 @@ pub fn assert_ending(rt: &impl Abort, ending: &Ending, status: u8, output: &str,
 }
 
 // Fails unless each run on some words and these commands ends with this status, and writes this.
-fn assert_runs<H: Files + AllocGlobal + Abort>(
+fn assert_runs<H>(
     rt: &H,
     runs: &[&[&str]],
     commands: &str,
     status: u8,
     output: &str,
     errors: &str,
-) -> Result<(), Fail> {
+) -> Result<(), Fail>
+where
+    H: Files + AllocGlobal + Abort + Wait + Sync + Threads,
+    H: Net<Listener = TcpListener, Stream = TcpStream>,
+{
     for words in runs {
         let words: &[&str] = *words;
         let ending = run(rt, words, commands)?;
@@ -160,11 +171,15 @@ const HELP: &str = "A reverse debugger for models of FreeRTOS applications
 Usage: rdbg <COMMAND>
 
 Commands:
-  run   Answers commands from standard input
-  help  Print this message or the help of the given subcommand(s)
+  run    Answers commands from standard input
+  serve  Answers the commands of several sessions on a TCP port
+  help   Print this message or the help of the given subcommand(s)
 
 Options:
   -h, --help  Print help
+
+rdbg run [--app FILE] [--moves COUNT] [--history COUNT]
+rdbg serve --app FILE --port PORT --sessions COUNT [--moves COUNT] [--history COUNT]
 ";
 
 const HELP_OF_RUN: &str = "Answers commands from standard input

@@ -4,14 +4,21 @@ use crate::asserts::assert_same;
 use crate::memory::{Source, Target};
 use rd_main::run_main;
 use std::alloc::{AllocError, AllocGlobal, Global};
+use std::net::{Net, TcpListener, TcpStream};
 use std::process::Abort;
 use std::rt::Files;
+use std::sync::Wait;
 use std::test::Fail;
+use std::thread::Threads;
 
 const EMPTY_QUEUE: &str = "queue q0 0/2 items - recv - send - set -\n";
 
 // Runs the program with no words, and fails unless the status is 0 and nothing went to the errors.
-fn run<H: Files + AllocGlobal + Abort>(rt: &H, source: &mut Source<'_>, target: &mut Target) {
+fn run<H>(rt: &H, source: &mut Source<'_>, target: &mut Target)
+where
+    H: Files + AllocGlobal + Abort + Wait + Sync + Threads,
+    H: Net<Listener = TcpListener, Stream = TcpStream>,
+{
     let words: Vec<String> = Vec::new(rt.alloc());
     let mut errors = Vec::new(rt.alloc());
     let status = run_main(rt, words.as_slice(), source, target, &mut errors);
@@ -20,7 +27,11 @@ fn run<H: Files + AllocGlobal + Abort>(rt: &H, source: &mut Source<'_>, target: 
 }
 
 // What the program answers to these bytes.
-fn answers<H: Files + AllocGlobal + Abort>(rt: &H, mut source: Source<'_>) -> Vec<u8> {
+fn answers<H>(rt: &H, mut source: Source<'_>) -> Vec<u8>
+where
+    H: Files + AllocGlobal + Abort + Wait + Sync + Threads,
+    H: Net<Listener = TcpListener, Stream = TcpStream>,
+{
     let mut target = Target::new(Vec::new(rt.alloc()));
     run(rt, &mut source, &mut target);
     target.into_bytes()
@@ -121,7 +132,11 @@ const SESSIONS: [Session; 12] = [
 ];
 
 // In one piece, and byte by byte.
-fn assert_session<H: Files + AllocGlobal + Abort>(rt: &H, session: Session) {
+fn assert_session<H>(rt: &H, session: Session)
+where
+    H: Files + AllocGlobal + Abort + Wait + Sync + Threads,
+    H: Net<Listener = TcpListener, Stream = TcpStream>,
+{
     let Session {
         name,
         lines,
@@ -193,11 +208,11 @@ const LONG_LINES: [LongLine; 7] = [
 ];
 
 // With `chunk` bytes a read.
-fn assert_long_line<H: Files + AllocGlobal + Abort>(
-    rt: &H,
-    line: LongLine,
-    chunk: usize,
-) -> Result<(), AllocError> {
+fn assert_long_line<H>(rt: &H, line: LongLine, chunk: usize) -> Result<(), AllocError>
+where
+    H: Files + AllocGlobal + Abort + Wait + Sync + Threads,
+    H: Net<Listener = TcpListener, Stream = TcpStream>,
+{
     let LongLine { len, end, replies } = line;
     let bytes = padded_line(rt.alloc(), len, end.as_bytes())?;
     let mut source = Source::new(bytes.as_slice());

@@ -6,9 +6,12 @@ use rd_main::run_main;
 use std::alloc::AllocGlobal;
 use std::io;
 use std::io::{ErrorKind, Read, Write};
+use std::net::{Net, TcpListener, TcpStream};
 use std::process::Abort;
 use std::rt::Files;
+use std::sync::Wait;
 use std::test::Fail;
+use std::thread::Threads;
 
 // Is interrupted before each read that gives bytes.
 #[derive(Drop)]
@@ -48,7 +51,11 @@ impl Write for Holding {
 }
 
 // Runs the program with no words, and fails unless it has written this by its end, and flushed it.
-fn writes<H: Files + AllocGlobal + Abort, R: Read>(rt: &H, reader: &mut R, expected: &str) {
+fn writes<H, R: Read>(rt: &H, reader: &mut R, expected: &str)
+where
+    H: Files + AllocGlobal + Abort + Wait + Sync + Threads,
+    H: Net<Listener = TcpListener, Stream = TcpStream>,
+{
     let words: Vec<String> = Vec::new(rt.alloc());
     let mut writer = Holding {
         held: Vec::new(rt.alloc()),

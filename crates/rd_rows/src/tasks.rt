@@ -3,9 +3,12 @@
 
 use crate::programs::{assert_ending, run_file};
 use std::alloc::AllocGlobal;
+use std::net::{Net, TcpListener, TcpStream};
 use std::process::Abort;
 use std::rt::Files;
+use std::sync::Wait;
 use std::test::Fail;
+use std::thread::Threads;
 
 /// A run of an application file.
 #[derive(Drop)]
@@ -17,7 +20,11 @@ pub struct Row {
 }
 
 /// Fails unless each run answers so, ends with status 0, and writes nothing to its errors.
-pub fn assert_rows<H: Files + AllocGlobal + Abort>(rt: &H, rows: &[Row]) -> Result<(), Fail> {
+pub fn assert_rows<H>(rt: &H, rows: &[Row]) -> Result<(), Fail>
+where
+    H: Files + AllocGlobal + Abort + Wait + Sync + Threads,
+    H: Net<Listener = TcpListener, Stream = TcpStream>,
+{
     for row in rows {
         let row: &Row = row;
         let ending = run_file(rt, "row.json", row.app.as_bytes(), &[], row.commands)?;

@@ -1,5 +1,5 @@
--- Where nothing is wrong with the words, `clap` finds moves and a history among the options, and as many as may be.
-use Rattle.std.proofs.Common.{◌≡◌, ◌⊎◌, ◌∙◌, ◌&&◌, ◌||◌, ◌==◌, ◌++◌, ℕ, zero, suc, Bool, true, false, not, cond, List, [], ◌∷◌, length, drop, Option, Some, None}
+-- Where nothing is wrong with the words, `clap` finds `run` or `serve`, with all that each has to have and as many as may be.
+use Rattle.std.proofs.Common.{◌≡◌, ◌∙◌, ◌&&◌, ◌||◌, ◌==◌, ◌++◌, ℕ, zero, suc, Bool, true, false, not, cond, List, [], ◌∷◌, length, drop, Option, Some, None}
 use Rattle.std.proofs.Common.{IfSome, is_some, option_and_then, option_map, find, fold, codes, slice_get, encode_utf8, inl, inr, ap, arith, eqb-true, refl, subst, sym, true≢false}
 use Rattle.std.specs.Prelude.{⊤}
 use Rattle.std.specs.List.{list_any}
@@ -7,25 +7,31 @@ use Rattle.std.specs.Option.{option_map_or}
 use Rattle.std.specs.Str.{bytes_eq, chars}
 use Rattle.std.proofs.lemmas.Slice.Eq.{bytes_eq-Decides}
 use Rattle.clap.specs.Lexer.{long_of, short_of}
-use Rattle.clap.specs.Words.{App, IsUnsignedIn, Kinds, Row, Rule, Shape, Text, built, new_rule}
+use Rattle.clap.specs.Words.{App, IsUnsignedIn, Kinds, Row, Rule, Shape, Text, built, first_of, new_rule, one_of}
 use Rattle.clap.specs.ValueTests.{accepts}
 use Rattle.clap.specs.Walk.{Held, Names, Outcome, Step, Waiting, Walk, idle, option, positional, next, trailing, subcommand, value, done, plain, refused, waits}
 use Rattle.clap.specs.Walk.{after_flag, after_step, answers_to, arg_by_id, arg_by_index, arg_by_long, arg_by_short, at_row, attached_value, bundle_met, bundle_step, finished}
 use Rattle.clap.specs.Walk.{flag_met, has_row, is_pending, long_met, long_or_other, more_values, nothing_held, option_met, option_word, plain_word, reacted}
 use Rattle.clap.specs.Walk.{row_text, rows_after, settled, settled_rows, short_met, short_or_plain, subcommand_met, subcommand_or_other, takes_several, takes_values}
 use Rattle.clap.specs.Walk.{to_positional, used, used_by_id, values_or_missing, walk, walk_from, walked, walked_from, with_default, without, word_met}
-use Rattle.clap.specs.Walk.{default_rows, reading_by}
+use Rattle.clap.specs.Walk.{action_of, default_rows, reading_by, used_as}
+use Rattle.clap.specs.Takes.{is_given}
 use Rattle.clap.specs.Simple.{entered, label_of, names_of, new_shape, rows_at}
+use Rattle.clap.specs.Facts.{explicit_source}
 use Rattle.clap.specs.Kinds.{or_else, range_kinds}
+use Rattle.clap.specs.Values.{read_as}
+use Rattle.clap.specs.declared.builder.value_parser.Reading.{Reading}
 use Rattle.clap.specs.Faults.{bundle_fault, bundle_step_fault, check_fault, defaults_fault, entered_fault, flag_word_fault, flags_fault, level_fault, long_fault, option_fault}
 use Rattle.clap.specs.Faults.{other_fault, positional_fault, react_fault, settle_fault, short_fault, step_fault, stray_fault, turn_fault, use_fault, walk_fault, word_fault}
+use Rattle.clap.specs.declared.builder.action.ArgAction.{ArgAction}
+use Rattle.clap.specs.declared.builder.action.ArgAction.TheVariants.{Set}
 use Rattle.clap.specs.declared.error.kind.ErrorKind.{ErrorKind}
 use Rattle.clap.specs.declared.error.kind.ErrorKind.TheVariants as kind
 use Rattle.clap.specs.declared.builder.value_parser.ValueParser.TheVariants.{Unsigned}
 use Rattle.clap.specs.declared.parser.matches.ValueSource.{ValueSource}
 use Rattle.clap.specs.declared.parser.matches.ValueSource.TheVariants.{CommandLine, DefaultValue}
 use Rattle.clap.proofs.ValueTestLemmas.{accepts-Accepts}
-use Rattle.rd_start.specs.Requests.{HasLimits, HasNumber, command_line, faults_of, options_in, options_of}
+use Rattle.rd_start.specs.Requests.{HasLimits, HasServerLimits, IsWhole, command_line, faults_of, subcommand_in}
 
 -- ---- steps that all pass
 
@@ -297,8 +303,11 @@ rule_at (suc k) (a ∷ rest) = rule_at k rest
 abbrev run_shape : Shape
 run_shape = shape_at 0 line.subs
 
+abbrev serve_shape : Shape
+serve_shape = shape_at 1 line.subs
+
 abbrev help_command : Shape
-help_command = shape_at 1 line.subs
+help_command = shape_at 2 line.subs
 
 abbrev app_rule : Rule
 app_rule = rule_at 0 run_shape.rules
@@ -312,15 +321,39 @@ history_rule = rule_at 2 run_shape.rules
 abbrev help_flag : Rule
 help_flag = rule_at 3 run_shape.rules
 
--- An option of one number, as those of moves and history are.
-abbrev number_rule : Text → ℕ → Rule
-number_rule name least = record moves_rule { id = name; long = Some name; parser = Some (Unsigned least 1000000) }
+abbrev served_app_rule : Rule
+served_app_rule = rule_at 0 serve_shape.rules
 
-moves_are_one : moves_rule ≡ number_rule (codes "moves") 1
+abbrev port_rule : Rule
+port_rule = rule_at 1 serve_shape.rules
+
+abbrev sessions_rule : Rule
+sessions_rule = rule_at 2 serve_shape.rules
+
+-- An option of one number, as those of moves and history are.
+abbrev number_rule : Text → ℕ → ℕ → List Text → Bool → Rule
+number_rule name least most defaults required = record moves_rule {
+  id = name;
+  long = Some name;
+  parser = Some (Unsigned least most);
+  defaults = defaults;
+  required = required;
+}
+
+abbrev with_its_default : Text → ℕ → Rule
+with_its_default name least = number_rule name least 1000000 (codes "100000" ∷ []) false
+
+moves_are_one : moves_rule ≡ with_its_default (codes "moves") 1
 moves_are_one = refl
 
-history_is_one : history_rule ≡ number_rule (codes "history") 2
+history_is_one : history_rule ≡ with_its_default (codes "history") 2
 history_is_one = refl
+
+port_is_one : port_rule ≡ number_rule (codes "port") 1 65535 [] true
+port_is_one = refl
+
+sessions_are_one : sessions_rule ≡ number_rule (codes "sessions") 1 64 [] true
+sessions_are_one = refl
 
 -- ---- what is asked of the values of an option
 
@@ -352,23 +385,30 @@ same_either : (b : Bool) (rows : List Row) → cond b rows rows ≡ rows
 same_either true rows = refl
 same_either false rows = refl
 
-app_adds_none : (rows : List Row) → with_default rows app_rule ≡ rows
-app_adds_none rows = same_either (has_row (codes "app") rows) rows
+-- an option without a default adds no row
+none_added : (a : Rule) (rows : List Row) → a.defaults ≡ [] → with_default rows a ≡ rows
+none_added a rows none =
+    ap (λ (texts : List Text). cond (has_row a.id rows) rows (default_rows a.id (reading_by a) texts rows)) none
+    ∙ same_either (has_row a.id rows) rows
 
-help_adds_none : (rows : List Row) → with_default rows help_flag ≡ rows
-help_adds_none rows = same_either (has_row (codes "help") rows) rows
+abbrev Keeps : (List Row → Type 0) → List Text → List Row → Rule → Type 0
+Keeps P values rows a = use_fault false a values rows ≡ [] → P rows → P (used a values rows)
 
--- ---- the row of a number's option: its one value is a number within the limits
+-- ---- the row of an option: its one value is one that the option takes
 
-module _ (name : Text) (least : ℕ) where
+module _ (name : Text) (Takes : Text → Type 0) where
   abbrev is_it : Row → Bool
   is_it r = bytes_eq r.id name
 
   abbrev IsGoodRow : Row → Type 0
-  IsGoodRow r = (text : Text) × (row_text r ≡ Some text) × IsUnsignedIn least 1000000 text
+  IsGoodRow r = (text : Text) × (row_text r ≡ Some text) × Takes text
 
   abbrev Good : List Row → Type 0
   Good rows = IfSome (find is_it rows) IsGoodRow
+
+  -- the option has a value that it takes
+  abbrev Has : List Row → Type 0
+  Has rows = (text : Text) × (one_of name rows ≡ Some text) × Takes text
 
   abbrev Stays : (Row → List Row) → Type 0
   Stays change = (t : Row) (ts : List Row) → is_it t ≡ false → find is_it (change t ++ ts) ≡ find is_it ts
@@ -434,21 +474,16 @@ module _ (name : Text) (least : ℕ) where
   is_itself : bytes_eq name name ≡ true
   is_itself = (bytes_eq-Decides name name).1 refl
 
-  number_keeps : (values : List Text) (rows : List Row) → use_fault false (number_rule name least) values rows ≡ []
-      → Good (used (number_rule name least) values rows)
-  number_keeps [] rows e = absurd (none_of kind.InvalidValue e)
-  number_keeps (v ∷ u ∷ rest) rows e =
-      let one = one_value (length (v ∷ u ∷ rest)) (neither (range_kinds 1 1 (length (v ∷ u ∷ rest))) _ e).0 in
-      absurd (omega arith)
-  number_keeps (v ∷ []) rows e =
-      let parts = neither (cond (has_row name rows && true) (kind.ArgumentConflict ∷ []) []) _ e in
-      let none = not_there (has_row name rows) parts.0 in
-      let passed = it_passes (accepts false (Unsigned least 1000000) v) parts.1 in
-      used_first (more_values CommandLine (v ∷ [])) _ rows is_itself (v, refl, accepts-Accepts false (Unsigned least 1000000) v passed) none
+  -- a use of another option keeps it
+  other_rule : (a : Rule) (values : List Text) (rows : List Row) → action_of a ≡ Set → bytes_eq a.id name ≡ false
+      → Keeps Good values rows a
+  other_rule a values rows sets differs = λ e good.
+      subst (λ (action : ArgAction). Good (used_as action a.id (reading_by a) (values_or_missing a values) rows)) (sym sets)
+      (other_keeps a.id (values_or_missing a values) _ rows differs differs good)
 
   -- ---- at the end, its default where no row of it is there
 
-  from_row : (rows : List Row) (r : Row) → find is_it rows ≡ Some r → IsGoodRow r → HasNumber name least rows
+  from_row : (rows : List Row) (r : Row) → find is_it rows ≡ Some r → IsGoodRow r → Has rows
   from_row rows r e good = (good.0, ap (option_and_then row_text) e ∙ good.1, good.2)
 
   found_if : (rows : List Row) → has_row name rows ≡ true → find is_it rows ≡ None → ⊥
@@ -460,130 +495,336 @@ module _ (name : Text) (least : ℕ) where
       go true then e none = cc
       go false then e none = then e none
 
-  there : (rows : List Row) → has_row name rows ≡ true → Good rows → HasNumber name least rows
+  there : (rows : List Row) → has_row name rows ≡ true → Good rows → Has rows
   there rows e good = go (find is_it rows) refl good
     where
-      go : (o : Option Row) → find is_it rows ≡ o → IfSome o IsGoodRow → HasNumber name least rows
+      go : (o : Option Row) → find is_it rows ≡ o → IfSome o IsGoodRow → Has rows
       go None none good = absurd (found_if rows e none)
       go (Some r) is good = from_row rows r is good
 
+  given : (rows : List Row) → is_given name rows ≡ true → Good rows → Has rows
+  given rows e good = go (find is_it rows) refl e good
+    where
+      go : (o : Option Row) → find is_it rows ≡ o → option_map_or (λ r. explicit_source r.source) o false ≡ true → IfSome o IsGoodRow
+          → Has rows
+      go None none e good = absurd (true≢false (sym e))
+      go (Some r) is e good = from_row rows r is good
+
   by_default : (change : Row → List Row) (row : Row) (rows : List Row) → is_it row ≡ true → IsGoodRow row → has_row name rows ≡ false
-      → HasNumber name least (at_row name change (row ∷ []) rows)
+      → Has (at_row name change (row ∷ []) rows)
   by_default change row rows is good none = from_row (at_row name change (row ∷ []) rows) row (added_row change row rows is none) good
 
-  one_or_other : (rows other : List Row) (b : Bool) → (b ≡ true → HasNumber name least rows) → (b ≡ false → HasNumber name least other)
-      → HasNumber name least (cond b rows other)
+  one_or_other : (rows other : List Row) (b : Bool) → (b ≡ true → Has rows) → (b ≡ false → Has other) → Has (cond b rows other)
   one_or_other rows other true h d = h refl
   one_or_other rows other false h d = d refl
 
-  number_added : (rows : List Row) → IsUnsignedIn least 1000000 (codes "100000") → Good rows
-      → HasNumber name least (with_default rows (number_rule name least))
-  number_added rows default good = one_or_other rows _ (has_row name rows) (λ e. there rows e good)
+  number_added : (least : ℕ) (rows : List Row) → Takes (codes "100000") → Good rows → Has (with_default rows (with_its_default name least))
+  number_added least rows default good = one_or_other rows _ (has_row name rows) (λ e. there rows e good)
       (λ none. by_default (more_values DefaultValue (codes "100000" ∷ [])) _ rows is_itself (codes "100000", refl, default) none)
 
   -- another option's default leaves it
   default_stays : (other : Text) (from : ℕ) (rows : List Row) → bytes_eq other name ≡ false
-      → find is_it (with_default rows (number_rule other from)) ≡ find is_it rows
+      → find is_it (with_default rows (with_its_default other from)) ≡ find is_it rows
   default_stays other from rows differs = go (has_row other rows)
     where
-      go : (b : Bool) → find is_it (cond b rows (default_rows other (reading_by (number_rule other from)) (codes "100000" ∷ []) rows))
+      go : (b : Bool) → find is_it (cond b rows (default_rows other (reading_by (with_its_default other from)) (codes "100000" ∷ []) rows))
           ≡ find is_it rows
       go true = refl
       go false = others_stay other (more_values DefaultValue (codes "100000" ∷ [])) _ rows differs (absent _ differs)
           (more_stay DefaultValue (codes "100000" ∷ []))
 
   good_stays : (other : Text) (from : ℕ) (rows : List Row) → bytes_eq other name ≡ false → Good rows
-      → Good (with_default rows (number_rule other from))
+      → Good (with_default rows (with_its_default other from))
   good_stays other from rows differs good =
       subst (λ (o : Option Row). IfSome o IsGoodRow) (sym (default_stays other from rows differs)) good
 
-  has_stays : (other : Text) (from : ℕ) (rows : List Row) → bytes_eq other name ≡ false → HasNumber name least rows
-      → HasNumber name least (with_default rows (number_rule other from))
+  has_stays : (other : Text) (from : ℕ) (rows : List Row) → bytes_eq other name ≡ false → Has rows
+      → Has (with_default rows (with_its_default other from))
   has_stays other from rows differs has =
       (has.0, ap (option_and_then row_text) (default_stays other from rows differs) ∙ has.1, has.2)
 
--- ---- the words behind `run`
+-- a use of an option of one number: the number is within the limits
+number_keeps : (name : Text) (least most : ℕ) (defaults : List Text) (required : Bool) (values : List Text) (rows : List Row)
+    → Keeps (Good name (IsUnsignedIn least most)) values rows (number_rule name least most defaults required)
+number_keeps name least most defaults required [] rows = λ e _. absurd (none_of kind.InvalidValue e)
+number_keeps name least most defaults required (v ∷ u ∷ rest) rows = λ e _.
+    let one = one_value (length (v ∷ u ∷ rest)) (neither (range_kinds 1 1 (length (v ∷ u ∷ rest))) _ e).0 in
+    absurd (omega arith)
+number_keeps name least most defaults required (v ∷ []) rows = λ e _.
+    let parts = neither (cond (has_row name rows && true) (kind.ArgumentConflict ∷ []) []) _ e in
+    let none = not_there (has_row name rows) parts.0 in
+    let passed = it_passes (accepts false (Unsigned least most) v) parts.1 in
+    used_first name (IsUnsignedIn least most) (more_values CommandLine (v ∷ [])) _ rows (is_itself name (IsUnsignedIn least most))
+    (v, refl, accepts-Accepts false (Unsigned least most) v passed) none
 
-among : {X : Type 0} (q : X → Bool) (x y z w a : X) → find q (x ∷ y ∷ z ∷ w ∷ []) ≡ Some a → (a ≡ x) ⊎ ((a ≡ y) ⊎ ((a ≡ z) ⊎ (a ≡ w)))
-among q x y z w a is = go (q x) (q y) (q z) (q w) is
+-- a use of the application's option: there is a text
+app_keeps : (values : List Text) (rows : List Row) → Keeps (Good (codes "app") (λ _. ⊤)) values rows served_app_rule
+app_keeps [] rows = λ e _. absurd (none_of kind.InvalidValue e)
+app_keeps (v ∷ u ∷ rest) rows = λ e _.
+    let one = one_value (length (v ∷ u ∷ rest)) (neither (range_kinds 1 1 (length (v ∷ u ∷ rest))) _ e).0 in
+    absurd (omega arith)
+app_keeps (v ∷ []) rows = λ e _.
+    let none = not_there (has_row (codes "app") rows) (neither (cond (has_row (codes "app") rows && true) (kind.ArgumentConflict ∷ []) []) _ e).0 in
+    used_first (codes "app") (λ _. ⊤) (more_values CommandLine (v ∷ [])) _ rows refl (v, refl, tt) none
+
+-- ---- the words behind a subcommand
+
+-- what each of the arguments keeps, the one that is used keeps
+abbrev Each : (Rule → Type 0) → List Rule → Type 0
+Each Holds [] = ⊤
+Each Holds (a ∷ rest) = Holds a × Each Holds rest
+
+found_holds : (Holds : Rule → Type 0) (rules : List Rule) → Each Holds rules → (q : Rule → Bool) (a : Rule) → find q rules ≡ Some a
+    → Holds a
+found_holds Holds [] each q a is = absurd cc
+found_holds Holds (x ∷ rest) each q a is = go (q x) (found_holds Holds rest each.1 q a) is
   where
-    go : (b c d e : Bool) → cond b (Some x) (cond c (Some y) (cond d (Some z) (cond e (Some w) None))) ≡ Some a
-        → (a ≡ x) ⊎ ((a ≡ y) ⊎ ((a ≡ z) ⊎ (a ≡ w)))
-    go true c d e is = inl cc
-    go false true d e is = inr (inl cc)
-    go false false true e is = inr (inr (inl cc))
-    go false false false true is = inr (inr (inr cc))
-    go false false false false is = absurd cc
+    go : (b : Bool) → (find q rest ≡ Some a → Holds a) → cond b (Some x) (find q rest) ≡ Some a → Holds a
+    go true later is = let same : x ≡ a = cc in subst Holds same each.0
+    go false later is = later is
 
-abbrev Keeps : (List Row → Type 0) → List Text → List Row → Rule → Type 0
-Keeps P values rows a = use_fault false a values rows ≡ [] → P rows → P (used a values rows)
+abbrev InMoves : Text → Type 0
+InMoves = IsUnsignedIn 1 1000000
 
--- what each of the four arguments keeps, a walk keeps
-each_keeps : (P : List Row → Type 0) (values : List Text) (rows : List Row) → Keeps P values rows app_rule → Keeps P values rows moves_rule
-    → Keeps P values rows history_rule → (q : Rule → Bool) (a : Rule) → find q run_shape.rules ≡ Some a → Keeps P values rows a
-each_keeps P values rows app moves history q a is = elim (among q app_rule moves_rule history_rule help_flag a is) [
-  | inl same ↦ subst (Keeps P values rows) (sym same) app
-  | inr more ↦ elim more [
-    | inl same ↦ subst (Keeps P values rows) (sym same) moves
-    | inr rest ↦ elim rest [
-      | inl same ↦ subst (Keeps P values rows) (sym same) history
-      | inr same ↦ subst (Keeps P values rows) (sym same) (λ e good. absurd (help_fails values rows e))
-    ]
-  ]
-]
+abbrev InHistory : Text → Type 0
+InHistory = IsUnsignedIn 2 1000000
 
-abbrev GoodMoves : List Row → Type 0
-GoodMoves = Good (codes "moves") 1
+abbrev InPort : Text → Type 0
+InPort = IsUnsignedIn 1 65535
 
-abbrev GoodHistory : List Row → Type 0
-GoodHistory = Good (codes "history") 2
+abbrev InSessions : Text → Type 0
+InSessions = IsUnsignedIn 1 64
 
-moves_kept : (q : Rule → Bool) (a : Rule) (values : List Text) (rows : List Row) → find q run_shape.rules ≡ Some a
-    → use_fault run_shape.args_override_self a values rows ≡ [] → GoodMoves rows → GoodMoves (used a values rows)
-moves_kept q a values rows is =
-    each_keeps GoodMoves values rows
-    (λ e good. other_keeps (codes "moves") 1 (codes "app") (values_or_missing app_rule values) _ rows refl refl good)
-    (λ e good. number_keeps (codes "moves") 1 values rows e)
-    (λ e good. other_keeps (codes "moves") 1 (codes "history") (values_or_missing history_rule values) _ rows refl refl good)
-    q a is
+abbrev AnyText : Text → Type 0
+AnyText text = ⊤
 
-history_kept : (q : Rule → Bool) (a : Rule) (values : List Text) (rows : List Row) → find q run_shape.rules ≡ Some a
-    → use_fault run_shape.args_override_self a values rows ≡ [] → GoodHistory rows → GoodHistory (used a values rows)
-history_kept q a values rows is =
-    each_keeps GoodHistory values rows
-    (λ e good. other_keeps (codes "history") 2 (codes "app") (values_or_missing app_rule values) _ rows refl refl good)
-    (λ e good. other_keeps (codes "history") 2 (codes "moves") (values_or_missing moves_rule values) _ rows refl refl good)
-    (λ e good. number_keeps (codes "history") 2 values rows e)
-    q a is
+-- help keeps what there is, since it ends the parse
+help_keeps : (name : Text) (Takes : Text → Type 0) (values : List Text) (rows : List Row) → Keeps (Good name Takes) values rows help_flag
+help_keeps name Takes values rows = λ e good. absurd (help_fails values rows e)
 
-many_moves : IsUnsignedIn 1 1000000 (codes "100000")
+moves_kept : (values : List Text) (rows : List Row) → Keeps (Good (codes "moves") InMoves) values rows moves_rule
+moves_kept = number_keeps (codes "moves") 1 1000000 (codes "100000" ∷ []) false
+
+history_kept : (values : List Text) (rows : List Row) → Keeps (Good (codes "history") InHistory) values rows history_rule
+history_kept = number_keeps (codes "history") 2 1000000 (codes "100000" ∷ []) false
+
+port_kept : (values : List Text) (rows : List Row) → Keeps (Good (codes "port") InPort) values rows port_rule
+port_kept = number_keeps (codes "port") 1 65535 [] true
+
+sessions_kept : (values : List Text) (rows : List Row) → Keeps (Good (codes "sessions") InSessions) values rows sessions_rule
+sessions_kept = number_keeps (codes "sessions") 1 64 [] true
+
+-- what the defaults of moves and history add at the end
+abbrev with_defaults : List Row → List Row
+with_defaults rows = with_default (with_default rows moves_rule) history_rule
+
+many_moves : InMoves (codes "100000")
 many_moves = accepts-Accepts false (Unsigned 1 1000000) (codes "100000") refl
 
-many_entries : IsUnsignedIn 2 1000000 (codes "100000")
+many_entries : InHistory (codes "100000")
 many_entries = accepts-Accepts false (Unsigned 2 1000000) (codes "100000") refl
 
-with_all_defaults : (rows : List Row) → GoodMoves rows → GoodHistory rows → HasLimits (with_default (with_default rows moves_rule) history_rule)
-with_all_defaults rows moves history = record {
-  moves = has_stays (codes "moves") 1 (codes "history") 2 (with_default rows moves_rule) refl
-      (number_added (codes "moves") 1 rows many_moves moves);
-  history = number_added (codes "history") 2 (with_default rows moves_rule) many_entries
-      (good_stays (codes "history") 2 (codes "moves") 1 rows refl history);
+limits_in : (rows : List Row) → Good (codes "moves") InMoves rows → Good (codes "history") InHistory rows → HasLimits (with_defaults rows)
+limits_in rows moves history = record {
+  moves = has_stays (codes "moves") InMoves (codes "history") 2 (with_default rows moves_rule) refl
+      (number_added (codes "moves") InMoves 1 rows many_moves moves);
+  history = number_added (codes "history") InHistory 2 (with_default rows moves_rule) many_entries
+      (good_stays (codes "history") InHistory (codes "moves") 1 rows refl history);
 }
 
-at_end : (rows : List Row) → GoodMoves rows → GoodHistory rows
-    → HasLimits (with_default (with_default (with_default (with_default rows app_rule) moves_rule) history_rule) help_flag)
-at_end rows moves history =
-    let same = sym (app_adds_none rows) in
-    let here = with_all_defaults (with_default rows app_rule) (subst GoodMoves same moves) (subst GoodHistory same history) in
-    subst HasLimits (sym (help_adds_none (with_default (with_default (with_default rows app_rule) moves_rule) history_rule))) here
+-- what both defaults leave, and was given
+given_at_end : (name : Text) (Takes : Text → Type 0) (rows : List Row) → bytes_eq (codes "moves") name ≡ false
+    → bytes_eq (codes "history") name ≡ false → is_given name (with_defaults rows) ≡ true → Good name Takes rows
+    → Has name Takes (with_defaults rows)
+given_at_end name Takes rows no_moves no_history is good =
+    given name Takes (with_defaults rows) is
+    (good_stays name Takes (codes "history") 2 (with_default rows moves_rule) no_history
+    (good_stays name Takes (codes "moves") 1 rows no_moves good))
+
+-- ---- `run`
+
+run_ends : (rows : List Row) → fold with_default rows run_shape.rules ≡ with_defaults rows
+run_ends rows =
+    none_added help_flag (with_defaults (with_default rows app_rule)) refl ∙ ap with_defaults (none_added app_rule rows refl)
+
+module _ (name : Text) (Takes : Text → Type 0)
+    (keep : (values : List Text) (rows : List Row) → Each (Keeps (Good name Takes) values rows) run_shape.rules) where
+  run_keeps : (words : List Text) → walk_fault run_shape [] (walk_from nothing_held) words ≡ []
+      → settle_fault run_shape.rules false (walk run_shape.rules [] nothing_held words).held ≡ []
+      → Good name Takes (settled run_shape.rules (walk run_shape.rules [] nothing_held words).held).rows
+  run_keeps words walks settles =
+      level_keeps run_shape [] (Good name Takes)
+      (λ q a values rows is. found_holds (Keeps (Good name Takes) values rows) run_shape.rules (keep values rows) q a is)
+      words walks settles tt
 
 in_run : (words : List Text) → level_fault run_shape [] nothing_held words false [] ≡ [] → HasLimits (rows_after run_shape.rules [] words)
 in_run words e =
     let parts = neither (walk_fault run_shape [] (walk_from nothing_held) words) _ e in
     let more = neither (settle_fault run_shape.rules false (walk run_shape.rules [] nothing_held words).held) _ parts.1 in
-    at_end (settled run_shape.rules (walk run_shape.rules [] nothing_held words).held).rows
-    (level_keeps run_shape [] GoodMoves moves_kept words parts.0 more.0 tt)
-    (level_keeps run_shape [] GoodHistory history_kept words parts.0 more.0 tt)
+    let end = (settled run_shape.rules (walk run_shape.rules [] nothing_held words).held).rows in
+    let moves = run_keeps (codes "moves") InMoves (λ values rows. (
+      other_rule (codes "moves") InMoves app_rule values rows refl refl,
+      (
+        moves_kept values rows,
+        (
+          other_rule (codes "moves") InMoves history_rule values rows refl refl,
+          (help_keeps (codes "moves") InMoves values rows, tt),
+        ),
+      ),
+    )) words parts.0 more.0 in
+    let history = run_keeps (codes "history") InHistory (λ values rows. (
+      other_rule (codes "history") InHistory app_rule values rows refl refl,
+      (
+        other_rule (codes "history") InHistory moves_rule values rows refl refl,
+        (
+          history_kept values rows,
+          (help_keeps (codes "history") InHistory values rows, tt),
+        ),
+      ),
+    )) words parts.0 more.0 in
+    subst HasLimits (sym (run_ends end)) (limits_in end moves history)
+
+-- ---- `serve`
+
+serve_ends : (rows : List Row) → fold with_default rows serve_shape.rules ≡ with_defaults rows
+serve_ends rows =
+    let named = with_default rows served_app_rule in
+    let at_port = with_default named port_rule in
+    let first = none_added sessions_rule at_port refl ∙ (none_added port_rule named refl ∙ none_added served_app_rule rows refl) in
+    none_added help_flag (with_defaults (with_default at_port sessions_rule)) refl ∙ ap with_defaults first
+
+module _ (name : Text) (Takes : Text → Type 0)
+    (keep : (values : List Text) (rows : List Row) → Each (Keeps (Good name Takes) values rows) serve_shape.rules) where
+  serve_keeps : (words : List Text) → walk_fault serve_shape [] (walk_from nothing_held) words ≡ []
+      → settle_fault serve_shape.rules false (walk serve_shape.rules [] nothing_held words).held ≡ []
+      → Good name Takes (settled serve_shape.rules (walk serve_shape.rules [] nothing_held words).held).rows
+  serve_keeps words walks settles =
+      level_keeps serve_shape [] (Good name Takes)
+      (λ q a values rows is. found_holds (Keeps (Good name Takes) values rows) serve_shape.rules (keep values rows) q a is)
+      words walks settles tt
+
+-- the three that are required are given
+all_given : (app port sessions : Bool) (k : ErrorKind)
+    → cond (not app || (not port || (not sessions || false))) (k ∷ []) [] ≡ []
+    → (app ≡ true) × (port ≡ true) × (sessions ≡ true)
+all_given true true true k e = (refl, refl, refl)
+all_given false port sessions k e = absurd cc
+all_given true false sessions k e = absurd cc
+all_given true true false k e = absurd cc
+
+required_given : (rows : List Row) → check_fault serve_shape rows false ≡ []
+    → (is_given (codes "app") rows ≡ true) × (is_given (codes "port") rows ≡ true) × (is_given (codes "sessions") rows ≡ true)
+required_given rows e =
+    all_given (is_given (codes "app") rows) (is_given (codes "port") rows) (is_given (codes "sessions") rows) kind.MissingRequiredArgument e
+
+-- a row that has a text has a first value
+first_there : (rows : List Row) → Has (codes "app") AnyText rows → is_some (first_of (codes "app") rows) ≡ true
+first_there rows has = go (find (λ r. bytes_eq r.id (codes "app")) rows) has.1
+  where
+    first : (how : Reading) (value : Option Text) → option_map (read_as how) value ≡ Some has.0 → is_some value ≡ true
+    first how None e = absurd cc
+    first how (Some v) e = refl
+
+    go : (o : Option Row) → option_and_then row_text o ≡ Some has.0 → is_some (option_and_then (λ r. slice_get r.values 0) o) ≡ true
+    go None e = absurd cc
+    go (Some r) e = first r.reading (slice_get r.values 0) e
+
+in_serve : (words : List Text) → level_fault serve_shape [] nothing_held words false [] ≡ []
+    → HasServerLimits (rows_after serve_shape.rules [] words)
+in_serve words e =
+    let parts = neither (walk_fault serve_shape [] (walk_from nothing_held) words) _ e in
+    let more = neither (settle_fault serve_shape.rules false (walk serve_shape.rules [] nothing_held words).held) _ parts.1 in
+    let end = (settled serve_shape.rules (walk serve_shape.rules [] nothing_held words).held).rows in
+    let last = neither (defaults_fault end serve_shape.rules) _ more.1 in
+    let all = required_given (with_defaults end)
+    (subst (λ (rows : List Row). check_fault serve_shape rows false ≡ []) (serve_ends end) last.1) in
+    let app = serve_keeps (codes "app") AnyText (λ values rows. (
+      app_keeps values rows,
+      (
+        other_rule (codes "app") AnyText port_rule values rows refl refl,
+        (
+          other_rule (codes "app") AnyText sessions_rule values rows refl refl,
+          (
+            other_rule (codes "app") AnyText moves_rule values rows refl refl,
+            (
+              other_rule (codes "app") AnyText history_rule values rows refl refl,
+              (help_keeps (codes "app") AnyText values rows, tt),
+            ),
+          ),
+        ),
+      ),
+    )) words parts.0 more.0 in
+    let port = serve_keeps (codes "port") InPort (λ values rows. (
+      other_rule (codes "port") InPort served_app_rule values rows refl refl,
+      (
+        port_kept values rows,
+        (
+          other_rule (codes "port") InPort sessions_rule values rows refl refl,
+          (
+            other_rule (codes "port") InPort moves_rule values rows refl refl,
+            (
+              other_rule (codes "port") InPort history_rule values rows refl refl,
+              (help_keeps (codes "port") InPort values rows, tt),
+            ),
+          ),
+        ),
+      ),
+    )) words parts.0 more.0 in
+    let sessions = serve_keeps (codes "sessions") InSessions (λ values rows. (
+      other_rule (codes "sessions") InSessions served_app_rule values rows refl refl,
+      (
+        other_rule (codes "sessions") InSessions port_rule values rows refl refl,
+        (
+          sessions_kept values rows,
+          (
+            other_rule (codes "sessions") InSessions moves_rule values rows refl refl,
+            (
+              other_rule (codes "sessions") InSessions history_rule values rows refl refl,
+              (help_keeps (codes "sessions") InSessions values rows, tt),
+            ),
+          ),
+        ),
+      ),
+    )) words parts.0 more.0 in
+    let moves = serve_keeps (codes "moves") InMoves (λ values rows. (
+      other_rule (codes "moves") InMoves served_app_rule values rows refl refl,
+      (
+        other_rule (codes "moves") InMoves port_rule values rows refl refl,
+        (
+          other_rule (codes "moves") InMoves sessions_rule values rows refl refl,
+          (
+            moves_kept values rows,
+            (
+              other_rule (codes "moves") InMoves history_rule values rows refl refl,
+              (help_keeps (codes "moves") InMoves values rows, tt),
+            ),
+          ),
+        ),
+      ),
+    )) words parts.0 more.0 in
+    let history = serve_keeps (codes "history") InHistory (λ values rows. (
+      other_rule (codes "history") InHistory served_app_rule values rows refl refl,
+      (
+        other_rule (codes "history") InHistory port_rule values rows refl refl,
+        (
+          other_rule (codes "history") InHistory sessions_rule values rows refl refl,
+          (
+            other_rule (codes "history") InHistory moves_rule values rows refl refl,
+            (
+              history_kept values rows,
+              (help_keeps (codes "history") InHistory values rows, tt),
+            ),
+          ),
+        ),
+      ),
+    )) words parts.0 more.0 in
+    let here : HasServerLimits (with_defaults end) = record {
+      each = limits_in end moves history;
+      app = first_there (with_defaults end) (given_at_end (codes "app") AnyText end refl refl all.0 app);
+      port = given_at_end (codes "port") InPort end refl refl all.1 port;
+      sessions = given_at_end (codes "sessions") InSessions end refl refl all.2 sessions;
+    } in
+    subst HasServerLimits (sym (serve_ends end)) here
 
 -- ---- the whole command line
 
@@ -600,24 +841,27 @@ not_help name other e =
     let same = (bytes_eq-Decides (codes "help") name).0 (or_nothing _ e) in
     true≢false (sym ((bytes_eq-Decides name (codes "help")).1 (sym same)) ∙ other)
 
-in_either : (words : List Text) (x y : Bool) → (y ≡ true → ⊥)
-    → option_map_or (λ s. level_fault s [] nothing_held words false []) (cond x (Some run_shape) (cond y (Some help_command) None)) [] ≡ []
-    → is_some (option_map (λ s. rows_at s words) (cond x (Some run_shape) (cond y (Some help_command) None))) ≡ true
-    → HasLimits (options_of (option_map (λ s. rows_at s words) (cond x (Some run_shape) (cond y (Some help_command) None))))
-in_either words true y other e some = in_run words e
-in_either words false true other e some = absurd (other refl)
-in_either words false false other e some = absurd (true≢false (sym some))
+in_either : (words : List Text) (x y z : Bool) → (z ≡ true → ⊥)
+    → option_map_or (λ s. level_fault s [] nothing_held words false [])
+    (cond x (Some run_shape) (cond y (Some serve_shape) (cond z (Some help_command) None))) [] ≡ []
+    → is_some (option_map (λ s. rows_at s words) (cond x (Some run_shape) (cond y (Some serve_shape) (cond z (Some help_command) None)))) ≡ true
+    → IsWhole (option_map (λ s. rows_at s words) (cond x (Some run_shape) (cond y (Some serve_shape) (cond z (Some help_command) None))))
+in_either words true y z other e some = inl (refl, in_run words e)
+in_either words false true z other e some = inr (refl, in_serve words e)
+in_either words false false true other e some = absurd (other refl)
+in_either words false false false other e some = absurd (true≢false (sym some))
 
 at_stop : (stop : Option (Text × List Text)) → EndsElsewhere stop → entered_fault line stop ≡ [] → is_some (entered line stop) ≡ true
-    → HasLimits (options_of (entered line stop))
+    → IsWhole (entered line stop)
 at_stop None elsewhere e some = absurd (true≢false (sym some))
 at_stop (Some p) elsewhere e some =
-    in_either p.1 (answers_to p.0 (label_of run_shape)) (answers_to p.0 (label_of help_command)) (not_help p.0 elsewhere) e some
+    in_either p.1 (answers_to p.0 (label_of run_shape)) (answers_to p.0 (label_of serve_shape)) (answers_to p.0 (label_of help_command))
+    (not_help p.0 elsewhere) e some
 
--- Words with which nothing is wrong give moves and a history within the limits.
-pub limits_always : (words : List Text) → faults_of words ≡ [] → HasLimits (options_in words)
-unfolding faults_of options_in
-limits_always words e =
+-- Words with which nothing is wrong give a whole session or server.
+pub whole_always : (words : List Text) → faults_of words ≡ [] → IsWhole (subcommand_in words)
+unfolding faults_of subcommand_in
+whole_always words e =
     let end = walk line.top.rules (names_of line) nothing_held words in
     let first = neither (walk_fault line.top (names_of line) (walk_from nothing_held) words) _ e in
     let below = neither (entered_fault line end.stopped) _ first.1 in

@@ -1,10 +1,9 @@
 -- The goal of command_from that the check left open.
 use Rattle.std.proofs.Common.{◌∙◌}
 use Rattle.rd_command.specs.Commands.{command_from}
-use Rattle.rd_command.specs.Keywords.{keywords}
 use Rattle.rd_command.proofs.TableLaws.{command_found}
 use Rattle.rd_command.proofs.command.command_from.Goals as goal
 
 pub returns : goal.returns
 unfolding command_from
-returns c = c.first_command.ensures ∙ command_found c.args.first.now c.args.words.now keywords
+returns c = c.command_by_verb.ensures ∙ command_found c.args.first.now c.args.words.now

@@ -1,5 +1,6 @@
 -- The goals of record_command that the check left open.
 use Rattle.std.proofs.Common.{◌≡◌, ◌∙◌, ◌++◌, ◌∷◌, [], List, ap, arith, length, subst, sym}
+use Rattle.std.specs.Prelude.{Result, Ok, Err, OnErr}
 use Rattle.std.proofs.lemmas.List.{length_push}
 use Rattle.rd_desk.specs.declared.entry.Entry.{Entry}
 use Rattle.rd_desk.specs.declared.entry.Event.TheVariants.{Ask}
@@ -62,3 +63,22 @@ invariant_of-self-in_err-make_room_for c =
       joins = omega (arith, joins, whole.joins);
       room = omega (arith, present, c.make_room_for.ensures.rows, c.make_room.ensures.kept_rows, whole.room);
     }
+
+on_err : {T E : Type 0} (P : Type 0) (result : Result T E) → P → OnErr result P
+on_err P (Ok value) p = tt
+on_err P (Err error) p = p
+
+pub returns-in_err-make_room_for-clause-err : goal.returns-in_err-make_room_for-clause-err
+returns-in_err-make_room_for-clause-err c =
+    let d = c.self.inside in
+    let who = c.args.who in
+    let command = c.args.command.now in
+    let reply = c.in_ok-reply.reply in
+    let answered : IsAnswered d.machine who command c.serve.new.self reply = c.in_ok-reply.ensures.ok in
+    let same : c.serve.new.self ≡ d.machine =
+    answered.after ∙ view_changes_nothing d.machine who command reply answered.reply_is c.in_err-make_room_for.ensures.err in
+    let before : c.make_room_for.new.history.entries ≡ d.history.entries = c.make_room_for.ensures.entries ∙ c.make_room.ensures.entries in
+    on_err _ c.from_residual-in_err-make_room_for.result
+    (ap (λ (e : Debugger). record { debugger = e; most_entries = d.limit; history = c.make_room_for.new.history.entries }) same
+    ∙ ap (λ (es : List Entry). record { debugger = d.machine; most_entries = d.limit; history = es }) before
+    ∙ c.self.view_is)

@@ -1,0 +1,3 @@
+-- Lemmas about what is read and written.
+pub mod KnownLaws
+pub mod Offered

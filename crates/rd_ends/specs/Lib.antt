@@ -1,0 +1,2 @@
+-- What the contracts of sources and sinks speak of.
+pub mod Ends

@@ -1,0 +1,6 @@
+-- The lemmas of this crate.
+pub mod AppLaws
+pub mod SeatLaws
+pub mod RoomLaws
+pub mod Totals
+pub mod AccountLaws

@@ -1,0 +1,5 @@
+-- What the contracts of the hall cite.
+pub mod Setups
+pub mod SeatView
+pub mod Seats
+pub mod Account

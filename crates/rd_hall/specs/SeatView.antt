@@ -1,0 +1,32 @@
+-- What a contract sees of a seat.
+use Rattle.std.specs.Prelude.{ℕ, ◌≡◌, ◌+◌, ◌<◌, ◌≤◌, List, [], ◌∷◌, ◌++◌, length}
+use Rattle.rd_desk.specs.declared.entry.Receipt.{Receipt}
+
+-- the session, and its receipts in the order in which they came
+pub record SeatView : Type 0 where
+  pub who : ℕ
+  pub receipts : List Receipt
+
+-- The receipts all name the session, and rise in place, from this place on.
+abbrev pub IsSeries : ℕ → ℕ → List Receipt → Type 0
+IsSeries who place [] = Unit {0}
+IsSeries who place (receipt ∷ later) =
+    (receipt.entry.who ≡ who) × (place ≤ receipt.place) × IsSeries who (receipt.place + 1) later
+
+-- the place after that of the last receipt
+abbrev pub next_place : ℕ → List Receipt → ℕ
+next_place place [] = place
+next_place place (receipt ∷ later) = next_place (receipt.place + 1) later
+
+-- the seat with one receipt more
+abbrev pub with_receipt : SeatView → Receipt → SeatView
+with_receipt seat receipt = record seat { receipts = seat.receipts ++ receipt ∷ [] }
+
+-- What the fields of a seat keep: it has receipts, the place behind them, one part of the ledger,
+-- and as much of the amount as receipts.
+pub record IsSeat (seat : SeatView) (behind part total : ℕ) : Type 0 where
+  pub some : 0 < length seat.receipts
+  pub series : IsSeries seat.who 0 seat.receipts
+  pub next : behind ≡ next_place 0 seat.receipts
+  pub parts : part ≡ 1
+  pub amount : total ≡ length seat.receipts

@@ -1,0 +1,141 @@
+//! One debugger behind one lock.
+
+ghost use Rattle.std.specs.Prelude.{◌≡◌, ◌+◌, ◌<◌, ◌⊎◌, IfOk, IfErr, OnOk, OnErr, vec_len};
+ghost use Rattle.rd_desk.specs.Debugger.{Debugger, opening};
+ghost use Rattle.rd_desk.specs.Legal.{Leads};
+ghost use Rattle.rd_desk.specs.Refusals.{IfEnterFull, IfServeFull};
+ghost use Rattle.rd_desk.specs.declared.entry.Event.TheVariants.{Enter, Ask, Leave};
+ghost use Rattle.rd_desk.specs.declared.sessions.TheConstants.{MAX_JOINS};
+ghost use Rattle.rd_hall.specs.Account.{IsAccounted};
+ghost use Rattle.rd_hall.specs.Seats.{Gained, Joined};
+
+use crate::account::{Broken, Closed};
+use crate::copying::copy_of;
+use crate::room::Room;
+use crate::seat::{Gone, Pass, Seat};
+use crate::setup::Setup;
+use rd_app::app::App;
+use rd_bytes::no_memory::NoMemory;
+use rd_command::binding::bind;
+use rd_command::command::Command;
+use rd_desk::desk::{EnterError, NotServed};
+use rd_desk::limits::Limits;
+use std::alloc::Global;
+use std::sync::ledger::Blank;
+use std::sync::{Mutex, Wait};
+
+/// A room behind one lock, with a copy of its application outside of it. It can't be dropped: it
+/// ends in `finish`.
+pub struct Hall<L: Setup> {
+    room: Mutex<Room<L>>,
+    app: App,
+    limit: usize,
+    ghost set_up: { app ≡ L.app },
+    ghost limited: { limit ≡ L.most_entries },
+}
+
+impl<L: Setup> Hall<L> {
+    /// A debugger at its opening, and 64 passes to join it. The ledger has a part for each pass,
+    /// and one more. `NoMemory` where a growth was refused, which drops the application.
+    pub fn open(
+        alloc: Global,
+        blank: Blank,
+        app: App,
+        limits: Limits,
+    ) -> Result<(Hall<L>, Vec<Pass<L>>), NoMemory>
+        requires name { blank.name ≡ L.name }
+        requires parts { blank.parts ≡ L.parts }
+        requires passes { blank.parts ≡ MAX_JOINS + 1 }
+        requires app { app ≡ L.app }
+        requires moves { limits.moves ≡ L.most_moves }
+        requires entries { limits.history ≡ L.most_entries }
+        ensures { IfOk result (λ opened. vec_len opened.1 ≡ MAX_JOINS) }
+    {
+        let copy = copy_of(alloc, &app)?;
+        let (room, passes) = Room::open(alloc, blank, app, limits)?;
+        let hall = Hall {
+            room: Mutex::new(room),
+            app: copy,
+            limit: limits.history as usize,
+        };
+        Ok((hall, passes))
+    }
+
+    /// How many entries the history may have.
+    pub fn limit(&self) -> usize
+        ensures { result ≡ L.most_entries }
+    {
+        self.limit
+    }
+
+    /// The application.
+    pub fn app(&self) -> &App
+        ensures { result.now ≡ L.app }
+    {
+        &self.app
+    }
+
+    /// A session joins, under the lock: it has the receipt of that. `Full` where 64 have joined,
+    /// `HistoryFull` where fewer than two places of the history are free, `NoMemory` where a growth
+    /// was refused. A refusal gives the pass back.
+    pub fn join(&self, rt: &impl Wait, pass: Pass<L>) -> Result<Seat<L>, (Pass<L>, EnterError)>
+        ensures ok { IfOk result Joined }
+        ensures tally { IfErr result (λ error. IfEnterFull error.1 (λ tally.
+            (tally.limit ≡ L.most_entries)
+            × (tally.limit < tally.entries + tally.present + 2))) }
+    {
+        let mut room = self.room.lock(rt);
+        room.keeps();
+        room.join(pass)
+    }
+
+    /// Serves a command, under the lock; what it names is looked up before. The seat has one
+    /// receipt more, which is its last. `HistoryFull` where no place of the history is free,
+    /// `NoMemory` where a growth was refused, `Broken` where the history isn't the seat's own. A
+    /// refusal gives the seat back as it was.
+    pub fn ask(
+        &self,
+        rt: &impl Wait,
+        seat: Seat<L>,
+        command: &Command<'_>,
+    ) -> (Seat<L>, Result<(), NotServed>)
+        ensures ok { OnOk result.1 (Gained seat (Ask command.now) result.0) }
+        ensures tally { IfErr result.1 (λ error. IfServeFull error (λ tally.
+            (tally.limit ≡ L.most_entries)
+            × (tally.limit ≡ tally.entries + tally.present))) }
+        ensures err { OnErr result.1 (result.0 ≡ seat) }
+    {
+        let bound = bind(command, &self.app);
+        let mut room = self.room.lock(rt);
+        room.keeps();
+        room.ask(seat, command, &bound)
+    }
+
+    /// A session leaves, under the lock, and gets the receipt of that, or none where the history
+    /// isn't its own.
+    pub fn leave(&self, rt: &impl Wait, seat: Seat<L>) -> Gone<L>
+        ensures { (result ≡ seat) ⊎ Gained seat Leave result }
+    {
+        let mut room = self.room.lock(rt);
+        room.leave(seat)
+    }
+
+    /// Ends the debugger. `Broken` where the receipts that are handed in aren't those of the
+    /// history. Else the history is legal from the opening, each session's receipts are exactly its
+    /// entries, each once, in order, and no entry is without its receipt. It takes no memory.
+    pub fn finish(self, gones: Vec<Gone<L>>) -> Result<Closed<L>, Broken>
+        ensures legal { IfOk result (λ closed. (end : Debugger)
+            × Leads (opening L.app L.most_moves) closed.history end) }
+        ensures accounted { IfOk result (λ closed. IsAccounted closed.history closed.gones) }
+        ensures gones { IfOk result (λ closed. closed.gones ≡ gones.items) }
+    {
+        let Hall {
+            room,
+            app: _app,
+            limit: _,
+        } = self;
+        let room = room.into_inner();
+        room.keeps();
+        room.finish(gones)
+    }
+}

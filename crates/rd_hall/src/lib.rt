@@ -1,0 +1,10 @@
+//! One debugger behind one lock, for several sessions: a session has a receipt for each entry of
+//! its own, and at the end all receipts are tested against the history.
+#![tactic(auto)]
+
+pub mod account;
+mod copying;
+pub mod hall;
+pub mod room;
+pub mod seat;
+pub mod setup;

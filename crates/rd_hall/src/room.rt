@@ -1,0 +1,302 @@
+//! A debugger, and the ledger of the receipts that it has given.
+
+ghost use Rattle.std.specs.Prelude.{◌≡◌, ◌≢◌, ◌↔◌, ◌+◌, ◌<◌, ◌≤◌, [], length, vec_len};
+ghost use Rattle.std.specs.Prelude.{IfOk, IfErr, OnOk, OnErr, IsTrue, IsOk, IsErrOf};
+ghost use Rattle.std.specs.Result.{result_ok};
+ghost use Rattle.rd_command.specs.Bindings.{bound_of};
+ghost use Rattle.rd_desk.specs.Debugger.{opening};
+ghost use Rattle.rd_desk.specs.DeskView.{IsKept, used};
+ghost use Rattle.rd_desk.specs.Legal.{IsLegal};
+ghost use Rattle.rd_desk.specs.Refusals.{tally_of, IfEnterFull, IfServeFull, is_serve_full};
+ghost use Rattle.rd_desk.specs.declared.entry.Event.TheVariants.{Enter, Ask, Leave};
+ghost use Rattle.rd_desk.specs.declared.sessions.TheConstants.{MAX_JOINS};
+ghost use Rattle.rd_hall.specs.Account.{IsAccount, IsAccounted};
+ghost use Rattle.rd_hall.specs.Seats.{newcomer, DoesFor, IsOf, Reaches};
+
+use crate::account::{Broken, Closed, is_account};
+use crate::seat::{Gone, Pass, Seat};
+use crate::setup::Setup;
+use rd_app::app::App;
+use rd_bytes::no_memory::NoMemory;
+use rd_command::binding::{Bound, Unknown};
+use rd_command::command::Command;
+use rd_desk::desk::{Desk, EnterError, NotServed};
+use rd_desk::limits::Limits;
+use rd_desk::sessions::MAX_JOINS;
+use std::alloc::Global;
+use std::marker::Model;
+use std::sync::ledger::{Blank, Book};
+
+/// A debugger whose history is as long as the total of a ledger. It can't be dropped: it ends in
+/// `finish`.
+pub struct Room<L: Setup> {
+    alloc: Global,
+    desk: Desk,
+    book: Book<L>,
+}
+
+impl<L: Setup> Model for Room<L> {
+    ghost use Rattle.std.specs.Prelude.{◌≡◌, length};
+    ghost use Rattle.rd_hall.specs.Seats.{IsOf, RoomView};
+
+    ghost Value = { RoomView };
+
+    ghost view = { λ r. record { desk = r.desk; total = r.book.total } };
+
+    ghost invariant = { λ r. (length r.desk.history ≡ r.book.total)
+        × IsOf r.desk L.app L.most_moves L.most_entries };
+}
+
+// The book of a ledger in which nothing is counted, and 64 passes.
+fn open_book<L: Setup>(alloc: Global, blank: Blank) -> Result<(Book<L>, Vec<Pass<L>>), NoMemory>
+    requires name { blank.name ≡ L.name }
+    requires parts { blank.parts ≡ L.parts }
+    requires passes { blank.parts ≡ MAX_JOINS + 1 }
+    ensures book { IfOk result (λ opened. opened.0.total ≡ 0) }
+    ensures passes { IfOk result (λ opened. vec_len opened.1 ≡ MAX_JOINS) }
+{
+    let mut passes = Vec::with_capacity(alloc, MAX_JOINS)?;
+    let (book, mut all) = blank.open::<L>();
+    for _i in 0..MAX_JOINS {
+        passes.push_reserved(Pass::cut(&mut all));
+    }
+    Ok((book, passes))
+}
+
+impl<L: Setup> Room<L> {
+    /// A debugger at its opening, and 64 passes to join it. The ledger has a part for each pass,
+    /// and one more. `NoMemory` where a growth was refused, which drops the application.
+    pub fn open(
+        alloc: Global,
+        blank: Blank,
+        app: App,
+        limits: Limits,
+    ) -> Result<(Room<L>, Vec<Pass<L>>), NoMemory>
+        requires name { blank.name ≡ L.name }
+        requires parts { blank.parts ≡ L.parts }
+        requires passes { blank.parts ≡ MAX_JOINS + 1 }
+        requires app { app ≡ L.app }
+        requires moves { limits.moves ≡ L.most_moves }
+        requires entries { limits.history ≡ L.most_entries }
+        ensures room { IfOk result (λ opened. opened.0.desk ≡ record {
+          debugger = opening app limits.moves;
+          most_entries = limits.history;
+          history = [];
+        }) }
+        ensures passes { IfOk result (λ opened. vec_len opened.1 ≡ MAX_JOINS) }
+    {
+        let (book, passes) = open_book(alloc, blank)?;
+        let desk = Desk::open(alloc, app, limits)?;
+        Ok((Room { alloc, desk, book }, passes))
+    }
+
+    /// The history is one of the sequential debugger, and as long as the ledger's total. The
+    /// debugger is the one that the hall is set up for.
+    pub fn keeps(&self)
+        ensures kept { IsKept self.now.desk }
+        ensures counted { length self.now.desk.history ≡ self.now.total }
+        ensures set_up { IsOf self.now.desk L.app L.most_moves L.most_entries }
+    {
+        self.desk.keeps();
+    }
+
+    /// A session joins: it enters the debugger, and gets the receipt of that. `NoMemory` where
+    /// there is no memory for its receipts, else `Full` where 64 have entered, else `HistoryFull`
+    /// where fewer than two places are free, else `NoMemory` where the debugger has none. A refusal
+    /// changes nothing, and gives the pass back.
+    pub fn join(&mut self, pass: Pass<L>) -> Result<Seat<L>, (Pass<L>, EnterError)>
+        ensures ok { IfOk result
+            (DoesFor self.old.desk (newcomer self.old.desk) Enter self.new.desk) }
+        ensures not_full { OnOk result
+            (length self.old.desk.debugger.sessions ≢ MAX_JOINS) }
+        ensures room { OnOk result (used self.old.desk + 2 ≤ self.old.desk.most_entries) }
+        ensures full { IfErr result (λ error. error.1 ≡ EnterError.Full
+            → length self.old.desk.debugger.sessions ≡ MAX_JOINS) }
+        ensures tally { IfErr result (λ error. IfEnterFull error.1 (λ tally.
+            (tally ≡ tally_of self.old.desk)
+            × (length self.old.desk.debugger.sessions < MAX_JOINS)
+            × (tally.limit < tally.entries + tally.present + 2))) }
+        ensures err { OnErr result (self.new ≡ self.old) }
+    {
+        let Ok(mut receipts) = Vec::with_capacity(self.alloc, 2) else {
+            return Err((pass, EnterError::NoMemory));
+        };
+        match self.desk.enter() {
+            Ok(entered) => {
+                let Pass { mut share } = pass;
+                self.book.add(&mut share, 1);
+                let who = entered.entry.who;
+                let next = self.desk.entries();
+                receipts.push_reserved(entered);
+                Ok(Seat {
+                    who,
+                    receipts,
+                    next,
+                    share,
+                })
+            }
+            Err(error) => Err((pass, error)),
+        }
+    }
+
+    // Whether the history reaches past the seat's last receipt, and its session is present.
+    fn reaches(&self, seat: &Seat<L>) -> bool
+        ensures { IsTrue result ↔ Reaches self.now.desk seat.now }
+    {
+        seat.next <= self.desk.entries() && self.desk.is_present(seat.who)
+    }
+
+    /// Serves a command, with what `bind` made of it for the application; the seat gets the receipt
+    /// of that. `Broken` where the history doesn't reach past the seat's last receipt, or its
+    /// session isn't present, else `NoMemory` where there is no memory for the receipt, else
+    /// `HistoryFull` where no place is free, else `NoMemory` where the debugger has none. A refusal
+    /// changes nothing. It takes no memory beside that of the seat and of the debugger.
+    pub fn ask(
+        &mut self,
+        seat: Seat<L>,
+        command: &Command<'_>,
+        bound: &Result<Bound<'_>, Unknown>,
+    ) -> (Seat<L>, Result<(), NotServed>)
+        requires bound { result_ok bound.now ≡ bound_of L.app command.now }
+        ensures ok { OnOk result.1
+            (DoesFor self.old.desk seat (Ask command.now) self.new.desk result.0) }
+        ensures broken { IsErrOf result.1 NotServed.Broken ↔ (¬ Reaches self.old.desk seat) }
+        ensures history_full { IsTrue (is_serve_full result.1)
+            → self.old.desk.most_entries ≡ used self.old.desk }
+        ensures room { OnOk result.1 (used self.old.desk < self.old.desk.most_entries) }
+        ensures tally { IfErr result.1 (λ error. IfServeFull error (λ tally.
+            (tally ≡ tally_of self.old.desk)
+            × (tally.limit ≡ tally.entries + tally.present))) }
+        ensures err { OnErr result.1 ((self.new ≡ self.old) × (result.0 ≡ seat)) }
+    {
+        if !self.reaches(&seat) {
+            return (seat, Err(NotServed::Broken));
+        }
+        self.serve(seat, command, bound)
+    }
+
+    // Serves a command of a seat that the history reaches past.
+    fn serve(
+        &mut self,
+        seat: Seat<L>,
+        command: &Command<'_>,
+        bound: &Result<Bound<'_>, Unknown>,
+    ) -> (Seat<L>, Result<(), NotServed>)
+        requires reaches { Reaches self.old.desk seat }
+        requires bound { result_ok bound.now ≡ bound_of L.app command.now }
+        ensures ok { OnOk result.1
+            (DoesFor self.old.desk seat (Ask command.now) self.new.desk result.0) }
+        ensures not_broken { IfErr result.1 (λ error. error ≢ NotServed.Broken) }
+        ensures history_full { IsTrue (is_serve_full result.1)
+            → self.old.desk.most_entries ≡ used self.old.desk }
+        ensures room { OnOk result.1 (used self.old.desk < self.old.desk.most_entries) }
+        ensures tally { IfErr result.1 (λ error. IfServeFull error (λ tally.
+            (tally ≡ tally_of self.old.desk)
+            × (tally.limit ≡ tally.entries + tally.present))) }
+        ensures err { OnErr result.1 ((self.new ≡ self.old) × (result.0 ≡ seat)) }
+    {
+        let Seat {
+            who,
+            mut receipts,
+            next,
+            mut share,
+        } = seat;
+        if receipts.reserve(2).is_err() {
+            let seat = Seat {
+                who,
+                receipts,
+                next,
+                share,
+            };
+            return (seat, Err(NotServed::NoMemory));
+        }
+        match self.desk.serve(who, command, bound) {
+            Ok(served) => {
+                self.book.add(&mut share, 1);
+                let next = self.desk.entries();
+                receipts.push_reserved(served);
+                let seat = Seat {
+                    who,
+                    receipts,
+                    next,
+                    share,
+                };
+                (seat, Ok(()))
+            }
+            Err(error) => {
+                let seat = Seat {
+                    who,
+                    receipts,
+                    next,
+                    share,
+                };
+                (seat, Err(error))
+            }
+        }
+    }
+
+    /// A session leaves, and gets the receipt of that. Where the history doesn't reach past the
+    /// seat's last receipt, or its session isn't present, nothing changes, and it gets none. It
+    /// takes no memory.
+    pub fn leave(&mut self, seat: Seat<L>) -> Gone<L>
+        ensures left { Reaches self.old.desk seat
+            → DoesFor self.old.desk seat Leave self.new.desk result }
+        ensures broken { ¬ Reaches self.old.desk seat
+            → (self.new ≡ self.old) × (result ≡ seat) }
+    {
+        if !self.reaches(&seat) {
+            let Seat {
+                who,
+                receipts,
+                next,
+                share,
+            } = seat;
+            return Gone {
+                who,
+                receipts,
+                next,
+                share,
+            };
+        }
+        let Seat {
+            who,
+            mut receipts,
+            next: _,
+            mut share,
+        } = seat;
+        let left = self.desk.depart(who);
+        self.book.add(&mut share, 1);
+        let next = self.desk.entries();
+        receipts.push_reserved(left);
+        Gone {
+            who,
+            receipts,
+            next,
+            share,
+        }
+    }
+
+    /// Ends the debugger. `Broken` where the receipts that are handed in aren't those of the
+    /// history. Else each session's receipts are exactly its entries, each once, in order, and no
+    /// entry is without its receipt. It takes no memory.
+    pub fn finish(self, gones: Vec<Gone<L>>) -> Result<Closed<L>, Broken>
+        ensures exact { IsOk result ↔ IsAccount self.desk.history gones.items }
+        ensures closed { IfOk result (λ closed.
+            closed ≡ record { history = self.desk.history; gones = gones.items }) }
+        ensures legal { IsLegal self.desk.history self.desk.debugger }
+        ensures accounted { IfOk result (λ closed. IsAccounted closed.history closed.gones) }
+    {
+        let Room {
+            alloc: _,
+            desk,
+            book: _,
+        } = self;
+        desk.keeps();
+        let history = desk.close();
+        if is_account(&history, gones.as_slice()) {
+            Ok(Closed { history, gones })
+        } else {
+            Err(Broken)
+        }
+    }
+}

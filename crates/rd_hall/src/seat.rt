@@ -1,0 +1,138 @@
+//! The sessions of a hall: who may join, who has joined, and who has left.
+
+ghost use Rattle.std.specs.Prelude.{◌≡◌, ◌+◌, ◌-◌, ◌<◌, length, slice_get, Some};
+ghost use Rattle.rd_hall.specs.SeatView.{IsSeries, next_place};
+
+use crate::setup::Setup;
+use rd_desk::entry::Receipt;
+use std::marker::Model;
+use std::sync::ledger::Share;
+
+/// The right to join once. It may be dropped.
+#[derive(Drop)]
+pub struct Pass<L: Setup> {
+    pub(crate) share: Share<L>,
+    ghost one_part: { share.parts ≡ 1 },
+    ghost nothing: { share.amount ≡ 0 },
+}
+
+impl<L: Setup> Pass<L> {
+    // One part of the ledger, with nothing counted.
+    pub(crate) fn cut(all: &mut Share<L>) -> Pass<L>
+        requires parts { 1 < all.old.parts }
+        requires amount { all.old.amount ≡ 0 }
+        ensures parts { all.new.parts + 1 ≡ all.old.parts }
+        ensures amount { all.new.amount ≡ 0 }
+    {
+        Pass {
+            share: all.split_off(1, 0),
+        }
+    }
+}
+
+/// A session that has joined, with its receipts. It must be spent: it ends in `leave`.
+pub struct Seat<L: Setup> {
+    pub(crate) who: u32,
+    pub(crate) receipts: Vec<Receipt>,
+    pub(crate) next: usize,
+    pub(crate) share: Share<L>,
+}
+
+impl<L: Setup> Model for Seat<L> {
+    ghost use Rattle.std.specs.Prelude.{◌<◌, length, vec_capacity};
+    ghost use Rattle.rd_hall.specs.SeatView.{SeatView, IsSeat};
+
+    ghost Value = { SeatView };
+
+    ghost view = { λ s. record { who = s.who; receipts = s.receipts.items } };
+
+    // There is room for the receipt of its leave.
+    ghost invariant = { λ s.
+        IsSeat (record { who = s.who; receipts = s.receipts.items })
+        s.next s.share.parts s.share.amount
+        × (length s.receipts.items < vec_capacity s.receipts) };
+}
+
+/// A session that has left, with its receipts.
+#[derive(Drop)]
+pub struct Gone<L: Setup> {
+    pub(crate) who: u32,
+    pub(crate) receipts: Vec<Receipt>,
+    pub(crate) next: usize,
+    pub(crate) share: Share<L>,
+}
+
+impl<L: Setup> Model for Gone<L> {
+    ghost use Rattle.rd_hall.specs.SeatView.{SeatView, IsSeat};
+
+    ghost Value = { SeatView };
+
+    ghost view = { λ s. record { who = s.who; receipts = s.receipts.items } };
+
+    ghost invariant = { λ s.
+        IsSeat (record { who = s.who; receipts = s.receipts.items })
+        s.next s.share.parts s.share.amount };
+}
+
+impl<L: Setup> Seat<L> {
+    /// The number of the session, from 1 on.
+    pub fn who(&self) -> u32
+        ensures { result ≡ self.now.who }
+    {
+        self.who
+    }
+
+    /// The receipts, in the order in which they came.
+    pub fn receipts(&self) -> &[Receipt]
+        ensures { result.now ≡ self.now.receipts }
+    {
+        self.receipts.as_slice()
+    }
+
+    /// The last receipt.
+    pub fn last(&self) -> &Receipt
+        ensures { slice_get self.now.receipts (length self.now.receipts - 1) ≡ Some result.now }
+    {
+        let receipts = self.receipts.as_slice();
+        &receipts[receipts.len() - 1]
+    }
+
+    /// There are receipts, all name the session, and they rise in place.
+    pub fn keeps(&self)
+        ensures some { 0 < length self.now.receipts }
+        ensures series { IsSeries self.now.who 0 self.now.receipts }
+    {
+        let _ = &self.who;
+    }
+}
+
+impl<L: Setup> Gone<L> {
+    /// The number of the session, from 1 on.
+    pub fn who(&self) -> u32
+        ensures { result ≡ self.now.who }
+    {
+        self.who
+    }
+
+    /// The receipts, in the order in which they came.
+    pub fn receipts(&self) -> &[Receipt]
+        ensures { result.now ≡ self.now.receipts }
+    {
+        self.receipts.as_slice()
+    }
+
+    /// There are receipts, all name the session, and they rise in place.
+    pub fn keeps(&self)
+        ensures some { 0 < length self.now.receipts }
+        ensures series { IsSeries self.now.who 0 self.now.receipts }
+    {
+        let _ = &self.who;
+    }
+
+    // The place behind the last receipt.
+    pub(crate) fn next(&self) -> usize
+        ensures { result ≡ next_place 0 self.now.receipts }
+    {
+        self.next
+    }
+}

@@ -1,0 +1,108 @@
+//! One session over standard input and output.
+
+ghost use Rattle.std.specs.Prelude.{◌≡◌, ◌≢◌, ◌+◌, IfErr, IfOk};
+ghost use Rattle.rd_desk.specs.Debugger.{Debugger, opening};
+ghost use Rattle.rd_desk.specs.Legal.{Leads};
+ghost use Rattle.rd_desk.specs.declared.sessions.TheConstants.{MAX_JOINS};
+ghost use Rattle.rd_hall.specs.Account.{IsAccounted};
+ghost use Rattle.rd_start.specs.declared.fault.Fault.TheVariants.{BadCommandLine};
+ghost use Rattle.rd_main.specs.declared.failure.Failure.TheVariants.{Start};
+
+use crate::failure::Failure;
+use rd_app::app::App;
+use rd_bytes::no_memory::NoMemory;
+use rd_desk::limits::Limits;
+use rd_desk::sessions::MAX_JOINS;
+use rd_ends::over::Over;
+use rd_hall::account::Closed;
+use rd_hall::hall::Hall;
+use rd_hall::setup::Setup;
+use rd_session::buffers::Buffers;
+use rd_session::gate::NoGate;
+use rd_session::session::session;
+use std::alloc::Global;
+use std::io::{Read, Write};
+use std::marker::Brand;
+use std::sync::Wait;
+use std::sync::ledger::Blank;
+
+/// A session over an application: its lines are read, and each is answered. `NoMemory` where there is
+/// none for it to begin.
+pub fn debug<H: Wait, R: Read, W: Write>(
+    rt: &H,
+    alloc: Global,
+    app: App,
+    limits: Limits,
+    reader: &mut R,
+    writer: &mut W,
+) -> Result<(), Failure>
+    ensures { IfErr result (λ failure. failure ≢ Start BadCommandLine) }
+{
+    let mut buffers = Buffers::new(alloc)?;
+    let blank = Blank::new(MAX_JOINS as u64 + 1);
+    begin::<Brand, H, R, W>(rt, alloc, blank, app, limits, reader, writer, &mut buffers)
+}
+
+// The same, of a hall that is set up for it. (What is set up can be picked only where no type of the
+// call hangs on it.)
+fn begin<L: Setup, H: Wait, R: Read, W: Write>(
+    rt: &H,
+    alloc: Global,
+    blank: Blank,
+    app: App,
+    limits: Limits,
+    reader: &mut R,
+    writer: &mut W,
+    buffers: &mut Buffers,
+) -> Result<(), Failure>
+    requires name { blank.name ≡ L.name }
+    requires parts { (blank.parts ≡ L.parts) × (blank.parts ≡ MAX_JOINS + 1) }
+    requires app { app ≡ L.app }
+    requires moves { limits.moves ≡ L.most_moves }
+    requires entries { limits.history ≡ L.most_entries }
+    ensures { IfErr result (λ failure. failure ≢ Start BadCommandLine) }
+{
+    attend::<L, H, R, W>(rt, alloc, blank, app, limits, reader, writer, buffers)?;
+    Ok(())
+}
+
+/// The one session of a hall, which is opened for it and ended behind it. With an answer the history
+/// is legal from the opening on, and the session's receipts are just its entries. `NoMemory` where
+/// there is none for the hall or for the session to join, `Broken` where the history isn't what the
+/// session was answered.
+pub fn attend<L: Setup, H: Wait, R: Read, W: Write>(
+    rt: &H,
+    alloc: Global,
+    blank: Blank,
+    app: App,
+    limits: Limits,
+    reader: &mut R,
+    writer: &mut W,
+    buffers: &mut Buffers,
+) -> Result<Closed<L>, Failure>
+    requires name { blank.name ≡ L.name }
+    requires parts { (blank.parts ≡ L.parts) × (blank.parts ≡ MAX_JOINS + 1) }
+    requires app { app ≡ L.app }
+    requires moves { limits.moves ≡ L.most_moves }
+    requires entries { limits.history ≡ L.most_entries }
+    ensures legal { IfOk result (λ closed.
+        (end : Debugger) × Leads (opening L.app L.most_moves) closed.history end) }
+    ensures accounted { IfOk result (λ closed. IsAccounted closed.history closed.gones) }
+    ensures failures { IfErr result (λ failure. failure ≢ Start BadCommandLine) }
+{
+    let mut gones = Vec::with_capacity(alloc, 1)?;
+    let (hall, mut passes) = Hall::<L>::open(alloc, blank, app, limits)?;
+    let joined = hall.join(rt, passes.pop().unwrap());
+    let Ok(seat) = joined else {
+        let _ = hall.finish(gones);
+        return Err(Failure::from(NoMemory));
+    };
+    let mut source = Over::new(reader);
+    let mut sink = Over::new(writer);
+    let gone = session(rt, &mut source, &mut sink, &hall, seat, &NoGate, buffers);
+    gones.push_reserved(gone);
+    match hall.finish(gones) {
+        Ok(closed) => Ok(closed),
+        Err(_) => Err(Failure::Broken),
+    }
+}

@@ -1,0 +1,114 @@
+//! Many sessions, each over a connection.
+
+ghost use Rattle.std.specs.Prelude.{◌≡◌, ◌≢◌, ◌+◌, IfErr};
+ghost use Rattle.rd_desk.specs.declared.sessions.TheConstants.{MAX_JOINS};
+ghost use Rattle.rd_start.specs.declared.fault.Fault.TheVariants.{BadCommandLine};
+ghost use Rattle.rd_main.specs.declared.failure.Failure.TheVariants.{Start};
+
+use crate::failure::Failure;
+use rd_app::app::App;
+use rd_desk::limits::Limits;
+use rd_desk::sessions::MAX_JOINS;
+use rd_hall::hall::Hall;
+use rd_hall::seat::{Gone, Pass};
+use rd_hall::setup::Setup;
+use rd_net::net::{Served, serve_net};
+use rd_session::gate::NoGate;
+use std::alloc::Global;
+use std::io::Write;
+use std::marker::Brand;
+use std::net::{IpAddr, Ipv4Addr, Net, SocketAddr, TcpListener, TcpStream};
+use std::sync::Wait;
+use std::sync::ledger::Blank;
+use std::thread::Threads;
+
+/// So many sessions over an application, each over a connection to that port of 127.0.0.1. Says
+/// where it listens, and at the end how many entries the history has. `CannotListen` where the port
+/// can't be had, `NoMemory` where there is none to begin, `Broken` where the history isn't what the
+/// sessions were answered.
+pub fn listen<H, W: Write>(
+    rt: &H,
+    alloc: Global,
+    app: App,
+    limits: Limits,
+    port: u16,
+    sessions: usize,
+    writer: &mut W,
+) -> Result<(), Failure>
+where
+    H: Wait + Sync + Threads + Net<Listener = TcpListener, Stream = TcpStream>,
+    ensures { IfErr result (λ failure. failure ≢ Start BadCommandLine) }
+{
+    let blank = Blank::new(MAX_JOINS as u64 + 1);
+    host::<Brand, H, W>(rt, alloc, blank, app, limits, port, sessions, writer)
+}
+
+// Opens a hall, serves its sessions, and ends it.
+fn host<L: Setup + Send + Sync, H, W: Write>(
+    rt: &H,
+    alloc: Global,
+    blank: Blank,
+    app: App,
+    limits: Limits,
+    port: u16,
+    sessions: usize,
+    writer: &mut W,
+) -> Result<(), Failure>
+where
+    H: Wait + Sync + Threads + Net<Listener = TcpListener, Stream = TcpStream>,
+    requires name { blank.name ≡ L.name }
+    requires parts { (blank.parts ≡ L.parts) × (blank.parts ≡ MAX_JOINS + 1) }
+    requires app { app ≡ L.app }
+    requires moves { limits.moves ≡ L.most_moves }
+    requires entries { limits.history ≡ L.most_entries }
+    ensures { IfErr result (λ failure. failure ≢ Start BadCommandLine) }
+{
+    let (hall, mut passes) = Hall::<L>::open(alloc, blank, app, limits)?;
+    passes.truncate(sessions);
+    match serve(rt, alloc, &hall, passes, port, writer) {
+        Ok(served) => close(hall, served.gone, writer),
+        Err(failure) => {
+            let _ = hall.finish(Vec::new(alloc));
+            Err(failure)
+        }
+    }
+}
+
+// Ends a hall, and says how many entries its history has.
+fn close<L: Setup, W: Write>(
+    hall: Hall<L>,
+    gones: Vec<Gone<L>>,
+    writer: &mut W,
+) -> Result<(), Failure>
+    ensures { IfErr result (λ failure. failure ≢ Start BadCommandLine) }
+{
+    match hall.finish(gones) {
+        Ok(closed) => {
+            let _ = writeln!(writer, "closed {}", closed.entries());
+            Ok(())
+        }
+        Err(_) => Err(Failure::Broken),
+    }
+}
+
+// Listens, and serves a session for each pass.
+fn serve<L: Setup + Send + Sync, H, W: Write>(
+    rt: &H,
+    alloc: Global,
+    hall: &Hall<L>,
+    passes: Vec<Pass<L>>,
+    port: u16,
+    writer: &mut W,
+) -> Result<Served<L>, Failure>
+where
+    H: Wait + Sync + Threads + Net<Listener = TcpListener, Stream = TcpStream>,
+    ensures { IfErr result (λ failure. failure ≢ Start BadCommandLine) }
+{
+    let here = SocketAddr::new(IpAddr::V4(Ipv4Addr::LOCALHOST), port);
+    let Ok(listener) = TcpListener::bind(rt, here) else {
+        return Err(Failure::CannotListen);
+    };
+    let _ = writeln!(writer, "listening {port}");
+    let _ = writer.flush();
+    Ok(serve_net(rt, alloc, &listener, hall, passes, &NoGate))
+}

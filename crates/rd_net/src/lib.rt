@@ -1,0 +1,4 @@
+//! Sessions over connections.
+#![tactic(auto)]
+
+pub mod net;

@@ -1,0 +1,73 @@
+-- The answers to lines, and what was written of them.
+use Rattle.std.specs.Prelude.{ℕ, ◌≡◌, List, [], ◌∷◌, ◌++◌, Option, Some, None, is_some, option_map}
+use Rattle.std.specs.Prelude.{IsTrue}
+use Rattle.std.specs.List.{flat_map}
+use Rattle.std.specs.Io.KnownBytes.{Appends}
+use Rattle.rd_ends.specs.Ends.{IsFront}
+use Rattle.rd_text.specs.Words.{words_of}
+use Rattle.rd_command.specs.Commands.{command_of}
+use Rattle.rd_desk.specs.declared.entry.Event.{Event}
+use Rattle.rd_desk.specs.declared.entry.Event.TheVariants.{Ask}
+use Rattle.rd_desk.specs.declared.entry.Receipt.{Receipt}
+use Rattle.rd_hall.specs.SeatView.{SeatView}
+use Rattle.rd_session.specs.Lines.{Line, Whole, Long}
+use Rattle.rd_session.specs.Replies.{Answer, Served, Unserved, Syntax, TooLong, text}
+
+-- what a line asks for, if it is a command
+abbrev pub asked : List ℕ → Option Event
+asked line = option_map Ask (command_of (words_of line))
+
+-- The answer is one to this line.
+abbrev pub IsAnswerTo : Line → Answer → Type 0
+IsAnswerTo (Whole line) (Served receipt) = asked line ≡ Some receipt.entry.event
+IsAnswerTo (Whole line) (Unserved why) = IsTrue (is_some (asked line))
+IsAnswerTo (Whole line) Syntax = asked line ≡ None
+IsAnswerTo (Whole line) TooLong = ⊥
+IsAnswerTo Long TooLong = Unit {0}
+IsAnswerTo Long answer = ⊥
+
+-- Each line has its answer, in order.
+abbrev pub AreAnswers : List Line → List Answer → Type 0
+AreAnswers [] [] = Unit {0}
+AreAnswers [] (answer ∷ answers) = ⊥
+AreAnswers (line ∷ lines) [] = ⊥
+AreAnswers (line ∷ lines) (answer ∷ answers) = IsAnswerTo line answer × AreAnswers lines answers
+
+abbrev pub receipt_in : Answer → List Receipt
+receipt_in (Served receipt) = receipt ∷ []
+receipt_in (Unserved why) = []
+receipt_in Syntax = []
+receipt_in TooLong = []
+
+-- the receipts among answers
+abbrev pub receipts_in : List Answer → List Receipt
+receipts_in answers = flat_map receipt_in answers
+
+-- their texts, one after the other
+abbrev pub texts : List Answer → List ℕ
+texts answers = flat_map text answers
+
+abbrev pub with_all : SeatView → List Receipt → SeatView
+with_all seat receipts = record seat { receipts = seat.receipts ++ receipts }
+
+-- Each line was answered: the seat has gained the receipts among the answers, and their texts were
+-- written.
+pub record Talks (lines : List Line) (seat after : SeatView) (old new : Option (List ℕ)) : Type 0
+  where
+    pub answers : List Answer
+    pub each : AreAnswers lines answers
+    pub gained : after ≡ with_all seat (receipts_in answers)
+    pub out : Appends old new (texts answers)
+
+-- The sink failed: the lines so far were answered, and a front of the texts was written.
+pub record BreaksOff (lines : List Line) (seat after : SeatView) (old new : Option (List ℕ))
+    : Type 0 where
+  pub heard : List Line
+  pub rest : List Line
+  pub lines_are : lines ≡ heard ++ rest
+  pub answers : List Answer
+  pub each : AreAnswers heard answers
+  pub gained : after ≡ with_all seat (receipts_in answers)
+  pub front : List ℕ
+  pub is_front : IsFront front (texts answers)
+  pub out : Appends old new front

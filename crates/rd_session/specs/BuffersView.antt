@@ -1,0 +1,12 @@
+-- What a contract sees of the memory of a session.
+use Rattle.std.specs.Prelude.{ℕ, List}
+
+-- the answers that weren't written yet, and for how many bytes of them there is room in all
+pub record PendingView : Type 0 where
+  pub bytes : List ℕ
+  pub capacity : ℕ
+
+-- the bytes that were read and not answered yet, and the answers that weren't written yet
+pub record BuffersView : Type 0 where
+  pub held : List ℕ
+  pub pending : List ℕ

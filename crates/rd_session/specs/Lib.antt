@@ -1,0 +1,7 @@
+-- What the contracts of a session speak of.
+pub mod BuffersView
+pub mod Lines
+pub mod Replies
+pub mod Answers
+pub mod Gathering
+pub mod Hearing
