@@ -44,6 +44,4 @@ mod streams;
 #[cfg(test)]
 mod tasks;
 #[cfg(test)]
-mod together;
-#[cfg(test)]
 mod watches;
