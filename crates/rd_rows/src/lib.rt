@@ -44,4 +44,6 @@ mod streams;
 #[cfg(test)]
 mod tasks;
 #[cfg(test)]
+mod together;
+#[cfg(test)]
 mod watches;
