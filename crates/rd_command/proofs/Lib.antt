@@ -2,7 +2,6 @@
 pub mod BindingLaws
 pub mod CommandLaws
 pub mod FormLaws
-pub mod LineLaws
 pub mod Steps
 pub mod TableLaws
 pub mod ThereLaws

@@ -3,6 +3,5 @@ pub mod Bindings
 pub mod Commands
 pub mod Forms
 pub mod Keywords
-pub mod Lines
 pub mod Tables
 pub mod Pokes

@@ -33,8 +33,8 @@ first_condition word [] = None
 first_condition word (row ∷ others) =
     if bytes_eq word row.0 then Some (row.1, row.2) else first_condition word others
 
--- ---- commands: first words, each with the keywords that are this word alone, and those that have a
--- second word
+-- ---- commands: first words, each with the keywords that are this word alone, and those that
+-- have a second word
 
 abbrev pub operands_view : code.Operands → Operands
 operands_view (kept.Plain parameters) = Plain parameters.now

@@ -6,6 +6,5 @@ pub mod command;
 mod form;
 pub mod keyword;
 pub mod laws;
-pub mod lines;
 pub mod poke;
 mod reader;

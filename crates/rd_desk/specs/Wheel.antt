@@ -1,5 +1,6 @@
 -- Who has the wheel, as the history alone tells.
-use Rattle.std.specs.Prelude.{ℕ, Bool, true, false, if◌then◌else◌, List, [], ◌∷◌, Option, None, Some}
+use Rattle.std.specs.Prelude.{ℕ, Bool, true, false, if◌then◌else◌, List, [], ◌∷◌}
+use Rattle.std.specs.Prelude.{Option, None, Some}
 use Rattle.rd_command.specs.declared.keyword.Keyword.{Keyword}
 use Rattle.rd_command.specs.declared.keyword.Keyword.TheVariants.{TakeWheel}
 use Rattle.rd_reply.specs.declared.reply.Reply.TheVariants.{Wheel}

@@ -26,8 +26,8 @@ use std::marker::Brand;
 use std::sync::Wait;
 use std::sync::ledger::Blank;
 
-/// A session over an application: its lines are read, and each is answered. `NoMemory` where there is
-/// none for it to begin.
+/// A session over an application: its lines are read, and each is answered. `NoMemory` where there
+/// is none for it to begin.
 pub fn debug<H: Wait, R: Read, W: Write>(
     rt: &H,
     alloc: Global,
@@ -43,8 +43,8 @@ pub fn debug<H: Wait, R: Read, W: Write>(
     begin::<Brand, H, R, W>(rt, alloc, blank, app, limits, reader, writer, &mut buffers)
 }
 
-// The same, of a hall that is set up for it. (What is set up can be picked only where no type of the
-// call hangs on it.)
+// The same, of a hall that is set up for it. (What is set up can be picked only where no type of
+// the call hangs on it.)
 fn begin<L: Setup, H: Wait, R: Read, W: Write>(
     rt: &H,
     alloc: Global,
@@ -66,10 +66,10 @@ fn begin<L: Setup, H: Wait, R: Read, W: Write>(
     Ok(())
 }
 
-/// The one session of a hall, which is opened for it and ended behind it. With an answer the history
-/// is legal from the opening on, and the session's receipts are just its entries. `NoMemory` where
-/// there is none for the hall or for the session to join, `Broken` where the history isn't what the
-/// session was answered.
+/// The one session of a hall, which is opened for it and ended behind it. With an answer the
+/// history is legal from the opening on, and the session's receipts are just its entries.
+/// `NoMemory` where there is none for the hall or for the session to join, `Broken` where the
+/// history isn't what the session was answered.
 pub fn attend<L: Setup, H: Wait, R: Read, W: Write>(
     rt: &H,
     alloc: Global,

@@ -30,9 +30,9 @@ use std::thread::Threads;
 const DONE: u8 = 0;
 
 /// Runs the program on the words of its command line, without its own name, and answers its exit
-/// status: 0 at the end of all sessions and after help, 2 for a bad command line, 1 where no session
-/// begins for another cause, or where the history isn't what the sessions were answered. The cause
-/// is said in one line on `errors`.
+/// status: 0 at the end of all sessions and after help, 2 for a bad command line, 1 where no
+/// session begins for another cause, or where the history isn't what the sessions were answered.
+/// The cause is said in one line on `errors`.
 pub fn run_main<H, R: Read, W: Write, E: Write>(
     handle: &H,
     words: &[String],
@@ -51,6 +51,7 @@ where
         Err(failure) => report(errors, &failure),
     }
 }
+
 /// Says why the words of the command line couldn't be had: one is no text, or there is no memory.
 /// Answers the exit status: 2 for a word that is no text, else 1.
 pub fn refuse_words<E: Write>(errors: &mut E, error: &io::Error) -> u8

@@ -41,8 +41,8 @@ impl<L: Setup> Served<L> {
 
 /// Accepts as many connections as there are passes, one after the other, and serves a session over
 /// each, on a thread of its own. Ends when all have ended. A connection that isn't let in is told
-/// why: `no Full`, `no HistoryFull` or `no NoMemory`. The room for all sessions is made first: where
-/// there is no memory for it, none is accepted, and there are as many faults as passes.
+/// why: `no Full`, `no HistoryFull` or `no NoMemory`. The room for all sessions is made first:
+/// where there is no memory for it, none is accepted, and there are as many faults as passes.
 pub fn serve_net<L: Setup + Send + Sync, R: Threads + Wait + Sync, G: Gate + Sync>(
     rt: &R,
     alloc: Global,

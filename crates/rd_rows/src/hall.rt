@@ -1,4 +1,4 @@
-//! Sessions of a hall: by calls, and on threads over memory.
+//! Sessions of a hall, by calls.
 
 ghost use Rattle.std.specs.Prelude.{◌≡◌, ◌+◌};
 ghost use Rattle.rd_desk.specs.declared.sessions.TheConstants.{MAX_JOINS};
@@ -12,7 +12,7 @@ use rd_desk::sessions::MAX_JOINS;
 use rd_hall::hall::Hall;
 use rd_hall::seat::{Gone, Pass, Seat};
 use rd_hall::setup::Setup;
-use std::alloc::{AllocError, AllocGlobal};
+use std::alloc::AllocGlobal;
 use std::marker::Brand;
 use std::process::Abort;
 use std::sync::Wait;
@@ -61,7 +61,8 @@ fn ask<L: Setup, H: Wait + Abort + AllocGlobal>(
     seat
 }
 
-// One session takes the wheel, another is held, and sees who has it; the first looks at what it did.
+// One session takes the wheel, another is held, and sees who has it; the first looks at what it
+// did.
 fn hold_the_wheel<L: Setup, H: Wait + Abort + AllocGlobal>(
     rt: &H,
     hall: &Hall<L>,

@@ -1,5 +1,5 @@
-//! Two sessions at once: on threads over memory, in an order that only holds where neither waits for
-//! the other's reads.
+//! Two sessions at once: on threads over memory, in an order that only holds where neither waits
+//! for the other's reads.
 
 ghost use Rattle.std.specs.Prelude.{◌≡◌, ◌+◌};
 ghost use Rattle.rd_desk.specs.declared.sessions.TheConstants.{MAX_JOINS};
