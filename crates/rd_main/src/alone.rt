@@ -1,11 +1,12 @@
 //! One session over standard input and output.
 
-ghost use Rattle.std.specs.Prelude.{◌≡◌, ◌≢◌, ◌+◌, IfErr, IfOk};
+ghost use Rattle.std.specs.Prelude.{◌≡◌, ◌≢◌, ◌+◌, IfErr, IfOk, OnOk};
 ghost use Rattle.rd_desk.specs.Debugger.{Debugger, opening};
 ghost use Rattle.rd_desk.specs.Legal.{Leads};
 ghost use Rattle.rd_desk.specs.declared.sessions.TheConstants.{MAX_JOINS};
 ghost use Rattle.rd_hall.specs.Account.{IsAccounted};
 ghost use Rattle.rd_start.specs.declared.fault.Fault.TheVariants.{BadCommandLine};
+ghost use Rattle.rd_main.specs.Running.{Attended, Ran};
 ghost use Rattle.rd_main.specs.declared.failure.Failure.TheVariants.{Start};
 
 use crate::failure::Failure;
@@ -26,8 +27,9 @@ use std::marker::Brand;
 use std::sync::Wait;
 use std::sync::ledger::Blank;
 
-/// A session over an application: its lines are read, and each is answered. `NoMemory` where there
-/// is none for it to begin.
+/// A session over an application: its lines are read, and each is answered, as a debugger by itself
+/// answers them. `NoMemory` where there is none for it to begin, `Broken` where the history isn't
+/// what the session was answered.
 pub fn debug<H: Wait, R: Read, W: Write>(
     rt: &H,
     alloc: Global,
@@ -36,7 +38,9 @@ pub fn debug<H: Wait, R: Read, W: Write>(
     reader: &mut R,
     writer: &mut W,
 ) -> Result<(), Failure>
-    ensures { IfErr result (λ failure. failure ≢ Start BadCommandLine) }
+    ensures ran { OnOk result (Ran app limits.moves (R.remaining reader.old)
+        (R.remaining reader.new) (W.contents writer.old) (W.contents writer.new)) }
+    ensures failures { IfErr result (λ failure. failure ≢ Start BadCommandLine) }
 {
     let mut buffers = Buffers::new(alloc)?;
     let blank = Blank::new(MAX_JOINS as u64 + 1);
@@ -60,16 +64,20 @@ fn begin<L: Setup, H: Wait, R: Read, W: Write>(
     requires app { app ≡ L.app }
     requires moves { limits.moves ≡ L.most_moves }
     requires entries { limits.history ≡ L.most_entries }
-    ensures { IfErr result (λ failure. failure ≢ Start BadCommandLine) }
+    ensures ran { OnOk result (Ran L.app L.most_moves (R.remaining reader.old)
+        (R.remaining reader.new) (W.contents writer.old) (W.contents writer.new)) }
+    ensures failures { IfErr result (λ failure. failure ≢ Start BadCommandLine) }
 {
-    attend::<L, H, R, W>(rt, alloc, blank, app, limits, reader, writer, buffers)?;
-    Ok(())
+    match attend::<L, H, R, W>(rt, alloc, blank, app, limits, reader, writer, buffers) {
+        Ok(_closed) => Ok(()),
+        Err(failure) => Err(failure),
+    }
 }
 
 /// The one session of a hall, which is opened for it and ended behind it. With an answer the
-/// history is legal from the opening on, and the session's receipts are just its entries.
-/// `NoMemory` where there is none for the hall or for the session to join, `Broken` where the
-/// history isn't what the session was answered.
+/// history is legal from the opening on, the session's receipts are just its entries, and the texts
+/// of its answers to what was read were written. `NoMemory` where there is none for the hall or for
+/// the session to join, `Broken` where the history isn't what the session was answered.
 pub fn attend<L: Setup, H: Wait, R: Read, W: Write>(
     rt: &H,
     alloc: Global,
@@ -88,6 +96,8 @@ pub fn attend<L: Setup, H: Wait, R: Read, W: Write>(
     ensures legal { IfOk result (λ closed.
         (end : Debugger) × Leads (opening L.app L.most_moves) closed.history end) }
     ensures accounted { IfOk result (λ closed. IsAccounted closed.history closed.gones) }
+    ensures attended { IfOk result (λ closed. Attended (R.remaining reader.old)
+        (R.remaining reader.new) (W.contents writer.old) (W.contents writer.new) closed.gones) }
     ensures failures { IfErr result (λ failure. failure ≢ Start BadCommandLine) }
 {
     let mut gones = Vec::with_capacity(alloc, 1)?;
