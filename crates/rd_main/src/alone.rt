@@ -6,7 +6,7 @@ ghost use Rattle.rd_desk.specs.Legal.{Leads};
 ghost use Rattle.rd_desk.specs.declared.sessions.TheConstants.{MAX_JOINS};
 ghost use Rattle.rd_hall.specs.Account.{IsAccounted};
 ghost use Rattle.rd_start.specs.declared.fault.Fault.TheVariants.{BadCommandLine};
-ghost use Rattle.rd_main.specs.Running.{Attended, Ran};
+ghost use Rattle.rd_main.specs.Running.{AttendedAlone, Ran};
 ghost use Rattle.rd_main.specs.declared.failure.Failure.TheVariants.{Start};
 
 use crate::failure::Failure;
@@ -96,7 +96,7 @@ pub fn attend<L: Setup, H: Wait, R: Read, W: Write>(
     ensures legal { IfOk result (λ closed.
         (end : Debugger) × Leads (opening L.app L.most_moves) closed.history end) }
     ensures accounted { IfOk result (λ closed. IsAccounted closed.history closed.gones) }
-    ensures attended { IfOk result (λ closed. Attended (R.remaining reader.old)
+    ensures attended { IfOk result (λ closed. AttendedAlone (R.remaining reader.old)
         (R.remaining reader.new) (W.contents writer.old) (W.contents writer.new) closed.gones) }
     ensures failures { IfErr result (λ failure. failure ≢ Start BadCommandLine) }
 {

@@ -1,6 +1,8 @@
 //! Sessions over connections, each on a thread of its own.
 
-ghost use Rattle.std.specs.Prelude.{◌≤◌, vec_len};
+ghost use Rattle.std.specs.Prelude.{◌≡◌, ◌+◌, ◌-◌, ◌^◌, ◌⊎◌, ◌∷◌, ◌++◌, [], IfOk, None, min};
+ghost use Rattle.rd_session.specs.Hearing.{Attended};
+ghost use Rattle.rd_net.specs.Refused.{refusal_line};
 
 use rd_desk::desk::EnterError;
 use rd_ends::over::Over;
@@ -27,12 +29,21 @@ pub struct Served<L: Setup> {
 }
 
 impl<L: Setup> Served<L> {
-    fn count_fault(&mut self) {
+    // Counts a fault.
+    fn count_fault(&mut self)
+        ensures gone { self.new.gone ≡ self.old.gone }
+        ensures faults { self.new.faults ≡ min (self.old.faults + 1) (2 ^ 32 - 1) }
+    {
         self.faults = self.faults.saturating_add(1);
     }
 
-    // Keeps a session that has left.
-    fn keep(&mut self, gone: Gone<L>) {
+    // Keeps a session that has left. Without memory for it that is a fault.
+    fn keep(&mut self, gone: Gone<L>)
+        ensures { ((self.new.gone.items ≡ self.old.gone.items ++ gone ∷ [])
+            × (self.new.faults ≡ self.old.faults))
+            ⊎ ((self.new.gone.items ≡ self.old.gone.items)
+            × (self.new.faults ≡ min (self.old.faults + 1) (2 ^ 32 - 1))) }
+    {
         if self.gone.push(gone).is_err() {
             self.count_fault();
         }
@@ -104,7 +115,9 @@ fn converse<L: Setup, R: Wait, G: Gate>(
     hall: &Hall<L>,
     pass: Pass<L>,
     gate: &G,
-) -> Result<Gone<L>, EnterError> {
+) -> Result<Gone<L>, EnterError>
+    ensures { IfOk result (Attended None None None None) }
+{
     // (replies are short, and waited for)
     let _ = stream.set_nodelay(true);
     let Ok(mut buffers) = Buffers::new(alloc) else {
@@ -121,7 +134,9 @@ fn converse<L: Setup, R: Wait, G: Gate>(
 }
 
 // What a connection is told that isn't let in.
-fn refusal_of(error: &EnterError) -> &'static [u8] {
+fn refusal_of(error: &EnterError) -> &'static [u8]
+    ensures { result.now ≡ refusal_line error.now }
+{
     match error {
         EnterError::Full => b"no Full\n",
         EnterError::HistoryFull { .. } => b"no HistoryFull\n",

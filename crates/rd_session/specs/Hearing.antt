@@ -1,8 +1,10 @@
 -- What a session has heard, and why it has ended.
-use Rattle.std.specs.Prelude.{ℕ, ◌≡◌, ◌+◌, ◌^◌, ◌≤◌, List, [], Bool, true, false, Option}
+use Rattle.std.specs.Prelude.{ℕ, ◌≡◌, ◌+◌, ◌^◌, ◌≤◌, ◌⊎◌, List, [], Bool, true, false, Option}
 use Rattle.std.specs.Prelude.{None, Some}
 use Rattle.std.specs.Io.KnownBytes.{Consumes, IsAtEnd}
+use Rattle.rd_desk.specs.declared.entry.Event.TheVariants.{Leave}
 use Rattle.rd_hall.specs.SeatView.{SeatView}
+use Rattle.rd_hall.specs.Seats.{Gained, Joined}
 use Rattle.rd_session.specs.Lines.{Line, lines_of, rest_from}
 use Rattle.rd_session.specs.Answers.{Talks, BreaksOff}
 
@@ -49,3 +51,14 @@ pub record Heard (had has : Option (List ℕ)) (seat after : SeatView) (old new 
 -- All reads were made, where they are counted.
 abbrev pub AllMade : ℕ → ℕ → Type 0
 AllMade old new = old + 16777216 ≤ 2 ^ 63 → new ≡ old + 16777216
+
+-- A session has joined, was answered each line that was read, and has left.
+pub record Attended (had has old new : Option (List ℕ)) (gone : SeatView) : Type 0 where
+  pub joined : SeatView
+  pub entered : Joined joined
+  pub stayed : SeatView
+  pub read_fault : Bool
+  pub write_fault : Bool
+  pub reads : ℕ
+  pub heard : Heard had has joined stayed old new read_fault write_fault (AllMade 0 reads)
+  pub left : (gone ≡ stayed) ⊎ Gained stayed Leave gone
