@@ -1,12 +1,12 @@
 //! One session over standard input and output.
 
-ghost use Rattle.std.specs.Prelude.{◌≡◌, ◌≢◌, ◌+◌, IfErr, IfOk, OnOk};
+ghost use Rattle.std.specs.Prelude.{◌≡◌, ◌≢◌, ◌+◌, IfErr, IfOk};
 ghost use Rattle.rd_desk.specs.Debugger.{Debugger, opening};
 ghost use Rattle.rd_desk.specs.Legal.{Leads};
 ghost use Rattle.rd_desk.specs.declared.sessions.TheConstants.{MAX_JOINS};
 ghost use Rattle.rd_hall.specs.Account.{IsAccounted};
 ghost use Rattle.rd_start.specs.declared.fault.Fault.TheVariants.{BadCommandLine};
-ghost use Rattle.rd_main.specs.Running.{AttendedAlone, Ran};
+ghost use Rattle.rd_main.specs.Running.{AttendedAlone};
 ghost use Rattle.rd_main.specs.declared.failure.Failure.TheVariants.{Start};
 
 use crate::failure::Failure;
@@ -14,6 +14,7 @@ use rd_app::app::App;
 use rd_bytes::no_memory::NoMemory;
 use rd_desk::limits::Limits;
 use rd_desk::sessions::MAX_JOINS;
+use rd_ends::ends::{Sink, Source};
 use rd_ends::over::Over;
 use rd_hall::account::Closed;
 use rd_hall::hall::Hall;
@@ -38,25 +39,34 @@ pub fn debug<H: Wait, R: Read, W: Write>(
     reader: &mut R,
     writer: &mut W,
 ) -> Result<(), Failure>
-    ensures ran { OnOk result (Ran app limits.moves (R.remaining reader.old)
-        (R.remaining reader.new) (W.contents writer.old) (W.contents writer.new)) }
-    ensures failures { IfErr result (λ failure. failure ≢ Start BadCommandLine) }
+    ensures { IfErr result (λ failure. failure ≢ Start BadCommandLine) }
 {
     let mut buffers = Buffers::new(alloc)?;
+    let mut source = Over::new(reader);
+    let mut sink = Over::new(writer);
     let blank = Blank::new(MAX_JOINS as u64 + 1);
-    begin::<Brand, H, R, W>(rt, alloc, blank, app, limits, reader, writer, &mut buffers)
+    begin::<Brand, H, Over<&mut R>, Over<&mut W>>(
+        rt,
+        alloc,
+        blank,
+        app,
+        limits,
+        &mut source,
+        &mut sink,
+        &mut buffers,
+    )
 }
 
 // The same, of a hall that is set up for it. (What is set up can be picked only where no type of
 // the call hangs on it.)
-fn begin<L: Setup, H: Wait, R: Read, W: Write>(
+fn begin<L: Setup, H: Wait, S: Source, W: Sink>(
     rt: &H,
     alloc: Global,
     blank: Blank,
     app: App,
     limits: Limits,
-    reader: &mut R,
-    writer: &mut W,
+    source: &mut S,
+    sink: &mut W,
     buffers: &mut Buffers,
 ) -> Result<(), Failure>
     requires name { blank.name ≡ L.name }
@@ -64,28 +74,24 @@ fn begin<L: Setup, H: Wait, R: Read, W: Write>(
     requires app { app ≡ L.app }
     requires moves { limits.moves ≡ L.most_moves }
     requires entries { limits.history ≡ L.most_entries }
-    ensures ran { OnOk result (Ran L.app L.most_moves (R.remaining reader.old)
-        (R.remaining reader.new) (W.contents writer.old) (W.contents writer.new)) }
-    ensures failures { IfErr result (λ failure. failure ≢ Start BadCommandLine) }
+    ensures { IfErr result (λ failure. failure ≢ Start BadCommandLine) }
 {
-    match attend::<L, H, R, W>(rt, alloc, blank, app, limits, reader, writer, buffers) {
-        Ok(_closed) => Ok(()),
-        Err(failure) => Err(failure),
-    }
+    attend::<L, H, S, W>(rt, alloc, blank, app, limits, source, sink, buffers)?;
+    Ok(())
 }
 
 /// The one session of a hall, which is opened for it and ended behind it. With an answer the
 /// history is legal from the opening on, the session's receipts are just its entries, and the texts
 /// of its answers to what was read were written. `NoMemory` where there is none for the hall or for
 /// the session to join, `Broken` where the history isn't what the session was answered.
-pub fn attend<L: Setup, H: Wait, R: Read, W: Write>(
+pub fn attend<L: Setup, H: Wait, S: Source, W: Sink>(
     rt: &H,
     alloc: Global,
     blank: Blank,
     app: App,
     limits: Limits,
-    reader: &mut R,
-    writer: &mut W,
+    source: &mut S,
+    sink: &mut W,
     buffers: &mut Buffers,
 ) -> Result<Closed<L>, Failure>
     requires name { blank.name ≡ L.name }
@@ -96,8 +102,8 @@ pub fn attend<L: Setup, H: Wait, R: Read, W: Write>(
     ensures legal { IfOk result (λ closed.
         (end : Debugger) × Leads (opening L.app L.most_moves) closed.history end) }
     ensures accounted { IfOk result (λ closed. IsAccounted closed.history closed.gones) }
-    ensures attended { IfOk result (λ closed. AttendedAlone (R.remaining reader.old)
-        (R.remaining reader.new) (W.contents writer.old) (W.contents writer.new) closed.gones) }
+    ensures attended { IfOk result (λ closed. AttendedAlone (S.remaining source.old)
+        (S.remaining source.new) (W.contents sink.old) (W.contents sink.new) closed.gones) }
     ensures failures { IfErr result (λ failure. failure ≢ Start BadCommandLine) }
 {
     let mut gones = Vec::with_capacity(alloc, 1)?;
@@ -107,9 +113,7 @@ pub fn attend<L: Setup, H: Wait, R: Read, W: Write>(
         let _ = hall.finish(gones);
         return Err(Failure::from(NoMemory));
     };
-    let mut source = Over::new(reader);
-    let mut sink = Over::new(writer);
-    let gone = session(rt, &mut source, &mut sink, &hall, seat, &NoGate, buffers);
+    let gone = session(rt, source, sink, &hall, seat, &NoGate, buffers);
     gones.push_reserved(gone);
     match hall.finish(gones) {
         Ok(closed) => Ok(closed),

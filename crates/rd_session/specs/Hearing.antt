@@ -59,6 +59,8 @@ pub record Attended (had has old new : Option (List ℕ)) (gone : SeatView) : Ty
   pub stayed : SeatView
   pub read_fault : Bool
   pub write_fault : Bool
-  pub reads : ℕ
-  pub heard : Heard had has joined stayed old new read_fault write_fault (AllMade 0 reads)
+  pub reads_before : ℕ
+  pub reads_after : ℕ
+  pub heard : Heard had has joined stayed old new read_fault write_fault
+    (AllMade reads_before reads_after)
   pub left : (gone ≡ stayed) ⊎ Gained stayed Leave gone
