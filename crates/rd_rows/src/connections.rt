@@ -25,13 +25,13 @@ use std::thread::Threads;
 use std::time::{Clock, Duration};
 use std::{fs, thread};
 
-// A port of this machine.
-fn here(port: u16) -> SocketAddr {
+/// A port of this machine.
+pub fn here(port: u16) -> SocketAddr {
     SocketAddr::new(IpAddr::V4(Ipv4Addr::LOCALHOST), port)
 }
 
-// A connection to that port, in at most 10,000 tries of a millisecond.
-fn connect<H: Net<Stream = TcpStream> + Clock + Abort>(rt: &H, port: u16) -> TcpStream {
+/// A connection to that port, in at most 10,000 tries of a millisecond.
+pub fn connect<H: Net<Stream = TcpStream> + Clock + Abort>(rt: &H, port: u16) -> TcpStream {
     for _ in 0..10_000u32 {
         if let Ok(stream) = TcpStream::connect(rt, here(port)) {
             return stream;
@@ -41,8 +41,8 @@ fn connect<H: Net<Stream = TcpStream> + Clock + Abort>(rt: &H, port: u16) -> Tcp
     panic!(rt; "nobody listens");
 }
 
-// Sends a line, and reads this answer.
-fn ask(rt: &impl Abort, stream: &TcpStream, line: &str, answer: &str) {
+/// Sends a line, and reads this answer.
+pub fn ask(rt: &impl Abort, stream: &TcpStream, line: &str, answer: &str) {
     let mut sink = stream;
     assert!(rt;
         sink.write_all(line.as_bytes()).is_ok(),

@@ -1,6 +1,6 @@
 //! Sessions of a hall, by calls.
 
-ghost use Rattle.std.specs.Prelude.{◌≡◌, ◌+◌};
+ghost use Rattle.std.specs.Prelude.{◌≡◌, ◌+◌, ◌≤◌, vec_capacity, vec_len};
 ghost use Rattle.rd_desk.specs.declared.sessions.TheConstants.{MAX_JOINS};
 
 use crate::asserts::assert_same;
@@ -124,5 +124,90 @@ fn the_wheel(rt: HostRuntime) -> Result<(), Fail> {
         let found = audit_of_two::<Brand, HostRuntime>(&rt, blank, app, with_both)?;
         assert_same(&rt, found, entries);
     }
+    Ok(())
+}
+
+// So many sessions join.
+fn join_others<L: Setup, H: Wait + Abort + AllocGlobal>(
+    rt: &H,
+    hall: &Hall<L>,
+    passes: &mut Vec<Pass<L>>,
+    count: usize,
+) -> Vec<Seat<L>>
+    ensures { vec_len result ≡ count }
+{
+    let Ok(mut seats) = Vec::with_capacity(rt.alloc(), count) else {
+        panic!(rt; "no memory");
+    };
+    for _turn in 0..count {
+        seats.push_reserved(join(rt, hall, passes));
+    }
+    seats
+}
+
+// Two sessions ask who has the wheel, in turn, 500 times each.
+fn look_in_turn<L: Setup, H: Wait + Abort + AllocGlobal>(
+    rt: &H,
+    hall: &Hall<L>,
+    first: Seat<L>,
+    second: Seat<L>,
+) -> (Seat<L>, Seat<L>) {
+    let mut first = first;
+    let mut second = second;
+    for _turn in 0..500 {
+        first = ask(rt, hall, first, "show wheel", "wheel -\n");
+        second = ask(rt, hall, second, "show wheel", "wheel -\n");
+    }
+    (first, second)
+}
+
+// All these sessions leave. There is room for what they keep.
+fn leave_all<L: Setup>(
+    rt: &impl Wait,
+    hall: &Hall<L>,
+    seats: Vec<Seat<L>>,
+    gones: &mut Vec<Gone<L>>,
+)
+    requires { vec_len gones.old + vec_len seats ≤ vec_capacity gones.old }
+{
+    let mut left = seats;
+    for _turn in 0..left.len() {
+        let seat = left.pop().unwrap();
+        gones.push_reserved(hall.leave(rt, seat));
+    }
+    left.destroy_empty();
+}
+
+// All 64 sessions join, the first two look in turn, and all leave: so many entries are there then.
+fn entries_of_64<L: Setup, H: Wait + Abort + AllocGlobal>(
+    rt: &H,
+    blank: Blank,
+    app: App,
+) -> Result<Option<usize>, Fail>
+    requires name { blank.name ≡ L.name }
+    requires parts { (blank.parts ≡ L.parts) × (blank.parts ≡ MAX_JOINS + 1) }
+    requires app { app ≡ L.app }
+    requires moves { L.most_moves ≡ 100 }
+    requires entries { L.most_entries ≡ 10000 }
+{
+    let mut gones = Vec::with_capacity(rt.alloc(), MAX_JOINS)?;
+    let (hall, mut passes) = Hall::<L>::open(rt.alloc(), blank, app, limits())?;
+    let first = join(rt, &hall, &mut passes);
+    let second = join(rt, &hall, &mut passes);
+    let others = join_others(rt, &hall, &mut passes, MAX_JOINS - 2);
+    let (first, second) = look_in_turn(rt, &hall, first, second);
+    gones.push_reserved(hall.leave(rt, first));
+    gones.push_reserved(hall.leave(rt, second));
+    leave_all(rt, &hall, others, &mut gones);
+    Ok(entries_at_end(hall, gones))
+}
+
+// Each session has the entry of its join and that of its leave, and two have 500 more.
+#[test]
+fn sixty_four_seats(rt: HostRuntime) -> Result<(), Fail> {
+    let app = App::builtin(rt.alloc())?;
+    let blank = Blank::new(MAX_JOINS as u64 + 1);
+    let found = entries_of_64::<Brand, HostRuntime>(&rt, blank, app)?;
+    assert_same(&rt, found, Some(1_128));
     Ok(())
 }

@@ -22,6 +22,8 @@ mod groups;
 #[cfg(test)]
 mod hall;
 #[cfg(test)]
+mod load;
+#[cfg(test)]
 mod locals;
 #[cfg(test)]
 mod memory;
