@@ -62,5 +62,5 @@ pub record Attended (had has old new : Option (List ℕ)) (gone : SeatView) : Ty
   pub reads_before : ℕ
   pub reads_after : ℕ
   pub heard : Heard had has joined stayed old new read_fault write_fault
-    (AllMade reads_before reads_after)
+      (AllMade reads_before reads_after)
   pub left : (gone ≡ stayed) ⊎ Gained stayed Leave gone
