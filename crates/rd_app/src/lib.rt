@@ -4,5 +4,6 @@
 
 pub mod app;
 pub mod both;
+mod copying;
 pub mod instr;
 pub mod objects;

@@ -1,5 +1,4 @@
 -- The lemmas of this crate.
-pub mod AppLaws
 pub mod SeatLaws
 pub mod RoomLaws
 pub mod Totals

@@ -10,7 +10,6 @@ ghost use Rattle.rd_hall.specs.Account.{IsAccounted};
 ghost use Rattle.rd_hall.specs.Seats.{Gained, Joined};
 
 use crate::account::{Broken, Closed};
-use crate::copying::copy_of;
 use crate::room::Room;
 use crate::seat::{Gone, Pass, Seat};
 use crate::setup::Setup;
@@ -51,7 +50,7 @@ impl<L: Setup> Hall<L> {
         requires entries { limits.history ≡ L.most_entries }
         ensures { IfOk result (λ opened. vec_len opened.1 ≡ MAX_JOINS) }
     {
-        let copy = copy_of(alloc, &app)?;
+        let copy = app.copy(alloc)?;
         let (room, passes) = Room::open(alloc, blank, app, limits)?;
         let hall = Hall {
             room: Mutex::new(room),

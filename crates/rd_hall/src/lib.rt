@@ -3,7 +3,6 @@
 #![tactic(auto)]
 
 pub mod account;
-mod copying;
 pub mod hall;
 pub mod room;
 pub mod seat;

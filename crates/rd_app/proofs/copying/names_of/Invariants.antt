@@ -2,7 +2,7 @@ use Rattle.std.proofs.Common.{◌≡◌, ◌≤◌, take}
 use Rattle.std.specs.Prelude.{vec_capacity, vec_len}
 use Rattle.rd_text.specs.Words.{texts}
 use Rattle.rd_app.specs.Application.{names_of}
-use Rattle.rd_hall.proofs.copying.names_of.Given as goal
+use Rattle.rd_app.proofs.copying.names_of.Given as goal
 
 abbrev pub invariant-loop-number : goal.invariant-loop-number
 invariant-loop-number l =

@@ -6,9 +6,9 @@ ghost use Rattle.rd_app.specs.Application.{names_of};
 ghost use Rattle.rd_app.specs.Named.{named_view};
 ghost use Rattle.rd_app.specs.Objects.{objects_view};
 
-use rd_app::app::{App, Parts, Script};
-use rd_app::instr::{Instr, LocalInstr};
-use rd_app::objects::{Named, NamedObjects, QueueSetShape};
+use crate::app::{App, Parts, Script};
+use crate::instr::{Instr, LocalInstr};
+use crate::objects::{Named, NamedObjects, QueueSetShape};
 use rd_bytes::bytes::Bytes;
 use rd_text::kind::Kind;
 use std::alloc::{AllocError, Global};
@@ -196,20 +196,22 @@ fn copied_objects(alloc: Global, app: &App) -> Result<NamedObjects, AllocError>
     })
 }
 
-/// An equal application. An `Err` says that there is no memory for it.
-pub(crate) fn copy_of(alloc: Global, app: &App) -> Result<App, AllocError>
-    ensures { IfOk result (λ copy. copy ≡ app.now) }
-{
-    app.limits();
-    let objects = copied_objects(alloc, app)?;
-    let scripts = copied_scripts(alloc, app)?;
-    let tasks = named(alloc, app, Kind::Task, scripts)?;
-    let parts = Parts {
-        cores: app.cores(),
-        entries: app.entries(),
-        tick: app.tick(),
-        objects,
-        tasks,
-    };
-    App::new(alloc, parts)
+impl App {
+    /// An equal application. An `Err` says that there is no memory for it.
+    pub fn copy(&self, alloc: Global) -> Result<App, AllocError>
+        ensures { IfOk result (λ copy. copy ≡ self.now) }
+    {
+        self.limits();
+        let objects = copied_objects(alloc, self)?;
+        let scripts = copied_scripts(alloc, self)?;
+        let tasks = named(alloc, self, Kind::Task, scripts)?;
+        let parts = Parts {
+            cores: self.cores(),
+            entries: self.entries(),
+            tick: self.tick(),
+            objects,
+            tasks,
+        };
+        App::new(alloc, parts)
+    }
 }

@@ -1,6 +1,6 @@
 use Rattle.std.proofs.Common.{◌≡◌, ◌≤◌, take, length}
 use Rattle.std.specs.Prelude.{vec_capacity}
-use Rattle.rd_hall.proofs.copying.copied_scripts.Given as goal
+use Rattle.rd_app.proofs.copying.copied_scripts.Given as goal
 
 abbrev pub invariant-loop-task : goal.invariant-loop-task
 invariant-loop-task l =

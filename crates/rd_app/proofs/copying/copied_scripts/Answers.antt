@@ -1,7 +1,7 @@
 use Rattle.std.proofs.Common.{◌∙◌, ◌++◌, ◌∷◌, [], ap, sym, arith, add-one}
 use Rattle.std.proofs.lemmas.Grind.{common_steps}
-use Rattle.rd_hall.proofs.AppLaws.{take-found}
-use Rattle.rd_hall.proofs.copying.copied_scripts.Goals as goal
+use Rattle.rd_app.proofs.CopyLaws.{take-found}
+use Rattle.rd_app.proofs.copying.copied_scripts.Goals as goal
 
 pub loop-task-preserved : goal.loop-task-preserved
 loop-task-preserved c =

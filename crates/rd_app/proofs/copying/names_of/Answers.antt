@@ -2,8 +2,8 @@ use Rattle.std.proofs.Common.{◌∙◌, ◌++◌, ◌∷◌, [], ap, sym, arith
 use Rattle.std.proofs.lemmas.Grind.{common_steps}
 use Rattle.rd_text.specs.Words.{texts}
 use Rattle.rd_app.specs.Application.{names_of}
-use Rattle.rd_hall.proofs.AppLaws.{take-found, texts-push}
-use Rattle.rd_hall.proofs.copying.names_of.Goals as goal
+use Rattle.rd_app.proofs.CopyLaws.{take-found, texts-push}
+use Rattle.rd_app.proofs.copying.names_of.Goals as goal
 
 pub loop-number-preserved : goal.loop-number-preserved
 loop-number-preserved c =
