@@ -5,6 +5,7 @@ ghost use Rattle.rd_desk.specs.Debugger.{Debugger, opening};
 ghost use Rattle.rd_desk.specs.Legal.{Leads};
 ghost use Rattle.rd_desk.specs.declared.sessions.TheConstants.{MAX_JOINS};
 ghost use Rattle.rd_hall.specs.Account.{IsAccounted};
+ghost use Rattle.rd_session.specs.Hearing.{AllMade};
 ghost use Rattle.rd_start.specs.declared.fault.Fault.TheVariants.{BadCommandLine};
 ghost use Rattle.rd_main.specs.Running.{AttendedAlone};
 ghost use Rattle.rd_main.specs.declared.failure.Failure.TheVariants.{Start};
@@ -103,7 +104,9 @@ pub fn attend<L: Setup, H: Wait, S: Source, W: Sink>(
         (end : Debugger) × Leads (opening L.app L.most_moves) closed.history end) }
     ensures accounted { IfOk result (λ closed. IsAccounted closed.history closed.gones) }
     ensures attended { IfOk result (λ closed. AttendedAlone (S.remaining source.old)
-        (S.remaining source.new) (W.contents sink.old) (W.contents sink.new) closed.gones) }
+        (S.remaining source.new) (W.contents sink.old) (W.contents sink.new)
+        (S.failed source.new) (W.failed sink.new)
+        (AllMade (S.reads source.old) (S.reads source.new)) closed.gones) }
     ensures failures { IfErr result (λ failure. failure ≢ Start BadCommandLine) }
 {
     let mut gones = Vec::with_capacity(alloc, 1)?;

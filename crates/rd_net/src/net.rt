@@ -1,7 +1,7 @@
 //! Sessions over connections, each on a thread of its own.
 
-ghost use Rattle.std.specs.Prelude.{◌≡◌, ◌+◌, ◌-◌, ◌^◌, ◌⊎◌, ◌∷◌, ◌++◌, [], IfOk, None, min};
-ghost use Rattle.rd_session.specs.Hearing.{Attended};
+ghost use Rattle.std.specs.Prelude.{◌≡◌, ◌+◌, ◌-◌, ◌^◌, ◌⊎◌, ◌∷◌, ◌++◌, [], IfOk, min};
+ghost use Rattle.rd_net.specs.Attending.{AttendedOver};
 ghost use Rattle.rd_net.specs.Refused.{refusal_line};
 
 use rd_desk::desk::EnterError;
@@ -116,7 +116,7 @@ fn converse<L: Setup, R: Wait, G: Gate>(
     pass: Pass<L>,
     gate: &G,
 ) -> Result<Gone<L>, EnterError>
-    ensures { IfOk result (Attended None None None None) }
+    ensures { IfOk result AttendedOver }
 {
     // (replies are short, and waited for)
     let _ = stream.set_nodelay(true);

@@ -53,14 +53,10 @@ abbrev pub AllMade : ℕ → ℕ → Type 0
 AllMade old new = old + 16777216 ≤ 2 ^ 63 → new ≡ old + 16777216
 
 -- A session has joined, was answered each line that was read, and has left.
-pub record Attended (had has old new : Option (List ℕ)) (gone : SeatView) : Type 0 where
+pub record Attended (had has old new : Option (List ℕ)) (read_fault write_fault : Bool)
+    (spent : Type 0) (gone : SeatView) : Type 0 where
   pub joined : SeatView
   pub entered : Joined joined
   pub stayed : SeatView
-  pub read_fault : Bool
-  pub write_fault : Bool
-  pub reads_before : ℕ
-  pub reads_after : ℕ
-  pub heard : Heard had has joined stayed old new read_fault write_fault
-      (AllMade reads_before reads_after)
+  pub heard : Heard had has joined stayed old new read_fault write_fault spent
   pub left : (gone ≡ stayed) ⊎ Gained stayed Leave gone

@@ -12,10 +12,6 @@ returns-in-Ok-finish-clause-attended g c =
         joined = c.in-Ok.seat;
         entered = c.in-Ok.ensures.ok;
         stayed = heard.0;
-        read_fault = g.S.Source.failed c.session-gone.new.source;
-        write_fault = g.W.Sink.failed c.session-gone.new.sink;
-        reads_before = _;
-        reads_after = _;
         heard = heard.1;
         left = heard.2;
       };

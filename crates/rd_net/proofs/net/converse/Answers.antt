@@ -5,13 +5,15 @@ pub returns-in-Ok-join : goal.returns-in-Ok-join
 returns-in-Ok-join g c =
     let heard = c.session.ensures.heard in
     record {
-      joined = c.in-Ok-join.seat;
-      entered = c.in-Ok-join.ensures.ok;
-      stayed = heard.0;
       read_fault = c.session.new.source.failed;
       write_fault = c.session.new.sink.failed;
       reads_before = c.new-source.result.reads;
       reads_after = c.session.new.source.reads;
-      heard = heard.1;
-      left = heard.2;
+      attended = record {
+        joined = c.in-Ok-join.seat;
+        entered = c.in-Ok-join.ensures.ok;
+        stayed = heard.0;
+        heard = heard.1;
+        left = heard.2;
+      };
     }
