@@ -68,7 +68,7 @@ pub enum Bound<'a> {
 }
 
 /// The application has no core, register, notification entry or name like this.
-#[derive(Debug, Drop)]
+#[derive(Drop)]
 pub struct Unknown;
 
 // The condition that compares this amount, of the words after it.

@@ -5,18 +5,18 @@ ghost use Rattle.std.specs.Result.{result_ok};
 ghost use Rattle.rd_text.specs.Words.{words_of};
 ghost use Rattle.rd_command.specs.Commands.{CommandView, Spells, command_from, command_of};
 ghost use Rattle.rd_command.specs.Keywords.{needs_wheel};
-ghost use Rattle.rd_command.specs.Tables.{alone_view, longer_view, verb_view, verbs_view};
-ghost use Rattle.rd_command.specs.Tables.{command_alone, command_behind, command_by_verb};
+ghost use Rattle.rd_command.specs.Tables.{alone_view, longer_view, verb_view};
+ghost use Rattle.rd_command.specs.Tables.{command_alone, command_behind};
 ghost use Rattle.rd_command.specs.Tables.{command_longer, command_with_second};
 
 use crate::form::are_operands;
-use crate::keyword::{Alone, KEYWORDS, Keyword, Longer, Verb};
+use crate::keyword::{Alone, Keyword, Longer, Verb, keywords_behind};
 use rd_text::words::Words;
 use std::marker::Model;
 
 /// A command of a session: its keyword, and the words of its operands, which have the forms that
 /// the keyword asks for. What they name is looked up by `bind`.
-#[derive(Debug, Drop)]
+#[derive(Drop)]
 pub struct Command<'a> {
     line: &'a [u8],
     keyword: Keyword,
@@ -37,7 +37,7 @@ impl<'a> Model for Command<'a> {
 }
 
 /// What the words of a line were found to be: a keyword, and the words of its operands.
-#[derive(Debug, Drop)]
+#[derive(Drop)]
 struct Found<'a> {
     keyword: Keyword,
     operands: Words<'a>,
@@ -52,7 +52,7 @@ impl<'a> Model for Found<'a> {
 }
 
 /// The line is no command.
-#[derive(Debug, Drop)]
+#[derive(Drop)]
 pub struct Syntax;
 
 impl<'a> Command<'a> {
@@ -134,26 +134,14 @@ fn words_in(line: &[u8]) -> Words<'_>
 fn command_from<'a>(first: &[u8], words: &Words<'a>) -> Option<Found<'a>>
     ensures { result ≡ command_from first.now words.now }
 {
-    command_by_verb(first, words, &KEYWORDS)
-}
-
-// The command of the keywords that begin with the first word, which stands apart.
-fn command_by_verb<'a>(first: &[u8], words: &Words<'a>, verbs: &[Verb<'_>]) -> Option<Found<'a>>
-    ensures { result ≡ command_by_verb (verbs_view verbs.now) first.now words.now }
-{
-    for verb in verbs {
-        if first == verb.0.as_bytes() {
-            return command_behind(words, verb);
-        }
-    }
-    None
+    command_behind(words, keywords_behind(first)?)
 }
 
 // The command that the words spell behind this first word.
 fn command_behind<'a>(words: &Words<'a>, verb: &Verb<'_>) -> Option<Found<'a>>
     ensures { result ≡ command_behind (verb_view verb.now) words.now }
 {
-    let (_, alone, longer) = *verb;
+    let (alone, longer) = *verb;
     let found = command_alone(words, alone);
     if found.is_some() {
         found
