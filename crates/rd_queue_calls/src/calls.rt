@@ -87,8 +87,8 @@ fn deliver(
         < (queue_at editing.old.now queue).capacity }
     ensures ok { IfOk result (DoesCall editing.old editing.new
         (outcome_with_room (priorities_of app.now) editing.old.now task queue end) send_cost) }
-    ensures full_queue_set { is_in_full_queue_set editing.old.now (membership_of editing.old.now queue) ≡ true
-        → IsOk result }
+    ensures full_queue_set { is_in_full_queue_set editing.old.now
+        (membership_of editing.old.now queue) ≡ true → IsOk result }
     ensures stays { OnOk result (KeepsPc editing.old.now editing.new.now task) }
     ensures err { OnErr result (GivesUp editing.old editing.new send_cost) }
 {

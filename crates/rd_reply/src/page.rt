@@ -7,7 +7,7 @@ use std::alloc::AllocError;
 
 /// Bytes that are appended to. Where there is no room for a text, it and all that would come after
 /// it are left out.
-#[derive(Debug, Drop)]
+#[derive(Drop)]
 pub struct Page<'a> {
     bytes: &'a mut Vec<u8>,
     is_full: bool,
@@ -27,13 +27,16 @@ impl<'a> Page<'a> {
     }
 
     /// Appends a text.
+    #[inline(always)]
     pub fn append(&mut self, text: &str)
         ensures { Appends self.old self.new text.now }
     {
         self.append_raw(text.as_bytes());
     }
 
-    /// Appends the bytes of a text.
+    /// Appends the bytes of a text. (Inlined: most texts are a few bytes that are known where it is
+    /// called.)
+    #[inline(always)]
     pub fn append_raw(&mut self, bytes: &[u8])
         ensures { Appends self.old self.new bytes.now }
     {

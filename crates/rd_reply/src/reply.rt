@@ -40,7 +40,7 @@ use rd_text::kind::Kind;
 use std::alloc::AllocError;
 
 /// How a search for a condition, on by policy or back, came to its end.
-#[derive(Clone, Copy, Debug, PartialEq, Eq)]
+#[derive(Clone, Copy, PartialEq, Eq)]
 pub enum SearchEnd {
     /// The condition holds there.
     Met,
@@ -52,7 +52,7 @@ pub enum SearchEnd {
 
 /// What is answered to a command that makes moves or takes them back, to one that asks how many
 /// there are, to one for the wheel or a watch, or to one that is refused.
-#[derive(Clone, Copy, Debug, PartialEq, Eq)]
+#[derive(Clone, Copy, PartialEq, Eq)]
 pub enum Reply {
     /// So many moves are done now.
     Done { at: usize },
@@ -71,7 +71,7 @@ pub enum Reply {
 }
 
 /// What is shown of a watch.
-#[derive(Clone, Copy, Debug, PartialEq, Eq)]
+#[derive(Clone, Copy)]
 pub struct WatchShown {
     /// Its number.
     pub number: usize,

@@ -185,6 +185,45 @@ struct Told {
     entries: usize,
 }
 
+// Two sessions of a hall, each on a thread, and what each was answered.
+fn attend_both<L: Setup + Send + Sync, H: Threads + Wait + Sync + Abort + Clock>(
+    rt: &H,
+    alloc: Global,
+    hall: &Hall<L>,
+    one: Pass<L>,
+    two: Pass<L>,
+    at: At,
+) -> (Option<(Gone<L>, Vec<u8>)>, Option<(Gone<L>, Vec<u8>)>) {
+    let marks = Marks::new();
+    let turns = Turns {
+        rt,
+        marks: &marks,
+        at,
+    };
+    let held = &turns;
+    thread::join(
+        rt,
+        move || attend(
+            rt,
+            alloc,
+            hall,
+            one,
+            held,
+            true,
+            b"show moves\nshow wheel\n",
+        ),
+        move || attend(
+            rt,
+            alloc,
+            hall,
+            two,
+            held,
+            false,
+            b"show wheel\nshow moves\n",
+        ),
+    )
+}
+
 // Two sessions beside each other. No pass is left behind.
 fn beside<L: Setup + Send + Sync, H: Threads + Wait + Sync + Abort + Clock>(
     rt: &H,
@@ -211,34 +250,7 @@ fn beside<L: Setup + Send + Sync, H: Threads + Wait + Sync + Abort + Clock>(
     };
     let one = passes.pop().unwrap();
     let two = passes.pop().unwrap();
-    let marks = Marks::new();
-    let turns = Turns {
-        rt,
-        marks: &marks,
-        at,
-    };
-    let (shared, held) = (&hall, &turns);
-    let (first, second) = thread::join(
-        rt,
-        move || attend(
-            rt,
-            alloc,
-            shared,
-            one,
-            held,
-            true,
-            b"show moves\nshow wheel\n",
-        ),
-        move || attend(
-            rt,
-            alloc,
-            shared,
-            two,
-            held,
-            false,
-            b"show wheel\nshow moves\n",
-        ),
-    );
+    let (first, second) = attend_both(rt, alloc, &hall, one, two, at);
     let told = match (first, second) {
         (Some((one, first)), Some((two, second))) => {
             gones.push_reserved(one);
