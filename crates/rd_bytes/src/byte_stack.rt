@@ -15,7 +15,7 @@ const READY_BYTES: usize = 1024;
 
 /// Bytes that are put in and taken out at their end. Up to 48 of them take no memory elsewhere; the
 /// memory for more grows by doubling, and is kept when bytes leave.
-#[derive(Debug, Drop)]
+#[derive(Drop)]
 pub struct ByteStack {
     // The bytes, and behind them those that are ready to be written over: so a few bytes are put in
     // by a few instructions, whether they lie here or elsewhere.

@@ -9,7 +9,6 @@ use std::marker::Model;
 pub const MAX_BYTES: usize = 256;
 
 /// The data of a task, or of an instruction: 0 to 256 bytes, which take no memory elsewhere.
-#[derive(Debug)]
 pub struct Bytes {
     bytes: ArrayVec<u8, MAX_BYTES>,
 }

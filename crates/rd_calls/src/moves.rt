@@ -5,7 +5,7 @@ ghost use Rattle.std.specs.Prelude.{◌≡◌};
 use rd_edits::edit::Edit;
 
 /// One move of the target.
-#[derive(Debug, Drop)]
+#[derive(Drop)]
 pub enum Move {
     /// The task on this core does one instruction.
     Core { core: usize },

@@ -11,7 +11,7 @@ use rd_state::phase::Phase;
 use rd_state::state::State;
 
 /// How an amount is compared with a number.
-#[derive(Clone, Copy, Debug, PartialEq, Eq)]
+#[derive(Clone, Copy)]
 pub enum Comparison {
     /// `=`: it is that number.
     Equal,
@@ -22,7 +22,7 @@ pub enum Comparison {
 }
 
 /// What a phase is called, wherever its task waits and until when.
-#[derive(Clone, Copy, Debug, PartialEq, Eq)]
+#[derive(Clone, Copy)]
 pub enum PhaseName {
     /// `run`: the task goes on with its script.
     Run,
@@ -39,7 +39,7 @@ pub enum PhaseName {
 }
 
 /// An amount that can be compared. Objects, tasks, registers and entries go by number.
-#[derive(Clone, Copy, Debug, PartialEq, Eq)]
+#[derive(Clone, Copy)]
 pub enum Amount {
     /// `count Q`: how many items the queue has (`uxQueueMessagesWaiting`).
     Items { queue: usize },
@@ -60,7 +60,7 @@ pub enum Amount {
 }
 
 /// A condition on the target.
-#[derive(Clone, Copy, Debug, PartialEq, Eq)]
+#[derive(Clone, Copy)]
 pub enum Condition {
     /// The amount compares so with the bound.
     Compares {

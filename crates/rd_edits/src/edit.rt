@@ -31,7 +31,7 @@ use rd_stream::stream_change::StreamChange;
 
 /// One thing that is changed by hand, to see what would come of it. An edit wakes nobody, schedules
 /// nothing, and leaves the turn where it is. Tasks, objects and their parts go by number, from 0.
-#[derive(Debug, Drop)]
+#[derive(Drop)]
 pub enum Edit {
     /// `poke reg K N N`: the register, 0 to 7, becomes the value, whatever the task does.
     Register {

@@ -17,7 +17,7 @@ pub const MAX_WAITERS: usize = 32;
 
 /// An event group: its bits, and the tasks that wait, in the order of arrival, each with its wish.
 /// All its memory is taken by `new`.
-#[derive(Debug, Drop)]
+#[derive(Drop)]
 pub struct Group {
     bits: u32,
     waiting: FifoList,

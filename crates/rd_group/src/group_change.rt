@@ -8,7 +8,7 @@ use crate::group::Group;
 use crate::wish::Wish;
 
 /// A primitive change of an event group. An index counts from the front.
-#[derive(Clone, Copy, Debug, PartialEq, Eq)]
+#[derive(Clone, Copy)]
 pub enum GroupChange {
     /// The task is put among those that wait, at the index, with its wish.
     InsWait {

@@ -7,7 +7,7 @@ ghost use Rattle.rd_group.specs.Wishes.{is_met, left_of};
 pub const MAX_BITS: u32 = 0xFF_FFFF;
 
 /// Whether a task waits for any of its bits, or for all (`xWaitForAllBits`).
-#[derive(Clone, Copy, Debug, PartialEq, Eq)]
+#[derive(Clone, Copy, PartialEq, Eq)]
 pub enum WaitFor {
     /// Any one of them is enough.
     Any,
@@ -16,7 +16,7 @@ pub enum WaitFor {
 }
 
 /// What becomes of the bits that a task waited for, once they have come (`xClearOnExit`).
-#[derive(Clone, Copy, Debug, PartialEq, Eq)]
+#[derive(Clone, Copy, PartialEq, Eq)]
 pub enum OnMet {
     /// They stay as they are.
     Keep,
@@ -25,7 +25,7 @@ pub enum OnMet {
 }
 
 /// What a task waits for (`xEventGroupWaitBits`).
-#[derive(Clone, Copy, Debug, PartialEq, Eq)]
+#[derive(Clone, Copy, PartialEq, Eq)]
 pub struct Wish {
     /// The bits (`uxBitsToWaitFor`).
     pub bits: u32,

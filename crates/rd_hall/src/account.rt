@@ -111,7 +111,7 @@ pub(crate) fn is_account<L: Setup>(history: &History, gones: &[Gone<L>]) -> bool
 }
 
 /// The receipts that were handed in aren't those of the history.
-#[derive(Clone, Copy, Debug, PartialEq, Eq)]
+#[derive(Clone, Copy, PartialEq, Eq)]
 pub struct Broken;
 
 /// A debugger that has ended: its history, and the sessions with their receipts.

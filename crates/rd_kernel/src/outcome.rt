@@ -3,7 +3,7 @@
 use rd_state::phase::{Cause, Place};
 
 /// What becomes of a task that calls the kernel.
-#[derive(Clone, Copy, Debug, PartialEq, Eq)]
+#[derive(Clone, Copy)]
 pub enum Outcome {
     /// The call returns this value.
     Returns(u32),

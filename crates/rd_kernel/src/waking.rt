@@ -24,7 +24,7 @@ use rd_state::phase::{Listed, Phase, Place};
 use rd_wait::prio_list::index_for;
 
 /// What a waking leads to.
-#[derive(Clone, Copy, Debug, PartialEq, Eq)]
+#[derive(Clone, Copy)]
 pub enum Waking {
     /// Whoever is woken isn't handed anything: it tries its call again, with its deadline.
     TriesAgain,

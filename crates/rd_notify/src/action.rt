@@ -4,7 +4,7 @@ ghost use Rattle.std.specs.Prelude.{◌≡◌};
 ghost use Rattle.rd_notify.specs.Entries.{value_left, value_notified};
 
 /// What a notification does to the value of its entry (`eNotifyAction`).
-#[derive(Clone, Copy, Debug, PartialEq, Eq)]
+#[derive(Clone, Copy, PartialEq, Eq)]
 pub enum Action {
     /// The value stays (`eNoAction`).
     KeepValue,
@@ -33,7 +33,7 @@ impl Action {
 }
 
 /// What a task that takes a value leaves of it (`xClearCountOnExit`).
-#[derive(Clone, Copy, Debug, PartialEq, Eq)]
+#[derive(Clone, Copy)]
 pub enum OnExit {
     /// Nothing: it becomes 0.
     Clear,

@@ -13,7 +13,7 @@ use std::marker::Model;
 pub const MAX_ENTRIES: usize = 4;
 
 /// What has become of a notification entry since its task last looked at it.
-#[derive(Clone, Copy, Debug, Default, PartialEq, Eq)]
+#[derive(Clone, Copy, Default, PartialEq, Eq)]
 pub enum EntryState {
     /// Nothing has come, and its task doesn't wait for it.
     #[default]
@@ -25,7 +25,7 @@ pub enum EntryState {
 }
 
 /// One notification entry of a task.
-#[derive(Clone, Copy, Debug, Default, PartialEq, Eq)]
+#[derive(Clone, Copy, Default, PartialEq, Eq)]
 pub struct Entry {
     pub value: u32,
     pub state: EntryState,
@@ -98,7 +98,7 @@ impl Entry {
 
 /// The notification entries of one task, 1 to 4 of them, counted from 0
 /// (`configTASK_NOTIFICATION_ARRAY_ENTRIES`).
-#[derive(Debug, Drop)]
+#[derive(Drop)]
 pub struct Entries {
     entries: ArrayVec<Entry, MAX_ENTRIES>,
 }

@@ -9,7 +9,7 @@ use crate::waiting_list::WaitingList;
 
 /// A primitive change of a queue. An index counts from the front. Its bytes are borrowed: from the
 /// queue, from a task's data, or from where changes are kept.
-#[derive(Clone, Copy, Debug)]
+#[derive(Clone, Copy)]
 pub enum QueueChange<'a> {
     /// The task is put into the list of those that wait, at the index.
     InsWait {

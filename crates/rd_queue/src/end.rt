@@ -1,7 +1,7 @@
 //! The ends of a queue.
 
 /// Where an item is put into a queue.
-#[derive(Clone, Copy, Debug, PartialEq, Eq)]
+#[derive(Clone, Copy)]
 pub enum End {
     /// After the other items (`xQueueSendToBack`).
     Back,

@@ -13,7 +13,7 @@ pub const MAX_ITEM_SIZE: usize = 64;
 const ZEROS: [u8; MAX_ITEM_SIZE] = [0; MAX_ITEM_SIZE];
 
 /// An item by value: 0 to 64 bytes.
-#[derive(Debug, Drop)]
+#[derive(Drop)]
 pub struct Item {
     bytes: ArrayVec<u8, MAX_ITEM_SIZE>,
 }

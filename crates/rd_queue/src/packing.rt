@@ -105,7 +105,7 @@ fn pack_fill(number: u8, front: &[u8], back: &[u8], bytes: &mut ByteStack) -> Re
 }
 
 /// The change of a queue that stands at the end of bytes, which lend it those that it carries.
-#[derive(Clone, Copy, Debug)]
+#[derive(Clone, Copy)]
 pub struct LastQueueChange<'a> {
     /// The queue that changes.
     pub queue: usize,

@@ -30,7 +30,6 @@ pub struct Empty;
 
 /// A queue with room for `capacity` items of `item_size` bytes each, the tasks that wait at it, and
 /// the queue set that it is a member of. All its memory is taken by `new`.
-#[derive(Debug)]
 pub struct Queue {
     ring: ByteRing,
     capacity: usize,

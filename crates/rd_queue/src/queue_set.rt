@@ -16,7 +16,7 @@ pub const MAX_HANDLES: usize = 2048;
 
 /// A queue set with room for `capacity` handles, each the number of a queue, and the tasks that
 /// wait to select from it. All its memory is taken by `new`.
-#[derive(Debug, Drop)]
+#[derive(Drop)]
 pub struct QueueSet {
     handles: VecDeque<usize>,
     capacity: usize,

@@ -7,7 +7,7 @@ ghost use Rattle.rd_queue.specs.QueueSetChanges.{QueueSetFits, EachQueueSetChang
 use crate::queue_set::QueueSet;
 
 /// A primitive change of a queue set. An index counts from the front.
-#[derive(Clone, Copy, Debug, PartialEq, Eq)]
+#[derive(Clone, Copy)]
 pub enum QueueSetChange {
     /// The task is put among those that wait, at the index.
     InsWait { index: usize, task: usize },

@@ -50,7 +50,7 @@ impl QueueSetChange {
 }
 
 /// The change of a queue set that stands at the end of bytes.
-#[derive(Clone, Copy, Debug)]
+#[derive(Clone, Copy)]
 pub struct LastQueueSetChange<'a> {
     /// The set that changes.
     pub queue_set: usize,

@@ -1,7 +1,7 @@
 //! Which tasks wait at a queue.
 
 /// The two lists of tasks that wait at a queue.
-#[derive(Clone, Copy, Debug, PartialEq, Eq)]
+#[derive(Clone, Copy, PartialEq, Eq)]
 pub enum WaitingList {
     /// The tasks that wait to receive (`xTasksWaitingToReceive`).
     Receiving,

@@ -15,7 +15,7 @@ use std::marker::Model;
 ///
 /// The bytes lie in a memory of that size, from some offset on: after the last offset of the memory
 /// comes its first. All of it is taken by `new` and `copy`.
-#[derive(Debug, Drop)]
+#[derive(Drop)]
 pub struct ByteRing {
     memory: Vec<u8>,
     start: usize,

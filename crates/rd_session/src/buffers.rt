@@ -8,7 +8,7 @@ use std::alloc::{AllocError, Global};
 use std::marker::Model;
 
 /// What a session reads into, and gathers its answers in. A session takes no other memory.
-#[derive(Debug, Drop)]
+#[derive(Drop)]
 pub struct Buffers {
     pub(crate) lines: Lines,
     pub(crate) pending: Pending,

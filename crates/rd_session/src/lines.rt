@@ -17,7 +17,7 @@ pub const MAX_LINE: usize = 1024;
 const ROOM: usize = 65_536;
 
 /// What stands at the front of the bytes that were read.
-#[derive(Clone, Copy, Debug, PartialEq, Eq)]
+#[derive(Clone, Copy)]
 pub enum Front {
     /// A whole line, with so many bytes before its LF.
     Line { len: usize },
@@ -28,7 +28,7 @@ pub enum Front {
 }
 
 /// The bytes that were read and not answered yet.
-#[derive(Debug, Drop)]
+#[derive(Drop)]
 pub(crate) struct Lines {
     buffer: Vec<u8>,
     start: usize,

@@ -16,7 +16,7 @@ use std::marker::Model;
 const ROOM: usize = 65_536;
 
 /// Answers that are yet to be written. After an `Err` of the sink they are of no use.
-#[derive(Debug, Drop)]
+#[derive(Drop)]
 pub(crate) struct Pending {
     bytes: Vec<u8>,
 }

@@ -30,7 +30,7 @@ use std::sync::Wait;
 pub const MAX_READS: u32 = 16_777_216;
 
 /// Why a session stops amid lines.
-#[derive(Clone, Copy, Debug, PartialEq, Eq)]
+#[derive(Clone, Copy)]
 pub enum Ended {
     /// A line is too long.
     LineTooLong,

@@ -54,7 +54,7 @@ const FORMS: &str = "rdbg run [--app FILE] [--moves COUNT] [--history COUNT]\n\
     rdbg serve --app FILE --port PORT --sessions COUNT [--moves COUNT] [--history COUNT]";
 
 /// The settings of a session.
-#[derive(Clone, Copy, Debug, PartialEq, Eq)]
+#[derive(Clone, Copy)]
 pub struct Settings<'a> {
     /// The path of the application file; none: the built-in application.
     pub app: Option<&'a str>,
@@ -74,7 +74,7 @@ impl<'a> Settings<'a> {
 }
 
 /// What a command line asks for.
-#[derive(Debug, Drop)]
+#[derive(Drop)]
 pub enum Request<'a> {
     /// A session over standard input and output.
     Run {

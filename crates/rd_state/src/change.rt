@@ -9,7 +9,7 @@ use crate::task_change::TaskChange;
 /// A primitive change of the state: all that a move does is made of these, and each has an inverse
 /// among them. Tasks and cores go by number, an index counts from the front. Its bytes are
 /// borrowed: from the state, or from where changes are kept.
-#[derive(Clone, Copy, Debug)]
+#[derive(Clone, Copy)]
 pub enum Change<'a> {
     /// It is this tick.
     SetTick { tick: u32 },

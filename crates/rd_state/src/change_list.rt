@@ -20,7 +20,7 @@ use std::alloc::Global;
 use std::marker::Model;
 
 /// A list of changes, as bytes one after the other. Up to 48 bytes take no memory elsewhere.
-#[derive(Debug, Drop)]
+#[derive(Drop)]
 pub struct ChangeList {
     bytes: ByteStack,
     count: usize,

@@ -34,7 +34,6 @@ use std::marker::Model;
 /// A state that is changed move by move, with a record, to which each change adds what undoes it.
 /// It owns both. The rules of the kernel are written over it. It can't be dropped: it ends in `end`
 /// or in `retire`.
-#[derive(Debug)]
 pub struct Editing {
     state: State,
     changes: ChangeList,

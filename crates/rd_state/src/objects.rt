@@ -45,7 +45,7 @@ use std::alloc::{AllocError, Global};
 use std::marker::Model;
 
 /// A primitive change of an object, whichever kind it is of. Objects go by number.
-#[derive(Clone, Copy, Debug)]
+#[derive(Clone, Copy)]
 pub enum ObjectChange<'a> {
     /// The queue changes so.
     Queue {
@@ -90,7 +90,6 @@ impl ObjectChange<'_> {
 }
 
 /// The objects of the target, each kind by number.
-#[derive(Debug)]
 pub struct Objects {
     queues: Vec<Queue>,
     queue_sets: Vec<QueueSet>,

@@ -81,7 +81,7 @@ impl Change<'_> {
 }
 
 /// The change that stands at the end of bytes, which lend it those that it carries.
-#[derive(Clone, Copy, Debug)]
+#[derive(Clone, Copy)]
 pub struct LastChange<'a> {
     /// The change.
     pub change: Change<'a>,

@@ -8,7 +8,7 @@ use rd_queue::waiting_list::WaitingList;
 use rd_stream::side::Side;
 
 /// What a task is doing.
-#[derive(Clone, Copy, Debug, PartialEq, Eq)]
+#[derive(Clone, Copy, PartialEq, Eq)]
 pub enum Phase {
     /// It runs, or is ready to.
     Run,
@@ -27,7 +27,7 @@ pub enum Phase {
 }
 
 /// Why a call failed in a way that no value tells.
-#[derive(Clone, Copy, Debug, PartialEq, Eq)]
+#[derive(Clone, Copy, PartialEq, Eq)]
 pub enum Cause {
     /// An item was to be put into a member of a set that has no room for its handle.
     SetFull,
@@ -110,7 +110,7 @@ impl Phase {
 }
 
 /// Where a task can wait.
-#[derive(Clone, Copy, Debug, PartialEq, Eq)]
+#[derive(Clone, Copy, PartialEq, Eq)]
 pub enum Place {
     /// In a list of tasks.
     Listed { list: Listed },
@@ -122,7 +122,7 @@ pub enum Place {
 }
 
 /// The lists in which tasks wait.
-#[derive(Clone, Copy, Debug, PartialEq, Eq)]
+#[derive(Clone, Copy, PartialEq, Eq)]
 pub enum Listed {
     /// For an item of the queue, or for room in it.
     Queue { queue: usize, list: WaitingList },
@@ -146,7 +146,7 @@ impl Listed {
 }
 
 /// The places of buffers, each of which names one task or nobody.
-#[derive(Clone, Copy, Debug, PartialEq, Eq)]
+#[derive(Clone, Copy, PartialEq, Eq)]
 pub enum Held {
     /// Of a stream buffer.
     Stream { stream: usize, side: Side },

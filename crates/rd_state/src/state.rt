@@ -37,7 +37,6 @@ use std::alloc::Global;
 use std::marker::Model;
 
 /// The whole state of the target. It changes by primitive changes alone.
-#[derive(Debug)]
 pub struct State {
     tick: u32,
     turn: usize,

@@ -13,7 +13,6 @@ use rd_notify::entries::{Entries, Entry};
 use std::marker::Model;
 
 /// A task of the target.
-#[derive(Debug)]
 pub struct Task {
     pc: usize,
     registers: [u32; REGISTERS],

@@ -10,7 +10,7 @@ use rd_notify::entries::Entry;
 
 /// A primitive change of a task. Its bytes are borrowed: from the task, from an object, or from
 /// where changes are kept.
-#[derive(Clone, Copy, Debug)]
+#[derive(Clone, Copy)]
 pub enum TaskChange<'a> {
     /// The task stands at this instruction.
     SetPc { pc: usize },

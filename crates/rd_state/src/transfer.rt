@@ -3,7 +3,7 @@
 use rd_queue::end::End;
 
 /// From where a task's data can get bytes.
-#[derive(Clone, Copy, Debug, PartialEq, Eq)]
+#[derive(Clone, Copy)]
 pub enum Source {
     /// The item at a queue's front. The queue keeps it.
     QueueFront { queue: usize },
@@ -14,7 +14,7 @@ pub enum Source {
 }
 
 /// Where the bytes of a task's data can go.
-#[derive(Clone, Copy, Debug, PartialEq, Eq)]
+#[derive(Clone, Copy)]
 pub enum Sink {
     /// An end of a queue, cut or filled up with zero bytes to the item size.
     QueueEnd { queue: usize, end: End },
@@ -27,7 +27,7 @@ pub enum Sink {
 }
 
 /// Bytes that go between a task's data and another part of the state, straight to where they stay.
-#[derive(Clone, Copy, Debug, PartialEq, Eq)]
+#[derive(Clone, Copy)]
 pub enum Transfer {
     /// A task's data goes to a sink. The task keeps it.
     FromData { task: usize, sink: Sink },

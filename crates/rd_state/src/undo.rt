@@ -14,7 +14,6 @@ use std::marker::Model;
 /// The record of a move: the changes that undo it, in the order of recording. Those of nearly every
 /// move take no memory elsewhere. It can't be dropped: it ends in `State::back`, in a log or in
 /// `retire`.
-#[derive(Debug)]
 pub struct Undo {
     pub(crate) changes: ChangeList,
 }

@@ -8,7 +8,7 @@ use std::marker::Model;
 
 /// Whom the reader's place of a buffer names, and the writer's. A place that names a task goes on
 /// doing so after the task was woken, until it tries its call again.
-#[derive(Debug, Drop)]
+#[derive(Drop)]
 pub struct Holders {
     reader: Option<usize>,
     writer: Option<usize>,

@@ -27,7 +27,7 @@ const LENGTH_BYTES: usize = 4;
 /// A message buffer with room for a number of bytes, and whom its places name. A message lies there
 /// as the four bytes of its length, lowest first, and its own bytes. All its memory is taken by
 /// `new`.
-#[derive(Debug, Drop)]
+#[derive(Drop)]
 pub struct MessageBuf {
     ring: ByteRing,
     count: usize,

@@ -11,7 +11,7 @@ use crate::side::Side;
 /// A primitive change of a message buffer. The bytes of a message, or of messages, are in two
 /// pieces that follow one another. They are borrowed: from the buffer, from a task's data, or from
 /// where changes are kept.
-#[derive(Clone, Copy, Debug)]
+#[derive(Clone, Copy)]
 pub enum MessageChange<'a> {
     /// The message goes to the back.
     Push { front: &'a [u8], back: &'a [u8] },

@@ -84,7 +84,7 @@ fn pack_carried(
 
 /// The change of a message buffer that stands at the end of bytes, which lend it those that it
 /// carries.
-#[derive(Clone, Copy, Debug)]
+#[derive(Clone, Copy)]
 pub struct LastMessageChange<'a> {
     /// The buffer that changes.
     pub buffer: usize,

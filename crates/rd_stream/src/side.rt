@@ -6,7 +6,7 @@ ghost use Rattle.rd_stream.specs.Sides.{tag_of_side};
 use rd_bytes::tag::{SET_READER, SET_WRITER};
 
 /// A side of a buffer, at which one task can wait.
-#[derive(Clone, Copy, Debug, PartialEq, Eq)]
+#[derive(Clone, Copy, PartialEq, Eq)]
 pub enum Side {
     /// Where what is in the buffer is read.
     Reader,

@@ -19,7 +19,7 @@ pub const MAX_STREAM_SIZE: usize = 1024;
 /// A stream buffer: bytes that are read in the order in which they were written, the trigger level,
 /// which is how many bytes have to be there for a write to complete a reader's wait, and whom its
 /// two places name. All its memory is taken by `new`.
-#[derive(Debug, Drop)]
+#[derive(Drop)]
 pub struct StreamBuf {
     ring: ByteRing,
     trigger: usize,

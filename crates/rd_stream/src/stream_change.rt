@@ -11,7 +11,7 @@ use crate::stream_buf::StreamBuf;
 /// A primitive change of a stream buffer. An index counts from the front. Its bytes are borrowed,
 /// in two pieces that follow one another: from the buffer, from a task's data, or from where
 /// changes are kept.
-#[derive(Clone, Copy, Debug)]
+#[derive(Clone, Copy)]
 pub enum StreamChange<'a> {
     /// The bytes go to the back.
     PushBytes { front: &'a [u8], back: &'a [u8] },

@@ -107,7 +107,7 @@ fn pack_bytes(
 
 /// The change of a stream buffer that stands at the end of bytes, which lend it those that it
 /// carries.
-#[derive(Clone, Copy, Debug)]
+#[derive(Clone, Copy)]
 pub struct LastStreamChange<'a> {
     /// The buffer that changes.
     pub stream: usize,

@@ -1,7 +1,7 @@
 //! The kinds of things that have names.
 
 /// A kind of things that have names. Two things of different kinds may have the same name.
-#[derive(Clone, Copy, Debug, PartialEq, Eq)]
+#[derive(Clone, Copy)]
 pub enum Kind {
     /// `queue`
     Queue,

@@ -11,7 +11,6 @@ use std::alloc::{AllocError, Global};
 use std::marker::Model;
 
 /// The names of all things of one kind. No two are equal, and a thing's number is its name's index.
-#[derive(Debug)]
 pub struct Names {
     ordered: IndexSet<String>,
 }

@@ -17,7 +17,7 @@ use std::str;
 pub const MAX_NAME: usize = 16;
 
 /// The words of a line that are still to come.
-#[derive(Debug, Drop)]
+#[derive(Drop)]
 pub struct Words<'a> {
     rest: &'a [u8],
 }

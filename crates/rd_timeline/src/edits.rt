@@ -11,7 +11,7 @@ use std::alloc::Global;
 use std::marker::Model;
 
 /// The edits done and the edits undone, in one list. Other moves need none of its memory.
-#[derive(Debug, Drop)]
+#[derive(Drop)]
 pub(crate) struct Edits {
     kept: Vec<Edit>,
     // So many of them are done; the others are undone, the one to be redone next first.

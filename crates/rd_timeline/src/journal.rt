@@ -24,7 +24,6 @@ use std::marker::Model;
 
 /// The moves done and the moves undone, in one list, and the target with the record of each move
 /// done. It can't be dropped: it ends in `retire`.
-#[derive(Debug)]
 pub struct Journal {
     // A byte a move: the number of its core, 254 for an edit, or 255 for a tick.
     moves: Vec<u8>,
@@ -48,7 +47,7 @@ impl Model for Journal {
 }
 
 /// Moves undone that are kept aside while a run goes on.
-#[derive(Debug, Drop)]
+#[derive(Drop)]
 pub struct Aside {
     moves: Vec<u8>,
     // The edits among them.

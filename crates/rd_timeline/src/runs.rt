@@ -13,7 +13,7 @@ use rd_condition::condition::Condition;
 use rd_refusal::refusal::Refusal;
 
 /// What one asks of a timeline.
-#[derive(Debug, Drop)]
+#[derive(Drop)]
 pub enum Request {
     /// Make this move.
     Go { action: Move },

@@ -56,7 +56,7 @@ impl Model for Timeline {
 
 /// Where a run began: how many moves were done, the moves undone, which are set aside, and the most
 /// so far.
-#[derive(Debug, Drop)]
+#[derive(Drop)]
 pub(crate) struct Start {
     done: usize,
     undone: Aside,

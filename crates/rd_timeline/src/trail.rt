@@ -21,7 +21,6 @@ use std::marker::Model;
 
 /// The target, with the records of the moves that led to it, in order. Moves are made and taken
 /// back where it is. It can't be dropped: it ends in `retire`.
-#[derive(Debug)]
 pub struct Trail {
     // The target, and the changes of all records, one record after the other.
     editing: Editing,

@@ -11,7 +11,7 @@ use std::marker::Model;
 ///
 /// Tasks are named by their numbers. The list has room for as many as it was made for, and takes no
 /// memory after that.
-#[derive(Debug, Drop)]
+#[derive(Drop)]
 pub struct FifoList {
     tasks: Vec<usize>,
     capacity: usize,

@@ -12,7 +12,7 @@ use std::marker::Model;
 ///
 /// Tasks are named by their numbers. The list has room for as many as it was made for, and takes no
 /// memory after that. It doesn't know the tasks' priorities: `index_for` is given them.
-#[derive(Debug, Drop)]
+#[derive(Drop)]
 pub struct PrioList {
     tasks: Vec<usize>,
     capacity: usize,
