@@ -2,5 +2,5 @@
 pub mod WordLemmas
 pub mod NameLemmas
 pub mod NameLaws
-pub mod IndexLemmas
+pub mod ListLemmas
 pub mod Offered

@@ -6,13 +6,12 @@ ghost use Rattle.std.specs.Str.{bytes_eq};
 ghost use Rattle.rd_text.specs.Names.{are_distinct};
 ghost use Rattle.rd_text.specs.Words.{texts};
 
-use indexmap::IndexSet;
 use std::alloc::{AllocError, Global};
 use std::marker::Model;
 
 /// The names of all things of one kind. No two are equal, and a thing's number is its name's index.
 pub struct Names {
-    ordered: IndexSet<String>,
+    ordered: Vec<String>,
 }
 
 // (Written out, so that a drop of one is a call: no proof elsewhere has to look into its parts.)
@@ -27,7 +26,7 @@ impl Model for Names {
 
     ghost Value = { List (List ℕ) };
 
-    ghost view = { λ n. map string_bytes n.ordered.keys };
+    ghost view = { λ n. map string_bytes n.ordered.items };
 }
 
 impl Names {
@@ -36,7 +35,7 @@ impl Names {
         ensures { result ≡ [] }
     {
         Names {
-            ordered: IndexSet::new(alloc),
+            ordered: Vec::new(alloc),
         }
     }
 
@@ -45,9 +44,9 @@ impl Names {
         requires { are_distinct (texts names.now) ≡ true }
         ensures { IfOk result (λ made. made ≡ texts names.now) }
     {
-        let mut ordered = IndexSet::new(alloc);
+        let mut ordered = Vec::new(alloc);
         for name in names {
-            ordered.insert(String::from_str(alloc, name)?)?;
+            ordered.push(String::from_str(alloc, name)?)?;
         }
         Ok(Names { ordered })
     }
@@ -56,7 +55,7 @@ impl Names {
     pub fn find(&self, name: &str) -> Option<usize>
         ensures { result ≡ position (bytes_eq name.now) self.now }
     {
-        self.ordered.get_index_of(name)
+        self.ordered.iter().position(|other| name == other.as_str())
     }
 
     /// The name of the thing with that number.
@@ -64,9 +63,6 @@ impl Names {
         requires { number < length self.now }
         ensures { slice_get self.now number ≡ Some result.now }
     {
-        match self.ordered.get_index(number) {
-            Some(name) => name.as_str(),
-            None => unreachable!(),
-        }
+        self.ordered[number].as_str()
     }
 }
