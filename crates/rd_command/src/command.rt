@@ -9,6 +9,7 @@ ghost use Rattle.rd_command.specs.Tables.{alone_view, longer_view, verb_view};
 ghost use Rattle.rd_command.specs.Tables.{command_alone, command_behind};
 ghost use Rattle.rd_command.specs.Tables.{command_longer, command_with_second};
 
+use crate::cut::Cut;
 use crate::form::are_operands;
 use crate::keyword::{Alone, Keyword, Longer, Verb, keywords_behind};
 use rd_text::words::Words;
@@ -20,7 +21,7 @@ use std::marker::Model;
 pub struct Command<'a> {
     line: &'a [u8],
     keyword: Keyword,
-    operands: Words<'a>,
+    operands: Cut<'a>,
 }
 
 impl<'a> Model for Command<'a> {
@@ -40,7 +41,7 @@ impl<'a> Model for Command<'a> {
 #[derive(Drop)]
 struct Found<'a> {
     keyword: Keyword,
-    operands: Words<'a>,
+    operands: Cut<'a>,
 }
 
 impl<'a> Model for Found<'a> {
@@ -82,7 +83,7 @@ impl<'a> Command<'a> {
     }
 
     /// The words of the operands.
-    pub(crate) fn operands(&self) -> Words<'a>
+    pub(crate) fn operands(&self) -> Cut<'a>
         ensures { result ≡ self.now.operands }
     {
         self.operands.copy()
@@ -124,21 +125,21 @@ fn read_line(line: &[u8]) -> Option<Found<'_>>
 }
 
 // The words of a line. Of the reader's contract only this matters here.
-fn words_in(line: &[u8]) -> Words<'_>
+fn words_in(line: &[u8]) -> Cut<'_>
     ensures { result ≡ words_of line.now }
 {
-    Words::new(line)
+    Cut::new(Words::new(line))
 }
 
 // The command that the words spell, of which the first stands apart, if they do.
-fn command_from<'a>(first: &[u8], words: &Words<'a>) -> Option<Found<'a>>
+fn command_from<'a>(first: &[u8], words: &Cut<'a>) -> Option<Found<'a>>
     ensures { result ≡ command_from first.now words.now }
 {
     command_behind(words, keywords_behind(first)?)
 }
 
 // The command that the words spell behind this first word.
-fn command_behind<'a>(words: &Words<'a>, verb: &Verb<'_>) -> Option<Found<'a>>
+fn command_behind<'a>(words: &Cut<'a>, verb: &Verb<'_>) -> Option<Found<'a>>
     ensures { result ≡ command_behind (verb_view verb.now) words.now }
 {
     let (alone, longer) = *verb;
@@ -151,7 +152,7 @@ fn command_behind<'a>(words: &Words<'a>, verb: &Verb<'_>) -> Option<Found<'a>>
 }
 
 // The command of the first of these keywords that the words are the operands of.
-fn command_alone<'a>(words: &Words<'a>, rows: &[Alone<'_>]) -> Option<Found<'a>>
+fn command_alone<'a>(words: &Cut<'a>, rows: &[Alone<'_>]) -> Option<Found<'a>>
     ensures { result ≡ command_alone (alone_view rows.now) words.now }
 {
     for (operands, keyword) in rows {
@@ -166,7 +167,7 @@ fn command_alone<'a>(words: &Words<'a>, rows: &[Alone<'_>]) -> Option<Found<'a>>
 }
 
 // The command of the keywords that have a second word. It is read once for all of them.
-fn command_longer<'a>(words: &Words<'a>, rows: &[Longer<'_>]) -> Option<Found<'a>>
+fn command_longer<'a>(words: &Cut<'a>, rows: &[Longer<'_>]) -> Option<Found<'a>>
     ensures { result ≡ command_longer (longer_view rows.now) words.now }
 {
     let mut left = words.copy();
@@ -175,11 +176,7 @@ fn command_longer<'a>(words: &Words<'a>, rows: &[Longer<'_>]) -> Option<Found<'a
 }
 
 // The command of the first of these keywords that has this second word, and the words as operands.
-fn command_with_second<'a>(
-    second: &[u8],
-    words: &Words<'a>,
-    rows: &[Longer<'_>],
-) -> Option<Found<'a>>
+fn command_with_second<'a>(second: &[u8], words: &Cut<'a>, rows: &[Longer<'_>]) -> Option<Found<'a>>
     ensures { result ≡ command_with_second (longer_view rows.now) second.now words.now }
 {
     for (text, operands, keyword) in rows {

@@ -1,8 +1,9 @@
-//! The lines of a session, the commands that they are, and what these name of an application.
+//! The commands of a session, and what they name of an application.
 #![tactic(auto)]
 
 pub mod binding;
 pub mod command;
+mod cut;
 mod form;
 pub mod keyword;
 pub mod laws;
