@@ -12,7 +12,7 @@ use Rattle.rd_command.specs.declared.keyword.Parameter.{Parameter}
 use Rattle.rd_command.specs.Commands.{CommandView, command_among, command_spelled, command_with}
 use Rattle.rd_command.specs.Forms.{are_operands}
 use Rattle.rd_command.specs.Keywords.{Operands, Row, Spelled, condition_row, keywords, more_of, operands_of, parameters_of, row_of, text_of, verb_of}
-use Rattle.rd_command.specs.Tables.{Alone, Longer, Verb, Verbs, command_alone, command_behind, command_longer, command_with_second, conditions_of, first_condition, keywords_behind, verb_among, verb_view, verbs_of}
+use Rattle.rd_command.specs.Tables.{Alone, Longer, Verb, command_alone, command_behind, command_by_verb, command_longer, command_with_second, conditions_of, first_condition}
 
 -- what the table of conditions has at a word
 pub condition_found : (word : List ℕ) (others : List ConditionKeyword)
@@ -66,21 +66,38 @@ flat_alone verb rows = map (λ row. (verb, [], row.0, row.1)) rows
 abbrev flat_longer : List ℕ → List Longer → List Flat
 flat_longer verb rows = map (λ row. (verb, row.0 ∷ [], row.1, row.2)) rows
 
-abbrev flat : Verbs → List Flat
+abbrev flat : List Verb → List Flat
 flat [] = []
-flat (row ∷ others) = flat_alone row.0 row.1.0 ++ (flat_longer row.0 row.1.1 ++ flat others)
+flat (verb ∷ others) = flat_alone verb.0 verb.1 ++ (flat_longer verb.0 verb.2 ++ flat others)
 
 abbrev rows_of : List Keyword → List Flat
 rows_of keywords = map (λ k. (verb_of (row_of k), more_of (row_of k), operands_of (row_of k), k)) keywords
 
--- does none of these begin with the word?
-abbrev is_new : List ℕ → Verbs → Bool
-is_new word [] = true
-is_new word (row ∷ others) = if bytes_eq word row.0 then false else is_new word others
+-- ---- and with those of one first word together
 
-abbrev are_distinct : Verbs → Bool
+abbrev with_words : List (List ℕ) → Operands → Keyword → Verb → Verb
+with_words [] operands k verb = (verb.0, (operands, k) ∷ verb.1, verb.2)
+with_words (second ∷ more) operands k verb = (verb.0, verb.1, (second, operands, k) ∷ verb.2)
+
+-- the keyword before those that have its first word, if these come next
+abbrev joined : Row → Keyword → List Verb → List Verb
+joined (Spelled word more operands make) k [] = with_words more operands k (word, [], []) ∷ []
+joined (Spelled word more operands make) k (verb ∷ others) =
+    if bytes_eq word verb.0 then with_words more operands k verb ∷ others
+    else with_words more operands k (word, [], []) ∷ verb ∷ others
+
+abbrev pub verbs_of : List Keyword → List Verb
+verbs_of [] = []
+verbs_of (k ∷ others) = joined (row_of k) k (verbs_of others)
+
+-- does none of these begin with the word?
+abbrev is_new : List ℕ → List Verb → Bool
+is_new word [] = true
+is_new word (verb ∷ others) = if bytes_eq word verb.0 then false else is_new word others
+
+abbrev are_distinct : List Verb → Bool
 are_distinct [] = true
-are_distinct (row ∷ others) = if is_new row.0 others then are_distinct others else false
+are_distinct (verb ∷ others) = if is_new verb.0 others then are_distinct others else false
 
 -- a row for each keyword is found as its definition has it
 row_found : (k : Keyword) (of : Row) (first : List ℕ) (words : List (List ℕ))
@@ -117,21 +134,21 @@ no_longer : (verb : List ℕ) (rows : List Longer) (first : List ℕ) (words : L
 no_longer verb [] first words e = refl
 no_longer verb (row ∷ rows) first words e = rw e (no_longer verb rows first words e)
 
-others_found : (row : List ℕ × Verb) (others : Verbs) (first : List ℕ) (words : List (List ℕ)) → bytes_eq first row.0 ≡ false
-    → first_command (flat (row ∷ others)) first words ≡ first_command (flat others) first words
-others_found row others first words e =
-    rows_then (flat_alone row.0 row.1.0) (flat_longer row.0 row.1.1 ++ flat others) first words
-    ∙ rw (no_alone row.0 row.1.0 first words e)
-    (rows_then (flat_longer row.0 row.1.1) (flat others) first words
-    ∙ rw (no_longer row.0 row.1.1 first words e) refl)
+others_found : (verb : Verb) (others : List Verb) (first : List ℕ) (words : List (List ℕ)) → bytes_eq first verb.0 ≡ false
+    → first_command (flat (verb ∷ others)) first words ≡ first_command (flat others) first words
+others_found verb others first words e =
+    rows_then (flat_alone verb.0 verb.1) (flat_longer verb.0 verb.2 ++ flat others) first words
+    ∙ rw (no_alone verb.0 verb.1 first words e)
+    (rows_then (flat_longer verb.0 verb.2) (flat others) first words
+    ∙ rw (no_longer verb.0 verb.2 first words e) refl)
 
-none_of : (verbs : Verbs) (first : List ℕ) (words : List (List ℕ)) → is_new first verbs ≡ true → first_command (flat verbs) first words ≡ None
+none_of : (verbs : List Verb) (first : List ℕ) (words : List (List ℕ)) → is_new first verbs ≡ true → first_command (flat verbs) first words ≡ None
 none_of [] first words e = refl
-none_of (row ∷ others) first words e =
-    elim (bytes_eq first row.0) as
-    (λ b. (bytes_eq first row.0 ≡ b) → cond b false (is_new first others) ≡ true → first_command (flat (row ∷ others)) first words ≡ None) [
+none_of (verb ∷ others) first words e =
+    elim (bytes_eq first verb.0) as
+    (λ b. (bytes_eq first verb.0 ≡ b) → cond b false (is_new first others) ≡ true → first_command (flat (verb ∷ others)) first words ≡ None) [
       | true ↦ λ same. λ e. absurd cc
-      | false ↦ λ other. λ e. others_found row others first words other ∙ none_of others first words e
+      | false ↦ λ other. λ e. others_found verb others first words other ∙ none_of others first words e
     ] refl e
 
 -- behind the first word itself are its own
@@ -173,40 +190,34 @@ or_none : {X : Type 0} (a : Option X) → option_or a None ≡ a
 or_none (Some x) = refl
 or_none None = refl
 
-own_found : (row : List ℕ × Verb) (others : Verbs) (first : List ℕ) (words : List (List ℕ)) → bytes_eq first row.0 ≡ true → is_new row.0 others ≡ true
-    → first_command (flat (row ∷ others)) first words ≡ command_behind row.1 words
-own_found row others first words same fresh =
-    let own : is_new first others ≡ true = ap (λ (word : List ℕ). is_new word others) ((bytes_eq-Decides first row.0).0 same) ∙ fresh in
-    rows_then (flat_alone row.0 row.1.0) (flat_longer row.0 row.1.1 ++ flat others) first words
-    ∙ rw (own_alone row.0 row.1.0 first words same)
-    (ap (option_or (command_alone row.1.0 words))
-    (rows_then (flat_longer row.0 row.1.1) (flat others) first words
-    ∙ rw (own_longer row.0 row.1.1 first words same, none_of others first words own) (or_none (command_longer row.1.1 words))))
+own_found : (verb : Verb) (others : List Verb) (first : List ℕ) (words : List (List ℕ)) → bytes_eq first verb.0 ≡ true → is_new verb.0 others ≡ true
+    → first_command (flat (verb ∷ others)) first words ≡ command_behind verb words
+own_found verb others first words same fresh =
+    let own : is_new first others ≡ true = ap (λ (word : List ℕ). is_new word others) ((bytes_eq-Decides first verb.0).0 same) ∙ fresh in
+    rows_then (flat_alone verb.0 verb.1) (flat_longer verb.0 verb.2 ++ flat others) first words
+    ∙ rw (own_alone verb.0 verb.1 first words same)
+    (ap (option_or (command_alone verb.1 words))
+    (rows_then (flat_longer verb.0 verb.2) (flat others) first words
+    ∙ rw (own_longer verb.0 verb.2 first words same, none_of others first words own) (or_none (command_longer verb.2 words))))
 
 both_true : (a b : Bool) → cond a b false ≡ true → (a ≡ true) × (b ≡ true)
 both_true true b e = (refl, e)
 both_true false b e = absurd cc
 
-abbrev command_by_verb : Verbs → List ℕ → List (List ℕ) → Option CommandView
-command_by_verb verbs first words = option_and_then (λ verb. command_behind verb words) (verb_among verbs first)
-
-verb_found : (verbs : Verbs) (first : List ℕ) (words : List (List ℕ)) → are_distinct verbs ≡ true
+verb_found : (verbs : List Verb) (first : List ℕ) (words : List (List ℕ)) → are_distinct verbs ≡ true
     → command_by_verb verbs first words ≡ first_command (flat verbs) first words
 verb_found [] first words e = refl
-verb_found (row ∷ others) first words e =
-    let distinct = both_true (is_new row.0 others) (are_distinct others) e in
-    elim (bytes_eq first row.0) as
-    (λ b. (bytes_eq first row.0 ≡ b)
-    → option_and_then (λ verb. command_behind verb words) (cond b (Some row.1) (verb_among others first)) ≡ first_command (flat (row ∷ others)) first words) [
-      | true ↦ λ same. sym (own_found row others first words same distinct.0)
-      | false ↦ λ other. verb_found others first words distinct.1 ∙ sym (others_found row others first words other)
+verb_found (verb ∷ others) first words e =
+    let distinct = both_true (is_new verb.0 others) (are_distinct others) e in
+    elim (bytes_eq first verb.0) as
+    (λ b. (bytes_eq first verb.0 ≡ b) → cond b (command_behind verb words) (command_by_verb others first words) ≡ first_command (flat (verb ∷ others)) first words) [
+      | true ↦ λ same. sym (own_found verb others first words same distinct.0)
+      | false ↦ λ other. verb_found others first words distinct.1 ∙ sym (others_found verb others first words other)
     ] refl
 
-pub command_found : (first : List ℕ) (words : List (List ℕ)) (verb : Option Verb) → verb ≡ keywords_behind first
-    → option_and_then (λ verb. command_behind verb words) verb ≡ command_among keywords first words
-command_found first words verb is =
+pub command_found : (first : List ℕ) (words : List (List ℕ)) → command_by_verb (verbs_of keywords) first words ≡ command_among keywords first words
+command_found first words =
     let flatten : flat (verbs_of keywords) ≡ rows_of keywords = refl in
-    ap (option_and_then (λ verb. command_behind verb words)) is
-    ∙ verb_found (verbs_of keywords) first words refl
+    verb_found (verbs_of keywords) first words refl
     ∙ ap (λ rows. first_command rows first words) flatten
     ∙ keyword_found first words keywords

@@ -1,7 +1,6 @@
 -- What the contracts of this crate cite.
 pub mod Bindings
 pub mod Commands
-pub mod Cuts
 pub mod Forms
 pub mod Keywords
 pub mod Tables

@@ -11,8 +11,8 @@ use Rattle.rd_command.specs.declared.keyword.Keyword.{Keyword}
 use Rattle.rd_command.specs.declared.keyword.Parameter.{Parameter}
 use Rattle.rd_command.specs.Commands.{CommandView}
 use Rattle.rd_command.specs.Forms.{are_operands}
-use Rattle.rd_command.specs.Keywords.{Operands, Plain, WithCondition, Row, Spelled}
-use Rattle.rd_command.specs.Keywords.{condition_row, keywords, parameters_of, row_of, text_of}
+use Rattle.rd_command.specs.Keywords.{Operands, Plain, WithCondition, condition_row}
+use Rattle.rd_command.specs.Keywords.{parameters_of, text_of}
 
 -- ---- conditions: the text of each, its operands, and the keyword
 
@@ -33,7 +33,8 @@ first_condition word [] = None
 first_condition word (row ∷ others) =
     if bytes_eq word row.0 then Some (row.1, row.2) else first_condition word others
 
--- ---- commands: what stands behind a first word
+-- ---- commands: first words, each with the keywords that are this word alone, and those that
+-- have a second word
 
 abbrev pub operands_view : code.Operands → Operands
 operands_view (kept.Plain parameters) = Plain parameters.now
@@ -53,17 +54,22 @@ Longer = List ℕ × Operands × Keyword
 abbrev pub longer_view : List (Bor (List ℕ) × code.Operands × Keyword) → List Longer
 longer_view rows = map (λ row. (row.0.now, operands_view row.1, row.2)) rows
 
--- what stands behind a first word: the keywords of both kinds
+-- a first word, with its keywords of both kinds
 abbrev pub Verb : Type 0
-Verb = List Alone × List Longer
+Verb = List ℕ × List Alone × List Longer
 
 -- how the code keeps it
 abbrev pub VerbKept : Type 0
 VerbKept =
-    Bor (List (code.Operands × Keyword)) × Bor (List (Bor (List ℕ) × code.Operands × Keyword))
+    Bor (List ℕ)
+    × Bor (List (code.Operands × Keyword))
+    × Bor (List (Bor (List ℕ) × code.Operands × Keyword))
 
 abbrev pub verb_view : VerbKept → Verb
-verb_view verb = (alone_view verb.0.now, longer_view verb.1.now)
+verb_view verb = (verb.0.now, alone_view verb.1.now, longer_view verb.2.now)
+
+abbrev pub verbs_view : List VerbKept → List Verb
+verbs_view verbs = map verb_view verbs
 
 -- the command of the first of these keywords that the words are the operands of
 abbrev pub command_alone : List Alone → List (List ℕ) → Option CommandView
@@ -88,35 +94,11 @@ command_longer rows (second ∷ words) = command_with_second rows second words
 -- the command that the words spell behind a first word
 abbrev pub command_behind : Verb → List (List ℕ) → Option CommandView
 command_behind verb words =
-    option_or (command_alone verb.0 words) (command_longer verb.1 words)
+    option_or (command_alone verb.1 words) (command_longer verb.2 words)
 
--- ---- the keywords of one first word together
-
--- first words, each with what stands behind it
-abbrev pub Verbs : Type 0
-Verbs = List (List ℕ × Verb)
-
--- the keyword before those of its first word
-abbrev pub with_keyword : List (List ℕ) → Operands → Keyword → Verb → Verb
-with_keyword [] operands k verb = ((operands, k) ∷ verb.0, verb.1)
-with_keyword (second ∷ more) operands k verb = (verb.0, (second, operands, k) ∷ verb.1)
-
--- and before all others; those of its first word come next, if there are some
-abbrev pub joined : Row → Keyword → Verbs → Verbs
-joined (Spelled word more operands make) k [] = (word, with_keyword more operands k ([], [])) ∷ []
-joined (Spelled word more operands make) k (row ∷ others) =
-    if bytes_eq word row.0 then (row.0, with_keyword more operands k row.1) ∷ others
-    else (word, with_keyword more operands k ([], [])) ∷ row ∷ others
-
-abbrev pub verbs_of : List Keyword → Verbs
-verbs_of [] = []
-verbs_of (k ∷ others) = joined (row_of k) k (verbs_of others)
-
-abbrev pub verb_among : Verbs → List ℕ → Option Verb
-verb_among [] word = None
-verb_among (row ∷ others) word =
-    if bytes_eq word row.0 then Some row.1 else verb_among others word
-
--- what stands behind a first word, if a keyword begins with it
-abbrev pub keywords_behind : List ℕ → Option Verb
-keywords_behind word = verb_among (verbs_of keywords) word
+-- the command that the words spell behind their first word, if that is one of these
+abbrev pub command_by_verb : List Verb → List ℕ → List (List ℕ) → Option CommandView
+command_by_verb [] first words = None
+command_by_verb (verb ∷ others) first words =
+    if bytes_eq first verb.0 then command_behind verb words
+    else command_by_verb others first words

@@ -5,13 +5,12 @@ ghost use Rattle.std.specs.Result.{result_ok};
 ghost use Rattle.rd_text.specs.Words.{words_of};
 ghost use Rattle.rd_command.specs.Commands.{CommandView, Spells, command_from, command_of};
 ghost use Rattle.rd_command.specs.Keywords.{needs_wheel};
-ghost use Rattle.rd_command.specs.Tables.{alone_view, longer_view, verb_view};
-ghost use Rattle.rd_command.specs.Tables.{command_alone, command_behind};
+ghost use Rattle.rd_command.specs.Tables.{alone_view, longer_view, verb_view, verbs_view};
+ghost use Rattle.rd_command.specs.Tables.{command_alone, command_behind, command_by_verb};
 ghost use Rattle.rd_command.specs.Tables.{command_longer, command_with_second};
 
-use crate::cut::Cut;
 use crate::form::are_operands;
-use crate::keyword::{Alone, Keyword, Longer, Verb, keywords_behind};
+use crate::keyword::{Alone, KEYWORDS, Keyword, Longer, Verb};
 use rd_text::words::Words;
 use std::marker::Model;
 
@@ -21,7 +20,7 @@ use std::marker::Model;
 pub struct Command<'a> {
     line: &'a [u8],
     keyword: Keyword,
-    operands: Cut<'a>,
+    operands: Words<'a>,
 }
 
 impl<'a> Model for Command<'a> {
@@ -41,7 +40,7 @@ impl<'a> Model for Command<'a> {
 #[derive(Drop)]
 struct Found<'a> {
     keyword: Keyword,
-    operands: Cut<'a>,
+    operands: Words<'a>,
 }
 
 impl<'a> Model for Found<'a> {
@@ -83,7 +82,7 @@ impl<'a> Command<'a> {
     }
 
     /// The words of the operands.
-    pub(crate) fn operands(&self) -> Cut<'a>
+    pub(crate) fn operands(&self) -> Words<'a>
         ensures { result ≡ self.now.operands }
     {
         self.operands.copy()
@@ -125,24 +124,36 @@ fn read_line(line: &[u8]) -> Option<Found<'_>>
 }
 
 // The words of a line. Of the reader's contract only this matters here.
-fn words_in(line: &[u8]) -> Cut<'_>
+fn words_in(line: &[u8]) -> Words<'_>
     ensures { result ≡ words_of line.now }
 {
-    Cut::new(Words::new(line))
+    Words::new(line)
 }
 
 // The command that the words spell, of which the first stands apart, if they do.
-fn command_from<'a>(first: &[u8], words: &Cut<'a>) -> Option<Found<'a>>
+fn command_from<'a>(first: &[u8], words: &Words<'a>) -> Option<Found<'a>>
     ensures { result ≡ command_from first.now words.now }
 {
-    command_behind(words, keywords_behind(first)?)
+    command_by_verb(first, words, &KEYWORDS)
+}
+
+// The command of the keywords that begin with the first word, which stands apart.
+fn command_by_verb<'a>(first: &[u8], words: &Words<'a>, verbs: &[Verb<'_>]) -> Option<Found<'a>>
+    ensures { result ≡ command_by_verb (verbs_view verbs.now) first.now words.now }
+{
+    for verb in verbs {
+        if first == verb.0.as_bytes() {
+            return command_behind(words, verb);
+        }
+    }
+    None
 }
 
 // The command that the words spell behind this first word.
-fn command_behind<'a>(words: &Cut<'a>, verb: &Verb<'_>) -> Option<Found<'a>>
+fn command_behind<'a>(words: &Words<'a>, verb: &Verb<'_>) -> Option<Found<'a>>
     ensures { result ≡ command_behind (verb_view verb.now) words.now }
 {
-    let (alone, longer) = *verb;
+    let (_, alone, longer) = *verb;
     let found = command_alone(words, alone);
     if found.is_some() {
         found
@@ -152,7 +163,7 @@ fn command_behind<'a>(words: &Cut<'a>, verb: &Verb<'_>) -> Option<Found<'a>>
 }
 
 // The command of the first of these keywords that the words are the operands of.
-fn command_alone<'a>(words: &Cut<'a>, rows: &[Alone<'_>]) -> Option<Found<'a>>
+fn command_alone<'a>(words: &Words<'a>, rows: &[Alone<'_>]) -> Option<Found<'a>>
     ensures { result ≡ command_alone (alone_view rows.now) words.now }
 {
     for (operands, keyword) in rows {
@@ -167,7 +178,7 @@ fn command_alone<'a>(words: &Cut<'a>, rows: &[Alone<'_>]) -> Option<Found<'a>>
 }
 
 // The command of the keywords that have a second word. It is read once for all of them.
-fn command_longer<'a>(words: &Cut<'a>, rows: &[Longer<'_>]) -> Option<Found<'a>>
+fn command_longer<'a>(words: &Words<'a>, rows: &[Longer<'_>]) -> Option<Found<'a>>
     ensures { result ≡ command_longer (longer_view rows.now) words.now }
 {
     let mut left = words.copy();
@@ -176,7 +187,11 @@ fn command_longer<'a>(words: &Cut<'a>, rows: &[Longer<'_>]) -> Option<Found<'a>>
 }
 
 // The command of the first of these keywords that has this second word, and the words as operands.
-fn command_with_second<'a>(second: &[u8], words: &Cut<'a>, rows: &[Longer<'_>]) -> Option<Found<'a>>
+fn command_with_second<'a>(
+    second: &[u8],
+    words: &Words<'a>,
+    rows: &[Longer<'_>],
+) -> Option<Found<'a>>
     ensures { result ≡ command_with_second (longer_view rows.now) second.now words.now }
 {
     for (text, operands, keyword) in rows {

@@ -9,10 +9,9 @@ ghost use Rattle.rd_command.specs.Forms.{are_operands, is_all};
 ghost use Rattle.rd_command.specs.Tables.{operands_view};
 
 use crate::binding::MAX_WATCHES;
-use crate::cut::Cut;
 use crate::keyword::{Operands, Parameter, condition_keyword_of};
 use rd_condition::condition::{Comparison, PhaseName};
-use rd_text::words::{bytes, is_name, number};
+use rd_text::words::{Words, bytes, is_name, number};
 
 /// How many moves a command makes or takes back at the most.
 pub(crate) const MAX_COUNT: u32 = 1_000_000;
@@ -98,7 +97,7 @@ fn is_formed(parameter: Parameter, word: &[u8]) -> bool
 }
 
 // What is left of the words behind one for each of these operands, if they have the forms.
-fn after_words<'a>(words: &Cut<'a>, parameters: &[Parameter]) -> Option<Cut<'a>>
+fn after_words<'a>(words: &Words<'a>, parameters: &[Parameter]) -> Option<Words<'a>>
     ensures { result ≡ after_words parameters.now words.now }
 {
     let mut left = words.copy();
@@ -111,7 +110,7 @@ fn after_words<'a>(words: &Cut<'a>, parameters: &[Parameter]) -> Option<Cut<'a>>
 }
 
 // What is left of the words behind a condition, if they begin with one.
-fn after_condition<'a>(words: &Cut<'a>) -> Option<Cut<'a>>
+fn after_condition<'a>(words: &Words<'a>) -> Option<Words<'a>>
     ensures { result ≡ after_condition words.now }
 {
     let mut left = words.copy();
@@ -120,7 +119,7 @@ fn after_condition<'a>(words: &Cut<'a>) -> Option<Cut<'a>>
 }
 
 // Whether the words are one for each of these operands, with the forms, and no more.
-fn are_formed(words: &Cut<'_>, parameters: &[Parameter]) -> bool
+fn are_formed(words: &Words<'_>, parameters: &[Parameter]) -> bool
     ensures { result ≡ is_all (after_words parameters.now words.now) }
 {
     let mut left = words.copy();
@@ -137,7 +136,7 @@ fn are_formed(words: &Cut<'_>, parameters: &[Parameter]) -> bool
 
 /// Whether the words are such operands, and no more.
 #[inline(always)]
-pub(crate) fn are_operands(words: &Cut<'_>, operands: Operands<'_>) -> bool
+pub(crate) fn are_operands(words: &Words<'_>, operands: Operands<'_>) -> bool
     ensures { result ≡ are_operands (operands_view operands.entry) words.now }
 {
     match operands {

@@ -4,7 +4,6 @@ ghost use Rattle.std.specs.Prelude.{◌≡◌, IfSome, option_map};
 ghost use Rattle.rd_command.specs.Keywords.{condition_keyword_of, condition_row, needs_wheel};
 ghost use Rattle.rd_command.specs.Keywords.{parameters_of};
 ghost use Rattle.rd_command.specs.Tables.{first_condition, conditions_view};
-ghost use Rattle.rd_command.specs.Tables.{keywords_behind, verb_view};
 
 use ConditionKeyword::Compares;
 use Keyword::{Poke, Show};
@@ -167,123 +166,87 @@ pub(crate) type Alone<'a> = (Operands<'a>, Keyword);
 /// The second word of a keyword that has one, its operands, and the keyword.
 pub(crate) type Longer<'a> = (&'a str, Operands<'a>, Keyword);
 
-/// What stands behind a first word: the keywords that are that word alone, and those that have a
-/// second word.
-pub(crate) type Verb<'a> = (&'a [Alone<'a>], &'a [Longer<'a>]);
+/// A first word, the keywords that are this word alone, and those that have a second one.
+pub(crate) type Verb<'a> = (&'a str, &'a [Alone<'a>], &'a [Longer<'a>]);
 
-static STEP_VERB: Verb<'static> = (&[(Plain(&[CORE]), Keyword::Step)], &[]);
-
-static TICK_VERB: Verb<'static> = (&[(Plain(&[]), Keyword::Tick)], &[]);
-
-static BACK_VERB: Verb<'static> = (
-    &[(Plain(&[COUNT]), Keyword::Back)],
-    &[
-        ("until", WithCondition(&[]), Keyword::BackUntil),
-        ("until", Plain(&[WATCH]), Keyword::BackUntilWatch),
-    ],
-);
-
-static FORWARD_VERB: Verb<'static> = (&[(Plain(&[COUNT]), Keyword::Forward)], &[]);
-
-static SHOW_VERB: Verb<'static> = (
-    &[],
-    &[
-        ("task", Plain(&[TASK]), Show(Kind::Task)),
-        ("queue", Plain(&[QUEUE]), Show(Kind::Queue)),
-        ("set", Plain(&[QUEUE_SET]), Show(Kind::QueueSet)),
-        ("stream", Plain(&[STREAM]), Show(Kind::Stream)),
-        ("message", Plain(&[MESSAGE]), Show(Kind::Message)),
-        ("group", Plain(&[GROUP]), Show(Kind::Group)),
-        ("cores", Plain(&[]), Keyword::ShowCores),
-        ("moves", Plain(&[]), Keyword::ShowMoves),
-        ("wheel", Plain(&[]), Keyword::ShowWheel),
-        ("watches", Plain(&[]), Keyword::ShowWatches),
-    ],
-);
-
-static REDO_VERB: Verb<'static> = (&[(Plain(&[COUNT]), Keyword::Redo)], &[]);
-
-static UNTIL_VERB: Verb<'static> = (
-    &[
-        (WithCondition(&[COUNT]), Keyword::Until),
-        (Plain(&[WATCH, COUNT]), Keyword::UntilWatch),
-    ],
-    &[],
-);
-
-static POKE_VERB: Verb<'static> = (
-    &[],
-    &[
-        (
-            "reg",
-            Plain(&[TASK, REGISTER, NUMBER]),
-            Poke(EditKeyword::Register),
-        ),
-        ("data", Plain(&[TASK, DATA]), Poke(EditKeyword::Data)),
-        ("pc", Plain(&[TASK, NUMBER]), Poke(EditKeyword::Pc)),
-        (
-            "note",
-            Plain(&[TASK, INDEX, NUMBER]),
-            Poke(EditKeyword::Value),
-        ),
-        ("group", Plain(&[GROUP, NUMBER]), Poke(EditKeyword::Bits)),
-        (
-            "item",
-            Plain(&[QUEUE, NUMBER, DATA]),
-            Poke(EditKeyword::Item),
-        ),
-        (
-            "byte",
-            Plain(&[STREAM, NUMBER, NUMBER]),
-            Poke(EditKeyword::Byte),
-        ),
-    ],
-);
-
-static WHEEL_VERB: Verb<'static> = (
-    &[],
-    &[
-        ("take", Plain(&[]), Keyword::TakeWheel),
-        ("give", Plain(&[]), Keyword::GiveWheel),
-    ],
-);
-
-static WATCH_VERB: Verb<'static> = (&[(WithCondition(&[]), Keyword::Watch)], &[]);
-
-static UNWATCH_VERB: Verb<'static> = (&[(Plain(&[NUMBER]), Keyword::Unwatch)], &[]);
-
-/// What stands behind this first word, if a keyword begins with it. What is asked for most comes
-/// first. (A comparison with a word that stands here is a few instructions; with one of a table it
-/// would be a call.)
-pub(crate) fn keywords_behind(word: &[u8]) -> Option<&'static Verb<'static>>
-    ensures { option_map (λ verb. verb_view verb.now) result ≡ keywords_behind word.now }
-{
-    if word == b"step".as_slice() {
-        Some(&STEP_VERB)
-    } else if word == b"tick".as_slice() {
-        Some(&TICK_VERB)
-    } else if word == b"back".as_slice() {
-        Some(&BACK_VERB)
-    } else if word == b"forward".as_slice() {
-        Some(&FORWARD_VERB)
-    } else if word == b"show".as_slice() {
-        Some(&SHOW_VERB)
-    } else if word == b"redo".as_slice() {
-        Some(&REDO_VERB)
-    } else if word == b"until".as_slice() {
-        Some(&UNTIL_VERB)
-    } else if word == b"poke".as_slice() {
-        Some(&POKE_VERB)
-    } else if word == b"wheel".as_slice() {
-        Some(&WHEEL_VERB)
-    } else if word == b"watch".as_slice() {
-        Some(&WATCH_VERB)
-    } else if word == b"unwatch".as_slice() {
-        Some(&UNWATCH_VERB)
-    } else {
-        None
-    }
-}
+/// Each keyword of a command, by its first word. What is asked for most comes first.
+pub(crate) static KEYWORDS: [Verb<'static>; 11] = [
+    ("step", &[(Plain(&[CORE]), Keyword::Step)], &[]),
+    ("tick", &[(Plain(&[]), Keyword::Tick)], &[]),
+    (
+        "back",
+        &[(Plain(&[COUNT]), Keyword::Back)],
+        &[
+            ("until", WithCondition(&[]), Keyword::BackUntil),
+            ("until", Plain(&[WATCH]), Keyword::BackUntilWatch),
+        ],
+    ),
+    ("forward", &[(Plain(&[COUNT]), Keyword::Forward)], &[]),
+    (
+        "show",
+        &[],
+        &[
+            ("task", Plain(&[TASK]), Show(Kind::Task)),
+            ("queue", Plain(&[QUEUE]), Show(Kind::Queue)),
+            ("set", Plain(&[QUEUE_SET]), Show(Kind::QueueSet)),
+            ("stream", Plain(&[STREAM]), Show(Kind::Stream)),
+            ("message", Plain(&[MESSAGE]), Show(Kind::Message)),
+            ("group", Plain(&[GROUP]), Show(Kind::Group)),
+            ("cores", Plain(&[]), Keyword::ShowCores),
+            ("moves", Plain(&[]), Keyword::ShowMoves),
+            ("wheel", Plain(&[]), Keyword::ShowWheel),
+            ("watches", Plain(&[]), Keyword::ShowWatches),
+        ],
+    ),
+    ("redo", &[(Plain(&[COUNT]), Keyword::Redo)], &[]),
+    (
+        "until",
+        &[
+            (WithCondition(&[COUNT]), Keyword::Until),
+            (Plain(&[WATCH, COUNT]), Keyword::UntilWatch),
+        ],
+        &[],
+    ),
+    (
+        "poke",
+        &[],
+        &[
+            (
+                "reg",
+                Plain(&[TASK, REGISTER, NUMBER]),
+                Poke(EditKeyword::Register),
+            ),
+            ("data", Plain(&[TASK, DATA]), Poke(EditKeyword::Data)),
+            ("pc", Plain(&[TASK, NUMBER]), Poke(EditKeyword::Pc)),
+            (
+                "note",
+                Plain(&[TASK, INDEX, NUMBER]),
+                Poke(EditKeyword::Value),
+            ),
+            ("group", Plain(&[GROUP, NUMBER]), Poke(EditKeyword::Bits)),
+            (
+                "item",
+                Plain(&[QUEUE, NUMBER, DATA]),
+                Poke(EditKeyword::Item),
+            ),
+            (
+                "byte",
+                Plain(&[STREAM, NUMBER, NUMBER]),
+                Poke(EditKeyword::Byte),
+            ),
+        ],
+    ),
+    (
+        "wheel",
+        &[],
+        &[
+            ("take", Plain(&[]), Keyword::TakeWheel),
+            ("give", Plain(&[]), Keyword::GiveWheel),
+        ],
+    ),
+    ("watch", &[(WithCondition(&[]), Keyword::Watch)], &[]),
+    ("unwatch", &[(Plain(&[NUMBER]), Keyword::Unwatch)], &[]),
+];
 
 // Each keyword of a condition: as it is written, and its operands.
 static CONDITIONS: [(&str, &[Parameter], ConditionKeyword); 9] = [

@@ -3,7 +3,6 @@
 
 pub mod binding;
 pub mod command;
-mod cut;
 mod form;
 pub mod keyword;
 pub mod laws;

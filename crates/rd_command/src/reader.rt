@@ -7,7 +7,6 @@ ghost use Rattle.rd_command.specs.Bindings.{Takes, next_keyword, next_value};
 ghost use Rattle.rd_command.specs.Bindings.{number_below, number_named};
 
 use crate::binding::Unknown;
-use crate::cut::Cut;
 use crate::form::{count_of, operator_of, phase_of, watch_of};
 use crate::keyword::{ConditionKeyword, condition_keyword_of};
 use crate::poke::Digits;
@@ -15,7 +14,7 @@ use rd_app::app::App;
 use rd_app::instr::REGISTERS;
 use rd_condition::condition::{Comparison, PhaseName};
 use rd_text::kind::Kind;
-use rd_text::words::{name, number};
+use rd_text::words::{Words, name, number};
 use std::marker::Model;
 
 // A number below a limit.
@@ -41,7 +40,7 @@ fn number_named(word: &[u8], kind: Kind, app: &App) -> Result<usize, Unknown>
 #[derive(Drop)]
 pub(crate) struct Reader<'r, 'a> {
     app: &'r App,
-    words: Cut<'a>,
+    words: Words<'a>,
 }
 
 impl<'r, 'a> Model for Reader<'r, 'a> {
@@ -54,7 +53,7 @@ impl<'r, 'a> Model for Reader<'r, 'a> {
 
 impl<'r, 'a> Reader<'r, 'a> {
     /// Reads these words.
-    pub(crate) fn new(app: &'r App, words: Cut<'a>) -> Reader<'r, 'a>
+    pub(crate) fn new(app: &'r App, words: Words<'a>) -> Reader<'r, 'a>
         ensures { result ≡ record { app = app.now; words = words.entry } }
     {
         Reader { app, words }
