@@ -1,7 +1,10 @@
--- What the one session of a hall was.
+-- What the one session of a hall was, and why the program fails once it has begun.
 use Rattle.std.specs.Prelude.{ℕ, ◌≡◌, List, [], ◌∷◌, Bool, Option}
 use Rattle.rd_hall.specs.SeatView.{SeatView}
 use Rattle.rd_session.specs.Hearing.{Attended}
+use Rattle.rd_start.specs.declared.fault.Fault.TheVariants.{NoMemory}
+use Rattle.rd_main.specs.declared.failure.Failure.{Failure}
+use Rattle.rd_main.specs.declared.failure.Failure.TheVariants.{Start, CannotListen, Broken}
 
 -- The one session that a hall had was answered each line that was read.
 pub record AttendedAlone (had has old new : Option (List ℕ)) (read_fault write_fault : Bool)
@@ -9,3 +12,17 @@ pub record AttendedAlone (had has old new : Option (List ℕ)) (read_fault write
   pub gone : SeatView
   pub alone : gones ≡ gone ∷ []
   pub attended : Attended had has old new read_fault write_fault spent gone
+
+-- A session by itself fails for this: there is no memory for it, or the history isn't what it was
+-- answered.
+abbrev pub FailsAlone : Failure → Type 0
+FailsAlone (Start fault) = fault ≡ NoMemory
+FailsAlone CannotListen = ⊥
+FailsAlone Broken = Unit {0}
+
+-- Sessions over connections fail for this: there is no memory for them, their port can't be had, or
+-- the history isn't what they were answered.
+abbrev pub FailsTogether : Failure → Type 0
+FailsTogether (Start fault) = fault ≡ NoMemory
+FailsTogether CannotListen = Unit {0}
+FailsTogether Broken = Unit {0}

@@ -1,14 +1,12 @@
 //! One session over standard input and output.
 
-ghost use Rattle.std.specs.Prelude.{◌≡◌, ◌≢◌, ◌+◌, IfErr, IfOk};
+ghost use Rattle.std.specs.Prelude.{◌≡◌, ◌+◌, IfErr, IfOk};
 ghost use Rattle.rd_desk.specs.Debugger.{Debugger, opening};
 ghost use Rattle.rd_desk.specs.Legal.{Leads};
 ghost use Rattle.rd_desk.specs.declared.sessions.TheConstants.{MAX_JOINS};
 ghost use Rattle.rd_hall.specs.Account.{IsAccounted};
 ghost use Rattle.rd_session.specs.Hearing.{AllMade};
-ghost use Rattle.rd_start.specs.declared.fault.Fault.TheVariants.{BadCommandLine};
-ghost use Rattle.rd_main.specs.Running.{AttendedAlone};
-ghost use Rattle.rd_main.specs.declared.failure.Failure.TheVariants.{Start};
+ghost use Rattle.rd_main.specs.Running.{AttendedAlone, FailsAlone};
 
 use crate::failure::Failure;
 use rd_app::app::App;
@@ -40,7 +38,7 @@ pub fn debug<H: Wait, R: Read, W: Write>(
     reader: &mut R,
     writer: &mut W,
 ) -> Result<(), Failure>
-    ensures { IfErr result (λ failure. failure ≢ Start BadCommandLine) }
+    ensures { IfErr result FailsAlone }
 {
     let mut buffers = Buffers::new(alloc)?;
     let mut source = Over::new(reader);
@@ -75,7 +73,7 @@ fn begin<L: Setup, H: Wait, S: Source, W: Sink>(
     requires app { app ≡ L.app }
     requires moves { limits.moves ≡ L.most_moves }
     requires entries { limits.history ≡ L.most_entries }
-    ensures { IfErr result (λ failure. failure ≢ Start BadCommandLine) }
+    ensures { IfErr result FailsAlone }
 {
     attend::<L, H, S, W>(rt, alloc, blank, app, limits, source, sink, buffers)?;
     Ok(())
@@ -107,7 +105,7 @@ pub fn attend<L: Setup, H: Wait, S: Source, W: Sink>(
         (S.remaining source.new) (W.contents sink.old) (W.contents sink.new)
         (S.failed source.new) (W.failed sink.new)
         (AllMade (S.reads source.old) (S.reads source.new)) closed.gones) }
-    ensures failures { IfErr result (λ failure. failure ≢ Start BadCommandLine) }
+    ensures failures { IfErr result FailsAlone }
 {
     let mut gones = Vec::with_capacity(alloc, 1)?;
     let (hall, mut passes) = Hall::<L>::open(alloc, blank, app, limits)?;

@@ -1,9 +1,9 @@
 //! The program: its words, one session over standard input and output, and many over connections.
 #![tactic(auto)]
 
-ghost use Rattle.std.specs.Prelude.{◌≡◌, ◌≢◌, ◌≤◌, length, IfErr};
+ghost use Rattle.std.specs.Prelude.{◌≡◌, ◌≢◌, ◌≤◌, length, map, string_bytes, IfErr};
 ghost use Rattle.std.specs.IoError.{error_kind};
-ghost use Rattle.rd_start.specs.Requests.{IsWithinLimits};
+ghost use Rattle.rd_start.specs.Requests.{words_read, AreRefused, IsWithinLimits};
 ghost use Rattle.rd_start.specs.declared.fault.Fault.TheVariants.{BadCommandLine};
 ghost use Rattle.rd_main.specs.declared.failure.Failure.TheVariants.{Start};
 
@@ -45,6 +45,7 @@ where
     H: Net<Listener = TcpListener, Stream = TcpStream>,
     ensures statuses { result ≤ 2 }
     ensures no_words { length words.now ≡ 0 → result ≤ 1 }
+    ensures bad_command_line { result ≡ 2 → AreRefused (words_read (map string_bytes words.now)) }
 {
     match run(handle, words, reader, writer) {
         Ok(()) => DONE,
@@ -85,7 +86,10 @@ fn run<H, R: Read, W: Write>(
 where
     H: Files + AllocGlobal + Wait + Sync + Threads,
     H: Net<Listener = TcpListener, Stream = TcpStream>,
-    ensures { length words.now ≡ 0 → IfErr result (λ failure. failure ≢ Start BadCommandLine) }
+    ensures no_words { length words.now ≡ 0
+        → IfErr result (λ failure. failure ≢ Start BadCommandLine) }
+    ensures bad_command_line { IfErr result (λ failure. failure ≡ Start BadCommandLine
+        → AreRefused (words_read (map string_bytes words.now))) }
 {
     match options(handle.alloc(), words)? {
         Request::Run { settings } => {

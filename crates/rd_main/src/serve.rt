@@ -1,9 +1,9 @@
 //! Many sessions, each over a connection.
 
-ghost use Rattle.std.specs.Prelude.{◌≡◌, ◌≢◌, ◌+◌, IfErr};
+ghost use Rattle.std.specs.Prelude.{◌≡◌, ◌+◌, IfErr};
 ghost use Rattle.rd_desk.specs.declared.sessions.TheConstants.{MAX_JOINS};
-ghost use Rattle.rd_start.specs.declared.fault.Fault.TheVariants.{BadCommandLine};
-ghost use Rattle.rd_main.specs.declared.failure.Failure.TheVariants.{Start};
+ghost use Rattle.rd_main.specs.Running.{FailsTogether};
+ghost use Rattle.rd_main.specs.declared.failure.Failure.TheVariants.{Broken, CannotListen};
 
 use crate::failure::Failure;
 use rd_app::app::App;
@@ -37,7 +37,7 @@ pub fn listen<H, W: Write>(
 ) -> Result<(), Failure>
 where
     H: Wait + Sync + Threads + Net<Listener = TcpListener, Stream = TcpStream>,
-    ensures { IfErr result (λ failure. failure ≢ Start BadCommandLine) }
+    ensures { IfErr result FailsTogether }
 {
     let blank = Blank::new(MAX_JOINS as u64 + 1);
     host::<Brand, H, W>(rt, alloc, blank, app, limits, port, sessions, writer)
@@ -61,7 +61,7 @@ where
     requires app { app ≡ L.app }
     requires moves { limits.moves ≡ L.most_moves }
     requires entries { limits.history ≡ L.most_entries }
-    ensures { IfErr result (λ failure. failure ≢ Start BadCommandLine) }
+    ensures { IfErr result FailsTogether }
 {
     let (hall, mut passes) = Hall::<L>::open(alloc, blank, app, limits)?;
     passes.truncate(sessions);
@@ -80,7 +80,7 @@ fn close<L: Setup, W: Write>(
     gones: Vec<Gone<L>>,
     writer: &mut W,
 ) -> Result<(), Failure>
-    ensures { IfErr result (λ failure. failure ≢ Start BadCommandLine) }
+    ensures { IfErr result (λ failure. failure ≡ Broken) }
 {
     match hall.finish(gones) {
         Ok(closed) => {
@@ -102,7 +102,7 @@ fn serve<L: Setup + Send + Sync, H, W: Write>(
 ) -> Result<Served<L>, Failure>
 where
     H: Wait + Sync + Threads + Net<Listener = TcpListener, Stream = TcpStream>,
-    ensures { IfErr result (λ failure. failure ≢ Start BadCommandLine) }
+    ensures { IfErr result (λ failure. failure ≡ CannotListen) }
 {
     let here = SocketAddr::new(IpAddr::V4(Ipv4Addr::LOCALHOST), port);
     let Ok(listener) = TcpListener::bind(rt, here) else {
