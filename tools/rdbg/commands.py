@@ -1,0 +1,245 @@
+"""The lines of rdbg's language: a table of commands, one of conditions, and a reader over them.
+
+A form is written as in docs/COMMANDS.md: words in small letters stand as they are, the others are
+the symbols of what can stand there.
+"""
+import dataclasses
+import re
+from typing import Callable, Dict, FrozenSet, Iterator, List, Optional, Sequence, Tuple, Type
+
+from rdbg import replies
+
+MOST_NUMBER = 4_294_967_295
+MOST_COUNT = 1_000_000
+MOST_WATCHES = 16
+MOST_BYTES = 1_024
+PHASES = ("run", "again", "given", "wait", "ended", "failed")
+OPERATORS = ("=", "<", ">")
+CONDITION = "COND"
+
+
+def is_number(word: str, most: int = MOST_NUMBER) -> bool:
+    """Whether a word is a number of 1 to 10 digits, and not too large."""
+    return re.fullmatch(r"[0-9]{1,10}", word) is not None and int(word) <= most
+
+
+def is_count(word: str) -> bool:
+    """Whether a word is a COUNT."""
+    return is_number(word, MOST_COUNT) and int(word) > 0
+
+
+def is_name(word: str) -> bool:
+    """Whether a word has the form of a name."""
+    return re.fullmatch(r"[a-z][a-z0-9_]{0,15}", word) is not None
+
+
+def is_bytes(word: str) -> bool:
+    """Whether a word is 1 to 256 bytes, or none."""
+    return word == "-" or re.fullmatch(r"([0-9A-Fa-f]{2}){1,256}", word) is not None
+
+
+def is_watch(word: str) -> bool:
+    """Whether a word stands for a watch."""
+    return word[:1] == "w" and is_number(word[1:], MOST_WATCHES - 1)
+
+
+@dataclasses.dataclass(frozen=True)
+class Symbol:
+    """What can stand at a place of a form: how it is called, which words those are, and whether a
+    word is one of them."""
+
+    text: str
+    noun: str
+    choices: str
+    fits: Callable[[str], bool]
+
+
+SYMBOLS: Dict[str, Symbol] = {
+    symbol.text: symbol
+    for symbol in (
+        Symbol("C", "a core's number", "0, 1, ..", is_number),
+        Symbol("COUNT", "a COUNT", "a number, 1 to 1000000", is_count),
+        Symbol("N", "a number", f"0 to {MOST_NUMBER}", is_number),
+        Symbol("R", "a register's number", "0 to 7", is_number),
+        Symbol("I", "the index of a notification entry", "0, 1, ..", is_number),
+        Symbol("HEX", "bytes", "pairs of hexadecimal digits, or -", is_bytes),
+        Symbol("OP", "=, < or >", "=, < or >", OPERATORS.__contains__),
+        Symbol("WORD", "a phase", ", ".join(PHASES), PHASES.__contains__),
+        Symbol("wN", "a watch", "w0 to w15", is_watch),
+        Symbol("K", "a task", "its name", is_name),
+        Symbol("Q", "a queue", "its name", is_name),
+        Symbol("S", "a queue set", "its name", is_name),
+        Symbol("B", "a stream buffer", "its name", is_name),
+        Symbol("M", "a message buffer", "its name", is_name),
+        Symbol("G", "an event group", "its name", is_name),
+    )
+}
+# The symbol of each kind of thing that has a name, by the word that `show` has for it.
+KIND_SYMBOLS: Dict[str, str] = {
+    "task": "K",
+    "queue": "Q",
+    "set": "S",
+    "stream": "B",
+    "message": "M",
+    "group": "G",
+}
+
+
+def fits(symbol: str, word: str) -> bool:
+    """Whether a word can stand where a form has this symbol, or this word."""
+    known = SYMBOLS.get(symbol)
+    return known.fits(word) if known else word == symbol
+
+
+@dataclasses.dataclass(frozen=True)
+class Form:
+    """A form of lines, or of conditions: how it is written, what it does, and (of lines) which
+    replies there are beside refusals, and whether it makes moves or takes them back."""
+
+    text: str
+    does: str
+    answers: Optional[Type[object]] = None
+    moves: bool = False
+
+    @property
+    def word(self) -> str:
+        """Its first word."""
+        return self.text.split(" ")[0]
+
+    @property
+    def symbols(self) -> Tuple[str, ...]:
+        """Its words and symbols."""
+        return tuple(self.text.split(" "))
+
+
+def move(text: str, does: str) -> Form:
+    """A form of lines that make moves, or take them back."""
+    return Form(text, does, replies.Moved, True)
+
+
+CONDITIONS: Tuple[Form, ...] = (
+    Form("count Q OP N", "how many items the queue has"),
+    Form("bytes B OP N", "how many bytes the stream buffer has"),
+    Form("msgs M OP N", "how many messages the message buffer has"),
+    Form("bits G OP N", "the bits of the event group, as one number"),
+    Form("reg K R OP N", "a register of the task"),
+    Form("pc K OP N", "the number of the instruction that the task stands at"),
+    Form("note K I OP N", "the value of a notification entry of the task"),
+    Form("tick OP N", "the tick"),
+    Form("phase K WORD", "the task's phase, wherever it waits and until when"),
+)
+
+FORMS: Tuple[Form, ...] = (
+    move("step C", "the task on core C does one instruction"),
+    move("tick", "a tick passes"),
+    move("back COUNT", "takes back the last moves, COUNT of them"),
+    move("forward COUNT", "makes COUNT moves: an instruction of each busy core, then a tick"),
+    move("redo COUNT", "makes the moves again that were taken back last"),
+    move("until COND COUNT", "forward until COND holds after a move, at most COUNT moves"),
+    move("back until COND", "goes back to the last earlier place where COND holds"),
+    move("until wN COUNT", "the same with the condition of watch N"),
+    move("back until wN", "the same with the condition of watch N"),
+    move("poke reg K R N", "register R of the task becomes N"),
+    move("poke data K HEX", "the task's data becomes these bytes, - for none"),
+    move("poke pc K N", "a task in phase run goes on at instruction N"),
+    move("poke note K I N", "the value of entry I becomes N; its state stays"),
+    move("poke group G N", "the bits of the event group become N"),
+    move("poke item Q N HEX", "item N of the queue, 0 the front one, becomes these bytes"),
+    move("poke byte B N N", "the byte at the first number, 0 the front one, becomes the second"),
+    Form("show queue Q", "the items, oldest first, and who waits", replies.Queue),
+    Form("show set S", "the handles, oldest first, and who waits", replies.QueueSet),
+    Form("show stream B", "the bytes, and who waits", replies.Stream),
+    Form("show message M", "the messages, oldest first, and who waits", replies.Messages),
+    Form("show group G", "the bits, and who waits for which", replies.Group),
+    Form("show task K", "its core, pc, phase, registers, data and notes", replies.Task),
+    Form("show cores", "who is on which core, who is ready, tick and turn", replies.Cores),
+    Form("show moves", "how many moves are done, how many taken back", replies.Moves),
+    Form("wheel take", "takes the wheel: no other session moves the target", replies.WheelDone),
+    Form("wheel give", "gives the wheel back", replies.WheelDone),
+    Form("show wheel", "who has the wheel", replies.WheelHolder),
+    Form("watch COND", "keeps COND as a watch, which w0, w1, .. stand for", replies.WatchDone),
+    Form("unwatch N", "drops the watch N", replies.WatchDone),
+    Form("show watches", "the watches, and which of them hold", replies.Watches),
+)
+WORDS: FrozenSet[str] = frozenset(form.word for form in FORMS)
+
+
+@dataclasses.dataclass(frozen=True)
+class Shape:
+    """A form with one of the conditions in its place: what stands word for word."""
+
+    form: Form
+    condition: Optional[Form]
+    symbols: Tuple[str, ...]
+
+    def fitting(self, words: Sequence[str]) -> int:
+        """How many of the words fit, from the first on."""
+        count = 0
+        for symbol, word in zip(self.symbols, words):
+            if not fits(symbol, word):
+                break
+            count += 1
+        return count
+
+
+def shapes_of(form: Form) -> Iterator[Shape]:
+    """The shapes of a form: one, or one for each condition."""
+    if CONDITION not in form.symbols:
+        yield Shape(form, None, form.symbols)
+        return
+    at = form.symbols.index(CONDITION)
+    for condition in CONDITIONS:
+        symbols = form.symbols[:at] + condition.symbols + form.symbols[at + 1 :]
+        yield Shape(form, condition, symbols)
+
+
+SHAPES: Tuple[Shape, ...] = tuple(shape for form in FORMS for shape in shapes_of(form))
+# The shapes by their first word and how many words they have.
+SHAPES_OF: Dict[Tuple[str, int], List[Shape]] = {}
+for _shape in SHAPES:
+    SHAPES_OF.setdefault((_shape.form.word, len(_shape.symbols)), []).append(_shape)
+
+
+@dataclasses.dataclass(frozen=True)
+class Command:
+    """A line of one of the forms: its words, and what each stands for."""
+
+    form: Form
+    condition: Optional[Form]
+    words: Tuple[str, ...]
+    symbols: Tuple[str, ...]
+
+    def condition_words(self) -> Tuple[str, ...]:
+        """The words of its condition, or the watch that stands for one; empty without either."""
+        if self.condition is not None:
+            at = self.form.symbols.index(CONDITION)
+            return self.words[at : at + len(self.condition.symbols)]
+        return tuple(word for symbol, word in zip(self.symbols, self.words) if symbol == "wN")
+
+    def count(self) -> Optional[int]:
+        """Its COUNT."""
+        return int(self.words[-1]) if self.symbols[-1] == "COUNT" else None
+
+
+def words_of(line: str) -> List[str]:
+    """The words of a line as rdbg separates them: by spaces alone."""
+    text = line[:-1] if line.endswith("\r") else line
+    return [word for word in text.split(" ") if word]
+
+
+def read(line: str) -> Optional[Command]:
+    """The command that a line is, or none where rdbg would answer `no Syntax`."""
+    words = words_of(line)
+    for shape in SHAPES_OF.get((words[0], len(words)), ()) if words else ():
+        if shape.fitting(words) == len(words):
+            return Command(shape.form, shape.condition, tuple(words), shape.symbols)
+    return None
+
+
+def following(words: Sequence[str]) -> List[str]:
+    """The words and symbols that can come next, each once; an empty one where the line can end."""
+    found: Dict[str, None] = {}
+    for shape in SHAPES:
+        if shape.fitting(words) == len(words) <= len(shape.symbols):
+            found[shape.symbols[len(words)] if len(words) < len(shape.symbols) else ""] = None
+    return list(found)

@@ -1,0 +1,122 @@
+"""Says of application files where they are wrong, and what would be right."""
+import argparse
+import io
+import re
+import sys
+from typing import List, Sequence
+
+from rdbg.application import Application
+from rdbg.failure import Failure
+from rdbg.faults import MOST_FAULTS, remarks_of
+from rdbg.source import Source, load, source
+
+SUMMARY = "says of application files where they are wrong, and what would be right"
+STANDARD_INPUT = "-"
+MOST = 100
+# How rdbg names a fault, as in "L3 Limit".
+KIND = re.compile(r"L[1-7] ")
+EPILOG = (
+    "Each fault is one line on standard output, FILE:LINE:COLUMN: and what would be right; the last"
+    " line says what rdbg itself says of the file. The status is 0 where all files are accepted,"
+    " 1 where one is refused, 2 where one can't be read."
+)
+
+
+def natural(word: str) -> int:
+    """A number of faults."""
+    if not (word.isascii() and word.isdigit() and len(word) < 10):
+        raise argparse.ArgumentTypeError(f"{word} is no number")
+    return int(word)
+
+
+def parser() -> argparse.ArgumentParser:
+    """The words of the command line."""
+    made = argparse.ArgumentParser(prog="rdbg check", description=SUMMARY, epilog=EPILOG)
+    made.add_argument(
+        "files",
+        nargs="+",
+        metavar="FILE",
+        help="JSON, or a text in lines (.fw); - is standard input",
+    )
+    made.add_argument(
+        "--first", action="store_true", help="prints the first fault of each file, and nothing else"
+    )
+    made.add_argument(
+        "--most",
+        type=natural,
+        default=MOST,
+        metavar="N",
+        help=f"so many faults a file, else {MOST}",
+    )
+    made.add_argument(
+        "--name", metavar="FILE", help="what standard input is called, and so how it is read"
+    )
+    return made
+
+
+def main(words: Sequence[str]) -> int:
+    """Checks the files; the status of the worst."""
+    given = parser().parse_args(words)
+    if isinstance(sys.stdout, io.TextIOWrapper):
+        sys.stdout.reconfigure(errors="backslashreplace")
+    return max(check(path, given) for path in given.files)
+
+
+def read(path: str, name: str) -> Source:
+    """The file of a path, or standard input under a name."""
+    if path != STANDARD_INPUT:
+        return load(path)
+    try:
+        return source(name or path, sys.stdin.buffer.read())
+    except (AttributeError, OSError):
+        raise Failure("cannot read standard input", 2) from None
+
+
+def check(path: str, given: argparse.Namespace) -> int:
+    """Prints what there is to say of one file, and answers its status."""
+    try:
+        found = read(path, given.name)
+    except Failure as failure:
+        sys.stdout.flush()
+        where = "" if path in str(failure) else f"{path}: "
+        print(f"rdbg check: {where}{failure}", file=sys.stderr)
+        return failure.status
+    lines = [f"{found.path}:{fault}" for fault in found.faults]
+    if given.first:
+        lines = lines[:1]
+    else:
+        remarks = [] if found.root is None else remarks_of(found.root)
+        lines = lines[: given.most] + [f"{found.path}:{remark}" for remark in remarks[: given.most]]
+        lines.append(f"{found.path}: {said(found, given.most)}")
+    for line in lines:
+        print(line)
+    return 1 if found.faults else 0
+
+
+def said(found: Source, most: int) -> str:
+    """What rdbg says of a file."""
+    if found.application is not None:
+        return "accepted: " + ", ".join(counts(found.application))
+    count = len(found.faults)
+    faults = "1 fault" if count == 1 else f"{count} faults"
+    if count == MOST_FAULTS:
+        faults = f"{faults} or more"
+    shown = f", {most} shown" if count > most else ""
+    kind = found.faults[0].kind
+    # (of a text in lines that makes no JSON rdbg can say nothing)
+    verdict = f"refused as {kind}" if KIND.match(kind) else "makes no application"
+    return f"{verdict}; {faults}{shown}"
+
+
+def counts(application: Application) -> List[str]:
+    """How much there is of each kind, where there is any."""
+    kinds = (
+        ("task", len(application.tasks)),
+        ("queue", len(application.queues)),
+        ("queue set", len(application.sets)),
+        ("stream buffer", len(application.streams)),
+        ("message buffer", len(application.messages)),
+        ("event group", len(application.groups)),
+        ("core", application.cores),
+    )
+    return [f"{count} {kind}" + "s" * (count > 1) for kind, count in kinds if count]

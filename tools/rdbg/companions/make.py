@@ -1,0 +1,121 @@
+"""Makes the JSON of an application from its text in lines, or the text from the JSON."""
+import argparse
+import os
+import pathlib
+import sys
+from typing import Optional, Sequence
+
+from rdbg.application import Application
+from rdbg.failure import Failure
+from rdbg.json_layout import MOST_BYTES, json_of
+from rdbg.firmware.writer import text_of
+from rdbg.shapes import FILE
+from rdbg.source import load
+
+SUMMARY = "makes an application's JSON from a text in lines (.fw), or the text from the JSON"
+EPILOG = (
+    "FILE.fw becomes FILE.json beside it, in place of the one that was there. Where the text has"
+    " faults they are printed on standard error, each as FILE:LINE:COLUMN: and what would be right,"
+    " and nothing is written. The status is 0, 1 for faults, or 2 for a file that can't be had."
+)
+TEXT, JSON, STANDARD_OUTPUT = ".fw", ".json", "-"
+MOST_FAULTS = 100
+
+
+def parser() -> argparse.ArgumentParser:
+    """The words of the command line."""
+    made = argparse.ArgumentParser(prog="rdbg make", description=SUMMARY, epilog=EPILOG)
+    made.add_argument(
+        "file", metavar="FILE", help="the text in lines, FILE.fw; with --back, FILE.json"
+    )
+    made.add_argument(
+        "--back", action="store_true", help="makes the text from the JSON, on standard output"
+    )
+    made.add_argument(
+        "-o", dest="output", metavar="OUT", help="writes to OUT; - is standard output"
+    )
+    return made
+
+
+def main(words: Sequence[str]) -> int:
+    """Makes one from the other."""
+    given = parser().parse_args(words)
+    return back(given.file, given.output) if given.back else make(given.file, given.output)
+
+
+def make(path: str, output: Optional[str]) -> int:
+    """Makes the JSON of a text."""
+    if path.endswith(JSON):
+        raise Failure(
+            f"{path} is JSON already; its text in lines is made by: rdbg make --back {path}", 2
+        )
+    if not path.endswith(TEXT):
+        raise Failure(f"{path} doesn't end in {TEXT}, as a text in lines does", 2)
+    chosen = path[: -len(TEXT)] + JSON if output is None else output
+    if chosen != STANDARD_OUTPUT and not chosen.endswith(JSON):
+        raise Failure(f"{chosen} doesn't end in {JSON}; it isn't written", 2)
+    if same_file(path, chosen):
+        raise Failure(f"{chosen} is {path} itself; it isn't written", 2)
+    application = accepted(path, MOST_FAULTS)
+    text = json_of(application)
+    if len(text) > MOST_BYTES:
+        raise Failure(f"the JSON of {path} has {len(text):,} bytes; rdbg reads {MOST_BYTES:,}")
+    write(text, chosen)
+    if chosen != STANDARD_OUTPUT:
+        print(f"{chosen}: {counts(application)}")
+    return 0
+
+
+def back(path: str, output: Optional[str]) -> int:
+    """Makes the text of a JSON. A text that is there stays, for its comments."""
+    chosen = output or STANDARD_OUTPUT
+    if path.endswith(TEXT):
+        raise Failure(f"{path} is in lines already", 2)
+    if chosen != STANDARD_OUTPUT and not chosen.endswith(TEXT):
+        raise Failure(f"{chosen} doesn't end in {TEXT}; it isn't written", 2)
+    if os.path.lexists(chosen) and chosen != STANDARD_OUTPUT:
+        raise Failure(f"{chosen} is there already, and its comments would be lost", 2)
+    write(text_of(accepted(path, 1)), chosen)
+    return 0
+
+
+def same_file(path: str, other: str) -> bool:
+    """Whether both are one file."""
+    try:
+        return os.path.samefile(path, other)
+    except OSError:
+        return False
+
+
+def accepted(path: str, most: int) -> Application:
+    """The application of a file without faults; else at most so many are printed."""
+    found = load(path)
+    if found.application is not None:
+        return found.application
+    for fault in found.faults[:most]:
+        print(f"{path}:{fault}", file=sys.stderr)
+    count = len(found.faults)
+    faults = "1 fault" if count == 1 else f"{count} faults"
+    raise Failure(f"{path} has {faults}; nothing is written")
+
+
+def write(text: str, path: str) -> None:
+    """Writes a text to a file, or to standard output. Raises `Failure` where it can't."""
+    if path == STANDARD_OUTPUT:
+        sys.stdout.write(text)
+        return
+    try:
+        pathlib.Path(path).write_text(text, encoding="ascii")
+    except OSError as error:
+        raise Failure(f"cannot write {path}: {error.strerror}", 2) from None
+
+
+def counts(application: Application) -> str:
+    """How much there is of each kind: `3 tasks, 2 queues`."""
+    shapes = {key.name: key.of for key in FILE.keys if key.of is not None}
+    found = []
+    for name in sorted(shapes, key=lambda name: name != "tasks"):
+        count = len(getattr(application, name))
+        if count:
+            found.append(f"{count} {shapes[name].noun if count == 1 else shapes[name].plural}")
+    return ", ".join(found)

@@ -1,0 +1,93 @@
+"""A prompt for rdbg: its own lines, and words that are made of them."""
+import argparse
+import io
+import os
+import sys
+from typing import Callable, Optional, Sequence
+
+from rdbg import commands
+from rdbg.failure import Failure
+from rdbg.shell import prompt
+from rdbg.shell.interrupt import HardInterrupt, Interrupt
+from rdbg.shell.opening import attach, begin, close
+from rdbg.shell.shell import Shell
+from rdbg.shell.target import Limits
+from rdbg.source import Source, load
+
+SUMMARY = "a prompt: rdbg's lines with history, Tab and help, and what each move did"
+EPILOG = (
+    "Not at a terminal it is a filter: it prints what rdbg answers, and lines of its own begin with"
+    " '# '; hints go to standard error. The status is 0, 1 where the application is refused or rdbg"
+    " has ended, 2 where a file or a port can't be had."
+)
+
+
+def bounded(least: int) -> Callable[[str], int]:
+    """Reads a number of at least so much and at most a million."""
+
+    def read(text: str) -> int:
+        if not commands.is_number(text, commands.MOST_COUNT) or int(text) < least:
+            raise argparse.ArgumentTypeError(f"{least} to {commands.MOST_COUNT}, not '{text}'")
+        return int(text)
+
+    return read
+
+
+def port(text: str) -> int:
+    """Reads a port."""
+    if not commands.is_number(text, 65_535) or int(text) == 0:
+        raise argparse.ArgumentTypeError(f"1 to 65535, not '{text}'")
+    return int(text)
+
+
+def parser() -> argparse.ArgumentParser:
+    """The words of the command line."""
+    made = argparse.ArgumentParser(prog="rdbg sh", description=SUMMARY, epilog=EPILOG)
+    made.add_argument(
+        "file", nargs="?", metavar="FILE", help="the application, JSON or in lines (.fw)"
+    )
+    made.add_argument(
+        "--port", type=port, metavar="P", help="attaches to `rdbg serve` at this port"
+    )
+    made.add_argument("--moves", type=bounded(1), metavar="N", help="how many moves may be done")
+    made.add_argument("--history", type=bounded(2), metavar="N", help="entries of the history")
+    return made
+
+
+def read(path: Optional[str]) -> Optional[Source]:
+    """The application's file; its faults end it with a line each."""
+    if path is None:
+        return None
+    source = load(path)
+    if source.application is None:
+        for fault in source.faults:
+            print(f"{source.path}:{fault}", file=sys.stderr)
+        raise Failure(f"{path} is refused as {source.faults[0].kind}")
+    return source
+
+
+def main(words: Sequence[str]) -> int:
+    """Talks with who is at the terminal, or does each line of standard input."""
+    given = parser().parse_args(words)
+    if given.port is not None and (given.moves or given.history):
+        raise Failure("--moves and --history are the server's own, where --port attaches to one", 2)
+    for stream in (sys.stdout, sys.stderr):
+        if isinstance(stream, io.TextIOWrapper):
+            stream.reconfigure(errors="backslashreplace")
+    limits = Limits(given.moves or Limits.moves, given.history or Limits.history)
+    source = read(given.file)
+    target = begin(source, limits) if given.port is None else attach(given.port, source)
+    shell = Shell(target, source, Interrupt())
+    try:
+        if sys.stdin.isatty() and sys.stdout.isatty():
+            prompt.talk(shell)
+        else:
+            prompt.filter_lines(shell)
+    except HardInterrupt:
+        sys.stdout.flush()
+        os._exit(130)
+    except BaseException:
+        shell.target.session.close()
+        raise
+    close(shell.target)
+    return 0

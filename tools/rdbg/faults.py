@@ -1,0 +1,310 @@
+"""All faults of an application file, in the order in which rdbg looks for them.
+
+rdbg says the kind of the first one. Those that only stem from an earlier one are left out: an
+instruction that names a queue whose name was refused, or an operand that a refused number bounds.
+"""
+import contextlib
+import dataclasses
+import re
+from typing import Dict, List, Optional, Set, Tuple
+
+from rdbg.instructions import form_of, is_final
+from rdbg.near import nearest
+from rdbg.operands import NAMED, Scope, is_name, to_text
+from rdbg.reading import NAME_RULE, read
+from rdbg.shapes import FILE, NOT_THERE, OTHER_NAMES, Key, Shape
+from rdbg.tree import Node, Number, Object, Place, Value, kind_of
+from rdbg.wording import quoted as quoted
+from rdbg.wording import shown
+
+SHAPE, LIMIT, NAME, INSTR = "L2 Shape", "L3 Limit", "L4 Name", "L5 Instr"
+OVERWRITE = "L6 OverwriteLength"
+MOST_ENTRIES = 4
+# So many are found at the most.
+MOST_FAULTS = 1000
+
+
+@dataclasses.dataclass(frozen=True)
+class Fault:
+    """A fault: where it is, its kind as rdbg says it (`L3 Limit`), and what would be right."""
+
+    place: Place
+    kind: str
+    message: str
+
+    def __str__(self) -> str:
+        return f"{self.place}: {self.message}"
+
+
+class Enough(Exception):
+    """There are as many faults as are looked for."""
+
+
+def faults_of(root: Node) -> List[Fault]:
+    """The faults of a file, up to `MOST_FAULTS`; none where rdbg accepts it."""
+    finder = Finder()
+    with contextlib.suppress(Enough):
+        finder.file(root)
+    return finder.faults
+
+
+def called(value: Value) -> str:
+    """What a value is called: `a list`, `the number 1.5`."""
+    return shown(kind_of(value))
+
+
+def proposed(text: str) -> str:
+    """A name that is near to a text that is none, or the empty text."""
+    small = re.sub(r"(?<=[a-z0-9])(?=[A-Z])", "_", text).lower()
+    plain = re.sub(r"[^a-z0-9_]", "_", small).strip("_")[:16]
+    return plain if is_name(plain) else ""
+
+
+def bounds(key: Key) -> str:
+    """What a key's value can be: `how many bytes an item has, 1 to 64`."""
+    return f"{key.text}, {to_text(key.least, key.most)}" if key.holds == "number" else key.text
+
+
+def remarks_of(root: Node) -> List[Fault]:
+    """What is no fault to rdbg, and most likely one all the same: a key that stands twice."""
+    found: List[Fault] = []
+    values = [root]
+    while values:
+        value = values.pop().value
+        if isinstance(value, Object):
+            places: Dict[str, Place] = {}
+            for member in value.members:
+                if member.key in places:
+                    first = f"the first, at {places[member.key]}, counts for nothing"
+                    message = f"note: the key {quoted(member.key)} stands here again; {first}"
+                    found.append(Fault(member.place, "", message))
+                places[member.key] = member.place
+                values.append(member.node)
+        elif isinstance(value, tuple):
+            values += value
+    return sorted(found, key=lambda remark: remark.place)
+
+
+class Finder:
+    """Goes through a file as rdbg does, and goes on behind a fault."""
+
+    def __init__(self) -> None:
+        self.faults: List[Fault] = []
+        # (each kind's names, in order, with their places; those that were refused, with what they
+        # may become; the kinds of which some have no name that can be read)
+        self.names: Dict[str, Dict[str, Place]] = {symbol: {} for symbol in NAMED}
+        self.refused: Dict[str, Set[str]] = {symbol: set() for symbol in NAMED}
+        self.unsure: Set[str] = set()
+        self.lengths: Dict[str, Set[Optional[int]]] = {}
+        self.members: Dict[str, str] = {}
+        self.scripts: List[Tuple[str, Tuple[Node, ...]]] = []
+
+    def fault(self, kind: str, place: Place, message: str) -> None:
+        """Keeps a fault. Raises `Enough` after the last one that is kept."""
+        self.faults.append(Fault(place, kind, message))
+        if len(self.faults) == MOST_FAULTS:
+            raise Enough
+
+    def file(self, root: Node) -> None:
+        """The file: its keys in their order, then its scripts."""
+        found = self.values(FILE, root, "the application")
+        entries: Optional[int] = 1
+        for key in FILE.keys:
+            node = found.get(key.name)
+            if key.of is not None:
+                self.list_of(key, key.of, node)
+            elif node is not None:
+                value = self.number(key, node, "", key.most)
+                entries = value if key.name == "notes" else entries
+        names = {symbol: list(names) for symbol, names in self.names.items()}
+        for label, code in self.scripts:
+            self.script(label, code, Scope(names, entries or MOST_ENTRIES, len(code)))
+
+    def list_of(self, key: Key, shape: Shape, node: Optional[Node]) -> None:
+        """A list of objects of one kind."""
+        if node is None:
+            return
+        if not isinstance(node.value, tuple):
+            self.unsure.add(shape.symbol)
+            message = f"{key.name} is {called(node.value)}, and is to be a list of {shape.plural}"
+            self.fault(SHAPE, node.place, message)
+            return
+        if len(node.value) < key.least:
+            self.fault(
+                LIMIT,
+                node.place,
+                f"{key.name} is empty; an application has a {shape.noun} at least",
+            )
+        if len(node.value) > key.most:
+            message = f"there are {len(node.value)} {shape.plural}; {key.most} is the most"
+            self.fault(LIMIT, node.value[key.most].place, message)
+        for index, each in enumerate(node.value):
+            self.object(shape, each, index)
+
+    def object(self, shape: Shape, node: Node, index: int) -> None:
+        """An object of a list: its keys in their order."""
+        label = f"{shape.noun} number {index}"
+        if isinstance(node.value, Object):
+            name = node.value.get("name")
+            if name is not None and isinstance(name.value, str):
+                label = f"{shape.noun} {name.value if is_name(name.value) else quoted(name.value)}"
+        found = self.values(shape, node, label)
+        if "name" not in found:
+            self.unsure.add(shape.symbol)
+        numbers: Dict[str, Optional[int]] = {}
+        for key in shape.keys:
+            value = found.get(key.name)
+            if value is None:
+                continue
+            if key.holds == "name":
+                self.name(shape, value, label)
+            elif key.holds == "number":
+                most = numbers.get(key.most_key) or key.most
+                numbers[key.name] = self.number(key, value, f"{label}: ", most)
+            elif key.holds == "members":
+                self.members_of(value, label)
+            else:
+                self.code(key, value, label)
+        if shape.symbol == "Q" and "name" in found:
+            self.lengths.setdefault(str(found["name"].value), set()).add(numbers.get("length"))
+
+    def values(self, shape: Shape, node: Node, label: str) -> Dict[str, Node]:
+        """The values of an object's keys; that of a key with a slip in it counts as the key's."""
+        if not isinstance(node.value, Object):
+            keys = ", ".join(shape.names())
+            message = f"{label} is {called(node.value)}, and is to be an object ({keys})"
+            self.fault(SHAPE, node.place, message)
+            return {}
+        given = {member.key: member for member in node.value.members}
+        found = {key: given[key].node for key in shape.names() if key in given}
+        for member in given.values():
+            if member.key not in shape.names():
+                meant, said = self.meant(shape, member.key)
+                message = f"{label}: {quoted(member.key)} is none of its keys"
+                self.fault(SHAPE, member.place, message + said)
+                if meant:
+                    found.setdefault(meant, member.node)
+        for key in shape.keys:
+            if key.is_needed and key.name not in found:
+                message = f"{label} lacks its key {key.name} ({bounds(key)})"
+                self.fault(SHAPE, node.place, message)
+        return found
+
+    def meant(self, shape: Shape, key: str) -> Tuple[str, str]:
+        """The key that another is meant to be, if there is one, and what to say of it."""
+        small = key.lower()
+        calls = {each.freertos.lower(): each.name for each in shape.keys if each.freertos}
+        other = calls.get(small, OTHER_NAMES.get(small, ""))
+        near = other if other in shape.names() else nearest(key, shape.names())
+        if near:
+            return near, f": {near}?"
+        if small in NOT_THERE:
+            return "", f"; {NOT_THERE[small]}"
+        return "", f" ({', '.join(shape.names())})"
+
+    def number(self, key: Key, node: Node, label: str, most: int) -> Optional[int]:
+        """A number within its limits, or none after a fault."""
+        subject, limits = f"{label}{key.name}", to_text(key.least, most)
+        if not isinstance(node.value, Number):
+            message = f"{subject} is {called(node.value)}, and is to be a number, {limits}"
+            digits = isinstance(node.value, str) and node.value.isdigit()
+            self.fault(SHAPE, node.place, message + ("; a number has no quotes" if digits else ""))
+            return None
+        value = node.value.natural()
+        if value is None:
+            message = f"{subject} is {shown(node.value.text)}, and is to be {limits}, digits alone"
+            self.fault(SHAPE, node.place, message)
+        elif not key.least <= value <= most:
+            bound = f" (its {key.most_key})" if key.most_key and most < value <= key.most else ""
+            self.fault(LIMIT, node.place, f"{subject} is {value}, and is to be {limits}{bound}")
+            value = None
+        return value
+
+    def name(self, shape: Shape, node: Node, label: str) -> None:
+        """A name, which is the first of its kind."""
+        if not isinstance(node.value, str):
+            self.unsure.add(shape.symbol)
+            message = f"{label}: name is {called(node.value)}, and is to be a text"
+            self.fault(SHAPE, node.place, message)
+            return
+        first = self.names[shape.symbol].get(node.value)
+        if not is_name(node.value):
+            near = proposed(node.value)
+            self.refused[shape.symbol] |= {node.value, near}
+            self.fault(NAME, node.place, f"{label}: {NAME_RULE}" + (f": {near}?" if near else ""))
+        elif first is not None:
+            self.fault(NAME, node.place, f"{label} stands twice; the first is at {first}")
+        else:
+            self.names[shape.symbol][node.value] = node.place
+
+    def members_of(self, node: Node, label: str) -> None:
+        """The members of a queue set: queues that are in no set yet."""
+        if not isinstance(node.value, tuple):
+            message = f"{label}: members is {called(node.value)}, and is to be a list of names"
+            self.fault(SHAPE, node.place, message)
+            return
+        for member in node.value:
+            name = member.value
+            if not isinstance(name, str):
+                message = f"{label}: a member is {called(name)}, and is to be a queue's name"
+                self.fault(SHAPE, member.place, message)
+            elif name in self.members:
+                message = f"{label}: queue {name} is a member of {self.members[name]} already"
+                self.fault(NAME, member.place, message)
+            elif name in self.names["Q"]:
+                self.members[name] = label
+            elif name not in self.refused["Q"] and "Q" not in self.unsure:
+                near = nearest(name, self.names["Q"])
+                message = f"{label}: queue {name if is_name(name) else quoted(name)} isn't there"
+                self.fault(NAME, member.place, message + (f"; {near} is near" if near else ""))
+
+    def code(self, key: Key, node: Node, label: str) -> None:
+        """A script, whose instructions are read once all names are known."""
+        if not isinstance(node.value, tuple):
+            message = f"{label}: code is {called(node.value)}, and is to be a list of instructions"
+            self.fault(SHAPE, node.place, message)
+            return
+        count = len(node.value)
+        if not count:
+            self.fault(
+                LIMIT, node.place, f"{label}: code is empty; a script has an instruction at least"
+            )
+        if count > key.most:
+            message = f"{label}: code has {count} instructions; {key.most} is the most"
+            self.fault(LIMIT, node.value[key.most].place, message)
+        for index, each in enumerate(node.value):
+            if not isinstance(each.value, str):
+                what = f"{label}, instruction {index} is {called(each.value)}"
+                self.fault(SHAPE, each.place, f"{what}, and is to be a text")
+        self.scripts.append((label, node.value))
+
+    def script(self, label: str, code: Tuple[Node, ...], scope: Scope) -> None:
+        """The instructions of a script, and whether it goes on behind its last one."""
+        for index, node in enumerate(code):
+            if isinstance(node.value, str):
+                self.instruction(f"{label}, instruction {index}: {written(node)}", node, scope)
+        words = [word for word, _ in code[-1].words()] if code else []
+        if words and form_of(words[0]) is not None and not is_final(words[0]):
+            what = f"{label}, instruction {len(code) - 1}: {written(code[-1])}"
+            message = f"{what}: the script goes on behind it; its last instruction is end or jump"
+            self.fault(INSTR, code[-1].place, message)
+
+    def instruction(self, label: str, node: Node, scope: Scope) -> None:
+        """An instruction. What names a thing whose own name is at fault is none of its faults."""
+        reading = read(node, scope)
+        for fault in reading.faults:
+            refused = fault.word in self.refused.get(fault.symbol, ())
+            if not refused and not (fault.kind == NAME and fault.symbol in self.unsure):
+                self.fault(fault.kind, fault.place, f"{label}: {fault.message}")
+        if reading.form is not None and reading.form.word == "over" and not reading.faults:
+            queue = reading.operands[0]
+            lengths = self.lengths.get(queue.word, {None})
+            if not lengths & {1, None}:
+                has = ", ".join(str(length) for length in sorted(filter(None, lengths)))
+                message = f"over Q is for a queue of length 1, and {queue.word} has {has}"
+                self.fault(OVERWRITE, queue.place, f"{label}: {message}")
+
+
+def written(node: Node) -> str:
+    """An instruction as it stands in the text, between quotes."""
+    return quoted(str(node.value) if node.written is None else node.written)

@@ -1,0 +1,154 @@
+"""Numbers of a text in lines: decimal or hexadecimal, by name, shifted by `<<`, joined by `|`."""
+import re
+from typing import Dict, Iterable, List, Optional, Sequence
+
+from rdbg.firmware.tokens import Refusal, Token, shown
+from rdbg.near import nearest
+from rdbg.operands import Scope
+from rdbg.slips import slip
+from rdbg.tree import Place
+
+LARGEST = 0xFFFF_FFFF
+# (parentheses within parentheses)
+DEEPEST = 20
+# (a longer word is near to none)
+LONGEST = 64
+NUMBER = re.compile(r"(0[xX][0-9a-fA-F]+|[0-9]+)[uUlL]*")
+NAME = re.compile(r"[A-Za-z_][A-Za-z0-9_]*")
+FOREVER = "portMAX_DELAY"
+# What C calls to have a number, and why there is none.
+CALLED = {
+    "pdMS_TO_TICKS": "times are in ticks; write how many",
+    "sizeof": "write the number of bytes",
+}
+NOTHING_NAMED = Scope({})
+RESERVED = re.compile(r"max|r[0-7]")
+
+
+def near_to(word: str, others: Iterable[str]) -> str:
+    """The end of a message on a word that isn't among others: which one is near."""
+    small = {other.lower(): other for other in others}
+    near = nearest(word, small) if len(word) <= LONGEST else None
+    return f"; {small[near]} is near" if near else ""
+
+
+def too_large(place: Place, text: str) -> Refusal:
+    """What a number is refused with that has no room in 32 bits."""
+    message = f"{shown(text)} is too large: a number is at most {LARGEST}, 0xffffffff"
+    return Refusal(place, message, "L3 Limit")
+
+
+def value_of(place: Place, text: str) -> Optional[int]:
+    """The value of a text that is a number; none where it isn't. Raises `Refusal` where it is too
+    large, or would be another number in C."""
+    found = NUMBER.fullmatch(text)
+    if not found:
+        return None
+    digits, base = found[1], 10
+    if digits[:2] in ("0x", "0X"):
+        digits, base = digits[2:].lstrip("0") or "0", 16
+    elif digits.startswith("0") and digits != "0":
+        raise Refusal(place, f"{shown(text)} would be octal in C: write it without the 0 in front")
+    if len(digits) > 10 or int(digits, base) > LARGEST:
+        raise too_large(place, text)
+    return int(digits, base)
+
+
+class Constants:
+    """The numbers that have a name."""
+
+    def __init__(self) -> None:
+        self.values: Dict[str, int] = {FOREVER: LARGEST}
+        self.named: Dict[str, Token] = {}
+
+    def define(self, name: Token, value: int) -> None:
+        """Names a number. Raises `Refusal` where this can't be its name."""
+        if not NAME.fullmatch(name.text):
+            message = f"{shown(name.text)} can't name a number: letters, digits and _ can"
+            raise Refusal(name.place, message)
+        if name.text in self.named:
+            line = self.named[name.text].place.line
+            raise Refusal(name.place, f"const {shown(name.text)} stands in line {line} already")
+        if name.text in self.values or RESERVED.fullmatch(name.text):
+            raise Refusal(name.place, f"{name.text} has a meaning already")
+        self.values[name.text], self.named[name.text] = value, name
+
+    def near(self, word: str) -> str:
+        """The end of a message on a word that is no const: which one is near."""
+        return near_to(word, self.values)
+
+
+class Numbers:
+    """Reads numbers from the tokens of a line, the next from `at` on. What isn't right is kept in
+    `refusals` where it leaves no doubt where the number ends; else it is raised."""
+
+    def __init__(
+        self, tokens: Sequence[Token], constants: Constants, refusals: List[Refusal]
+    ) -> None:
+        self.tokens, self.constants, self.refusals = tokens, constants, refusals
+        self.at = 0
+
+    def next(self) -> Optional[Token]:
+        """The token at `at`, which isn't passed; none at the end of the line."""
+        return self.tokens[self.at] if self.at < len(self.tokens) else None
+
+    def is_next(self, sign: str) -> bool:
+        """Whether this sign comes next; then it is passed."""
+        token = self.next()
+        if token is None or token.text != sign:
+            return False
+        self.at += 1
+        return True
+
+    def number(self, depth: int = 0) -> int:
+        """The next number."""
+        value = self._shifted(depth)
+        while self.is_next("|"):
+            value |= self._shifted(depth)
+        return value
+
+    def _shifted(self, depth: int) -> int:
+        first = self.next()
+        value = self._single(depth)
+        while self.is_next("<<"):
+            by = self._single(depth)
+            value = value << by if by < 32 else value and LARGEST + 1
+            if first is not None and value > LARGEST:
+                self.refusals.append(too_large(first.place, f"{first.text} << {by}"))
+                value = 0
+        return value
+
+    def _single(self, depth: int) -> int:
+        token = self.next()
+        if token is None:
+            last = self.tokens[-1]
+            raise Refusal(last.place, f"a number is missing behind {shown(last.text)}")
+        if token.text == "(" and depth < DEEPEST:
+            self.at += 1
+            value = self.number(depth + 1)
+            if not self.is_next(")"):
+                raise Refusal(token.place, "this ( isn't closed")
+            return value
+        if not token.is_word():
+            raise Refusal(token.place, f"there should be a number, and not {shown(token.text)}")
+        self.at += 1
+        return self._value(token)
+
+    def _value(self, token: Token) -> int:
+        try:
+            value = value_of(token.place, token.text)
+        except Refusal as refusal:
+            self.refusals.append(refusal)
+            return 0
+        value = self.constants.values.get(token.text) if value is None else value
+        if value is None:
+            self.refusals.append(self._unknown(token))
+        return value or 0
+
+    def _unknown(self, token: Token) -> Refusal:
+        """Why a word is no number. Raises it where the word begins more than one."""
+        if token.text in CALLED:
+            raise Refusal(token.place, f"{token.text} isn't there: {CALLED[token.text]}")
+        meant = slip("V", token.text, NOTHING_NAMED) if NAME.fullmatch(token.text) else ""
+        hint = self.constants.near(token.text) or (f"; {meant}" if meant else "")
+        return Refusal(token.place, f"{shown(token.text)} is no number and no const{hint}")

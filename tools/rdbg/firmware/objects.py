@@ -1,0 +1,115 @@
+"""The lines of a text in lines that aren't instructions: what each says of the application."""
+from typing import Dict, List, Sequence
+
+from rdbg.firmware.numbers import NAME, Constants, Numbers
+from rdbg.firmware.tokens import Refusal, Token, shown
+from rdbg.shapes import FILE, Key, Shape
+from rdbg.tree import Member, Node, Number, Places
+
+# By the first word of a line: the keys of a file that are numbers, and those that are lists.
+SETTINGS: Dict[str, Key] = {key.name: key for key in FILE.keys if key.of is None}
+OBJECTS: Dict[str, Shape] = {key.name[:-1]: key.of for key in FILE.keys if key.of is not None}
+# How a line says what a key holds.
+WRITTEN = {"name": "NAME", "number": "{} N", "members": "{} Q .."}
+
+
+def form_of(word: str) -> str:
+    """How a line with this first word is written: `queue NAME length N item N`."""
+    if word in SETTINGS:
+        return f"{word} N"
+    keys = [key for key in OBJECTS[word].keys if key.holds in WRITTEN]
+    return " ".join([word, *(WRITTEN[key.holds].format(key.name) for key in keys)])
+
+
+def ended(reader: Numbers) -> None:
+    """Refuses what stands behind the end of a line."""
+    token = reader.next()
+    if token is not None:
+        raise Refusal(token.place, f"{shown(token.text)} is too much")
+
+
+def number_of(tokens: Sequence[Token], constants: Constants, refusals: List[Refusal]) -> Node:
+    """The number behind the first token of a line."""
+    reader = Numbers(tokens, constants, refusals)
+    reader.at = 1
+    node = next_number(reader)
+    ended(reader)
+    return node
+
+
+def next_number(reader: Numbers) -> Node:
+    """The next number. Its place is that of its first token."""
+    token = reader.next()
+    value = reader.number()
+    assert token is not None, "a number has a token"
+    return Node(Number(str(value)), token.place)
+
+
+def name_node(token: Token) -> Node:
+    """A name."""
+    return Node(token.text, token.place, Places(token.place.line, token.columns()))
+
+
+class ObjectLine:
+    """Reads a line of an object or of a task. What is refused of it is kept in `refusals`."""
+
+    def __init__(
+        self, tokens: Sequence[Token], constants: Constants, refusals: List[Refusal]
+    ) -> None:
+        self._word, self._shape = tokens[0], OBJECTS[tokens[0].text]
+        self._reader = Numbers(tokens, constants, refusals)
+        self._reader.at = 1
+        self._refusals = refusals
+        self.members: List[Member] = []
+
+    def read(self) -> None:
+        """Reads all of it, as far as it can be read."""
+        try:
+            self._name()
+            while self._reader.next() is not None:
+                self._key()
+        except Refusal as refusal:
+            self._refusals.append(refusal)
+
+    def _name(self) -> None:
+        token = self._reader.next()
+        lacks = f"{form_of(self._word.text)}: there is no name"
+        if token is None or not token.is_word():
+            raise Refusal(token.place if token else self._word.place, lacks)
+        behind = self._reader.tokens[2:3]
+        if token.text in self._shape.names() and behind and behind[0].text[0].isdigit():
+            self._refusals.append(Refusal(token.place, lacks))
+            return
+        self._reader.at += 1
+        self.members.append(Member("name", token.place, name_node(token)))
+
+    def _key(self) -> None:
+        token = self._reader.next()
+        assert token is not None
+        self._reader.at += 1
+        if any(member.key == token.text for member in self.members):
+            self._refusals.append(Refusal(token.place, f"{shown(token.text)} stands twice"))
+        if token.text == "members" and "members" in self._shape.names():
+            node = Node(tuple(self._members()), token.place)
+        elif NAME.fullmatch(token.text) and token.text != "code":
+            node = next_number(self._reader)
+        else:
+            message = f"{shown(token.text)} is no key: {form_of(self._word.text)}"
+            raise Refusal(token.place, message)
+        self.members.append(Member(token.text, token.place, node))
+
+    def _members(self) -> List[Node]:
+        """All words that come, as names."""
+        found: List[Node] = []
+        while True:
+            token = self._reader.next()
+            if token is None:
+                return found
+            if not token.is_word():
+                raise Refusal(token.place, f"{shown(token.text)} is no name")
+            found.append(name_node(token))
+            self._reader.at += 1
+
+    def name(self) -> str:
+        """The name; empty where there is none."""
+        return next((str(it.node.value) for it in self.members if it.key == "name"), "")

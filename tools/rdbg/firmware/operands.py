@@ -1,0 +1,163 @@
+"""The operands of instructions in a text in lines, as rdbg reads them, from what is written."""
+import dataclasses
+import re
+from typing import Callable, Dict, List, Optional, Sequence
+
+from rdbg.firmware.numbers import FOREVER, LARGEST, NAME, NOTHING_NAMED, NUMBER, Numbers
+from rdbg.firmware.tokens import Refusal, Token, shown
+from rdbg.operands import NAMED, REGISTER
+from rdbg.slips import slip
+from rdbg.tree import Place
+
+BYTES = re.compile(r"(?:0[xX])?((?:[0-9a-fA-F]{2})+)")
+ODD = re.compile(r"(?:0[xX])?[0-9a-fA-F]+")
+CHARACTER = re.compile(r"\\x([0-9a-fA-F]{2})|\\([nrt0\\\"])|[^\\]", re.DOTALL)
+BYTES_ARE = "they are written as hexadecimal digits, two a byte, or as a text in quotes"
+ESCAPES = {"n": "\n", "r": "\r", "t": "\t", "0": "\0", "\\": "\\", '"': '"'}
+# The kinds of operands that are numbers, or can be.
+NUMBERS = ("N", "V", "T", "I", "ROOM")
+JOINING = ("|", "<<")
+
+
+@dataclasses.dataclass(frozen=True)
+class Operand:
+    """An operand as rdbg reads it, with the columns of its characters; or the label that it is."""
+
+    text: str
+    columns: Sequence[int]
+    label: Optional[Token] = None
+
+
+def as_written(token: Token) -> Operand:
+    """An operand that stands there as rdbg reads it."""
+    return Operand(token.text, token.columns())
+
+
+def made(text: str, place: Place) -> Operand:
+    """An operand that is written in another way."""
+    return Operand(text, [place.column] * len(text))
+
+
+def bytes_of(token: Token) -> Operand:
+    """The bytes of a text in quotes. Raises `Refusal` for an escape that there isn't."""
+    parts: List[str] = []
+    columns: List[int] = []
+    at = 1
+    while at < len(token.text) - 1:
+        found = CHARACTER.match(token.text, at)
+        if found is None:
+            message = r"the escapes are \n, \r, \t, \0, \\, \" and two digits behind \x"
+            raise Refusal(token.place_of(at), message)
+        parts.append(found[1] or ESCAPES.get(found[2], found[0]).encode().hex())
+        columns += [token.place.column + at] * len(parts[-1])
+        at = found.end()
+    return Operand("".join(parts), columns)
+
+
+class Operands(Numbers):
+    """Reads the operands of an instruction from the tokens behind its word."""
+
+    def operand(self, symbol: str) -> Operand:
+        """The next operand, which is there and is of the kind with this symbol."""
+        if self.tokens[self.at].is_word() and self._is_left(symbol):
+            return self.word()
+        if symbol in READERS:
+            return READERS[symbol](self)
+        return self.word() if symbol in NAMED else self.whatever()
+
+    def whatever(self) -> Operand:
+        """The next word, of which nothing is known: it may be a number, where one was left out."""
+        token = self.tokens[self.at]
+        is_number = NUMBER.fullmatch(token.text) or token.text in self.constants.values
+        return self.time() if is_number else self.word()
+
+    def _is_left(self, symbol: str) -> bool:
+        """Whether a word where a number can stand is none, and isn't meant to be a const. It is
+        left as it is: what looks at the form of instructions knows better what is wrong."""
+        word, behind = self.tokens[self.at].text, self.tokens[self.at + 1 : self.at + 2]
+        if symbol not in NUMBERS or behind and behind[0].text in JOINING:
+            return False
+        if NUMBER.fullmatch(word) or word in self.constants.values:
+            return False
+        if not NAME.fullmatch(word):
+            return not (symbol == "N" and word.startswith("-"))
+        is_meant = word != word.lower() or self.constants.near(word) != ""
+        return not is_meant or slip(symbol, word, NOTHING_NAMED) != ""
+
+    def word(self) -> Operand:
+        """The next word, as it is written."""
+        token = self.tokens[self.at]
+        if not token.is_word():
+            raise Refusal(token.place, f"{shown(token.text)} has no place here")
+        self.at += 1
+        return as_written(token)
+
+    def value(self) -> Operand:
+        """The next number, in decimal digits."""
+        first = self.tokens[self.at]
+        text = str(self.number())
+        return as_written(first) if first.text == text else made(text, first.place)
+
+    def signed(self) -> Operand:
+        """The next number; one below 0 as the number that 32 bits make of it."""
+        token = self.tokens[self.at]
+        if not token.text.startswith("-") or token.text == "-":
+            return self.value()
+        self.at += 1
+        behind = Numbers([Token(token.text[1:], token.place_of(1))], self.constants, self.refusals)
+        return made(str(-behind.number() & LARGEST), token.place)
+
+    def register_or_value(self) -> Operand:
+        """The next register or number."""
+        return self.word() if re.fullmatch(REGISTER, self.tokens[self.at].text) else self.value()
+
+    def time(self) -> Operand:
+        """The next block time."""
+        token = self.tokens[self.at]
+        if token.text == "max":
+            return self.word()
+        behind = self.tokens[self.at + 1 : self.at + 2]
+        if token.text == FOREVER and not (behind and behind[0].text in JOINING):
+            self.at += 1
+            return made("max", token.place)
+        return self.register_or_value()
+
+    def target(self) -> Operand:
+        """The next label, or number of an instruction."""
+        operand = self.word()
+        label = self.tokens[self.at - 1] if NAME.fullmatch(operand.text) else None
+        return dataclasses.replace(operand, label=label)
+
+    def data(self) -> Operand:
+        """All bytes that come: digits, or a text in quotes."""
+        pieces = [self._piece()]
+        while self.next() is not None:
+            pieces.append(self._piece())
+        text = "".join(piece.text for piece in pieces)
+        columns = [column for piece in pieces for column in piece.columns]
+        return Operand(text, columns) if text else made("-", self.tokens[0].place)
+
+    def _piece(self) -> Operand:
+        token = self.tokens[self.at]
+        self.at += 1
+        if token.is_quoted():
+            return bytes_of(token)
+        found = BYTES.fullmatch(token.text)
+        if found:
+            return Operand(found[1], token.columns()[found.start(1) :])
+        if token.text == "-" and len(self.tokens) == 1:
+            return as_written(token)
+        why = "each byte has two digits" if ODD.fullmatch(token.text) else BYTES_ARE
+        raise Refusal(token.place, f"{shown(token.text)} is no bytes: {why}", "L5 Instr")
+
+
+# How the operands are read that can be written in other ways than in the JSON, by their symbols.
+READERS: Dict[str, Callable[[Operands], Operand]] = {
+    "N": Operands.signed,
+    "V": Operands.register_or_value,
+    "T": Operands.time,
+    "I": Operands.value,
+    "ROOM": Operands.value,
+    "L": Operands.target,
+    "HEX": Operands.data,
+}

@@ -1,0 +1,143 @@
+"""The words of a text in lines, each with its place; comments and the ends of lines are gone."""
+import dataclasses
+import re
+from typing import Iterator, List, Optional, Sequence
+
+from rdbg.tree import Place
+
+GRAMMAR = "grammar"
+# So much of a word stands in a message. A longer word is in no line, nor are so many words.
+SHOWN = 40
+MOST_CHARACTERS = 2000
+MOST_TOKENS = 1000
+# What a line is made of. A comma is a space.
+PIECE = re.compile(
+    r"""(?P<space>[ \t,]+)
+    |(?P<comment>//.*|\#.*)
+    |(?P<block>/\*)
+    |(?P<token>"(?:\\.|[^"\\])*"?|<<|[()|;:]|(?:(?!<<|//|/\*)[^ \t,"()|;:\#])+)""",
+    re.VERBOSE | re.DOTALL,
+)
+SIGNS = ("(", ")", "|", "<<", ";", ":")
+CLOSED = re.compile(r'"(?:\\.|[^"\\])*"', re.DOTALL)
+STRANGE = re.compile(r"[^ -~]")
+DEFINE = re.compile(r"#define\b")
+# Directives of C that change what is read: as comments they would be passed over in silence.
+DIRECTIVE = re.compile(r"#(?:include|undef|if|ifdef|ifndef|elif|else|endif)\b")
+
+
+class Refusal(Exception):
+    """What the grammar of a text in lines refuses: where, why, and as a fault of which kind."""
+
+    def __init__(self, place: Place, message: str, kind: str = GRAMMAR) -> None:
+        super().__init__(message)
+        self.place, self.message, self.kind = place, message, kind
+
+
+class Stop(Refusal):
+    """A refusal behind which the text isn't read."""
+
+
+@dataclasses.dataclass(frozen=True)
+class Token:
+    """A word, a text in quotes or a sign, as it is written; `gap` is what parts it from the one
+    before it: nothing, a space, or a comma and a space."""
+
+    text: str
+    place: Place
+    gap: str = ""
+
+    def is_quoted(self) -> bool:
+        """Whether it is a text in quotes."""
+        return self.text.startswith('"')
+
+    def is_word(self) -> bool:
+        """Whether it is a word."""
+        return not self.is_quoted() and self.text not in SIGNS
+
+    def place_of(self, index: int) -> Place:
+        """The place of a character."""
+        return Place(self.place.line, self.place.column + index)
+
+    def columns(self) -> Sequence[int]:
+        """The columns of its characters, in its line."""
+        return range(self.place.column, self.place.column + len(self.text))
+
+    def check(self) -> None:
+        """Refuses a text that isn't closed, what is too long, and a character that no word has."""
+        if self.is_quoted() and not CLOSED.fullmatch(self.text):
+            raise Refusal(self.place, "this text isn't closed: quotes are missing at its end")
+        if len(self.text) > MOST_CHARACTERS:
+            raise Refusal(self.place, f"a word of {len(self.text):,} characters is too long")
+        strange = None if self.is_quoted() else STRANGE.search(self.text)
+        if strange:
+            name = f"U+{ord(strange[0]):04X}"
+            message = f"the character {name} can stand in comments and quotes alone"
+            raise Refusal(self.place_of(strange.start()), message)
+
+
+def shown(text: str) -> str:
+    """A word as a message has it, cut where it is long."""
+    return text if len(text) <= SHOWN else f"{text[:SHOWN]}.."
+
+
+def written(tokens: Sequence[Token]) -> str:
+    """The tokens as they are written, with one space wherever there is any."""
+    return "".join(token.gap + token.text for token in tokens)[len(tokens[0].gap) :]
+
+
+class Scanner:
+    """Reads a text line by line; what it refuses is kept in `refusals`."""
+
+    def __init__(self, text: str, refusals: List[Refusal]) -> None:
+        self._text, self._refusals = text, refusals
+        # (where a comment was begun by `/*` that isn't closed yet)
+        self._comment: Optional[Place] = None
+
+    def lines(self) -> Iterator[List[Token]]:
+        """The tokens of each line."""
+        for number, line in enumerate(self._text.split("\n"), 1):
+            yield self._line(number, line[:-1] if line.endswith("\r") else line)
+        if self._comment is not None:
+            message = "this comment isn't closed: */ is missing"
+            self._refusals.append(Refusal(self._comment, message))
+
+    def _line(self, number: int, line: str) -> List[Token]:
+        tokens: List[Token] = []
+        at, gap = 0, ""
+        while at < len(line) and len(tokens) <= MOST_TOKENS:
+            if self._comment is not None:
+                at, gap = self._behind_comment(line, at), " "
+                continue
+            found = PIECE.match(line, at)
+            assert found is not None, "each character begins a piece"
+            place = Place(number, at + 1)
+            at = found.end()
+            if found.lastgroup == "space":
+                gap = ", " if "," in found[0] else " "
+            elif found.lastgroup == "block":
+                self._comment = place
+            elif found.lastgroup == "token":
+                tokens.append(Token(found[0], place, gap))
+                gap = ""
+            elif found.lastgroup == "comment" and not tokens:
+                tokens += self._directive(found[0], place)
+                at = found.start() + len(tokens[0].text) if tokens else at
+        return tokens
+
+    def _behind_comment(self, line: str, at: int) -> int:
+        """Where the comment ends that is open."""
+        end = line.find("*/", at)
+        if end < 0:
+            return len(line)
+        self._comment = None
+        return end + 2
+
+    def _directive(self, comment: str, place: Place) -> List[Token]:
+        """The `#define` that a line begins with, and none where it is a comment."""
+        refused = DIRECTIVE.match(comment)
+        if refused:
+            message = f"there is no {refused[0]} here, and a comment would begin with //"
+            self._refusals.append(Refusal(place, message))
+        define = DEFINE.match(comment)
+        return [Token(define[0], place)] if define else []

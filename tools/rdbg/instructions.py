@@ -1,0 +1,215 @@
+"""The instructions of scripts: one table of their forms, and one reader over it.
+
+A form is written as in docs/CALLS.md: its word, then the symbols of its operands. What an operand
+can be stands in `rdbg.operands`.
+"""
+import dataclasses
+from typing import Dict, Optional, Tuple
+
+from rdbg.operands import KIND_OF
+
+
+@dataclasses.dataclass(frozen=True)
+class InstructionForm:
+    """A form of instructions: how it is written, the FreeRTOS names that it stands for, what it
+    does, what its answer in r0 is, and what each operand is called where its kind says too little
+    (`nouns`, one for each operand)."""
+
+    text: str
+    freertos: Tuple[str, ...]
+    does: str
+    answer: str
+    nouns: Tuple[str, ...]
+
+    @property
+    def word(self) -> str:
+        """The instruction's own word."""
+        return self.text.split(" ")[0]
+
+    @property
+    def symbols(self) -> Tuple[str, ...]:
+        """The kinds of its operands, by their symbols."""
+        return tuple(self.text.split(" ")[1:])
+
+    def texts(self) -> Tuple[str, ...]:
+        """The form as the documents write it: `take I clear T` and `take I dec T`."""
+        found = [""]
+        for part in self.text.split(" "):
+            found = [f"{text} {choice}" for text in found for choice in part.split("|")]
+        return tuple(text[1:] for text in found)
+
+
+def form(text: str, freertos: str, does: str, answer: str, nouns: str = "") -> InstructionForm:
+    """A form; `freertos` are names separated by spaces, `nouns` by commas."""
+    symbols = text.split(" ")[1:]
+    given = nouns.split(", ") if nouns else [KIND_OF[symbol].noun for symbol in symbols]
+    assert len(given) == len(symbols), text
+    return InstructionForm(text, tuple(freertos.split()), does, answer, tuple(given))
+
+
+STAYS = "r0 stays"
+OWN = "r0 stays, where it isn't the register itself"
+SENT = "1, or 0 where the queue was full until the time was up"
+RECEIVED = "1, or 0 where nothing came until the time was up"
+TOLD = "1; 0 where setif finds an entry that has received"
+
+FORMS: Tuple[InstructionForm, ...] = (
+    form("set R N", "", "the register becomes the number", OWN),
+    form("add R N", "", "the register grows by the number, modulo 2^32", OWN),
+    form(
+        "move R R",
+        "",
+        "the first register becomes the second's value",
+        OWN,
+        "register that changes, register that is read",
+    ),
+    form("data HEX", "", "the task's data becomes these bytes", STAYS),
+    form("pack R", "", "the data becomes the register's four bytes, lowest first", STAYS),
+    form("unpack R", "", "the register becomes the data's first four bytes", OWN),
+    form("jump L", "", "the script goes on at this instruction", STAYS),
+    form("jumpz R L", "", "the script goes on there if the register is 0", STAYS),
+    form("end", "vTaskDelete", "the task has ended", STAYS),
+    form("send Q T", "xQueueSend xQueueSendToBack", "sends the data, to the back", SENT),
+    form("front Q T", "xQueueSendToFront", "sends the data, to the front", SENT),
+    form("recv Q T", "xQueueReceive", "takes the first item, as the data", RECEIVED),
+    form("peek Q T", "xQueuePeek", "reads the first item, as the data, and leaves it", RECEIVED),
+    form("over Q", "xQueueOverwrite", "puts the data in place of the one item", "1"),
+    form("qreset Q", "xQueueReset", "takes all items out", "1"),
+    form("count Q", "uxQueueMessagesWaiting", "counts the items", "how many items there are"),
+    form("spaces Q", "uxQueueSpacesAvailable", "counts the free places", "how many are free"),
+    form(
+        "setadd Q S",
+        "xQueueAddToSet",
+        "makes the queue a member",
+        "1, or 0 where it is one already, or has items",
+    ),
+    form(
+        "setdel Q S",
+        "xQueueRemoveFromSet",
+        "ends that it is a member",
+        "1, or 0 where it isn't one, or has items",
+    ),
+    form(
+        "select S T",
+        "xQueueSelectFromSet",
+        "takes the oldest handle",
+        "the queue's number in the file and 1, or 0 for none",
+    ),
+    form("swrite B T", "xStreamBufferSend", "writes the data", "how many bytes were written"),
+    form(
+        "sread B ROOM T",
+        "xStreamBufferReceive",
+        "reads so many bytes at the most, as the data",
+        "how many bytes were read",
+    ),
+    form("sreset B", "xStreamBufferReset", "drops all bytes", "1, or 0 where somebody waits"),
+    form(
+        "strig B V",
+        "xStreamBufferSetTriggerLevel",
+        "sets the trigger level",
+        "1, or 0 where it is above the size",
+        "stream buffer, trigger level",
+    ),
+    form("scount B", "xStreamBufferBytesAvailable", "counts the bytes", "how many there are"),
+    form("sspaces B", "xStreamBufferSpacesAvailable", "counts the room", "how many bytes fit"),
+    form("mwrite M T", "xMessageBufferSend", "writes the data as a message", "its length, or 0"),
+    form(
+        "mread M ROOM T",
+        "xMessageBufferReceive",
+        "reads a message of so many bytes at the most, as the data",
+        "its length, or 0 where there is none or it is longer",
+    ),
+    form("mreset M", "xMessageBufferReset", "drops all messages", "1, or 0 where somebody waits"),
+    form(
+        "mspaces M",
+        "xMessageBufferSpacesAvailable",
+        "counts the room",
+        "how many bytes are free, four a message for its length among them",
+    ),
+    form(
+        "mnext M",
+        "xMessageBufferNextLengthBytes",
+        "looks at the message in front",
+        "its length, or 0 for none",
+    ),
+    form(
+        "notify K I V ACTION",
+        "xTaskNotifyIndexed",
+        "notifies an entry of the task",
+        TOLD,
+        "task, index of a notification entry, value that is sent, action",
+    ),
+    form(
+        "query K I V ACTION",
+        "xTaskNotifyAndQueryIndexed",
+        "notifies an entry of the task; r1 becomes its value before",
+        TOLD,
+        "task, index of a notification entry, value that is sent, action",
+    ),
+    form(
+        "take I clear|dec T",
+        "ulTaskNotifyTakeIndexed",
+        "waits until the entry's value isn't 0, then clears it or takes one away",
+        "the value before, or 0",
+    ),
+    form(
+        "nwait I V V T",
+        "xTaskNotifyWaitIndexed",
+        "waits until the entry has received; r1 becomes its value",
+        "1, or 0 where nothing came until the time was up",
+        "index of a notification entry, bits to clear on entry, bits to clear on exit, block time",
+    ),
+    form(
+        "nclear K I",
+        "xTaskNotifyStateClearIndexed",
+        "makes an entry idle that has received",
+        "1, or 0 where it had not",
+    ),
+    form(
+        "vclear K I V",
+        "ulTaskNotifyValueClearIndexed",
+        "clears bits of an entry's value",
+        "the value before",
+        "task, index of a notification entry, bits to clear",
+    ),
+    form(
+        "gset G V",
+        "xEventGroupSetBits",
+        "sets bits",
+        "the bits afterwards",
+        "event group, bits to set",
+    ),
+    form(
+        "gclear G V",
+        "xEventGroupClearBits",
+        "clears bits",
+        "the bits before",
+        "event group, bits to clear",
+    ),
+    form("gget G", "xEventGroupGetBits", "looks at the bits", "the bits"),
+    form(
+        "gwait G V WISH CLR T",
+        "xEventGroupWaitBits",
+        "waits for any or all of these bits, and keeps or clears them once they came",
+        "the bits, also where the time was up",
+        "event group, bits to wait for, wish, word for clearing, block time",
+    ),
+    form(
+        "gsync G V V T",
+        "xEventGroupSync",
+        "sets bits, then waits for all of others, and clears these",
+        "the bits, also where the time was up",
+        "event group, bits to set, bits to wait for, block time",
+    ),
+)
+FORM_OF: Dict[str, InstructionForm] = {it.word: it for it in FORMS}
+
+
+def form_of(word: str) -> Optional[InstructionForm]:
+    """The form of the instruction with this word, or none."""
+    return FORM_OF.get(word)
+
+
+def is_final(word: str) -> bool:
+    """Whether a script can end with this instruction: it never goes on behind it."""
+    return word in ("end", "jump")

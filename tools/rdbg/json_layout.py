@@ -1,0 +1,69 @@
+"""The JSON of an application, laid out to be read: an object a line, and a short script on one."""
+import json
+from typing import Any, Dict, List, Sequence, Tuple
+
+from rdbg.application import Application, Task
+from rdbg.shapes import FILE, Shape
+
+WIDTH = 112
+# A file that is longer isn't read by rdbg.
+MOST_BYTES = 1 << 20
+# Keys that are left out where they have this value.
+DEFAULTS: Dict[str, int] = {"notes": 1, "tick": 0}
+
+
+def pairs(thing: Any, shape: Shape) -> List[Tuple[str, Any]]:
+    """The keys of an object or a task with their values, in the order of the documents; its script
+    as a list of texts."""
+    found: List[Tuple[str, Any]] = []
+    for key in shape.keys:
+        value = getattr(thing, key.name)
+        if key.holds == "code":
+            value = [instruction.text for instruction in value]
+        found.append((key.name, value))
+    return found
+
+
+def settings(app: Application) -> List[Tuple[str, int]]:
+    """The keys of the file that are numbers, with those values that aren't there by themselves."""
+    found = [(key.name, int(getattr(app, key.name))) for key in FILE.keys if key.of is None]
+    return [(name, value) for name, value in found if DEFAULTS.get(name) != value]
+
+
+def task_text(task: Task, shape: Shape) -> str:
+    """A task: on one line where that is short, else with a line for each instruction."""
+    found = dict(pairs(task, shape))
+    line = json.dumps(found)
+    if len(line) <= WIDTH - len("    ,"):
+        return line
+    head = json.dumps({**found, "code": []})
+    code = ",\n".join(f"      {json.dumps(text)}" for text in found["code"])
+    return f"{head[: -len(']}')]}\n{code}\n    ]}}"
+
+
+def list_text(name: str, things: Sequence[str], is_short: bool) -> str:
+    """A list: on one line where that is short, else with a line for each object."""
+    line = f'  "{name}": [{", ".join(things)}]'
+    if is_short and len(line) < WIDTH:
+        return line
+    return "\n".join([f'  "{name}": [', ",\n".join(f"    {it}" for it in things), "  ]"])
+
+
+def json_of(app: Application) -> str:
+    """The JSON of an application, with an end of line. Where it would be too long for rdbg if it
+    was laid out, it is on one line."""
+    parts = [f'  "{name}": {value}' for name, value in settings(app)]
+    plain: Dict[str, Any] = dict(settings(app))
+    for key in FILE.keys:
+        things = getattr(app, key.name)
+        if key.of is None or not things:
+            continue
+        plain[key.name] = [dict(pairs(it, key.of)) for it in things]
+        if key.name == "tasks":
+            parts.append(list_text(key.name, [task_text(it, key.of) for it in things], False))
+        else:
+            parts.append(list_text(key.name, list(map(json.dumps, plain[key.name])), True))
+    laid_out = "{\n" + ",\n".join(parts) + "\n}\n"
+    if len(laid_out) <= MOST_BYTES:
+        return laid_out
+    return json.dumps(plain, separators=(",", ":")) + "\n"

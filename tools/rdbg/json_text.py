@@ -1,0 +1,242 @@
+"""Reads JSON as rdbg does, with the line and the column of everything in it.
+
+What is taken is what the program takes: no comments, no commas too many, no byte order mark, at
+most 127 brackets within each other, numbers that a float holds, whole characters alone.
+"""
+import bisect
+import re
+from typing import Any, List, NoReturn, Optional, Sequence, Tuple
+
+from rdbg import json_causes as causes
+from rdbg.failure import Failure
+from rdbg.faults import Fault
+from rdbg.tree import Member, Node, Number, Object, Place, Places, Value
+
+NOT_JSON = "L1 NotJson"
+MOST_BYTES = 1_048_576
+MOST_DEPTH = 127
+SPACE = re.compile(r"[ \t\n\r]*")
+PLAIN = re.compile(r'"([^"\\\x00-\x1f]*)"')
+CHARACTERS = re.compile(r'[^"\\\x00-\x1f]+')
+HEX = re.compile(r"\\u([0-9A-Fa-f]{4})")
+NUMBER = re.compile(r"-?(?:0|[1-9][0-9]*)(?:\.[0-9]+)?(?:[eE][+-]?[0-9]+)?")
+NUMBER_GOES_ON = re.compile(r"[0-9A-Za-z_.+]")
+LITERAL = re.compile(r"(?:true|false|null)(?![0-9A-Za-z_])")
+LITERALS = {"true": True, "false": False, "null": None}
+ESCAPES = {"b": "\b", "f": "\f", "n": "\n", "r": "\r", "t": "\t", '"': '"', "\\": "\\", "/": "/"}
+
+
+class NotJson(Exception):
+    """The text is no JSON: at which of its characters that is seen, and why."""
+
+    def __init__(self, at: int, message: str) -> None:
+        super().__init__(message)
+        self.at = at
+
+
+def read(content: bytes) -> Tuple[Optional[Node], List[Fault]]:
+    """The tree of a file's content, or none and why it is no JSON. Raises `Failure` where the file
+    is longer than rdbg reads."""
+    if len(content) > MOST_BYTES:
+        raise Failure(
+            f"the file has {len(content):,} bytes, and rdbg reads {MOST_BYTES:,} at the most", 2
+        )
+    try:
+        text = content.decode("utf-8")
+    except UnicodeDecodeError as error:
+        good = content[: error.start].decode("utf-8")
+        return None, [Fault(Reader(good).place(len(good)), NOT_JSON, causes.encoding(error))]
+    reader = Reader(text)
+    try:
+        return reader.file(), []
+    except NotJson as fault:
+        return None, [Fault(reader.place(fault.at), NOT_JSON, str(fault))]
+
+
+class Reader:
+    """Reads a text from its beginning to its end. Each method takes where it begins, and answers
+    what stands there and where that ends."""
+
+    def __init__(self, text: str) -> None:
+        self.text = text
+        self.starts = [0, *(found.end() for found in re.finditer("\n", text))]
+        self.open: List[int] = []
+
+    def place(self, at: int) -> Place:
+        """The line and the column of a character."""
+        line = bisect.bisect_right(self.starts, at)
+        return Place(line, at - self.starts[line - 1] + 1)
+
+    def after_space(self, at: int) -> int:
+        """Where the white space ends that begins here, or doesn't."""
+        found = SPACE.match(self.text, at)
+        return found.end() if found else at
+
+    def refuse(self, at: int, message: str) -> NoReturn:
+        """Says what is wrong."""
+        raise NotJson(at, message)
+
+    def file(self) -> Node:
+        """The one value of the text."""
+        at = self.after_space(0)
+        if at == len(self.text):
+            self.refuse(0, "the file is empty; an application is one JSON object, { .. }")
+        node, end = self.value(at)
+        at = self.after_space(end)
+        if at != len(self.text):
+            self.refuse(at, causes.behind_end(self.text, at))
+        return node
+
+    def value(self, at: int) -> Tuple[Node, int]:
+        """A value."""
+        sign = self.text[at : at + 1]
+        if sign == '"':
+            return self.string(at)
+        if sign == "{" or sign == "[":
+            if len(self.open) == MOST_DEPTH:
+                self.refuse(at, f"more than {MOST_DEPTH} brackets stand within each other")
+            self.open.append(at)
+            node, end = self.object(at) if sign == "{" else self.array(at)
+            self.open.pop()
+            return node, end
+        value: Value
+        number = NUMBER.match(self.text, at)
+        if number:
+            value, end = self.number(number.group(), at), number.end()
+        else:
+            word = LITERAL.match(self.text, at)
+            if not word:
+                self.refuse(at, self.cause(at) or causes.no_value(self.text, at))
+            value, end = LITERALS[word.group()], word.end()
+        return Node(value, self.place(at)), end
+
+    def number(self, digits: str, at: int) -> Number:
+        """A number, which a float holds."""
+        end = at + len(digits)
+        if NUMBER_GOES_ON.match(self.text, end):
+            self.refuse(at, causes.number(self.text, at))
+        if (len(digits) > 300 or "e" in digits or "E" in digits) and "inf" in str(float(digits)):
+            self.refuse(at, "the number is too large")
+        return Number(digits)
+
+    def array(self, at: int) -> Tuple[Node, int]:
+        """A list."""
+        items: List[Node] = []
+        end = self.after_space(at + 1)
+        comma: Optional[int] = None
+        while comma is not None or not self.closes(end, "]"):
+            if comma is not None and self.text[end : end + 1] in ("]", ","):
+                self.refuse(comma if self.text[end] == "]" else end, causes.COMMA)
+            item, end = self.value(end)
+            items.append(item)
+            end, comma = self.comma(end, "]")
+        return Node(tuple(items), self.place(at)), end + 1
+
+    def object(self, at: int) -> Tuple[Node, int]:
+        """An object."""
+        members: List[Member] = []
+        end = self.after_space(at + 1)
+        comma: Optional[int] = None
+        while comma is not None or not self.closes(end, "}"):
+            if comma is not None and self.text[end : end + 1] in ("}", ","):
+                self.refuse(comma if self.text[end] == "}" else end, causes.COMMA)
+            member, end = self.member(end)
+            members.append(member)
+            end, comma = self.comma(end, "}")
+        return Node(Object(tuple(members)), self.place(at)), end + 1
+
+    def closes(self, at: int, bracket: str) -> bool:
+        """Whether this bracket stands here."""
+        return self.text[at : at + 1] == bracket
+
+    def comma(self, at: int, bracket: str) -> Tuple[int, Optional[int]]:
+        """Where it goes on behind a value, and the comma that stands before that. Where the list or
+        the object ends there is none."""
+        end = self.after_space(at)
+        if self.text[end : end + 1] == ",":
+            return self.after_space(end + 1), end
+        if not self.closes(end, bracket):
+            cause = self.cause(end)
+            if cause is not None:
+                self.refuse(end, cause)
+            behind, message = causes.no_comma(self.text, at, end, bracket)
+            self.refuse(behind, message)
+        return end, None
+
+    def member(self, at: int) -> Tuple[Member, int]:
+        """A key with its value."""
+        if self.text[at : at + 1] != '"':
+            self.refuse(at, self.cause(at) or causes.no_key(self.text, at))
+        node, end = self.string(at)
+        key = str(node.value)
+        colon = self.after_space(end)
+        if self.text[colon : colon + 1] != ":":
+            self.refuse(colon, self.cause(colon) or causes.no_colon(self.text, colon))
+        value, end = self.value(self.after_space(colon + 1))
+        return Member(key, node.place, value), end
+
+    def cause(self, at: int) -> Optional[str]:
+        """What can be wrong at any place: the end of the text, a bracket of the other kind, what is
+        no JSON at all."""
+        if at == len(self.text):
+            return self.still_open("the file ends here, and ")
+        sign = self.text[at]
+        if sign in "]}" and self.open and causes.CLOSES[self.text[self.open[-1]]] != sign:
+            return self.still_open(f"{sign} stands here, and ")
+        return causes.nowhere(self.text, at)
+
+    def still_open(self, before: str) -> str:
+        """Which bracket isn't closed."""
+        if not self.open:
+            return f"{before}a value is missing"
+        bracket = self.text[self.open[-1]]
+        closing = causes.CLOSES[bracket]
+        return f"{before}the {bracket} of {self.place(self.open[-1])} isn't closed by {closing}"
+
+    def string(self, at: int) -> Tuple[Node, int]:
+        """A text, with the places of its characters."""
+        place = self.place(at)
+        plain = PLAIN.match(self.text, at)
+        if plain:
+            value, end = plain.group(1), plain.end()
+            first = place.column + 1
+            columns: Sequence[int] = range(first, first + len(value))
+        else:
+            value, columns, end = self.escaped(at, place.column)
+        return Node(value, place, Places(place.line, columns)), end
+
+    def escaped(self, start: int, column: int) -> Tuple[str, List[int], int]:
+        """A text with escapes: its characters, the column of each, and its end."""
+        parts: List[str] = []
+        columns: List[int] = []
+        at = start + 1
+        while not self.closes(at, '"'):
+            run = CHARACTERS.match(self.text, at)
+            if run:
+                part, end = run.group(), run.end()
+                columns += range(column + at - start, column + end - start)
+            else:
+                part, end = self.escape(start, at)
+                columns.append(column + at - start)
+            parts.append(part)
+            at = end
+        return "".join(parts), columns, at + 1
+
+    def escape(self, start: int, at: int) -> Tuple[str, int]:
+        """One character that is written by an escape."""
+        if self.text[at : at + 1] != "\\":
+            self.refuse(*causes.in_text(self.text, start, at))
+        sign = self.text[at + 1 : at + 2]
+        if sign in ESCAPES:
+            return ESCAPES[sign], at + 2
+        found = HEX.match(self.text, at)
+        if not found:
+            self.refuse(at, causes.escape(self.text, at))
+        code = int(found.group(1), 16)
+        if not 0xD800 <= code < 0xE000:
+            return chr(code), at + 6
+        low = HEX.match(self.text, at + 6)
+        if code >= 0xDC00 or not low or not 0xDC00 <= int(low.group(1), 16) < 0xE000:
+            self.refuse(at, f"{found.group()} is half of a pair, and has no other half")
+        pair = 0x10000 + ((code - 0xD800) << 10) + int(low.group(1), 16) - 0xDC00
+        return chr(pair), at + 12

@@ -1,0 +1,108 @@
+"""A look at the target as a value: who runs, and each task and object as it is."""
+import dataclasses
+from typing import Dict, List, Mapping, Optional, Sequence, Tuple, Union
+
+from rdbg import replies
+from rdbg.application import Application
+
+Object = Union[replies.Queue, replies.QueueSet, replies.Stream, replies.Messages, replies.Group]
+# An object's kind, as `show` names it, and its name: two of one kind have two names.
+Key = Tuple[str, str]
+OBJECTS = (replies.Queue, replies.QueueSet, replies.Stream, replies.Messages, replies.Group)
+KINDS: Dict[type, str] = {
+    replies.Queue: "queue",
+    replies.QueueSet: "set",
+    replies.Stream: "stream",
+    replies.Messages: "message",
+    replies.Group: "group",
+}
+BYTES_SHOWN = 16
+
+
+def key_of(it: Object) -> Key:
+    """The kind and the name of an object."""
+    return KINDS[type(it)], it.name
+
+
+@dataclasses.dataclass(frozen=True)
+class Names:
+    """What is looked at: tasks by name, objects by the kind that `show` has for them and name."""
+
+    tasks: Tuple[str, ...] = ()
+    objects: Tuple[Key, ...] = ()
+
+    @classmethod
+    def of(cls, application: Application) -> "Names":
+        """All that an application has."""
+        return cls(tuple(it.name for it in application.tasks), tuple(application.objects()))
+
+    def lines(self) -> List[str]:
+        """The lines whose replies make a look."""
+        tasks = [f"show task {name}" for name in self.tasks]
+        return ["show cores", *tasks, *(f"show {kind} {name}" for kind, name in self.objects)]
+
+
+@dataclasses.dataclass(frozen=True)
+class Look:
+    """What there is at a place: who runs, and the tasks and objects that were looked at."""
+
+    place: int
+    cores: replies.Cores
+    tasks: Mapping[str, replies.Task]
+    objects: Mapping[Key, Object]
+
+    @classmethod
+    def of(cls, place: int, answers: Sequence[replies.Reply]) -> "Look":
+        """The look that the replies to `Names.lines` make, at a place that is known. Raises
+        `Unreadable` where one of them is none of these."""
+        tasks: Dict[str, replies.Task] = {}
+        objects: Dict[Key, Object] = {}
+        cores: Optional[replies.Cores] = None
+        for answer in answers:
+            if isinstance(answer, replies.Cores):
+                cores = answer
+            elif isinstance(answer, replies.Task):
+                tasks[answer.name] = answer
+            elif isinstance(answer, OBJECTS):
+                objects[key_of(answer)] = answer
+        if cores is None:
+            raise replies.Unreadable(str(answers))
+        return cls(place, cores, tasks, objects)
+
+
+def hexadecimal(content: bytes) -> str:
+    """Bytes as rdbg writes them, the first of many."""
+    shown = content[:BYTES_SHOWN].hex() or "-"
+    return f"{shown}.. ({len(content)} bytes)" if len(content) > BYTES_SHOWN else shown
+
+
+def holding(it: Object) -> str:
+    """What an object holds, in a word or two."""
+    if isinstance(it, replies.Queue):
+        return f"{it.count}/{it.length}"
+    if isinstance(it, replies.QueueSet):
+        return f"{it.count}/{it.length} handles"
+    if isinstance(it, replies.Stream):
+        return f"{it.held}/{it.size} bytes"
+    if isinstance(it, replies.Messages):
+        count = len(it.messages)
+        return f"{count} message{'' if count == 1 else 's'}, {it.held}/{it.size} bytes"
+    return f"bits {it.bits}"
+
+
+def content_of(it: Object) -> Tuple[object, ...]:
+    """What an object holds, whoever waits at it."""
+    if isinstance(it, replies.Queue):
+        return (it.items, it.member_of)
+    if isinstance(it, replies.QueueSet):
+        return (it.handles,)
+    if isinstance(it, replies.Stream):
+        return (it.content, it.trigger)
+    if isinstance(it, replies.Messages):
+        return (it.messages,)
+    return (it.bits,)
+
+
+def time_of(deadline: Optional[int]) -> str:
+    """A deadline in words."""
+    return "without end" if deadline is None else f"until tick {deadline}"

@@ -1,0 +1,134 @@
+"""What `rdbg --help` says and the page rdbg(1), both made from one source."""
+import dataclasses
+import textwrap
+from typing import Callable, Sequence, Tuple
+
+WIDTH = 79
+
+
+@dataclasses.dataclass(frozen=True)
+class Entry:
+    """Words that may be written, and what they do."""
+
+    words: str
+    text: str
+
+
+@dataclasses.dataclass(frozen=True)
+class Section:
+    """A part of the manual: a text, then entries. The help leaves out what isn't `brief`."""
+
+    title: str
+    text: str = ""
+    entries: Tuple[Entry, ...] = ()
+    is_brief: bool = True
+
+
+ABOUT = "a reverse debugger for models of FreeRTOS applications"
+MOVES = Entry("--moves COUNT", "how many moves may be done at a time, 1 to 1000000, else 100000")
+HISTORY = Entry(
+    "--history COUNT", "how many entries the history may have, 2 to 1000000, else 100000"
+)
+
+
+def synopsis(companions: Sequence[Entry]) -> Tuple[Entry, ...]:
+    """Each way to call rdbg."""
+    return (
+        Entry("rdbg run [OPTIONS]", "answers commands from standard input, one line each"),
+        Entry(
+            "rdbg serve --app FILE --port PORT --sessions COUNT [OPTIONS]",
+            "answers the commands of several sessions on a TCP port of 127.0.0.1",
+        ),
+        *(Entry(f"rdbg {it.words} ..", it.text) for it in companions),
+        Entry("rdbg help WORD", "says more of run, serve or a companion"),
+        Entry("rdbg --version", "says the commit, the kit, and whether the program is proved"),
+        Entry(
+            "rdbg install PREFIX",
+            "from a checkout: puts the program, its companions and rdbg(1) below PREFIX",
+        ),
+        Entry("rdbg --build", "from a checkout: builds the program, and says where it is"),
+        Entry(
+            "rdbg --unproved ..",
+            "from a checkout: the same words with a program that is built in a minute, without proof",
+        ),
+    )
+
+
+OPTIONS = (
+    Entry("--app FILE", "the application file; for run, the built-in one without it"),
+    Entry("--port PORT", "of serve: the TCP port, 1 to 65535"),
+    Entry("--sessions COUNT", "of serve: how many sessions are served, 1 to 64"),
+    MOVES,
+    HISTORY,
+    Entry("-h, --help", "prints help"),
+)
+
+STATUSES = (
+    Entry("0", "the session has ended, or help was shown"),
+    Entry("1", "the application was refused, there is no memory, or the port can't be had"),
+    Entry("2", "a bad command line, or (of companions) a file or a port that isn't there"),
+)
+
+ENVIRONMENT = (
+    Entry("RDBG_PROGRAM", "the program that is started, in place of the one that was built"),
+    Entry("RDBG_HISTORY", "the file in which rdbg sh keeps the lines that were typed"),
+)
+
+DESCRIPTION = (
+    "rdbg runs a model of a multicore FreeRTOS application, whose tasks are short scripts of kernel"
+    " calls, forwards and backwards, a move at a time. Each line that it reads is a command, and each"
+    " command has one line as its answer. Companions stand beside it and drive it by its lines."
+)
+
+
+def sections(companions: Sequence[Entry]) -> Tuple[Section, ...]:
+    """The manual, with the companions that there are."""
+    return (
+        Section("DESCRIPTION", DESCRIPTION, is_brief=False),
+        Section("COMMANDS", entries=synopsis(companions)),
+        Section("OPTIONS", "Of run and serve:", OPTIONS),
+        Section("EXIT STATUS", entries=STATUSES, is_brief=False),
+        Section("ENVIRONMENT", entries=ENVIRONMENT, is_brief=False),
+    )
+
+
+def help_of(section: Section) -> str:
+    """A section as lines for a terminal."""
+    indent, hang = " " * 2, " " * 10
+    lines = [f"{section.title.capitalize()}:"]
+    if section.text:
+        lines += textwrap.wrap(section.text, WIDTH, initial_indent=indent, subsequent_indent=indent)
+    for entry in section.entries:
+        lines.append(f"{indent}{entry.words}")
+        lines += textwrap.wrap(entry.text, WIDTH, initial_indent=hang, subsequent_indent=hang)
+    return "\n".join(lines)
+
+
+def help_text(companions: Sequence[Entry]) -> str:
+    """What `rdbg --help` prints."""
+    brief = [help_of(section) for section in sections(companions) if section.is_brief]
+    return "\n\n".join([f"rdbg: {ABOUT}", *brief])
+
+
+def roff(text: str) -> str:
+    """A text as roff has it."""
+    escaped = text.replace("\\", "\\e").replace("-", "\\-")
+    return f"\\&{escaped}" if escaped[:1] in ".'" else escaped
+
+
+def page_of(section: Section) -> str:
+    """A section of the page."""
+    lines = [f".SH {section.title}"]
+    if section.text:
+        lines.append(roff(section.text))
+    for entry in section.entries:
+        lines += [".TP", f"\\fB{roff(entry.words)}\\fR", roff(entry.text)]
+    return "\n".join(lines)
+
+
+def page(companions: Sequence[Entry]) -> str:
+    """The page rdbg(1), as roff."""
+    head = ['.TH RDBG 1 "" "rdbg" "User Commands"', ".SH NAME", f"rdbg \\- {ABOUT}"]
+    how: Callable[[Entry], str] = lambda entry: f"\\fB{roff(entry.words)}\\fR"
+    ways = "\n.br\n".join(how(entry) for entry in synopsis(companions))
+    return "\n".join([*head, ".SH SYNOPSIS", ways, *map(page_of, sections(companions))])

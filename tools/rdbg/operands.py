@@ -1,0 +1,109 @@
+"""The operands of instructions: what each kind is, and whether a word has its form."""
+import dataclasses
+import re
+from typing import Dict, Mapping, Optional, Sequence, Tuple
+
+MOST_NUMBER = 4_294_967_295
+NAME = r"[a-z][a-z0-9_]{0,15}"
+DIGITS = r"[0-9]{1,10}"
+REGISTER = r"r[0-7]"
+
+
+@dataclasses.dataclass(frozen=True)
+class OperandKind:
+    """What an operand is: its symbol in a form, what it is called, what can stand there in words,
+    and a pattern that each such word has."""
+
+    symbol: str
+    noun: str
+    choices: str
+    pattern: str
+
+    def words(self) -> Tuple[str, ...]:
+        """The words that can stand there, where they are few: `any` and `all`."""
+        plain = re.fullmatch(r"[a-z|]+", self.pattern)
+        return tuple(self.pattern.split("|")) if plain else ()
+
+
+KINDS: Tuple[OperandKind, ...] = (
+    OperandKind("R", "register", "r0 to r7", REGISTER),
+    OperandKind("N", "number", f"0 to {MOST_NUMBER}", DIGITS),
+    OperandKind("V", "value", "a number, or r0 to r7", f"{REGISTER}|{DIGITS}"),
+    OperandKind("T", "block time", "max, a number, or r0 to r7", f"max|{REGISTER}|{DIGITS}"),
+    OperandKind("L", "target", "the number of an instruction", DIGITS),
+    OperandKind("I", "index of a notification entry", "a number below notes", DIGITS),
+    OperandKind("ROOM", "room", "1 to 256, the bytes that are read at the most", DIGITS),
+    OperandKind(
+        "HEX",
+        "bytes",
+        "1 to 256, as pairs of hexadecimal digits, or -",
+        "-|([0-9A-Fa-f]{2}){1,256}",
+    ),
+    OperandKind("ACTION", "action", "none, bits, inc, set or setif", "none|bits|inc|set|setif"),
+    OperandKind("WISH", "wish", "any or all", "any|all"),
+    OperandKind("CLR", "word for clearing", "keep or clear", "keep|clear"),
+    OperandKind("clear|dec", "word for clearing", "clear or dec", "clear|dec"),
+    OperandKind("Q", "queue", "a name", NAME),
+    OperandKind("S", "queue set", "a name", NAME),
+    OperandKind("B", "stream buffer", "a name", NAME),
+    OperandKind("M", "message buffer", "a name", NAME),
+    OperandKind("G", "event group", "a name", NAME),
+    OperandKind("K", "task", "a name", NAME),
+)
+KIND_OF: Dict[str, OperandKind] = {kind.symbol: kind for kind in KINDS}
+# The kinds that are names, in the order of a file's keys.
+NAMED = ("Q", "S", "B", "M", "G", "K")
+PATTERN_OF = {kind.symbol: re.compile(kind.pattern) for kind in KINDS}
+
+
+@dataclasses.dataclass(frozen=True)
+class Scope:
+    """What an instruction can name: the names of each kind under its symbol (`Q`, `K`, ..), the
+    notification entries that each task has, and how many instructions its script has."""
+
+    names: Mapping[str, Sequence[str]]
+    entries: int = 1
+    length: int = 256
+
+    def limits(self, symbol: str) -> Optional[Tuple[int, int]]:
+        """The least and the largest number that can stand at an operand of this kind. The largest
+        is below the least where there is none; none where the kind isn't one of numbers."""
+        if symbol in ("N", "V", "T"):
+            return 0, MOST_NUMBER
+        if symbol == "ROOM":
+            return 1, 256
+        if symbol == "L":
+            return 0, self.length - 1
+        return (0, self.entries - 1) if symbol == "I" else None
+
+    def choices(self, symbol: str) -> str:
+        """What can stand there, in words: `0 to 4, the number of an instruction`."""
+        if symbol == "L":
+            return f"{to_text(0, self.length - 1)}, the number of an instruction"
+        if symbol == "I":
+            return to_text(0, self.entries - 1)
+        return KIND_OF[symbol].choices
+
+    def fits(self, symbol: str, word: str) -> bool:
+        """Whether a word has the form of such an operand, whatever it names."""
+        if not PATTERN_OF[symbol].fullmatch(word):
+            return False
+        limits = self.limits(symbol)
+        if limits is None or not word.isdigit():
+            return True
+        return limits[0] <= int(word) <= limits[1]
+
+
+def to_text(least: int, most: int) -> str:
+    """`0 to 4`, or `0` where there is no other."""
+    return str(least) if least == most else f"{least} to {most}"
+
+
+def are(count: int, one: str, more: str) -> str:
+    """`is 1 entry`, `are 2 entries`."""
+    return f"is 1 {one}" if count == 1 else f"are {count} {more}"
+
+
+def is_name(text: str) -> bool:
+    """Whether a text is a name."""
+    return re.fullmatch(NAME, text) is not None

@@ -1,0 +1,392 @@
+"""The replies of rdbg as values: one table of their forms, and one reader over it.
+
+A form is written as in docs/FORMATS.md: words in small letters stand as they are, words in capitals
+are fields. A refusal is no value, but an exception with its name.
+"""
+import dataclasses
+import re
+from typing import Any, Callable, Dict, List, Optional, Tuple, Union
+
+from rdbg.failure import Failure
+
+NOBODY = "-"
+MAX = "max"
+
+
+class Refused(Exception):
+    """A command that was answered `no NAME`. TooFar and Held carry a number."""
+
+    def __init__(self, name: str, number: Optional[int] = None) -> None:
+        super().__init__(name if number is None else f"{name} {number}")
+        self.name, self.number = name, number
+
+
+class Unreadable(Failure):
+    """A reply of no form that there is."""
+
+    def __init__(self, line: str) -> None:
+        super().__init__(f"rdbg answered what no reply looks like: '{line[:200]}'")
+
+
+@dataclasses.dataclass(frozen=True)
+class Moved:
+    """So many moves are done. `how` is `met`, `limit` or `start` after a run or a way back to a
+    condition, else empty."""
+
+    at: int
+    how: str = ""
+
+
+@dataclasses.dataclass(frozen=True)
+class WheelDone:
+    """The wheel was taken, or given back."""
+
+
+@dataclasses.dataclass(frozen=True)
+class WatchDone:
+    """A watch was kept, or dropped."""
+
+    number: int
+
+
+@dataclasses.dataclass(frozen=True)
+class Queue:
+    """A queue; who is served first stands first."""
+
+    name: str
+    count: int
+    length: int
+    items: Tuple[bytes, ...]
+    receivers: Tuple[str, ...]
+    senders: Tuple[str, ...]
+    member_of: Optional[str]
+
+
+@dataclasses.dataclass(frozen=True)
+class QueueSet:
+    """A queue set; the queues of its handles, the oldest first."""
+
+    name: str
+    count: int
+    length: int
+    handles: Tuple[str, ...]
+    waiters: Tuple[str, ...]
+
+
+@dataclasses.dataclass(frozen=True)
+class Stream:
+    """A stream buffer, and whom its places name."""
+
+    name: str
+    held: int
+    size: int
+    trigger: int
+    content: bytes
+    reader: Optional[str]
+    writer: Optional[str]
+
+
+@dataclasses.dataclass(frozen=True)
+class Messages:
+    """A message buffer. `held` counts four bytes more for each message."""
+
+    name: str
+    held: int
+    size: int
+    messages: Tuple[bytes, ...]
+    reader: Optional[str]
+    writer: Optional[str]
+
+
+@dataclasses.dataclass(frozen=True)
+class Wish:
+    """A task that waits for bits: for all of them or any, which are cleared then or kept."""
+
+    task: str
+    bits: int
+    wants_all: bool
+    clears: bool
+
+
+@dataclasses.dataclass(frozen=True)
+class Group:
+    """An event group, and who waits, in the order of arrival."""
+
+    name: str
+    bits: int
+    waiters: Tuple[Wish, ...]
+
+
+@dataclasses.dataclass(frozen=True)
+class Phase:
+    """A task's phase: `word` is `run`, `again`, `given`, `wait`, `ended` or `failed`; `place` is
+    where it waits, as `recv:jobs`; `deadline` a tick, or none for `max`."""
+
+    text: str
+    word: str
+    place: Optional[str] = None
+    deadline: Optional[int] = None
+    bits: Optional[int] = None
+    cause: Optional[str] = None
+
+
+@dataclasses.dataclass(frozen=True)
+class Note:
+    """A notification entry; its state is `idle`, `waiting` or `received`."""
+
+    value: int
+    state: str
+
+
+@dataclasses.dataclass(frozen=True)
+class Task:
+    """A task; `core` is none where it is on no core."""
+
+    name: str
+    core: Optional[int]
+    pc: int
+    phase: Phase
+    registers: Tuple[int, ...]
+    data: bytes
+    notes: Tuple[Note, ...]
+
+
+@dataclasses.dataclass(frozen=True)
+class Cores:
+    """Who is on each core, who is ready in which order, the tick, and the turn."""
+
+    running: Tuple[Optional[str], ...]
+    ready: Tuple[str, ...]
+    tick: int
+    turn: int
+
+
+@dataclasses.dataclass(frozen=True)
+class Moves:
+    """How many moves are done, and how many `redo` can make again."""
+
+    done: int
+    undone: int
+
+
+@dataclasses.dataclass(frozen=True)
+class WheelHolder:
+    """The number of the session that has the wheel."""
+
+    session: Optional[int]
+
+
+@dataclasses.dataclass(frozen=True)
+class Watches:
+    """The numbers of a session's watches, and which of them hold."""
+
+    holds: Tuple[Tuple[int, bool], ...]
+
+
+Reply = Union[
+    Moved, WheelDone, WatchDone, Queue, QueueSet, Stream, Messages, Group, Task, Cores, Moves,
+    WheelHolder, Watches,
+]  # fmt: skip
+
+
+def number(text: str) -> int:
+    """A decimal number."""
+    if not re.fullmatch(r"[0-9]{1,20}", text):
+        raise ValueError(text)
+    return int(text)
+
+
+def name(text: str) -> str:
+    """A name of the application."""
+    if not re.fullmatch(r"[a-z][a-z0-9_]{0,15}", text):
+        raise ValueError(text)
+    return text
+
+
+def or_nobody(read: Callable[[str], Any]) -> Callable[[str], Any]:
+    """Reads `-` as none."""
+    return lambda text: None if text == NOBODY else read(text)
+
+
+def listed(read: Callable[[str], Any]) -> Callable[[str], Tuple[Any, ...]]:
+    """Reads a list; `-` is the empty one."""
+    return lambda text: () if text == NOBODY else tuple(read(each) for each in text.split(","))
+
+
+def content(text: str) -> bytes:
+    """Bytes; `-` is none."""
+    return b"" if text == NOBODY else bytes.fromhex(text)
+
+
+def running(text: str) -> Tuple[Optional[str], ...]:
+    """The tasks on the cores; `-` is an idle core."""
+    return tuple(or_nobody(name)(each) for each in text.split(","))
+
+
+def deadline(text: str) -> Optional[int]:
+    """A tick; none for `max`."""
+    return None if text == MAX else number(text)
+
+
+def phase(text: str) -> Phase:
+    """A phase, as `wait:recv:jobs:10`."""
+    word, *rest = text.split(":")
+    if word in ("run", "ended") and not rest:
+        return Phase(text, word)
+    if word == "again" and len(rest) == 1:
+        return Phase(text, word, deadline=deadline(rest[0]))
+    if word == "given" and len(rest) == 1:
+        return Phase(text, word, bits=number(rest[0]))
+    if word == "wait" and len(rest) == 3:
+        return Phase(text, word, place=f"{rest[0]}:{rest[1]}", deadline=deadline(rest[2]))
+    if word == "failed" and len(rest) == 1 and rest[0].isalpha():
+        return Phase(text, word, cause=rest[0])
+    raise ValueError(text)
+
+
+def note(text: str) -> Note:
+    """An entry, as `5:received`."""
+    value, state = text.split(":")
+    if state not in ("idle", "waiting", "received"):
+        raise ValueError(text)
+    return Note(number(value), state)
+
+
+def wish(text: str) -> Wish:
+    """A waiter of a group, as `t0:3:all:clear`."""
+    task, bits, which, after = text.split(":")
+    if which not in ("any", "all") or after not in ("keep", "clear"):
+        raise ValueError(text)
+    return Wish(name(task), number(bits), which == "all", after == "clear")
+
+
+def holds(text: str) -> Tuple[int, bool]:
+    """A watch, as `0:holds`."""
+    which, state = text.split(":")
+    if state not in ("holds", "fails"):
+        raise ValueError(text)
+    return number(which), state == "holds"
+
+
+@dataclasses.dataclass(frozen=True)
+class Form:
+    """A form of replies: how it is written, what it makes, and how each of its fields is read."""
+
+    text: str
+    make: Callable[..., Reply]
+    fields: Tuple[Callable[[str], Any], ...] = ()
+
+    def pattern(self) -> "re.Pattern[str]":
+        """What a line of this form looks like."""
+        return re.compile(re.sub(r"[A-Z]+", r"([^ /]+)", self.text))
+
+
+def moved(how: str) -> Callable[[int], Moved]:
+    """What makes a `Moved` that ended so."""
+    return lambda at: Moved(at, how)
+
+
+NAMES = listed(name)
+SOMEBODY = or_nobody(name)
+FORMS: Tuple[Form, ...] = (
+    Form("ok at N", Moved, (number,)),
+    Form("ok at N met", moved("met"), (number,)),
+    Form("ok at N limit", moved("limit"), (number,)),
+    Form("ok at 0 start", lambda: Moved(0, "start")),
+    Form("ok wheel", WheelDone),
+    Form("ok watch N", WatchDone, (number,)),
+    Form(
+        "queue NAME COUNT/LENGTH items ITEMS recv TASKS send TASKS set NAME",
+        Queue,
+        (name, number, number, listed(bytes.fromhex), NAMES, NAMES, SOMEBODY),
+    ),
+    Form(
+        "set NAME COUNT/LENGTH handles QUEUES wait TASKS",
+        QueueSet,
+        (name, number, number, NAMES, NAMES),
+    ),
+    Form(
+        "stream NAME HELD/SIZE trigger N bytes BYTES reader TASK writer TASK",
+        Stream,
+        (name, number, number, number, content, SOMEBODY, SOMEBODY),
+    ),
+    Form(
+        "message NAME HELD/SIZE messages LIST reader TASK writer TASK",
+        Messages,
+        (name, number, number, listed(bytes.fromhex), SOMEBODY, SOMEBODY),
+    ),
+    Form("group NAME bits N wait LIST", Group, (name, number, listed(wish))),
+    Form(
+        "task NAME core N pc N phase PHASE regs LIST data BYTES notes LIST",
+        Task,
+        (name, or_nobody(number), number, phase, listed(number), content, listed(note)),
+    ),
+    Form(
+        "cores TASKS ready TASKS tick N turn N",
+        Cores,
+        (running, NAMES, number, number),
+    ),
+    Form("moves N undone N", Moves, (number, number)),
+    Form("wheel N", WheelHolder, (number,)),
+    Form("wheel -", lambda: WheelHolder(None)),
+    Form("watches LIST", Watches, (listed(holds),)),
+)
+
+# Each refusal, and whether a number stands behind it.
+REFUSALS: Dict[str, bool] = {
+    "NoTask": False,
+    "TickLimit": False,
+    "TooFar": True,
+    "NothingUndone": False,
+    "MovesFull": False,
+    "Held": True,
+    "NoSuch": False,
+    "BadEdit": False,
+    "WatchesFull": False,
+    "NoWatch": False,
+    "NotHolder": False,
+    "HistoryFull": False,
+    "NoMemory": False,
+    "Full": False,
+    "Syntax": False,
+    "LineTooLong": False,
+    "Broken": False,
+}
+
+
+def forms_by_word() -> Dict[str, List[Tuple[Form, "re.Pattern[str]"]]]:
+    """The forms by their first word, each with what its lines look like."""
+    found: Dict[str, List[Tuple[Form, "re.Pattern[str]"]]] = {}
+    for form in FORMS:
+        found.setdefault(form.text.split(" ")[0], []).append((form, form.pattern()))
+    return found
+
+
+BY_WORD = forms_by_word()
+
+
+def refusal(line: str) -> Refused:
+    """The refusal that a line `no NAME` or `no NAME N` says."""
+    words = line.split(" ")[1:]
+    if not words or words[0] not in REFUSALS or len(words) != 1 + REFUSALS[words[0]]:
+        raise Unreadable(line)
+    try:
+        return Refused(words[0], number(words[1]) if words[1:] else None)
+    except ValueError:
+        raise Unreadable(line) from None
+
+
+def read(line: str) -> Reply:
+    """The value of a reply. Raises `Refused` for a refusal, `Unreadable` for what is no reply."""
+    first = line.split(" ", 1)[0]
+    if first == "no":
+        raise refusal(line)
+    for form, pattern in BY_WORD.get(first, ()):
+        found = pattern.fullmatch(line)
+        if found:
+            try:
+                texts = found.groups()
+                return form.make(*(each(text) for each, text in zip(form.fields, texts)))
+            except ValueError:
+                continue
+    raise Unreadable(line)

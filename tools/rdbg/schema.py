@@ -1,0 +1,100 @@
+"""The JSON Schema (draft 7) of application files, for editors: made from the tables of keys and of
+instructions. `python3 -m rdbg.schema` prints it; docs/application.schema.json is what it prints."""
+import json
+from typing import Any, Dict
+
+from rdbg.instructions import FORMS, InstructionForm
+from rdbg.operands import NAME, PATTERN_OF
+from rdbg.shapes import FILE, Key, Shape
+
+Schema = Dict[str, Any]
+ABOUT = (
+    "An application for rdbg: objects of FreeRTOS, and tasks as scripts. It accepts what rdbg"
+    " accepts. rdbg asks for more: numbers without a point, names that stand once in their kind"
+    " and that are there, a trigger level up to the size, jumps within the script, and a last"
+    " instruction that is end or jump; `rdbg check FILE` says all of it."
+)
+DEFAULTS = {"notes": 1, "tick": 0}
+
+
+def described(text: str, freertos: str) -> str:
+    """A description with the FreeRTOS name of what it describes."""
+    sentence = text[0].upper() + text[1:]
+    return f"{sentence} ({freertos})." if freertos else f"{sentence}."
+
+
+def value_of(key: Key) -> Schema:
+    """The schema of a key's value."""
+    made: Schema = {"description": described(key.text, key.freertos)}
+    if key.name in DEFAULTS:
+        made["default"] = DEFAULTS[key.name]
+    if key.holds == "number" and key.least == key.most:
+        return {**made, "const": key.least}
+    if key.holds == "number":
+        return {**made, "type": "integer", "minimum": key.least, "maximum": key.most}
+    if key.holds == "name":
+        return {**made, "type": "string", "pattern": f"^{NAME}$"}
+    made["type"] = "array"
+    if key.holds == "members":
+        items: Schema = {"type": "string", "pattern": f"^{NAME}$"}
+        return {**made, "uniqueItems": True, "items": items}
+    bounds = {"minItems": key.least, "maxItems": key.most}
+    if key.of is not None:
+        return {**made, **bounds, "items": object_of(key.of)}
+    return {**made, **bounds, "items": {"$ref": "#/definitions/instruction"}}
+
+
+def object_of(shape: Shape) -> Schema:
+    """The schema of an object."""
+    return {
+        "type": "object",
+        "additionalProperties": False,
+        "required": [key.name for key in shape.keys if key.is_needed],
+        "properties": {key.name: value_of(key) for key in shape.keys},
+    }
+
+
+def line_of(form: InstructionForm) -> Schema:
+    """What goes for the instructions with a form's word."""
+    patterns = [PATTERN_OF[symbol].pattern for symbol in form.symbols]
+    grouped = [f"({pattern})" if "|" in pattern else pattern for pattern in patterns]
+    effect = ", ".join(form.freertos) + ": " + form.does if form.freertos else form.does
+    return {
+        "if": {"pattern": f"^ *{form.word}( |$)"},
+        "then": {
+            "title": " or ".join(form.texts()),
+            "description": f"{effect}. In r0: {form.answer}.",
+            "pattern": "^ *" + " +".join([form.word, *grouped]) + " *$",
+        },
+    }
+
+
+def instruction() -> Schema:
+    """The schema of an instruction."""
+    words = "|".join(form.word for form in FORMS)
+    return {
+        "description": "An instruction, as docs/CALLS.md has them.",
+        "type": "string",
+        "pattern": f"^ *({words})( |$)",
+        "allOf": [line_of(form) for form in FORMS],
+    }
+
+
+def schema() -> Schema:
+    """The schema of a file."""
+    return {
+        "$schema": "http://json-schema.org/draft-07/schema#",
+        "title": "rdbg application",
+        "description": ABOUT,
+        **object_of(FILE),
+        "definitions": {"instruction": instruction()},
+    }
+
+
+def text() -> str:
+    """The schema as a text."""
+    return json.dumps(schema(), indent=2) + "\n"
+
+
+if __name__ == "__main__":
+    print(text(), end="")

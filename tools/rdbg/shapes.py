@@ -1,0 +1,233 @@
+"""The shape of an application file: one table of the keys of each of its objects."""
+import dataclasses
+from typing import Optional, Tuple
+
+MOST_TICK = 4_294_967_295
+MOST_INSTRUCTIONS = 256
+
+
+@dataclasses.dataclass(frozen=True)
+class Key:
+    """A key: what is said of it, and what its value is. `holds` is `number`, `name`, `code`,
+    `members`, or `objects` of the shape `of`; `least` and `most` bound the number or the length of
+    the list. `most_key` names a key whose number is the bound in place of `most`."""
+
+    name: str
+    text: str
+    holds: str
+    least: int = 0
+    most: int = 0
+    is_needed: bool = True
+    of: Optional["Shape"] = None
+    most_key: str = ""
+    freertos: str = ""
+
+
+@dataclasses.dataclass(frozen=True)
+class Shape:
+    """An object: what it is called, the symbol of its names, and its keys in the order in which
+    they are looked at."""
+
+    noun: str
+    plural: str
+    symbol: str
+    keys: Tuple[Key, ...]
+    freertos: str = ""
+
+    def names(self) -> Tuple[str, ...]:
+        """The names of its keys."""
+        return tuple(key.name for key in self.keys)
+
+
+def name_of(noun: str) -> Key:
+    """The key `name`."""
+    return Key("name", f"the name by which instructions and commands know the {noun}", "name")
+
+
+QUEUE = Shape(
+    "queue",
+    "queues",
+    "Q",
+    (
+        name_of("queue"),
+        Key(
+            "length", "how many items there is room for", "number", 1, 64, freertos="uxQueueLength"
+        ),
+        Key("item", "how many bytes an item has", "number", 1, 64, freertos="uxItemSize"),
+    ),
+    freertos="xQueueCreate",
+)
+QUEUE_SET = Shape(
+    "queue set",
+    "queue sets",
+    "S",
+    (
+        name_of("queue set"),
+        Key(
+            "length",
+            "how many handles there is room for",
+            "number",
+            1,
+            2048,
+            freertos="uxEventQueueLength",
+        ),
+        Key(
+            "members",
+            "the names of the queues that are its members at boot",
+            "members",
+            freertos="xQueueAddToSet",
+        ),
+    ),
+    freertos="xQueueCreateSet",
+)
+STREAM = Shape(
+    "stream buffer",
+    "stream buffers",
+    "B",
+    (
+        name_of("stream buffer"),
+        Key(
+            "size",
+            "how many bytes there is room for",
+            "number",
+            1,
+            1024,
+            freertos="xBufferSizeBytes",
+        ),
+        Key(
+            "trigger",
+            "how many bytes wake a reader that waits; 0 is taken as 1",
+            "number",
+            0,
+            1024,
+            most_key="size",
+            freertos="xTriggerLevelBytes",
+        ),
+    ),
+    freertos="xStreamBufferCreate",
+)
+MESSAGE = Shape(
+    "message buffer",
+    "message buffers",
+    "M",
+    (
+        name_of("message buffer"),
+        Key(
+            "size",
+            "how many bytes there is room for; each message takes four more than it has",
+            "number",
+            5,
+            1024,
+            freertos="xBufferSizeBytes",
+        ),
+    ),
+    freertos="xMessageBufferCreate",
+)
+GROUP = Shape(
+    "event group",
+    "event groups",
+    "G",
+    (name_of("event group"),),
+    freertos="xEventGroupCreate",
+)
+TASK = Shape(
+    "task",
+    "tasks",
+    "K",
+    (
+        name_of("task"),
+        Key(
+            "priority",
+            "the priority; a higher number is a higher one",
+            "number",
+            0,
+            31,
+            freertos="uxPriority",
+        ),
+        Key(
+            "code",
+            "the script: instructions, counted from 0, the last one end or jump",
+            "code",
+            1,
+            MOST_INSTRUCTIONS,
+            freertos="pxTaskCode",
+        ),
+    ),
+    freertos="xTaskCreate",
+)
+
+
+def objects(name: str, of: Shape, least: int = 0) -> Key:
+    """A key whose value is a list of objects."""
+    text = f"the {of.plural}"
+    return Key(name, text, "objects", least, 32, least > 0, of, freertos=of.freertos)
+
+
+FILE = Shape(
+    "application",
+    "applications",
+    "",
+    (
+        Key("profile", "the version of this form of file", "number", 1, 1),
+        Key("cores", "how many cores there are", "number", 1, 8, freertos="configNUMBER_OF_CORES"),
+        Key(
+            "notes",
+            "how many notification entries each task has; 1 if it is left out",
+            "number",
+            1,
+            4,
+            is_needed=False,
+            freertos="configTASK_NOTIFICATION_ARRAY_ENTRIES",
+        ),
+        Key(
+            "tick",
+            "the tick at boot; 0 if it is left out",
+            "number",
+            0,
+            MOST_TICK,
+            is_needed=False,
+            freertos="configINITIAL_TICK_COUNT",
+        ),
+        objects("queues", QUEUE),
+        objects("sets", QUEUE_SET),
+        objects("streams", STREAM),
+        objects("messages", MESSAGE),
+        objects("groups", GROUP),
+        objects("tasks", TASK, 1),
+    ),
+)
+
+# What else a key is called, in small letters, and the key that it is here if it has such a one.
+OTHER_NAMES = {
+    "prio": "priority",
+    "script": "code",
+    "instructions": "code",
+    "program": "code",
+    "itemsize": "item",
+    "item_size": "item",
+    "count": "length",
+    "capacity": "length",
+    "size": "length",
+    "length": "size",
+    "triggerlevel": "trigger",
+    "trigger_level": "trigger",
+    "stream_buffers": "streams",
+    "message_buffers": "messages",
+    "event_groups": "groups",
+    "events": "groups",
+    "queue_sets": "sets",
+    "notifications": "notes",
+}
+# Why there is no such key.
+NOT_THERE = {
+    "$schema": "tell your editor of the schema in its settings",
+    "semaphores": "a queue stands for a semaphore (docs/FROM_C.md)",
+    "mutexes": "a queue stands for a mutex (docs/FROM_C.md)",
+    "timers": "there are no software timers",
+    "stack": "no stack is modelled",
+    "affinity": "every task can go to every core",
+    "core": "every task can go to every core",
+    "comment": "a text in lines (.fw) has comments",
+    "_comment": "a text in lines (.fw) has comments",
+    "//": "a text in lines (.fw) has comments",
+}

@@ -1,0 +1,112 @@
+"""`help`, `set` and `quit`."""
+import textwrap
+from typing import TYPE_CHECKING, List, Sequence, Tuple
+
+from rdbg import commands, instructions
+from rdbg.shell.gdb import HINTS
+from rdbg.shell.target import Unable
+
+if TYPE_CHECKING:
+    from rdbg.shell.shell import Shell
+
+SETTINGS = ("moves", "echo")
+WIDTH = 96
+
+
+def leave(shell: "Shell", words: Sequence[str]) -> None:
+    """`quit`."""
+    shell.is_done = True
+
+
+def put(shell: "Shell", words: Sequence[str]) -> None:
+    """`set moves|echo on|off`."""
+    if len(words) == 2 and words[0] in SETTINGS and words[1] in ("on", "off"):
+        is_on = words[1] == "on"
+        if words[0] == "moves":
+            shell.shows_moves = is_on
+        else:
+            shell.shows_lines = is_on
+    elif words:
+        raise Unable(
+            "`set moves on|off` says what each move did, `set echo on|off` shows each line"
+        )
+    else:
+        on_off = {True: "on", False: "off"}
+        shell.say(f"moves {on_off[shell.shows_moves]}, echo {on_off[shell.shows_lines]}")
+
+
+def forms(title: str, of: Sequence[Tuple[str, str]]) -> List[str]:
+    """Forms, each with what it does, below a title."""
+    width = max(len(form) for form, _ in of)
+    return [title, *(f"  {form.ljust(width)}  {does}" for form, does in of)]
+
+
+def overview() -> str:
+    """All words."""
+    from rdbg.shell.words import WORDS
+
+    own = [(", ".join([it.form, *it.short[:1]]), it.does) for it in WORDS]
+    rdbg = " ".join(sorted(commands.WORDS))
+    more = (
+        "`help rdbg` says more of them, `help COND` of conditions, `help send` of an instruction."
+    )
+    keys = "Enter repeats the last line, Tab completes, # begins a comment, Ctrl-C ends a run."
+    return "\n".join([*forms("Words of sh's own:", own), f"Lines of rdbg: {rdbg}", more, keys])
+
+
+HISTORY = (
+    "Each line that rdbg answers takes a place of its history, looks among them, and there are at"
+    " most 1000000. What moves do is found by looks: `set moves off` saves them. Once it is full"
+    " nothing is answered any more. Before that, `reload` makes the same moves in a new program,"
+    " whose history is empty; or `save FILE`, and give its lines to rdbg again."
+)
+
+
+def help_on(shell: "Shell", words: Sequence[str]) -> None:
+    """`help [WORD]`."""
+    if not words:
+        shell.say(overview())
+        return
+    word = words[0]
+    found = [*own_help(word), *rdbg_help(word), *instruction_help(word)]
+    if word == "history":
+        found += textwrap.wrap(HISTORY, WIDTH)
+    if word in HINTS and not found:
+        found.append(HINTS[word])
+    if not found:
+        raise Unable(f"'{word}' is no word here; `help` lists them")
+    shell.say("\n".join(found))
+
+
+def own_help(word: str) -> List[str]:
+    """What a word of sh's own does."""
+    from rdbg.shell.words import WORDS
+
+    found: List[str] = []
+    for it in WORDS:
+        if word == it.name or word in it.short:
+            found.append(f"{it.form}: {it.does}")
+            if it.short:
+                found.append(f"  also: {', '.join(it.short)}")
+            found += [f"  {line}" for line in it.more.split("\n") if line]
+    return found
+
+
+def rdbg_help(word: str) -> List[str]:
+    """What the lines of rdbg with this word do."""
+    found = [(it.text, it.does) for it in commands.FORMS if word in (it.word, "rdbg")]
+    lines = forms("Lines of rdbg:", found) if found else []
+    uses = any("COND" in text for text, _ in found) or word.lower() in ("cond", "conditions")
+    conditions = [(it.text, it.does) for it in commands.CONDITIONS if uses or it.word == word]
+    if conditions:
+        lines += forms("Conditions (COND; OP is =, < or >):", conditions)
+    return lines
+
+
+def instruction_help(word: str) -> List[str]:
+    """What an instruction of scripts does."""
+    form = instructions.form_of(word)
+    if form is None:
+        return []
+    stands = f" ({', '.join(form.freertos)})" if form.freertos else ""
+    return [f"in a script, {form.text}{stands}: {form.does}; r0: {form.answer}"]

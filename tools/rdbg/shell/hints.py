@@ -1,0 +1,131 @@
+"""What a refusal most likely wants to say to who typed the line, in a sentence or two."""
+from typing import TYPE_CHECKING, Callable, Dict
+
+from rdbg import commands
+from rdbg.near import nearest
+from rdbg.replies import Refused
+from rdbg.shell.syntax import syntax
+
+if TYPE_CHECKING:
+    from rdbg.shell.shell import Shell
+
+
+def no_such(shell: "Shell", line: str) -> str:
+    """Which name, core, register or entry isn't there."""
+    command = commands.read(line)
+    if command is None:
+        return "a name, a core, a register or an entry isn't there"
+    texts = (missing(shell, symbol, it) for symbol, it in zip(command.symbols, command.words))
+    return "; ".join(text for text in texts if text) or "what it names isn't there"
+
+
+def missing(shell: "Shell", symbol: str, it: str) -> str:
+    """What is wrong with a word of a command, if anything."""
+    application = shell.target.application
+    kinds = {other: kind for kind, other in commands.KIND_SYMBOLS.items()}
+    if symbol in kinds:
+        return missing_name(shell, kinds[symbol], it)
+    if symbol == "R" and int(it) > 7:
+        return "registers are 0 to 7"
+    if symbol == "C" and application and int(it) >= application.cores:
+        return f"there {amount(application.cores, 'core')}, from 0 on"
+    if symbol == "I" and application and int(it) >= application.notes:
+        return f"there {amount(application.notes, 'notification entry')}, from 0 on"
+    return ""
+
+
+def amount(number: int, noun: str) -> str:
+    """`is one core`, `are 2 cores`."""
+    if number == 1:
+        return f"is one {noun}"
+    return f"are {number} {noun[:-1] + 'ies' if noun.endswith('y') else noun + 's'}"
+
+
+def missing_name(shell: "Shell", kind: str, name: str) -> str:
+    """Why there is nothing of this kind and name, and what there is."""
+    names = shell.target.names
+    of_kind = list(names.tasks) if kind == "task" else [n for k, n in names.objects if k == kind]
+    if name in of_kind:
+        return ""
+    others = [k for k, n in names.objects if n == name] + (["task"] if name in names.tasks else [])
+    if others:
+        return f"'{name}' is a {others[0]}: `show {others[0]} {name}`"
+    near = nearest(name, of_kind)
+    if near:
+        return f"there is no {kind} '{name}'; near it is `{near}`"
+    there = f"there are {', '.join(of_kind)}" if of_kind else "there is none"
+    return f"there is no {kind} '{name}'; {there}"
+
+
+def no_task(shell: "Shell", line: str) -> str:
+    """Who is where, when a core is idle."""
+    if not shell.target.can_afford(len(shell.target.names.lines())):
+        return "the core is idle: `show cores`"
+    look = shell.look()
+    running = [f"{name} on core {core}" for core, name in enumerate(look.cores.running) if name]
+    waiting = [
+        f"{it.name} waits at {it.phase.place}" for it in look.tasks.values() if it.phase.place
+    ]
+    there = ", ".join([*running, *waiting]) or "all have ended"
+    onwards = "" if running else "; `tick` lets time pass"
+    return f"the core is idle: {there}{onwards}"
+
+
+def nothing_undone(shell: "Shell", line: str) -> str:
+    """How many moves can be made again."""
+    if not shell.target.is_own:
+        return "fewer moves were taken back: `show moves`"
+    undone = shell.target.places().undone
+    count = f"only {undone} moves are" if undone else "no move is"
+    return f"{count} taken back that could be made again; a new move forgets them"
+
+
+def bad_edit(shell: "Shell", line: str) -> str:
+    """What an edit of this sort can't do."""
+    words = commands.words_of(line)
+    return BAD_EDITS.get(words[1] if len(words) > 1 else "", "")
+
+
+BAD_EDITS = {
+    "pc": "only a task in phase run has another pc, and one that its script has: `info tasks`",
+    "group": "bits are at most 16777215",
+    "item": "the item must be there, 0 being the front one, and have as many bytes as before",
+    "byte": "the byte must be there, 0 being the front one, and a value is at most 255",
+}
+
+
+Hint = Callable[["Shell", str], str]
+
+
+REFUSALS: Dict[str, Hint] = {
+    "Syntax": syntax,
+    "NoSuch": lambda shell, line: no_such(shell, line),
+    "NoTask": no_task,
+    "NothingUndone": nothing_undone,
+    "BadEdit": bad_edit,
+}
+
+
+SENTENCES: Dict[str, str] = {
+    "TickLimit": "the tick can't grow any more; `back` takes ticks back",
+    "TooFar": "only {number} moves are done: `goto 0` goes to boot",
+    "MovesFull": "no more moves are kept: go back, or start with --moves 1000000",
+    "Held": "session {number} has the wheel: views go on, moves once it gives it",
+    "WatchesFull": "there are 16 watches: `info watches`, `unwatch N`",
+    "NoWatch": "there is no such watch: `info watches`",
+    "NotHolder": "you don't have the wheel: `show wheel` says who does",
+    "HistoryFull": "every line and every look takes a place: see `help history`",
+    "NoMemory": "the machine has no more memory for it",
+    "LineTooLong": "rdbg ends a session at a line of over 1024 bytes",
+    "Full": "the server lets nobody else in",
+    "Broken": "this is a fault of rdbg",
+}
+
+
+def refusal(shell: "Shell", line: str, refused: Refused) -> str:
+    """A hint on a refusal of a line."""
+    if refused.name == "TooFar" and not refused.number:
+        return "no move is done: this is boot"
+    if refused.name in REFUSALS:
+        return REFUSALS[refused.name](shell, line)
+    return SENTENCES.get(refused.name, "").format(number=refused.number)

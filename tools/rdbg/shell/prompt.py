@@ -1,0 +1,132 @@
+"""Lines from a terminal, with a history and Tab, and lines from anywhere else."""
+import os
+import pathlib
+import sys
+from types import ModuleType
+from typing import TYPE_CHECKING, Optional
+
+if TYPE_CHECKING:
+    from rdbg.shell.shell import Shell
+
+MOST_LINES = 2_000
+
+
+def load_readline() -> Optional[ModuleType]:
+    """The module, where this Python has it."""
+    try:
+        import readline
+    except ImportError:
+        return None
+    return readline
+
+
+def history_file() -> Optional[pathlib.Path]:
+    """Where the lines that were typed are kept: the file that RDBG_HISTORY names, none where it is
+    empty, or one in the user's folder for such things."""
+    named = os.environ.get("RDBG_HISTORY")
+    if named is not None:
+        return pathlib.Path(named) if named else None
+    state = os.environ.get("XDG_STATE_HOME", "")
+    try:
+        folder = pathlib.Path(state) if state else pathlib.Path.home() / ".local" / "state"
+    except RuntimeError:
+        return None
+    return folder / "rdbg" / "history"
+
+
+class Lines:
+    """Lines from a terminal. A history that can't be read or written is none."""
+
+    def __init__(self, shell: "Shell") -> None:
+        from rdbg.shell.completion import Completer
+
+        self.shell = shell
+        self.readline = load_readline()
+        self.file = history_file() if self.readline else None
+        if self.readline is None:
+            return
+        self.readline.set_completer(Completer(shell))
+        self.readline.set_completer_delims(" ")
+        is_edit = "libedit" in (self.readline.__doc__ or "")
+        self.readline.parse_and_bind("bind ^I rl_complete" if is_edit else "tab: complete")
+        self.readline.set_auto_history(False)
+        self.readline.set_history_length(MOST_LINES)
+        self._begin()
+
+    def _begin(self) -> None:
+        if self.file is None or self.readline is None:
+            return
+        try:
+            self.file.parent.mkdir(parents=True, exist_ok=True)
+            self.file.touch(mode=0o600)
+            self.readline.read_history_file(str(self.file))
+        except (OSError, ValueError):
+            self.file = None
+
+    def keep(self, line: str) -> None:
+        """Puts a line into the history, if it isn't the last one there."""
+        if self.readline is None:
+            return
+        length = self.readline.get_current_history_length()
+        if length and self.readline.get_history_item(length) == line:
+            return
+        self.readline.add_history(line)
+        append = getattr(self.readline, "append_history_file", None)
+        try:
+            if self.file is not None and append is not None:
+                append(1, str(self.file))
+            elif self.file is not None:
+                self.readline.write_history_file(str(self.file))
+        except OSError:
+            self.file = None
+
+    def next(self) -> Optional[str]:
+        """The line that is typed next, none at Ctrl-D. Raises `KeyboardInterrupt` at Ctrl-C."""
+        prompt = f"(rdbg {self.shell.target.place}) "
+        sys.stdout.flush()
+        try:
+            with self.shell.interrupt.at_prompt():
+                return input(prompt)
+        except EOFError:
+            print()
+            return None
+        except UnicodeDecodeError:
+            return "# no text"
+
+
+def greet(shell: "Shell") -> None:
+    """Says what there is, and how to go on."""
+    what = shell.source.path if shell.source else "the built-in application"
+    if not shell.target.is_own:
+        what = f"attached, {what if shell.source else 'its file unknown'}"
+    shell.say(f"{what}; `help` lists the words, Tab completes, Ctrl-D ends")
+    shell.line("where")
+
+
+def talk(shell: "Shell") -> None:
+    """Does what is typed at a terminal, until it ends."""
+    shell.is_terminal = shell.shows_moves = True
+    shell.interrupt.install()
+    lines = Lines(shell)
+    greet(shell)
+    last = ""
+    while not shell.is_done:
+        try:
+            line = lines.next()
+        except KeyboardInterrupt:
+            print("^C")
+            continue
+        if line is None:
+            return
+        if line.strip():
+            last = line.strip()
+            lines.keep(last)
+        shell.line(last)
+
+
+def filter_lines(shell: "Shell") -> None:
+    """Does each line of standard input."""
+    for line in iter(sys.stdin.buffer.readline, b""):
+        shell.line(line.decode("utf-8", "replace"))
+        if shell.is_done:
+            return

@@ -1,0 +1,243 @@
+"""What was meant by a line that is no command, and where it is first wrong."""
+import re
+from typing import TYPE_CHECKING, Callable, List, Optional, Sequence, Tuple
+
+from rdbg import commands
+from rdbg.near import nearest
+from rdbg.shell.gdb import HINTS
+
+if TYPE_CHECKING:
+    from rdbg.shell.shell import Shell
+
+Words = List[str]
+
+
+# A repair of words: what they should be, and why; none where there is nothing to repair.
+Repair = Callable[["Shell", Words], Optional[Tuple[Words, str]]]
+
+
+COUNTS = {"until": "1000", "forward": "100", "back": "1", "redo": "1"}
+
+
+def small_letters(shell: "Shell", words: Words) -> Optional[Tuple[Words, str]]:
+    """Words and names have small letters."""
+    small = [word if commands.is_bytes(word) else word.lower() for word in words]
+    return (small, "words and names have small letters") if small != words else None
+
+
+def marks(shell: "Shell", words: Words) -> Optional[Tuple[Words, str]]:
+    """What stands round words in other languages."""
+    bare = [re.sub(r"^[\"'`(]+|[\"'`);,]+$", "", word) for word in words]
+    bare = [word for word in bare if word]
+    return (bare, "there are no quotes, brackets and commas") if bare != words else None
+
+
+def spaces(shell: "Shell", words: Words) -> Optional[Tuple[Words, str]]:
+    """An operator stands between spaces."""
+    apart = re.sub(r"([<>=!]=?|==)", r" \1 ", " ".join(words)).split()
+    return (apart, "an operator stands between spaces") if apart != words else None
+
+
+def operators(shell: "Shell", words: Words) -> Optional[Tuple[Words, str]]:
+    """There are three operators alone."""
+    for at, word in enumerate(words):
+        number = words[at + 1] if at + 1 < len(words) else ""
+        if word == "==":
+            return [*words[:at], "=", *words[at + 1 :]], "equal is one ="
+        if word in (">=", "<=") and commands.is_number(number):
+            value = int(number) + (1 if word == "<=" else -1)
+            if value >= 0:
+                reason = f"there is no {word}; it is the same as {word[0]} {value}"
+                return [*words[:at], word[0], str(value), *words[at + 2 :]], reason
+    return None
+
+
+def numbers(shell: "Shell", words: Words) -> Optional[Tuple[Words, str]]:
+    """Numbers are decimal, registers and cores have numbers."""
+    found, reason = list(words), ""
+    for at, word in enumerate(words):
+        if re.fullmatch(r"0x[0-9a-f]{1,8}", word):
+            found[at], reason = str(int(word, 16)), "numbers are decimal"
+        elif re.fullmatch(r"0b[01]{1,32}", word):
+            found[at], reason = str(int(word, 2)), "numbers are decimal"
+        elif re.fullmatch(r"[0-9]{1,3}([,_'][0-9]{3})+", word):
+            found[at], reason = re.sub(r"[,_']", "", word), "a number has digits alone"
+        elif re.fullmatch(r"r[0-7]", word) and "reg" in words[:at]:
+            found[at], reason = word[1:], "a register is its number here"
+        elif re.fullmatch(r"core_?[0-9]", word):
+            found[at], reason = word[-1], "a core is its number"
+        elif words[0] == "unwatch" and commands.is_watch(word):
+            found[at], reason = word[1:], "a watch is its number here"
+        elif word in ("max", "portmax_delay") and at:
+            found[at], reason = str(commands.MOST_NUMBER), "max is of scripts; here it is a number"
+    return (found, reason) if reason else None
+
+
+def kind(shell: "Shell", words: Words) -> Optional[Tuple[Words, str]]:
+    """`show` takes a kind and a name."""
+    if words[0] != "show" or len(words) < 2:
+        return None
+    word, names = words[1], shell.target.names
+    single = word[:-1] if word.endswith("s") and word[:-1] in commands.KIND_SYMBOLS else ""
+    if single and len(words) > 2:
+        return ["show", single, *words[2:]], f"the kind is {single}"
+    if len(words) == 2 and word in names.tasks:
+        return ["show", "task", word], "`show` takes a kind and a name"
+    for of_kind, name in names.objects:
+        if len(words) == 2 and word == name:
+            return ["show", of_kind, word], "`show` takes a kind and a name"
+    return None
+
+
+def count(shell: "Shell", words: Words) -> Optional[Tuple[Words, str]]:
+    """A run and a way back have a COUNT."""
+    if words[0] not in COUNTS:
+        return None
+    longer = [*words, COUNTS[words[0]]]
+    if commands.read(" ".join(longer)) is None:
+        return None
+    return (
+        longer,
+        "how many moves at the most is missing" if words[0] == "until" else "its COUNT is missing",
+    )
+
+
+def amounts(shell: "Shell", words: Words) -> Optional[Tuple[Words, str]]:
+    """A condition begins with what is looked at."""
+    at = 2 if words[:2] == ["back", "until"] else 1
+    name, behind = (words[at : at + 2] + ["", ""])[:2]
+    names = shell.target.names
+    for of_kind, other in names.objects:
+        if other == name and behind in commands.OPERATORS and of_kind in AMOUNTS:
+            return [*words[:at], AMOUNTS[of_kind], *words[at:]], AMOUNT_FIRST
+    if name not in names.tasks:
+        return None
+    if behind in commands.PHASES:
+        return [*words[:at], "phase", *words[at:]], AMOUNT_FIRST
+    if behind in ("pc", "phase"):
+        return [*words[:at], behind, name, *words[at + 2 :]], AMOUNT_FIRST
+    if re.fullmatch("r[0-7]", behind):
+        return [*words[:at], "reg", name, behind[1:], *words[at + 2 :]], AMOUNT_FIRST
+    return None
+
+
+AMOUNTS = {"queue": "count", "stream": "bytes", "message": "msgs", "group": "bits"}
+
+
+AMOUNT_FIRST = "a condition begins with what is looked at"
+
+
+def equals(shell: "Shell", words: Words) -> Optional[Tuple[Words, str]]:
+    """A phase is named without an operator."""
+    if "phase" in words and "=" in words:
+        return [word for word in words if word != "="], "a phase is named without ="
+    return None
+
+
+def word(shell: "Shell", words: Words) -> Optional[Tuple[Words, str]]:
+    """The first word is one of rdbg's."""
+    if words[0] in commands.WORDS:
+        return None
+    near = nearest(words[0], commands.WORDS)
+    return ([near, *words[1:]], f"'{words[0]}' is no word") if near else None
+
+
+REPAIRS: Tuple[Repair, ...] = (
+    small_letters,
+    marks,
+    spaces,
+    operators,
+    numbers,
+    word,
+    amounts,
+    equals,
+    kind,
+    count,
+)
+
+
+def syntax(shell: "Shell", line: str) -> str:
+    """Why a line is no command, and what may have been meant."""
+    words = line.split()
+    if not words:
+        return "an empty line is no command"
+    if words[0] == "show" and len(words) == 2 and words[1] in SHOWN:
+        return SHOWN[words[1]]
+    return HINTS.get(words[0]) or mended(shell, line) or at_fault(shell, words)
+
+
+ALL = "`info objects` shows all objects"
+
+
+SHOWN = {
+    "tasks": "`info tasks` shows all tasks",
+    "task": "`show task` takes a name; `info tasks` shows all tasks",
+    "all": "`info tasks` and `info objects` show all there is",
+    "watch": "`show watches`, or `info watches` with their conditions",
+    "core": "`show cores`, or `where`",
+    **{word: ALL for word in ("objects", "queues", "sets", "streams", "messages", "groups")},
+}
+
+
+def mended(shell: "Shell", line: str) -> str:
+    """A line that may have been meant, and why; empty where none is found."""
+    words = line.split()
+    reasons = ["words are separated by spaces, not by tabs"] if "\t" in line else []
+    repaired = words
+    for repair in REPAIRS:
+        found = repair(shell, repaired)
+        if found is not None and found[0]:
+            repaired, reason = found
+            reasons.append(reason)
+    text = " ".join(repaired)
+    if reasons and commands.read(text) is not None:
+        return f"{'; '.join(reasons)}: `{text}`"
+    return ""
+
+
+def at_fault(shell: "Shell", words: Sequence[str]) -> str:
+    """What can stand where a line is first wrong."""
+    shapes = [shape for shape in commands.SHAPES if shape.form.word == words[0]]
+    if not shapes:
+        return unknown_word(words[0])
+    if words[0] == "step":
+        return "behind `step` comes a core's number, or a task's name; `s` moves as a run would"
+    most = max(shape.fitting(words) for shape in shapes)
+    best = [shape for shape in shapes if shape.fitting(words) == most]
+    forms = " or ".join(dict.fromkeys(f"`{shape.form.text}`" for shape in best[:3]))
+    if any(len(shape.symbols) == most for shape in best):
+        return f"'{' '.join(words[most:])}' is too much: {forms}"
+    expected = list(dict.fromkeys(shape.symbols[most] for shape in best))
+    if all(form.word in expected for form in commands.CONDITIONS):
+        words_of_conditions = [form.word for form in commands.CONDITIONS]
+        expected = [symbol for symbol in expected if symbol not in words_of_conditions]
+        expected.insert(0, f"COND: {', '.join(words_of_conditions)}")
+    wanted = " or ".join(describe(symbol) for symbol in expected)
+    behind = f"behind `{' '.join(words[:most])}`"
+    if most == len(words):
+        return f"{behind} comes {wanted}"
+    return f"{behind} comes {wanted}, and not '{words[most]}'"
+
+
+def describe(symbol: str) -> str:
+    """What can stand at a symbol."""
+    known = commands.SYMBOLS.get(symbol)
+    if symbol.startswith("COND: "):
+        return f"a condition ({symbol[len('COND: '):]} ..)"
+    if known is None:
+        return f"`{symbol}`"
+    return (
+        known.noun
+        if known.choices in (known.noun, "its name")
+        else f"{known.noun} ({known.choices})"
+    )
+
+
+def unknown_word(first: str) -> str:
+    """What a first word may have been meant to be."""
+    from rdbg.shell.words import names
+
+    near = nearest(first, [*commands.WORDS, *names()])
+    return (
+        f"'{first}' is no word" + (f"; near it is `{near}`" if near else "") + "; `help` lists them"
+    )

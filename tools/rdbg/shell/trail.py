@@ -1,0 +1,66 @@
+"""The moves that were made, as values: found by going back and making them again, with looks."""
+import dataclasses
+from typing import List, Optional, Tuple
+
+from rdbg import replies
+from rdbg.effects import Move, move_between
+from rdbg.looks import Look, Names
+from rdbg.shell.target import Target
+from rdbg.shell.walk import Walk
+
+CHUNK = 64
+
+
+def between(target: Target, before: Look, after: Look) -> Move:
+    """The move from one look to the next."""
+    edit = target.edits.get(after.place) if target.is_own else None
+    return written(target, move_between(before, after, target.instruction, edit))
+
+
+def written(target: Target, move: Move) -> Move:
+    """A move whose instruction is as it is written in the file."""
+    script = target.application.task(move.task) if target.application and move.task else None
+    if script is None or move.pc is None or move.pc >= len(script.code):
+        return move
+    return dataclasses.replace(move, written=script.code[move.pc].written)
+
+
+def lines_for(count: int, names: Names) -> int:
+    """How many lines it takes to find so many moves."""
+    return (count + 1) * (1 + len(names.lines())) + count // CHUNK
+
+
+def moves(
+    walk: Walk, first: int, last: int, names: Optional[Names] = None
+) -> Tuple[List[Move], Look]:
+    """The moves to the places `first` to `last`, and the look at the last, which there must be.
+    Stays where it is. Raises `Unable` where the history has too little room, `Interrupted` after
+    Ctrl-C."""
+    target, here = walk.target, walk.place
+    looked = target.names if names is None else names
+    target.afford(lines_for(last - first + 1, looked))
+    walk.goto(first - 1)
+    try:
+        found: List[Move] = []
+        before = target.look(looked)
+        while walk.place < last:
+            walk.interrupt.check()
+            for after in again(target, min(CHUNK, last - walk.place), looked):
+                found.append(between(target, before, after))
+                before = after
+        return found, before
+    finally:
+        walk.goto(here)
+
+
+def again(target: Target, count: int, names: Names) -> List[Look]:
+    """The looks at the next places, after each move that is made again."""
+    lines = ["redo 1", *names.lines()]
+    answers = target.tell_all(lines * count)
+    looks = []
+    for at in range(0, len(answers), len(lines)):
+        moved = replies.read(answers[at])
+        assert isinstance(moved, replies.Moved)
+        seen = [replies.read(answer) for answer in answers[at + 1 : at + len(lines)]]
+        looks.append(Look.of(moved.at, seen))
+    return looks

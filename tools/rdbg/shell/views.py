@@ -1,0 +1,304 @@
+"""What there is, as tables and sentences: `info`, `where`, `list`, `print`."""
+from typing import TYPE_CHECKING, Callable, Dict, List, Optional, Sequence
+
+from rdbg import replies
+from rdbg.application import Instruction
+from rdbg.looks import Key, Object, hexadecimal, holding, time_of
+from rdbg.near import nearest
+from rdbg.shell.target import Unable
+
+if TYPE_CHECKING:
+    from rdbg.shell.shell import Shell
+
+REGISTERS = tuple(f"r{number}" for number in range(8))
+
+
+def table(cells: Sequence[Sequence[str]]) -> List[str]:
+    """A table's rows as lines, each column as wide as it must be."""
+    widths = [max(len(row[at]) for row in cells) for at in range(len(cells[0]))]
+    return ["  ".join(it.ljust(width) for it, width in zip(row, widths)).rstrip() for row in cells]
+
+
+def script_of(shell: "Shell", name: str) -> Sequence[Instruction]:
+    """The script of a task; empty where it isn't known."""
+    task = shell.target.application.task(name) if shell.target.application else None
+    return task.code if task else ()
+
+
+def written(shell: "Shell", name: str, pc: int) -> str:
+    """An instruction as it is written; empty where it isn't known."""
+    script = script_of(shell, name)
+    return script[pc].written if pc < len(script) else ""
+
+
+def place_in_file(shell: "Shell", name: str, pc: int) -> str:
+    """The file and the line of an instruction; empty where it isn't known."""
+    script = script_of(shell, name)
+    if shell.source is None or pc >= len(script):
+        return ""
+    return f"{shell.source.path}:{script[pc].place.line}"
+
+
+def phase_text(task: replies.Task) -> str:
+    """A phase in words."""
+    phase = task.phase
+    if phase.word == "wait":
+        return f"waits at {phase.place} {time_of(phase.deadline)}"
+    if phase.word == "again":
+        return f"woken, tries again ({time_of(phase.deadline)})"
+    if phase.word == "given":
+        return f"woken, given bits {phase.bits}"
+    return f"failed: {phase.cause}" if phase.word == "failed" else phase.word
+
+
+def seat(task: replies.Task) -> str:
+    """Where a task is: a core's number, `ready`, or nowhere."""
+    if task.core is not None:
+        return str(task.core)
+    return "ready" if task.phase.word in ("run", "again", "given") else "-"
+
+
+def registers(task: replies.Task) -> str:
+    """The registers that aren't 0."""
+    pairs = zip(REGISTERS, task.registers)
+    return ",".join(f"{name}={value}" for name, value in pairs if value) or "-"
+
+
+def notes(task: replies.Task) -> str:
+    """The notification entries that aren't as at boot."""
+    texts = (f"{at}={it.value}:{it.state}" for at, it in enumerate(task.notes))
+    return ",".join(text for text in texts if not text.endswith("=0:idle")) or "-"
+
+
+def tasks(shell: "Shell") -> None:
+    """All tasks, as a table."""
+    rows = [["task", "core", "phase", "pc", "instruction", "registers", "data", "notes"]]
+    for name, it in shell.look().tasks.items():
+        instruction = written(shell, name, it.pc) or "?"
+        here = [name, seat(it), it.phase.text, str(it.pc), instruction]
+        rows.append([*here, registers(it), hexadecimal(it.data), notes(it)])
+    shell.say("\n".join(table(rows)))
+
+
+def object_text(key: Key, it: Object) -> List[str]:
+    """An object as a row."""
+    kind, name = key
+    return [f"{kind} {name}", holding(it), contents(it), waiters(it)]
+
+
+def contents(it: Object) -> str:
+    """What an object has in it."""
+    if isinstance(it, replies.Queue):
+        return ",".join(item.hex() for item in it.items) or "-"
+    if isinstance(it, replies.QueueSet):
+        return ",".join(it.handles) or "-"
+    if isinstance(it, replies.Stream):
+        return hexadecimal(it.content)
+    if isinstance(it, replies.Messages):
+        return ",".join(hexadecimal(message) for message in it.messages) or "-"
+    return f"0x{it.bits:06x}"
+
+
+def waiters(it: Object) -> str:
+    """Who waits at an object, the first to be served first."""
+    named: Dict[str, Sequence[Optional[str]]] = {}
+    if isinstance(it, replies.Queue):
+        named = {"receive": it.receivers, "send": it.senders}
+    elif isinstance(it, replies.QueueSet):
+        named = {"select": it.waiters}
+    elif isinstance(it, (replies.Stream, replies.Messages)):
+        named = {"read": [it.reader], "write": [it.writer]}
+    else:
+        wishes = (f"{wish.task}:{wish.bits}:{all_or_any(wish)}" for wish in it.waiters)
+        named = {"bits": list(wishes)}
+    found = [
+        f"{word}: {','.join(who)}"
+        for word, who in ((w, present(n)) for w, n in named.items())
+        if who
+    ]
+    return "; ".join(found) or "nobody"
+
+
+def present(names: Sequence[Optional[str]]) -> List[str]:
+    """The names that there are."""
+    return [name for name in names if name]
+
+
+def all_or_any(wish: replies.Wish) -> str:
+    """Whether all bits are waited for."""
+    return "all" if wish.wants_all else "any"
+
+
+def objects(shell: "Shell") -> None:
+    """All objects that are known, as a table."""
+    found = shell.look().objects
+    if not found:
+        shell.say("no object is known" if shell.source is None else "there are no objects")
+        return
+    rows = [["object", "has", "contents", "who waits"]]
+    rows += [object_text(key, it) for key, it in found.items()]
+    shell.say("\n".join(table(rows)))
+
+
+def task(shell: "Shell", name: str) -> None:
+    """All of one task."""
+    it = shell.look().tasks[name]
+    application = shell.target.application
+    known = application.task(name) if application else None
+    rank = f", priority {known.priority}" if known else ""
+    where = f"on core {it.core}" if it.core is not None else "on no core"
+    where = "ready" if seat(it) == "ready" else where
+    shell.say(f"task {name}{rank}, {where}, {phase_text(it)}")
+    shell.say(f"pc {it.pc}  {written(shell, name, it.pc)}  {place_in_file(shell, name, it.pc)}")
+    values = " ".join(f"{register}={value}" for register, value in zip(REGISTERS, it.registers))
+    shell.say(f"{values}  data {hexadecimal(it.data)}")
+    entries = " ".join(f"{at}={note.value}:{note.state}" for at, note in enumerate(it.notes))
+    shell.say(f"notes {entries}")
+
+
+def where(shell: "Shell", words: Sequence[str]) -> None:
+    """Each core's task with its next instruction, and who is ready."""
+    look = shell.look()
+    rows = []
+    for core, name in enumerate(look.cores.running):
+        row = [f"core {core}", name or "idle", "", "", ""]
+        if name in look.tasks:
+            it = look.tasks[str(name)]
+            phase = "" if it.phase.word == "run" else f"({it.phase.text})"
+            text = f"{it.pc} {written(shell, it.name, it.pc)}"
+            row[2:] = [text, phase, place_in_file(shell, it.name, it.pc)]
+        rows.append(row)
+    ready = ",".join(look.cores.ready) or "-"
+    shell.say("\n".join(table(rows)))
+    shell.say(f"ready {ready}  tick {look.cores.tick}  turn {look.cores.turn}  at {look.place}")
+
+
+def listing(shell: "Shell", words: Sequence[str]) -> None:
+    """The scripts of tasks, with their places marked: of those on the cores without words."""
+    look = shell.look()
+    names = list(words) or present(look.cores.running)
+    if not names:
+        raise Unable(f"no core is busy: list which task? {', '.join(look.tasks)}")
+    for name in names:
+        check_name(shell, name, "task")
+        script = script_of(shell, name)
+        if not script:
+            raise Unable(f"the script of {name} isn't known: `rdbg sh --port P FILE` says it")
+        it = look.tasks[name]
+        where = "" if shell.source is None else f"  {shell.source.path}"
+        shell.say(f"{name}, {phase_text(it)}{where}")
+        rows = []
+        for number, instruction in enumerate(script):
+            line = "" if shell.source is None else str(instruction.place.line)
+            mark = "->" if number == it.pc else ""
+            rows.append([line.rjust(4), mark.ljust(2), str(number).rjust(3), instruction.written])
+        shell.say("\n".join(table(rows)))
+
+
+def kinds_of(shell: "Shell", name: str) -> List[str]:
+    """The kinds of which there is a thing of this name: `task`, `queue`, .."""
+    kinds = ["task"] if name in shell.target.names.tasks else []
+    return kinds + [kind for kind, other in shell.target.names.objects if other == name]
+
+
+def check_name(shell: "Shell", name: str, kind: str = "") -> str:
+    """The kind of the thing of this name. Raises `Unable` where there is none (of `kind`)."""
+    kinds = kinds_of(shell, name)
+    if kind in kinds or (kinds and not kind):
+        return kind or kinds[0]
+    names = shell.target.names
+    known = [*names.tasks, *(other for _, other in names.objects if not kind)]
+    near = nearest(name, known)
+    what = kind or "task or object"
+    raise Unable(f"there is no {what} '{name}'" + (f"; near it is '{near}'" if near else ""))
+
+
+def values(shell: "Shell", words: Sequence[str]) -> None:
+    """A register, the data, the pc, the phase or the notes of a task, or of those on the cores; or
+    what an object has."""
+    parts = [part for word in words for part in word.lstrip("$").split(".") if part]
+    wanted = [part for part in parts if part in FIELDS or part in REGISTERS]
+    names = [part for part in parts if part not in wanted]
+    look = shell.look()
+    if not wanted and names:
+        for name in names:
+            about(shell, name)
+        return
+    if not wanted:
+        raise Unable("print what? `print r0 worker`, `print data`, `print jobs`")
+    for name in names or present(look.cores.running):
+        check_name(shell, name, "task")
+        it = look.tasks[name]
+        texts = [f"{part} = {field(it, part)}" for part in wanted]
+        shell.say(f"{name}: {', '.join(texts)}")
+
+
+FIELDS = ("data", "pc", "phase", "notes")
+
+
+def field(it: replies.Task, part: str) -> str:
+    """A part of a task in words."""
+    if part in REGISTERS:
+        return str(it.registers[int(part[1:])])
+    texts = {"data": hexadecimal(it.data), "pc": str(it.pc), "phase": phase_text(it)}
+    return texts[part] if part in texts else notes(it)
+
+
+def about(shell: "Shell", name: str) -> None:
+    """All of a task or of the objects of a name."""
+    check_name(shell, name)
+    for kind in kinds_of(shell, name):
+        if kind == "task":
+            task(shell, name)
+        else:
+            found = object_text((kind, name), shell.look().objects[(kind, name)])
+            shell.say(f"{found[0]}  {found[1]}  {found[2]}  waits: {found[3]}")
+
+
+def watches(shell: "Shell") -> None:
+    """The watches, with their conditions."""
+    if not shell.target.watches:
+        shell.say("no watches; `watch COND` or `break TASK PC` makes one")
+        return
+    holds = dict(shell.target.ask("show watches", replies.Watches).holds)
+    rows = [["watch", "now", "condition"]]
+    for number, text in sorted(shell.target.watches.items()):
+        rows.append([f"w{number}", "holds" if holds.get(number) else "fails", text])
+    shell.say("\n".join(table(rows)))
+
+
+def history(shell: "Shell") -> None:
+    """How much was asked, and what the history has room for."""
+    left = shell.target.left()
+    room = "" if left is None else f"; the history has room for {left} more"
+    shell.say(f"{shell.target.lines} lines were asked, looks among them{room}")
+
+
+def info(shell: "Shell", words: Sequence[str]) -> None:
+    """A table, or all of a task or an object."""
+    word = words[0] if words else ""
+    if word in TABLES:
+        TABLES[word](shell)
+    elif word == "registers":
+        values(shell, [*REGISTERS, *words[1:]])
+    elif word == "line":
+        where(shell, [])
+    elif word:
+        about(shell, word)
+    else:
+        raise Unable(f"info what? {', '.join(INFO_WORDS)}, or a task's or an object's name")
+
+
+TABLES: Dict[str, Callable[["Shell"], None]] = {
+    "tasks": tasks,
+    "threads": tasks,
+    "objects": objects,
+    "watches": watches,
+    "cores": lambda shell: where(shell, []),
+    "queues": objects,
+    "break": watches,
+    "breakpoints": watches,
+    "watchpoints": watches,
+    "history": history,
+}
+INFO_WORDS = ("tasks", "objects", "watches", "history", "registers")

@@ -1,0 +1,149 @@
+"""The words of sh's own: one table, for what they do, for help and for Tab."""
+import dataclasses
+from typing import TYPE_CHECKING, Callable, Dict, List, Optional, Sequence, Tuple
+
+from rdbg import commands
+from rdbg.shell import basics, replay, seek, steps, views
+
+if TYPE_CHECKING:
+    from rdbg.shell.shell import Shell
+
+Do = Callable[["Shell", Sequence[str]], None]
+
+
+@dataclasses.dataclass(frozen=True)
+class Word:
+    """A word of sh's own: its form, what it does, the words that are short for it, and what can
+    stand behind it, for Tab (symbols as in rdbg's forms, `|` between words)."""
+
+    form: str
+    does: str
+    run: Do
+    short: Tuple[str, ...] = ()
+    behind: Tuple[str, ...] = ()
+    more: str = ""
+
+    @property
+    def name(self) -> str:
+        """Its first word."""
+        return self.form.split(" ")[0]
+
+
+GOALS = (
+    "GOAL is COND, or stuck (no core is busy, and no task has a deadline), failed (a task has),\n"
+    "wakes TASK (it waited, and doesn't now), changes QUEUE (or another object: what it holds).\n"
+    "A run goes one order of many: one that doesn't meet a goal says nothing of the others."
+)
+
+WORDS: Tuple[Word, ...] = (
+    Word("where", "each core's task, its instruction and line", views.where, ("w",)),
+    Word(
+        "info tasks|objects|NAME",
+        "tables of what there is, or all of one thing",
+        views.info,
+        ("i",),
+        ("INFO",),
+        "Also: info cores, watches, history, registers TASK.",
+    ),
+    Word("list [TASK]", "a script, its place marked", views.listing, ("l",), ("K",)),
+    Word(
+        "print rN [TASK]",
+        "a register, data, pc, phase or notes of a task",
+        views.values,
+        ("p",),
+        ("PART", "K"),
+    ),
+    Word(
+        "step TASK [COUNT]",
+        "an instruction of a task, on whichever core",
+        steps.step,
+        (),
+        ("K",),
+    ),
+    Word("tick COUNT", "so many ticks", steps.tick),
+    Word(
+        "s [COUNT]",
+        "moves that a run would choose: forward COUNT",
+        steps.forward,
+        ("n", "si", "stepi", "next", "ni", "nexti"),
+    ),
+    Word(
+        "rs [COUNT]",
+        "takes moves back: back COUNT",
+        steps.back,
+        ("rn", "rsi", "rni", "reverse-step", "reverse-stepi", "reverse-next", "undo"),
+    ),
+    Word("until GOAL [COUNT]", "runs to a goal of sh's own", seek.until, (), ("GOAL",), GOALS),
+    Word(
+        "until! GOAL [COUNT]",
+        "runs to where it becomes so, and wasn't before",
+        seek.until_becomes,
+        (),
+        ("GOAL!",),
+        GOALS,
+    ),
+    Word(
+        "rc [GOAL]",
+        "back to where it is so, or a watch became so",
+        seek.back,
+        ("reverse-continue",),
+        ("GOAL!",),
+        GOALS,
+    ),
+    Word("rc! GOAL", "back to where it became so", seek.back_becomes, (), ("GOAL!",), GOALS),
+    Word(
+        "continue [COUNT]",
+        "runs to a watch, a task that fails, or stuck",
+        seek.carry_on,
+        ("c", "cont"),
+    ),
+    Word(
+        "break TASK PC",
+        "a watch; or break COND, which is watch COND",
+        steps.break_at,
+        ("b",),
+        ("BREAK",),
+    ),
+    Word("delete N", "drops a watch: unwatch N", steps.delete, ("d",)),
+    Word("moves [COUNT|all]", "who did what, and what came of it", replay.moves, (), ("all",)),
+    Word("goto PLACE", "to the place with so many moves done", steps.goto, ("g",)),
+    Word("save FILE", "the moves as lines that rdbg replays", replay.save, (), ("FILE",)),
+    Word("reload", "the same moves on the edited file", replay.reload),
+    Word(
+        "set moves|echo on|off",
+        "say what moves did; show lines to rdbg",
+        basics.put,
+        (),
+        ("moves|echo", "on|off"),
+    ),
+    Word("help [WORD]", "this, or more on a word", basics.help_on, ("h", "?"), ("HELP",)),
+    Word("quit", "ends, as Ctrl-D does", basics.leave, ("q", "exit")),
+)
+BACK = Word("back until GOAL", "as rc", seek.back_until)
+BY_NAME: Dict[str, Word] = {}
+for _word in WORDS:
+    for _name in (_word.name, *_word.short):
+        BY_NAME.setdefault(_name, _word)
+
+
+def names() -> List[str]:
+    """All words that stand first in a line of sh's own."""
+    return list(BY_NAME)
+
+
+def find(words: Sequence[str]) -> Optional[Word]:
+    """The word of sh's own that a line begins with, where it isn't one of rdbg's lines; the words
+    `step`, `until` and `back` are rdbg's too."""
+    first, second = words[0], words[1] if len(words) > 1 else ""
+    if first == "step":
+        return BY_NAME["step"] if commands.is_name(second) else None
+    if first == "tick":
+        return BY_NAME["tick"] if second else None
+    if first == "until":
+        return BY_NAME["until"] if second in seek.GOALS else None
+    if first == "back":
+        is_own = second == "until!" or (second == "until" and words[2:3] and words[2] in seek.GOALS)
+        return BACK if is_own else None
+    if first == "set" and second not in basics.SETTINGS:
+        return None if len(words) > 1 else BY_NAME["set"]
+    return BY_NAME.get(first)

@@ -1,0 +1,118 @@
+"""An application file as a tree of values, each with its place in the text that was written.
+
+The tree is that of the JSON which rdbg reads. A text in lines (`.fw`) is read into the same tree,
+with the places of its own lines, so that whoever looks for faults needs to know of one form alone.
+"""
+import dataclasses
+from typing import Any, Iterator, List, Optional, Sequence, Tuple, Union
+
+
+@dataclasses.dataclass(frozen=True, order=True)
+class Place:
+    """A line and a column of a text, both counted from 1, the column in characters."""
+
+    line: int
+    column: int
+
+    def __str__(self) -> str:
+        return f"{self.line}:{self.column}"
+
+
+class Places(Sequence[Place]):
+    """The places of the characters of a text that stands on one line."""
+
+    def __init__(self, line: int, columns: Sequence[int]) -> None:
+        self._line, self._columns = line, columns
+
+    def __len__(self) -> int:
+        return len(self._columns)
+
+    def __getitem__(self, index: Any) -> Any:
+        found = self._columns[index]
+        if isinstance(found, int):
+            return Place(self._line, found)
+        return Places(self._line, found)
+
+    def __eq__(self, other: object) -> bool:
+        return isinstance(other, (Places, tuple)) and tuple(self) == tuple(other)
+
+    def __hash__(self) -> int:
+        return hash(tuple(self))
+
+
+@dataclasses.dataclass(frozen=True)
+class Number:
+    """A number as it is written: `-3`, `1e5` and `07` are told apart from `3`."""
+
+    text: str
+
+    def natural(self) -> Optional[int]:
+        """Its value where it is written with digits alone, and is below 2^64: what rdbg takes."""
+        value = int(self.text) if self.text.isdigit() else -1
+        return value if 0 <= value < 1 << 64 else None
+
+
+@dataclasses.dataclass(frozen=True)
+class Member:
+    """A key of an object, with its value."""
+
+    key: str
+    place: Place
+    node: "Node"
+
+
+@dataclasses.dataclass(frozen=True)
+class Object:
+    """The members of an object in the order of the text. A key may stand twice."""
+
+    members: Tuple[Member, ...]
+
+    def get(self, key: str) -> Optional["Node"]:
+        """The value of a key, the last one where it stands twice."""
+        found = [member.node for member in self.members if member.key == key]
+        return found[-1] if found else None
+
+
+Value = Union[None, bool, Number, str, Tuple["Node", ...], Object]
+
+
+@dataclasses.dataclass(frozen=True)
+class Node:
+    """A value and its place. Of a text, `places` are those of its characters, where they are known.
+    `written` is what stands there where it differs, as an instruction with a label."""
+
+    value: Value
+    place: Place
+    places: Sequence[Place] = ()
+    written: Optional[str] = None
+
+    def place_of(self, index: int) -> Place:
+        """The place of a character of a text, or of the text where that isn't known."""
+        return self.places[index] if index < len(self.places) else self.place
+
+    def words(self) -> Iterator[Tuple[str, Place]]:
+        """The words of a text, separated by spaces, each with its place."""
+        text, at = str(self.value), 0
+        for word in text.split(" "):
+            if word:
+                yield word, self.place_of(at)
+            at += len(word) + 1
+
+
+def kind_of(value: Value) -> str:
+    """What a value is called."""
+    if value is None:
+        return "null"
+    if isinstance(value, bool):
+        return "true" if value else "false"
+    if isinstance(value, Number):
+        return f"the number {value.text}"
+    if isinstance(value, str):
+        return "a text"
+    return "a list" if isinstance(value, tuple) else "an object"
+
+
+def objects(node: Optional[Node]) -> List[Object]:
+    """The objects of a list; none where it is missing."""
+    values = node.value if node is not None and isinstance(node.value, tuple) else ()
+    return [each.value for each in values if isinstance(each.value, Object)]

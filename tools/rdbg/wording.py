@@ -1,0 +1,19 @@
+"""How things of a file are shown in a message: on one line, and not too long."""
+
+MOST_SHOWN = 60
+
+
+def shown(text: str) -> str:
+    """A text of a file, where what can't be seen is written by its number."""
+    short = text if len(text) <= MOST_SHOWN else text[: MOST_SHOWN - 2] + ".."
+    return "".join(sign if sign.isprintable() else f"\\u{ord(sign):04x}" for sign in short)
+
+
+def quoted(text: str) -> str:
+    """The same between quotes."""
+    return f'"{shown(text)}"'
+
+
+def with_article(noun: str) -> str:
+    """`a queue`, `an event group`."""
+    return f"an {noun}" if noun[0] in "aeiou" else f"a {noun}"

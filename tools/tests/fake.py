@@ -1,0 +1,34 @@
+"""A program that isn't rdbg: it answers lines as a test says, and then ends or goes on."""
+import contextlib
+import os
+import pathlib
+import stat
+import sys
+import tempfile
+from typing import Iterator, Sequence
+from unittest import mock
+
+TEXT = """#!{python} -B
+import sys
+answers = {answers!r}
+for answer in answers:
+    if not sys.stdin.readline():
+        break
+    sys.stdout.write(answer)
+    sys.stdout.flush()
+sys.stderr.write({error!r})
+sys.exit({status})
+"""
+
+
+@contextlib.contextmanager
+def program(answers: Sequence[str], error: str = "", status: int = 0) -> Iterator[str]:
+    """The path of a program that writes the nth answer for the nth line, and ends after the last.
+    As long as it is there, companions start it in place of rdbg."""
+    with tempfile.TemporaryDirectory() as folder:
+        file = pathlib.Path(folder) / "rdbg"
+        text = TEXT.format(python=sys.executable, answers=list(answers), error=error, status=status)
+        file.write_text(text)
+        file.chmod(file.stat().st_mode | stat.S_IXUSR)
+        with mock.patch.dict(os.environ, {"RDBG_PROGRAM": str(file)}):
+            yield str(file)

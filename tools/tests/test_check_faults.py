@@ -1,0 +1,329 @@
+"""The faults of a file, as they are printed."""
+import unittest
+from typing import List
+
+from rdbg.faults import MOST_FAULTS, faults_of, remarks_of
+from rdbg.source import source
+from rdbg.tree import Node, Place
+from tests.paths import EXAMPLES
+
+LOST = (EXAMPLES / "lost_item.json").read_text()
+FILE = """{
+  "profile": 1, "cores": 1, "notes": 2,
+  "queues": [{"name": "jobs", "length": 4, "item": 1}, {"name": "done", "length": 1, "item": 1}],
+  "sets": [{"name": "inputs", "length": 5, "members": ["jobs"]}],
+  "streams": [{"name": "uart", "size": 16, "trigger": 4}],
+  "groups": [{"name": "g0"}],
+  "tasks": [
+    {"name": "gateway", "priority": 2, "code": ["data 41",
+      CODE
+    ]}
+  ]
+}
+"""
+
+
+def faults(text: str) -> List[str]:
+    """The faults of a text, each with its kind."""
+    return [f"{it.kind}: {it}" for it in source("x.json", text.encode()).faults]
+
+
+def edited(old: str, new: str) -> List[str]:
+    """The faults of a file without any, in which one thing is another."""
+    text = FILE.replace("CODE", '"end"')
+    assert not faults(text) and text.count(old) == 1
+    return faults(text.replace(old, new))
+
+
+def of_code(*lines: str) -> List[str]:
+    """The faults of instructions, without the kind, the line and the task. The first one is
+    instruction 1, and stands at column 7 of line 9; the script goes on with `end`."""
+    code = ", ".join(f'"{line}"' for line in [*lines, "end"])
+    found = faults(FILE.replace("CODE", code))
+    return [it.replace(": 9:", " ", 1).replace("task gateway, instruction ", "") for it in found]
+
+
+class Instructions(unittest.TestCase):
+    """Instructions that are none."""
+
+    def test_a_missing_block_time(self) -> None:
+        expected = (
+            'L5 Instr 7: 1: "recv jobs": recv Q T lacks its block time'
+            " (max, a number, or r0 to r7)"
+        )
+        self.assertEqual([expected], of_code("recv jobs"))
+
+    def test_a_missing_queue(self) -> None:
+        self.assertEqual(
+            ['L5 Instr 7: 1: "recv 10": recv Q T lacks its queue (a name)'], of_code("recv 10")
+        )
+
+    def test_a_wrong_order_of_words(self) -> None:
+        expected = (
+            'L5 Instr 17: 1: "gwait g0 all 3 clear 10": the words of gwait G V WISH CLR T stand in'
+            " another order; write gwait g0 3 all clear 10"
+        )
+        self.assertEqual([expected], of_code("gwait g0 all 3 clear 10"))
+
+    def test_an_unknown_queue(self) -> None:
+        expected = 'L4 Name 13: 1: "send jbos 0": queue jbos isn\'t there; jobs is near'
+        self.assertEqual([expected], of_code("send jbos 0"))
+        expected = (
+            'L4 Name 13: 1: "recv uart 0": queue uart isn\'t there;'
+            " uart is the name of a stream buffer"
+        )
+        self.assertEqual([expected], of_code("recv uart 0"))
+
+    def test_a_jump_out_of_the_script(self) -> None:
+        expected = (
+            'L5 Instr 13: 1: "jump 3": jump L: 3 can\'t be its target'
+            " (0 to 2, the number of an instruction)"
+        )
+        self.assertEqual([expected], of_code("jump 3"))
+
+    def test_a_label_for_a_jump(self) -> None:
+        expected = (
+            'L5 Instr 17: 1: "jumpz r0 again": jumpz R L: again can\'t be its target (0 to 2, the'
+            " number of an instruction); a jump names its instruction by number, counted from 0"
+        )
+        self.assertEqual([expected], of_code("jumpz r0 again"))
+
+    def test_over_on_a_longer_queue(self) -> None:
+        expected = (
+            'L6 OverwriteLength 13: 1: "over jobs": over Q is for a queue of length 1,'
+            " and jobs has 4"
+        )
+        self.assertEqual([expected], of_code("over jobs"))
+        self.assertEqual([], of_code("over done"))
+
+    def test_a_word_that_is_none(self) -> None:
+        self.assertEqual(
+            ['L5 Instr 9: 1: " recieve jobs 0": there is no instruction recieve: recv?'],
+            of_code(" recieve jobs 0"),
+        )
+        self.assertEqual(
+            ['L5 Instr 8: 1: "0 jump 0": there is no instruction 0; the word jump comes first'],
+            of_code("0 jump 0"),
+        )
+        self.assertEqual(['L5 Instr 7: 1: "": it is empty'], of_code(""))
+
+    def test_names_of_freertos(self) -> None:
+        cases = {
+            "xQueueReceive jobs max": "xQueueReceive is written recv Q T",
+            "xqueuereceive jobs max": "xqueuereceive is written recv Q T",
+            "xQueueSend(jobs, &x, 0);": "xQueueSend is written send Q T",
+            "xTaskNotifyGive(gateway);": "xTaskNotifyGive is written notify K 0 0 inc",
+            "vTaskDelay(10);": (
+                "vTaskDelay is written recv never T, with a queue never that nobody fills"
+            ),
+            "xQueueSendFromISR jobs": (
+                "xQueueSendFromISR is written send Q T; an interrupt is a task with a core of its"
+                " own (docs/FROM_C.md)"
+            ),
+            "vTaskSuspend": ("nothing stands for vTaskSuspend: a task can't be stopped"),
+        }
+        for line, expected in cases.items():
+            self.assertEqual([f'L5 Instr 8: 1: "{line}": {expected}'], of_code(line))
+
+    def test_constants_and_numbers_of_c(self) -> None:
+        cases = {
+            "recv jobs portMAX_DELAY": "write max",
+            "recv jobs -1": "write max",
+            "recv jobs 0x10": "write 16",
+            "recv jobs 10u": "write 10",
+            "set r0 -1": "-1 is written 4294967295",
+            "set R1 5": "write r1",
+            "gset g0 BIT_3": "write 8",
+            "gset g0 (1<<4)": "write 16",
+            "data 0x41": "write 41",
+            "data 4": "each byte has two digits",
+            "take 0 pdTRUE max": "write clear",
+            "gwait g0 1 any pdFALSE max": "write keep",
+            "notify gateway 0 1 eIncrement": "write inc",
+            "notify gateway 2 1 inc": '"notes" says that there are 2 entries',
+            "recv Jobs 0": "write jobs",
+            "recv jobs, 0": "write jobs",
+            "set r0 4294967296": "a number is at most 4294967295",
+        }
+        for line, expected in cases.items():
+            found = of_code(line)
+            self.assertEqual(1, len(found), found)
+            self.assertTrue(found[0].endswith(f"; {expected}"), found)
+
+    def test_words_too_many(self) -> None:
+        cases = {
+            "recv jobs 10 20": "recv Q T has a word too many: 20",
+            "end 0": "end has a word too many: 0",
+            "recv jobs 10 // wait": "a comment has no place in an instruction",
+            "data 41 42": "bytes stand without spaces: data 4142",
+        }
+        for line, expected in cases.items():
+            found = of_code(line)
+            self.assertEqual(
+                [True], [it.endswith(f': "{line}": {expected}') for it in found], found
+            )
+
+    def test_of_one_instruction_a_wrong_form_comes_before_an_unknown_name(self) -> None:
+        found = of_code("send jbos never")
+        self.assertEqual(["L5 Instr", "L4 Name"], [it[:8].strip() for it in found])
+
+    def test_what_cannot_be_seen_stays_on_its_line(self) -> None:
+        found = of_code("\\u001b[31m\\n" + "x" * 300)
+        self.assertEqual(1, len(found))
+        self.assertTrue(found[0].isprintable() and len(found[0]) < 200, found)
+
+
+class Files(unittest.TestCase):
+    """Keys, values and names."""
+
+    def test_a_slip_in_a_key(self) -> None:
+        self.assertEqual(
+            ['L2 Shape: 8:25: task gateway: "prioritiy" is none of its keys: priority?'],
+            edited('"priority"', '"prioritiy"'),
+        )
+
+    def test_the_value_of_a_key_with_a_slip_counts(self) -> None:
+        self.assertEqual(
+            ['L2 Shape: 6:15: event group number 0: "nmae" is none of its keys: name?'],
+            edited('"groups": [{"name"', '"groups": [{"nmae"'),
+        )
+
+    def test_a_key_that_is_missing_or_not_there(self) -> None:
+        self.assertEqual(
+            ["L2 Shape: 3:56: queue done lacks its key item (how many bytes an item has, 1 to 64)"],
+            edited('"length": 1, "item": 1}', '"length": 1}'),
+        )
+        self.assertEqual(
+            [
+                'L2 Shape: 2:3: the application: "semaphores" is none of its keys;'
+                " a queue stands for a semaphore (docs/FROM_C.md)"
+            ],
+            edited('"profile"', '"semaphores": [], "profile"'),
+        )
+
+    def test_numbers_out_of_limits_or_of_another_form(self) -> None:
+        cases = {
+            '"cores": 9': "L3 Limit: 2:26: cores is 9, and is to be 1 to 8",
+            '"cores": -1': "L2 Shape: 2:26: cores is -1, and is to be 1 to 8, digits alone",
+            '"cores": 1.0': "L2 Shape: 2:26: cores is 1.0, and is to be 1 to 8, digits alone",
+            '"cores": "2"': (
+                "L2 Shape: 2:26: cores is a text, and is to be a number, 1 to 8;"
+                " a number has no quotes"
+            ),
+            '"cores": [2]': "L2 Shape: 2:26: cores is a list, and is to be a number, 1 to 8",
+        }
+        for new, expected in cases.items():
+            self.assertEqual([expected], edited('"cores": 1', new))
+
+    def test_a_trigger_level_above_the_size(self) -> None:
+        self.assertEqual(
+            ["L3 Limit: 5:55: stream buffer uart: trigger is 17, and is to be 0 to 16 (its size)"],
+            edited('"trigger": 4', '"trigger": 17'),
+        )
+
+    def test_a_name_with_capitals_and_none_of_what_names_it(self) -> None:
+        text = FILE.replace("CODE", '"recv Jobs 0", "send jobs 0", "end"')
+        self.assertEqual(
+            [
+                'L4 Name: 3:23: queue "Jobs": a name is 1 to 16 characters of a to z, 0 to 9 and _,'
+                " the first a letter: jobs?"
+            ],
+            faults(text.replace('"name": "jobs"', '"name": "Jobs"')),
+        )
+
+    def test_a_name_that_stands_twice(self) -> None:
+        self.assertEqual(
+            ["L4 Name: 3:65: queue jobs stands twice; the first is at 3:23"],
+            edited('"name": "done"', '"name": "jobs"'),
+        )
+
+    def test_a_member_twice(self) -> None:
+        self.assertEqual(
+            ["L4 Name: 4:64: queue set inputs: queue jobs is a member of queue set inputs already"],
+            edited('["jobs"]', '["jobs", "jobs"]'),
+        )
+        self.assertEqual(
+            ["L4 Name: 4:56: queue set inputs: queue jbos isn't there; jobs is near"],
+            edited('["jobs"]', '["jbos"]'),
+        )
+
+    def test_lists_that_are_empty_or_too_long(self) -> None:
+        self.assertEqual(
+            ["L3 Limit: 8:48: task gateway: code is empty; a script has an instruction at least"],
+            faults(FILE.replace('["data 41",\n      CODE\n    ]', "[]")),
+        )
+        many = ", ".join(f'{{"name": "g{at}"}}' for at in range(33))
+        found = edited('[{"name": "g0"}]', f"[{many}]")
+        self.assertEqual(["L3 Limit: 6:548: there are 33 event groups; 32 is the most"], found)
+
+    def test_a_script_that_goes_on_behind_its_last_instruction(self) -> None:
+        self.assertEqual(
+            [
+                'L5 Instr: 9:7: task gateway, instruction 1: "recv jobs 0": the script goes on'
+                " behind it; its last instruction is end or jump"
+            ],
+            faults(FILE.replace("CODE", '"recv jobs 0"')),
+        )
+
+    def test_the_order_is_that_of_rdbg(self) -> None:
+        text = FILE.replace("CODE", '"send jbos 0", "recv jobs"').replace(
+            '"cores": 1', '"cores": 9'
+        )
+        kinds = [it.split(":")[0] for it in faults(text.replace('"item": 1}]', '"itme": 0}]'))]
+        self.assertEqual(
+            ["L3 Limit", "L2 Shape", "L3 Limit", "L4 Name", "L5 Instr", "L5 Instr"], kinds
+        )
+
+    def test_what_a_refused_value_bounds_is_not_blamed(self) -> None:
+        text = FILE.replace("CODE", '"notify gateway 3 0 inc", "over jobs", "end"')
+        text = text.replace('"notes": 2', '"notes": 5').replace('"length": 4', '"length": 65')
+        kinds = [it.split(": ")[0] for it in faults(text)]
+        self.assertEqual(["L3 Limit", "L3 Limit"], kinds)
+        self.assertEqual(1, len(faults(FILE.replace("CODE", '"end"').replace('"jobs"', "5", 1))))
+
+    def test_there_is_an_end_to_looking_for_faults(self) -> None:
+        self.assertEqual(MOST_FAULTS, len(of_code(*["jbos"] * 2 * MOST_FAULTS)))
+
+    def test_the_text_that_was_written_is_quoted(self) -> None:
+        root, place = source("x.json", LOST.encode()).root, Place(7, 5)
+        assert root is not None
+        bad = Node("send jbos 4294967295", place, written="send jbos forever")
+        code = Node((bad, Node("end", place)), place)
+        found = faults_of(replaced(root, code))
+        self.assertEqual(
+            '7:5: task worker, instruction 0: "send jbos forever": queue jbos isn\'t there;'
+            " jobs is near",
+            str(found[0]),
+        )
+
+
+def replaced(root: Node, code: Node) -> Node:
+    """An application whose first task has another script."""
+    from rdbg.tree import Member, Object
+
+    assert isinstance(root.value, Object)
+    members = list(root.value.members)
+    tasks = members[-1].node
+    assert isinstance(tasks.value, tuple) and isinstance(tasks.value[0].value, Object)
+    first = tasks.value[0].value
+    kept = [it if it.key != "code" else Member("code", it.place, code) for it in first.members]
+    list_of = (Node(Object(tuple(kept)), tasks.value[0].place), *tasks.value[1:])
+    members[-1] = Member("tasks", members[-1].place, Node(list_of, tasks.place))
+    return Node(Object(tuple(members)), root.place)
+
+
+class Remarks(unittest.TestCase):
+    """What rdbg accepts, and who wrote it didn't mean."""
+
+    def test_a_key_that_stands_twice(self) -> None:
+        root = source("x.json", LOST.replace("{", '{"cores": 8, ', 1).encode()).root
+        assert root is not None
+        self.assertEqual([], faults_of(root))
+        self.assertEqual(
+            ['3:3: note: the key "cores" stands here again; the first, at 1:2, counts for nothing'],
+            list(map(str, remarks_of(root))),
+        )
+
+
+if __name__ == "__main__":
+    unittest.main()

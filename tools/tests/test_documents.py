@@ -1,0 +1,58 @@
+"""The tables of instructions and of commands are those of the documents."""
+import re
+import unittest
+from typing import Set
+
+from rdbg import commands, instructions
+from tests.tables import codes, rows, section
+
+CALLS = "| FreeRTOS | Instruction | r0 |"
+LINES = ("| Line | What it does |", "| Line | What changes |", "| Line | What it shows |")
+OBJECTS = ("Queues and queue sets", "Stream buffers and message buffers", "Notifications")
+
+
+class Calls(unittest.TestCase):
+    """docs/CALLS.md and `rdbg.instructions`."""
+
+    def test_forms(self) -> None:
+        written: Set[str] = set()
+        for title in (*OBJECTS, "Event groups"):
+            for row in rows(section("CALLS.md", title), CALLS):
+                written |= {it for it in codes(row[1:2]) if re.match(r"[a-z]+( [A-Z]|$)", it)}
+        own = section("CALLS.md", "A task's own instructions")
+        for row in rows(own, "| Instruction | What it does |"):
+            written |= codes(row[:1])
+        # (`notify K 0 ..` shows how the calls without an index are written)
+        shown = {text for text in written if " 0 " in text} | {"clear", "dec", "setif"}
+        forms = {text for form in instructions.FORMS for text in form.texts()}
+        self.assertEqual(written - shown, forms)
+
+    def test_names(self) -> None:
+        for title in (*OBJECTS, "Event groups"):
+            for call, form, *_ in rows(section("CALLS.md", title), CALLS):
+                found = instructions.form_of(form.strip("`").split()[0].strip("`,"))
+                assert found is not None, form
+                if " 0 " not in form:
+                    self.assertEqual(codes([call]), set(found.freertos))
+
+
+class Commands(unittest.TestCase):
+    """docs/COMMANDS.md and `rdbg.commands`."""
+
+    def test_forms(self) -> None:
+        written: Set[str] = set()
+        for title in ("Moves", "Edits", "Views", "Watches and the wheel"):
+            for head in LINES:
+                for row in rows(section("COMMANDS.md", title), head):
+                    written |= codes(row[:1])
+        self.assertEqual(written, {form.text for form in commands.FORMS})
+
+    def test_conditions(self) -> None:
+        written: Set[str] = set()
+        for row in rows(section("COMMANDS.md", "Conditions"), "| COND | What is looked at |"):
+            written |= codes(row[:1])
+        self.assertEqual(written, {form.text for form in commands.CONDITIONS})
+
+
+if __name__ == "__main__":
+    unittest.main()

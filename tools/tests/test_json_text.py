@@ -1,0 +1,189 @@
+"""JSON with places, and the usual causes of what is none."""
+import json
+import unittest
+from typing import Any, Dict, List
+
+from rdbg.failure import Failure
+from rdbg.json_text import MOST_BYTES, MOST_DEPTH, NOT_JSON, read
+from rdbg.tree import Node, Object, Place
+from tests.values import plain
+
+SAMPLE = """{
+  "a": [1, -2.5e3, true],
+  "b": {"c\\u00e9": "x\\ty z", "d": null}
+}
+"""
+
+
+def tree(text: str) -> Node:
+    """The tree of a text that is JSON."""
+    root, faults = read(text.encode())
+    assert root is not None and not faults, faults
+    return root
+
+
+def member(node: Node, key: str) -> Node:
+    """The value of a key."""
+    assert isinstance(node.value, Object)
+    found = node.value.get(key)
+    assert found is not None
+    return found
+
+
+def said(content: bytes) -> str:
+    """The one fault of a content that is no JSON."""
+    root, faults = read(content)
+    assert root is None and [fault.kind for fault in faults] == [NOT_JSON], (content, faults)
+    return str(faults[0])
+
+
+class Trees(unittest.TestCase):
+    """What is read."""
+
+    def test_values_are_those_of_python(self) -> None:
+        texts = (
+            SAMPLE,
+            "1",
+            " [ ] ",
+            "{}",
+            '"\\ud83d\\ude00\\b\\f\\n\\r\\t\\/\\\\\\""',
+            "[[[]],{}]",
+        )
+        for text in texts:
+            self.assertEqual(json.loads(text), plain(tree(text)))
+
+    def test_each_value_and_key_has_its_place(self) -> None:
+        root = tree(SAMPLE)
+        self.assertEqual(Place(1, 1), root.place)
+        items = member(root, "a").value
+        assert isinstance(items, tuple) and isinstance(root.value, Object)
+        self.assertEqual([Place(2, 9), Place(2, 12), Place(2, 20)], [it.place for it in items])
+        self.assertEqual([Place(2, 3), Place(3, 3)], [it.place for it in root.value.members])
+
+    def test_characters_of_a_text_have_places_behind_escapes_too(self) -> None:
+        node = member(member(tree(SAMPLE), "b"), "c\u00e9")
+        self.assertEqual(Place(3, 20), node.place)
+        columns = [node.place_of(at).column for at in range(5)]
+        self.assertEqual([21, 22, 24, 25, 26], columns)
+        self.assertEqual([("x\ty", Place(3, 21)), ("z", Place(3, 26))], list(node.words()))
+
+    def test_columns_count_characters_and_not_bytes(self) -> None:
+        node = member(tree('{"\u00e9\U0001f600": "a b"}'), "\u00e9\U0001f600")
+        self.assertEqual([("a", Place(1, 9)), ("b", Place(1, 11))], list(node.words()))
+
+    def test_a_key_may_stand_twice(self) -> None:
+        self.assertEqual({"a": 2}, plain(tree('{"a": 1, "a": 2}')))
+
+    def test_brackets_stand_within_each_other_up_to_the_limit(self) -> None:
+        tree("[" * MOST_DEPTH + "]" * MOST_DEPTH)
+        deep = ("[" * (MOST_DEPTH + 1)).encode()
+        self.assertEqual("1:128: more than 127 brackets stand within each other", said(deep))
+
+    def test_only_what_a_float_holds_is_a_number(self) -> None:
+        for text in ("1e308", "-0", "0e99999", "1e-999", "1" + "0" * 308):
+            tree(text)
+        for text in ("1e309", "-1e309", "1" + "0" * 309):
+            self.assertEqual("1:1: the number is too large", said(text.encode()))
+
+    def test_a_file_that_rdbg_cannot_read_is_a_failure(self) -> None:
+        tree(" " * (MOST_BYTES - 2) + "{}")
+        with self.assertRaisesRegex(Failure, "1,048,577 bytes, and rdbg reads 1,048,576"):
+            read(b" " * (MOST_BYTES - 1) + b"{}")
+
+
+class Causes(unittest.TestCase):
+    """What is said of what is no JSON."""
+
+    def expect(self, cases: Dict[bytes, str]) -> None:
+        self.assertEqual(list(cases.values()), [said(content) for content in cases])
+
+    def test_commas(self) -> None:
+        many = "a comma too many: none stands before a closing bracket or another comma"
+        cases = {b"[1,\n]": f"1:3: {many}", b'{"a": 1,}': f"1:8: {many}", b"[1,,2]": f"1:4: {many}"}
+        cases[b"{,}"] = f"1:2: {many}"
+        cases[b"[,1]"] = "1:2: a value is missing before ,"
+        cases[b'{"a": 1\n "b": 2}'] = "1:8: a comma is missing here"
+        cases[b'["a"\n "b"]'] = "1:5: a comma is missing here"
+        cases[b'{"a": 1; "b": 2}'] = "1:8: a comma stands here, and no semicolon"
+        self.expect(cases)
+
+    def test_comments(self) -> None:
+        comment = "a comment: JSON has none (a text in lines, .fw, has)"
+        cases = {b"{\n // x\n}": f"2:2: {comment}", b"[1, # x\n 2]": f"1:5: {comment}"}
+        cases[b"{} /* x */"] = f"1:4: {comment}"
+        cases[b'{"a": 1 // x\n}'] = f"1:9: {comment}"
+        self.expect(cases)
+
+    def test_numbers(self) -> None:
+        cases = {b'{"a": +5}': "1:7: +5: a number has no plus sign"}
+        cases[b"[007]"] = "1:2: 007: a number has no zero in front: 7"
+        cases[b"[0x1F]"] = "1:2: 0x1F: a number is decimal, 31"
+        cases[b"[.5]"] = "1:2: .5: digits stand before a point and behind it"
+        cases[b"[5.]"] = "1:2: 5.: digits stand before a point and behind it"
+        cases[b"[-]"] = "1:2: - is no number"
+        cases[b"[10u]"] = "1:2: 10u is no number of JSON: it has digits alone"
+        cases[b"[NaN]"] = "1:2: NaN is no value of JSON: a number?"
+        self.expect(cases)
+
+    def test_quotes(self) -> None:
+        cases = {b"{'a': 1}": "1:2: a text stands between double quotes, and not single ones"}
+        cases[b"{a: 1}"] = '1:2: a key stands between double quotes: "a"'
+        cases[b"[recv]"] = '1:2: recv is no value of JSON; a text stands between quotes: "recv"'
+        cases[
+            '["a", \u201cb\u201d]'.encode()
+        ] = '1:7: \u201c is no quote of JSON: a text stands between two "'
+        cases[b'["a,\n "b"]'] = "1:2: the text that begins here isn't closed by \" on its line"
+        cases[b'["a'] = "1:2: the text that begins here isn't closed by \" on its line"
+        cases[b'["a", "b"c"]'] = "1:10: a quote too many, or a comma is missing here"
+        self.expect(cases)
+
+    def test_brackets(self) -> None:
+        cases = {b'{"a": [1': "1:9: the file ends here, and the [ of 1:7 isn't closed by ]"}
+        cases[b'{"a": 1\n'] = "2:1: the file ends here, and the { of 1:1 isn't closed by }"
+        cases[b'{"a": [1}'] = "1:9: } stands here, and the [ of 1:7 isn't closed by ]"
+        cases[b'[{"a": 1]'] = "1:9: ] stands here, and the { of 1:2 isn't closed by }"
+        cases[b"{}}"] = "1:3: } is one too many: nothing is open here"
+        self.expect(cases)
+
+    def test_colons(self) -> None:
+        cases = {b'{"a" = 1}': "1:6: a colon stands behind a key, and no ="}
+        cases[b'{"a" 1}'] = "1:6: a colon is missing here, behind the key"
+        cases[b'{"a"}'] = "1:5: a key has a value: a colon and the value are missing"
+        cases[b'{"a":}'] = "1:6: a value is missing before }"
+        cases[b'["a": 1]'] = "1:5: a key stands in an object, { .. }, and this is a list"
+        self.expect(cases)
+
+    def test_characters(self) -> None:
+        cases = {b'["a\tb"]': "1:4: a tab stands within a text; it has no control characters"}
+        cases[b'["\x01"]'] = "1:3: U+0001 stands within a text; it has no control characters"
+        cases[b'["\\x"]'] = "1:3: \\x is no escape of JSON; a \\ is written \\\\"
+        cases[b'["\\u12"]'] = "1:3: \\u is followed by four hexadecimal digits"
+        cases[b'["\\ud800"]'] = "1:3: \\ud800 is half of a pair, and has no other half"
+        cases[
+            b"[\xc2\xa01]"
+        ] = "1:2: U+00A0 is no white space of JSON: spaces, tabs and line ends alone are"
+        self.expect(cases)
+
+    def test_files(self) -> None:
+        empty = "1:1: the file is empty; an application is one JSON object, { .. }"
+        cases = {b"": empty, b" \n": empty}
+        cases[b"{}\n{}"] = "2:1: more text stands behind the end of the application"
+        cases[
+            b"\xef\xbb\xbf{}"
+        ] = "1:1: a byte order mark stands here: save the file as UTF-8 without one"
+        cases[b"\xff\xfe{\0}\0"] = "1:1: the file is UTF-16; rdbg reads UTF-8"
+        cases[b'{\n"\xc3\xa9\xe9"}'] = "2:3: the byte 0xe9 is no UTF-8; save the file as UTF-8"
+        self.expect(cases)
+
+
+class Agreement(unittest.TestCase):
+    """What Python's own reader takes, where the two don't differ by intent."""
+
+    def test_cut_off_at_each_place_the_sample_is_refused(self) -> None:
+        content = SAMPLE.strip().encode()
+        messages: List[Any] = [said(content[:at]) for at in range(len(content))]
+        self.assertEqual(len(content), len(messages))
+
+
+if __name__ == "__main__":
+    unittest.main()

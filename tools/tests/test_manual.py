@@ -1,0 +1,60 @@
+"""The help, the page rdbg(1) and what the program says of itself are one."""
+import re
+import shutil
+import subprocess
+import unittest
+from typing import Set
+
+from rdbg import main, manual
+from rdbg.client import program
+
+OPTION = re.compile(r"--[a-z]+")
+OF_THE_WRAPPER = {"--version", "--build", "--unproved"}
+
+
+def said(*words: str) -> str:
+    """What the program prints on these words."""
+    return subprocess.run([program(), *words], stdout=subprocess.PIPE, check=True).stdout.decode()
+
+
+def words_of(text: str) -> Set[str]:
+    """A text's words, however they are broken into lines."""
+    plain = re.sub(r"\\f[BR]|\\&", "", text).replace("\\-", "-")
+    return set(re.findall(r"[\w.()/-]+", plain))
+
+
+class Manual(unittest.TestCase):
+    """`rdbg --help` and rdbg(1)."""
+
+    def setUp(self) -> None:
+        self.help = manual.help_text(main.entries())
+        self.page = manual.page(main.entries())
+
+    def test_options_are_the_programs(self) -> None:
+        options = OPTION.findall(said("--help") + said("run", "--help") + said("serve", "--help"))
+        self.assertEqual(set(options), set(OPTION.findall(self.help)) - OF_THE_WRAPPER)
+
+    def test_limits_are_the_programs(self) -> None:
+        programs = said("run", "--help") + said("serve", "--help")
+        for number in re.findall(r"\d+", programs):
+            self.assertIn(number, self.help)
+
+    def test_commands_are_the_programs(self) -> None:
+        listed = said("--help").partition("Commands:\n")[2].partition("\n\n")[0]
+        commands = {line.split()[0] for line in listed.splitlines()}
+        self.assertEqual(commands, {"run", "serve", "help"})
+        for command in commands | set(main.names()):
+            self.assertIn(f"  rdbg {command} ", self.help)
+
+    def test_the_page_has_what_the_help_has(self) -> None:
+        self.assertEqual(words_of(self.help) - words_of(self.page) - {"Commands", "Options"}, set())
+
+    @unittest.skipIf(shutil.which("man") is None, "man isn't there")
+    def test_the_page_is_without_warnings(self) -> None:
+        words = ["man", "--warnings", "-E", "UTF-8", "-l", "-Tutf8", "-Z", "-"]
+        shown = subprocess.run(words, input=self.page.encode(), capture_output=True)
+        self.assertEqual(shown.stderr.decode(), "")
+
+
+if __name__ == "__main__":
+    unittest.main()

@@ -1,0 +1,117 @@
+"""Hints on refusals: on standard error, never in place of the reply."""
+import unittest
+
+from rdbg.shell.target import Limits
+from tests.shell_talk import both, example
+
+# Lines that are no commands, each with a part of its hint.
+SYNTAX = {
+    "show jobs": "`show queue jobs`",
+    "show worker": "`show task worker`",
+    "show queues jobs": "`show queue jobs`",
+    "show": "behind `show` comes `queue` or ",
+    "show task": "`info tasks` shows all tasks",
+    "show queues": "`info objects`",
+    "show queue": "behind `show queue` comes a queue",
+    "until jobs > 0 50": "begins with what is looked at: `until count jobs > 0 50`",
+    "watch worker wait": "`watch phase worker wait`",
+    "back until worker pc = 1": "`back until pc worker = 1`",
+    "watch worker r3 >= 2": "`watch reg worker 3 > 1`",
+    "unwatch w3": "`unwatch 3`",
+    "Step 0": "small letters: `step 0`",
+    "SHOW CORES": "`show cores`",
+    "step\t0": "not by tabs: `step 0`",
+    "step": "a core's number, or a task's name",
+    "steb 0": "'steb' is no word: `step 0`",
+    "fly": "'fly' is no word",
+    "infoo tasks": "near it is `info`",
+    "forward": "its COUNT is missing: `forward 100`",
+    "forward 0": "a COUNT (a number, 1 to 1000000), and not '0'",
+    "forward 1,000": "`forward 1000`",
+    "back": "`back 1`",
+    "until count jobs > 0": "is missing: `until count jobs > 0 1000`",
+    "until count jobs>0 50": "between spaces: `until count jobs > 0 50`",
+    "until count jobs >= 1 50": "there is no >=; it is the same as > 0: `until count jobs > 0 50`",
+    "until count jobs <= 1 50": "`until count jobs < 2 50`",
+    "until count jobs == 1 50": "equal is one =: `until count jobs = 1 50`",
+    "until count jobs != 1 50": "comes =, < or >, and not '!='",
+    "until reg worker r1 = 0x10 50": "`until reg worker 1 = 16 50`",
+    "until phase worker = wait 50": "`until phase worker wait 50`",
+    "until phase worker waiting 50": "a phase (run, again, given, wait, ended, failed)",
+    "until bla 50": "a condition (count, bytes, msgs, bits, reg, pc, note, tick, phase ..)",
+    "until count 'jobs' > 0 50;": "`until count jobs > 0 50`",
+    "poke reg worker r0 1": "`poke reg worker 0 1`",
+    "poke reg worker 0 4294967296": "a number (0 to 4294967295), and not '4294967296'",
+    "poke data worker 4": "bytes (pairs of hexadecimal digits, or -), and not '4'",
+    "tick tick": "",
+    "wheel": "comes `take` or `give`",
+    "show cores now": "'now' is too much: `show cores`",
+    "bt": "a task has no frames",
+}
+# Lines of the right form, each with its reply and a part of its hint.
+REFUSED = {
+    "show queue job": ("no NoSuch", "there is no queue 'job'; near it is `jobs`"),
+    "show queue worker": ("no NoSuch", "'worker' is a task: `show task worker`"),
+    "show stream rx": ("no NoSuch", "there is none"),
+    "show task wroker": ("no NoSuch", "near it is `worker`"),
+    "until phase bob wait 5": ("no NoSuch", "there are worker, producer, poller"),
+    "step 2": ("no NoSuch", "there are 2 cores, from 0 on"),
+    "poke reg worker 8 0": ("no NoSuch", "registers are 0 to 7"),
+    "poke note worker 1 0": ("no NoSuch", "there is one notification entry, from 0 on"),
+    "back 3": ("no TooFar 0", "no move is done: this is boot"),
+    "redo 1": ("no NothingUndone", "no move is taken back"),
+    "unwatch 3": ("no NoWatch", "info watches"),
+    "wheel give": ("no NotHolder", "show wheel"),
+    "poke pc worker 9": ("no BadEdit", "only a task in phase run"),
+    "poke item jobs 0 41": ("no BadEdit", "the item must be there"),
+}
+
+
+class Hints(unittest.TestCase):
+    """Each refusal."""
+
+    def test_syntax(self) -> None:
+        with example("lost_item") as shell:
+            for line, part in SYNTAX.items():
+                with self.subTest(line):
+                    output, hints = both(shell, line)
+                    if part:
+                        self.assertEqual(output, ["no Syntax"])
+                        self.assertEqual(len(hints), 1)
+                        self.assertIn(part, hints[0])
+
+    def test_what_is_not_there(self) -> None:
+        with example("lost_item") as shell:
+            for line, (reply, part) in REFUSED.items():
+                with self.subTest(line):
+                    output, hints = both(shell, line)
+                    self.assertEqual(output, [reply])
+                    self.assertIn(part, hints[0])
+
+    def test_an_idle_core(self) -> None:
+        with example("lost_item") as shell:
+            output, hints = both(shell, "forward 13", "step 0")
+            self.assertEqual(output[-1], "no NoTask")
+            waits = "the core is idle: poller on core 1, worker waits at recv:jobs"
+            self.assertEqual(hints, [f"hint: {waits}"])
+
+    def test_limits(self) -> None:
+        with example("turns", Limits(moves=3)) as shell:
+            output, hints = both(shell, "forward 3", "step 0", "back 5")
+            self.assertEqual(output, ["ok at 3", "no MovesFull", "no TooFar 3"])
+            self.assertIn("--moves 1000000", hints[0])
+            self.assertIn("only 3 moves are done", hints[1])
+        with example("turns", Limits(history=3)) as shell:
+            output, hints = both(shell, "step 0", "step 0")
+            self.assertEqual(output, ["ok at 1", "no HistoryFull"])
+            self.assertIn("help history", hints[0])
+
+    def test_a_history_that_is_nearly_full(self) -> None:
+        with example("turns", Limits(history=1100)) as shell:
+            _, hints = both(shell, *["show moves"] * 1000)
+            self.assertEqual(len(hints), 1)
+            self.assertIn("room for 110 more lines", hints[0])
+
+
+if __name__ == "__main__":
+    unittest.main()

@@ -1,0 +1,183 @@
+"""`rdbg sh --port P`: others move the target too."""
+import contextlib
+import io
+import os
+import pathlib
+import socket
+import subprocess
+import tempfile
+import unittest
+from typing import Iterator, Optional, Tuple
+from unittest import mock
+
+from rdbg.client import Session, program
+from rdbg.failure import Failure
+from rdbg.main import main
+from rdbg.shell.interrupt import Interrupt
+from rdbg.shell.opening import attach
+from rdbg.shell.shell import Shell
+from rdbg.source import load
+from tests.paths import EXAMPLES
+from tests.shell_talk import both, said
+
+LOST = str(EXAMPLES / "lost_item.json")
+
+
+@contextlib.contextmanager
+def server(sessions: int = 2) -> "Iterator[Tuple[int, subprocess.Popen[bytes]]]":
+    """A port at which the example is served, and the process that does."""
+    with socket.socket() as free:
+        free.bind(("127.0.0.1", 0))
+        port = free.getsockname()[1]
+    words = ["serve", "--app", LOST, "--port", str(port), "--sessions", str(sessions)]
+    process = subprocess.Popen([program(), *words], stdout=subprocess.PIPE)
+    assert process.stdout is not None
+    try:
+        assert process.stdout.readline().startswith(b"listening")
+        yield port, process
+    finally:
+        process.kill()
+        process.wait()
+        process.stdout.close()
+
+
+@contextlib.contextmanager
+def two(path: Optional[str] = LOST) -> Iterator[Tuple[Shell, Session]]:
+    """A shell and another session at one server."""
+    source = load(path) if path else None
+    with server() as (port, _):
+        shell = Shell(attach(port, source), source, Interrupt())
+        with shell.target.session, Session.attach(port) as other:
+            yield shell, other
+
+
+class Attached(unittest.TestCase):
+    """A shell beside another session."""
+
+    def test_single_moves_by_looks_alone(self) -> None:
+        with two() as (shell, other):
+            answers = said(shell, "set moves on", "set echo on", "step 1", "set echo off")
+            self.assertEqual(answers[-1], "# producer 0 data 41")
+            self.assertFalse([line for line in answers if "back" in line or "wheel" in line])
+            other.tell("step 0")
+            self.assertEqual(
+                said(shell, "step 1")[-1].split(",")[0], "# producer 1 send jobs 0 -> 1"
+            )
+            self.assertEqual(said(shell, "show moves"), ["moves 3 undone 0"])
+
+    def test_runs_with_the_wheel_for_as_long(self) -> None:
+        with two() as (shell, other):
+            answers = said(shell, "set moves on", "forward 5")
+            self.assertEqual(len(answers), 6)
+            self.assertEqual(other.tell("show wheel"), "wheel -")
+            other.tell("step 1")
+            answers = said(shell, "until! phase producer ended", "moves 2", "show wheel")
+            self.assertEqual(answers[-1], "wheel -")
+            self.assertRegex(answers[-2], "^# at ")
+
+    def test_another_has_the_wheel(self) -> None:
+        with two() as (shell, other):
+            said(shell, "forward 3")
+            other.tell("wheel take")
+            output, hints = both(shell, "set moves on", "step 0", "forward 5000", "until stuck")
+            self.assertEqual(output, ["no Held 2", "no Held 2", "# rdbg says: no Held 2"])
+            self.assertTrue(all("session 2 has the wheel" in hint for hint in hints), hints)
+            self.assertEqual(said(shell, "moves"), ["# rdbg says: no Held 2"])
+            self.assertEqual(len(said(shell, "info tasks")), 4)
+            other.tell("wheel give")
+            self.assertEqual(said(shell, "step 0")[0], "ok at 4")
+
+    def test_a_wheel_of_its_own_is_kept(self) -> None:
+        with two() as (shell, other):
+            said(shell, "wheel take", "set moves on", "forward 3", "until! count jobs > 0")
+            self.assertEqual(other.tell("step 0"), "no Held 1")
+            self.assertEqual(said(shell, "wheel give"), ["ok wheel"])
+
+    def test_names_are_learnt(self) -> None:
+        with two(None) as (shell, other):
+            self.assertEqual(len(said(shell, "info tasks")), 4)
+            other.ask_all(["step 0", "step 1"])
+            rows = said(shell, "info objects")
+            self.assertEqual(rows[1].split()[:3], ["#", "queue", "jobs"])
+            self.assertIn("isn't known", said(shell, "list worker")[0])
+            answers = said(shell, "set moves on", "step worker", "step producer")
+            self.assertIn("# worker is on no core: it waits at recv:jobs", answers[0])
+            self.assertRegex(answers[2], "^# producer 1, r0 = 1, jobs 1/1, woke worker ")
+
+    def test_tasks_that_only_wait_are_learnt_for_goals(self) -> None:
+        with server() as (port, _), Session.attach(port) as other:
+            other.tell("step 0")
+            shell = Shell(attach(port, None), None, Interrupt())
+            with shell.target.session:
+                self.assertNotIn("worker", shell.target.names.tasks)
+                said(shell, "until stuck 5")
+                self.assertIn("worker", shell.target.names.tasks)
+                self.assertEqual(said(shell, "show moves"), ["moves 6 undone 0"])
+
+    def test_edits_by_others_are_saved(self) -> None:
+        with two() as (shell, other), tempfile.TemporaryDirectory() as folder:
+            file = pathlib.Path(folder) / "x.commands"
+            said(shell, "step 1", "step 1")
+            other.ask_all(["poke reg poller 3 7", "poke item jobs 0 42", "tick"])
+            answers = said(shell, f"save {file}")
+            self.assertIn("replays them", answers[-1])
+            edits = ["poke reg poller 3 7", "poke item jobs 0 42"]
+            self.assertEqual(file.read_text().splitlines()[2:4], edits)
+            self.assertEqual(said(shell, "moves")[2], f"# 3  {edits[0]}")
+            self.assertIn("`rdbg sh FILE`", said(shell, "reload")[0])
+
+
+class Ports(unittest.TestCase):
+    """Ports that aren't as they should be."""
+
+    def test_a_file_of_another_application(self) -> None:
+        with server() as (port, _):
+            turns = load(str(EXAMPLES / "turns.json"))
+            with self.assertRaisesRegex(Failure, "isn't the application that the server has"):
+                attach(port, turns)
+
+    def test_a_server_that_ends(self) -> None:
+        with server() as (port, process):
+            reading, writing = os.pipe()
+            errors = io.StringIO()
+            with os.fdopen(reading, "rb") as lines, os.fdopen(writing, "wb", 0) as keys:
+                keys.write(b"step 0\nshow moves\n")
+                standard = mock.Mock(buffer=Ending(lines, process, 2), isatty=lambda: False)
+                keys.write(b"step 0\n")
+                with mock.patch("sys.stdin", standard), contextlib.redirect_stderr(errors):
+                    with contextlib.redirect_stdout(io.StringIO()):
+                        status = main(["sh", "--port", str(port)])
+            self.assertEqual(status, 1)
+            closed = f"rdbg sh: the server at port {port} has closed the connection\n"
+            self.assertEqual(errors.getvalue(), closed)
+
+    def test_a_server_that_lets_nobody_in(self) -> None:
+        listening = socket.socket()
+        with listening:
+            listening.bind(("127.0.0.1", 0))
+            listening.listen()
+            port = listening.getsockname()[1]
+            session = mock.Mock()
+            session.tell.return_value = "no Full"
+            with mock.patch("rdbg.shell.opening.Session.attach", return_value=session):
+                with self.assertRaisesRegex(Failure, "lets nobody else in: no Full"):
+                    attach(port, None)
+
+
+class Ending:
+    """Lines of a file, before one of which a process is ended."""
+
+    def __init__(self, lines: "io.BufferedReader", process: "subprocess.Popen[bytes]", at: int):
+        self._lines, self._process, self._left = lines, process, at
+
+    def readline(self) -> bytes:
+        """The next line."""
+        if not self._left:
+            self._process.kill()
+            self._process.wait()
+        self._left -= 1
+        return self._lines.readline()
+
+
+if __name__ == "__main__":
+    unittest.main()
