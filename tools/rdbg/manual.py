@@ -49,7 +49,7 @@ def synopsis(companions: Sequence[Entry]) -> Tuple[Entry, ...]:
         Entry("rdbg --build", "from a checkout: builds the program, and says where it is"),
         Entry(
             "rdbg --unproved ..",
-            "from a checkout: the same words with a program that is built in a minute, without proof",
+            "from a checkout: the same words with a program that is built without proof",
         ),
     )
 
@@ -76,8 +76,9 @@ ENVIRONMENT = (
 
 DESCRIPTION = (
     "rdbg runs a model of a multicore FreeRTOS application, whose tasks are short scripts of kernel"
-    " calls, forwards and backwards, a move at a time. Each line that it reads is a command, and each"
-    " command has one line as its answer. Companions stand beside it and drive it by its lines."
+    " calls, forwards and backwards, a move at a time. Each line that it reads is a command, and"
+    " each command has one line as its answer. Companions stand beside it and drive it by its"
+    " lines."
 )
 
 

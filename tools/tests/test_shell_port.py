@@ -104,6 +104,15 @@ class Attached(unittest.TestCase):
             self.assertIn("# worker is on no core: it waits at recv:jobs", answers[0])
             self.assertRegex(answers[2], "^# producer 1, r0 = 1, jobs 1/1, woke worker ")
 
+    def test_names_that_were_not_told_are_asked(self) -> None:
+        with server() as (port, _), Session.attach(port) as other:
+            other.tell("step 0")
+            shell = Shell(attach(port, None), None, Interrupt())
+            with shell.target.session:
+                self.assertIn("on no core, waits at recv:jobs", said(shell, "info worker")[0])
+                self.assertIn("queue jobs", said(shell, "info jobs")[0])
+                self.assertIn("there is no task or object", said(shell, "info nobody")[0])
+
     def test_tasks_that_only_wait_are_learnt_for_goals(self) -> None:
         with server() as (port, _), Session.attach(port) as other:
             other.tell("step 0")
@@ -151,6 +160,15 @@ class Ports(unittest.TestCase):
             closed = f"rdbg sh: the server at port {port} has closed the connection\n"
             self.assertEqual(errors.getvalue(), closed)
 
+    def test_a_server_that_does_not_answer(self) -> None:
+        with socket.socket() as listening, mock.patch("rdbg.shell.opening.PATIENCE", 0.01):
+            listening.bind(("127.0.0.1", 0))
+            listening.listen()
+            errors = Waiting(listening)
+            with contextlib.redirect_stderr(errors), self.assertRaisesRegex(Failure, "closed"):
+                attach(listening.getsockname()[1], None)
+            self.assertIn("the server doesn't answer", errors.getvalue())
+
     def test_a_server_that_lets_nobody_in(self) -> None:
         listening = socket.socket()
         with listening:
@@ -162,6 +180,18 @@ class Ports(unittest.TestCase):
             with mock.patch("rdbg.shell.opening.Session.attach", return_value=session):
                 with self.assertRaisesRegex(Failure, "lets nobody else in: no Full"):
                     attach(port, None)
+
+
+class Waiting(io.StringIO):
+    """A standard error; once something stands there a connection is taken and closed."""
+
+    def __init__(self, listening: socket.socket) -> None:
+        super().__init__()
+        self._listening = listening
+
+    def flush(self) -> None:
+        """Closes the connection."""
+        self._listening.accept()[0].close()
 
 
 class Ending:

@@ -4,7 +4,7 @@ import unittest
 from typing import List
 from unittest import mock
 
-from rdbg.shell.interrupt import Interrupt, Interrupted
+from rdbg.shell.interrupt import HardInterrupt, Interrupt, Interrupted
 from rdbg.shell.opening import begin
 from rdbg.shell.shell import Shell
 from rdbg.shell.target import Limits, Target
@@ -70,12 +70,12 @@ class Pieces(unittest.TestCase):
         self.assertEqual(in_pieces(seed, limits, lines), answers)
 
     def test_as_one_line(self) -> None:
-        for seed in range(3):
+        for seed in range(2):
             with self.subTest(seed):
                 self.check(seed, Limits())
 
     def test_where_a_later_piece_is_refused(self) -> None:
-        for seed in range(3):
+        for seed in range(2):
             with self.subTest(seed):
                 self.check(seed, Limits(moves=30))
 
@@ -114,6 +114,19 @@ class Interrupts(unittest.TestCase):
                 answers = said(shell, "until failed 10000")
             self.assertEqual(answers, ["# stopped by Ctrl-C, back at 4"])
             self.assertEqual(said(shell, "step 0"), ["ok at 5"])
+
+    def test_one_line_that_takes_long(self) -> None:
+        interrupt = Interrupt()
+        with mock.patch("rdbg.shell.interrupt.os.write") as written:
+            interrupt._came(2, None)
+            written.assert_not_called()
+            interrupt._came(2, None)
+            written.assert_called_once()
+            with self.assertRaises(HardInterrupt):
+                interrupt._came(2, None)
+        with interrupt.at_prompt(), self.assertRaises(KeyboardInterrupt):
+            interrupt._came(2, None)
+        interrupt.check()
 
 
 class Walks(unittest.TestCase):

@@ -1,1 +1,1 @@
-"""An application in lines (`.fw`): read into the tree of its JSON, and written from an application."""
+"""An application in lines (`.fw`): read into the tree of its JSON, and written again."""

@@ -1,5 +1,6 @@
 """The moves that were made as a list, as a file of commands, and on an edited file."""
 import pathlib
+import re
 from typing import TYPE_CHECKING, List, Optional, Sequence, Tuple
 
 from rdbg import commands, replies
@@ -17,6 +18,8 @@ if TYPE_CHECKING:
 
 DEFAULT_MOVES = 20
 ENDING = ".commands"
+# The words of an instruction that are values, and not names.
+VALUE = re.compile("[0-9]+|r[0-7]|max")
 
 
 def moves(shell: "Shell", words: Sequence[str]) -> None:
@@ -74,7 +77,7 @@ def save(shell: "Shell", words: Sequence[str]) -> None:
     if shell.target.application is None:
         shell.say("the application's file isn't known here, so they weren't tried")
         return
-    target = begin(shell.source, shell.target.limits or Limits())
+    target = begin(shell.source, shell.target.limits or Limits(commands.MOST_COUNT))
     with target.session:
         answers = target.tell_all(lines)
         again = target.look()
@@ -148,9 +151,10 @@ def replay(
 
 
 def outcome(move: Move) -> Tuple[object, ...]:
-    """What makes two moves the same: who did which sort of instruction, what it was answered, who
-    was woken, and who left or took which core. Numbers in a script may differ."""
-    word = (move.instruction or "").split(" ")[0]
+    """What makes two moves the same: who did which instruction with which objects, what it was
+    answered, who was woken, and who left or took which core. Its numbers and registers may differ.
+    """
+    words = [word for word in (move.instruction or "").split() if not VALUE.fullmatch(word)]
     kinds = ("woke", "given", "time up", "left", "took", "turns")
     # (why a task left, but not until when it waits)
     effects = [
@@ -158,7 +162,7 @@ def outcome(move: Move) -> Tuple[object, ...]:
         for it in move.effects
         if it.kind in kinds
     ]
-    return (move.kind, move.core, move.task, word, move.answer, tuple(effects))
+    return (move.kind, move.core, move.task, tuple(words), move.answer, tuple(effects))
 
 
 def watches(shell: "Shell", target: Target) -> None:

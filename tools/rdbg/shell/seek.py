@@ -1,4 +1,5 @@
 """Words that go to a goal: `until!`, `rc`, `rc!`, `continue`, `until` with goals of sh's own."""
+import textwrap
 from typing import TYPE_CHECKING, List, Optional, Sequence, Tuple
 
 from rdbg import commands, replies
@@ -14,6 +15,7 @@ if TYPE_CHECKING:
     from rdbg.shell.shell import Shell
 
 DEFAULT_COUNT = 10_000
+WIDTH = 96
 GOALS = ("stuck", "failed", "wakes", "changes")
 
 
@@ -193,7 +195,8 @@ def tell_why(shell: "Shell", goal: Goal) -> None:
     met = goal.met if isinstance(goal, AnyOf) else goal
     if isinstance(met, Lasting):
         tasks = shell.look().tasks.values()
-        shell.say("; ".join(f"{it.name} {phase_text(it)}" for it in tasks))
+        text = "; ".join(f"{it.name} {phase_text(it)}" for it in tasks)
+        shell.say("\n".join(textwrap.wrap(text, WIDTH)))
 
 
 def learn_all(shell: "Shell") -> None:
@@ -267,8 +270,10 @@ def can_change(shell: "Shell", goal: Goal) -> bool:
     """Whether a run can meet a goal: of a target that is stuck only the tick changes."""
     goals = goal.goals if isinstance(goal, AnyOf) else [goal]
     ticks = [it for it in goals if isinstance(it, Becomes) and it.condition.kind == "tick"]
-    states = [it for it in goals if isinstance(it, Lasting) and not it.becoming]
-    return bool(ticks or states) or not is_stuck(shell.target)
+    lasting = [it for it in goals if isinstance(it, Lasting) and not it.becoming]
+    if ticks or any(it.text == "stuck" or it.is_so(shell.target) for it in lasting):
+        return True
+    return not is_stuck(shell.target)
 
 
 def carry_on(shell: "Shell", words: Sequence[str]) -> None:

@@ -65,7 +65,7 @@ class Shell:
         from rdbg.shell.words import find
 
         self.asked = ""
-        stripped = without_comment(text)
+        stripped = without_comment(text.encode("utf-8", "replace").decode())
         words = stripped.replace("\t", " ").split()
         if not words:
             return

@@ -35,7 +35,7 @@ def marks(shell: "Shell", words: Words) -> Optional[Tuple[Words, str]]:
 def spaces(shell: "Shell", words: Words) -> Optional[Tuple[Words, str]]:
     """An operator stands between spaces."""
     apart = re.sub(r"([<>=!]=?|==)", r" \1 ", " ".join(words)).split()
-    return (apart, "an operator stands between spaces") if apart != words else None
+    return (apart, "spaces stand round an operator") if apart != words else None
 
 
 def operators(shell: "Shell", words: Words) -> Optional[Tuple[Words, str]]:
@@ -43,11 +43,11 @@ def operators(shell: "Shell", words: Words) -> Optional[Tuple[Words, str]]:
     for at, word in enumerate(words):
         number = words[at + 1] if at + 1 < len(words) else ""
         if word == "==":
-            return [*words[:at], "=", *words[at + 1 :]], "equal is one ="
+            return [*words[:at], "=", *words[at + 1 :]], "== is ="
         if word in (">=", "<=") and commands.is_number(number):
             value = int(number) + (1 if word == "<=" else -1)
             if value >= 0:
-                reason = f"there is no {word}; it is the same as {word[0]} {value}"
+                reason = f"{word} {number} is {word[0]} {value}"
                 return [*words[:at], word[0], str(value), *words[at + 2 :]], reason
     return None
 
@@ -96,10 +96,7 @@ def count(shell: "Shell", words: Words) -> Optional[Tuple[Words, str]]:
     longer = [*words, COUNTS[words[0]]]
     if commands.read(" ".join(longer)) is None:
         return None
-    return (
-        longer,
-        "how many moves at the most is missing" if words[0] == "until" else "its COUNT is missing",
-    )
+    return longer, "its COUNT is missing"
 
 
 def amounts(shell: "Shell", words: Words) -> Optional[Tuple[Words, str]]:

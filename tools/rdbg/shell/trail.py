@@ -3,7 +3,7 @@ import dataclasses
 from typing import List, Optional, Tuple
 
 from rdbg import replies
-from rdbg.effects import Move, move_between
+from rdbg.effects import Move, edit_of, move_between
 from rdbg.looks import Look, Names
 from rdbg.shell.target import Target
 from rdbg.shell.walk import Walk
@@ -13,7 +13,9 @@ CHUNK = 64
 
 def between(target: Target, before: Look, after: Look) -> Move:
     """The move from one look to the next."""
-    edit = target.edits.get(after.place) if target.is_own else None
+    edit = target.edits.get(after.place)
+    if edit is not None and not target.is_own and edit_of(before, after) != edit:
+        edit = None  # (others have made another move there since)
     return written(target, move_between(before, after, target.instruction, edit))
 
 

@@ -1,7 +1,7 @@
 """What there is, as tables and sentences: `info`, `where`, `list`, `print`."""
 from typing import TYPE_CHECKING, Callable, Dict, List, Optional, Sequence
 
-from rdbg import replies
+from rdbg import commands, replies
 from rdbg.application import Instruction
 from rdbg.looks import Key, Object, hexadecimal, holding, time_of
 from rdbg.near import nearest
@@ -203,6 +203,10 @@ def kinds_of(shell: "Shell", name: str) -> List[str]:
 
 def check_name(shell: "Shell", name: str, kind: str = "") -> str:
     """The kind of the thing of this name. Raises `Unable` where there is none (of `kind`)."""
+    if shell.target.application is None and commands.is_name(name):
+        # (rdbg may know of more than has been told)
+        asked = [kind] if kind else list(commands.KIND_SYMBOLS)
+        shell.target.tell_all([f"show {each} {name}" for each in asked])
     kinds = kinds_of(shell, name)
     if kind in kinds or (kinds and not kind):
         return kind or kinds[0]
