@@ -6,7 +6,7 @@ import sys
 from types import ModuleType
 from typing import List, Sequence
 
-from rdbg import manual
+from rdbg import command_line, manual
 from rdbg.failure import Failure
 
 FOLDER = pathlib.Path(__file__).resolve().parent / "companions"
@@ -27,11 +27,24 @@ def entries() -> List[manual.Entry]:
     return [manual.Entry(name, companion(name).SUMMARY) for name in names()]
 
 
+def hint(words: Sequence[str]) -> int:
+    """Says what is wrong with words that the program has refused, or that are none."""
+    if words[:1] and words[0] in command_line.OF_COMMAND:
+        found = command_line.why(words)
+    else:
+        found = command_line.unknown(words[0], [*command_line.OF_COMMAND, *names(), "install"])
+    if found is not None:
+        print(f"rdbg: {found}", file=sys.stderr)
+    return 2
+
+
 def run(words: Sequence[str]) -> int:
     """Does what the words ask for, and answers the exit status."""
     word = words[0] if words else ""
     if word in ("--help", "-h"):
         print(manual.help_text(entries()))
+    elif word == "--why" and words[1:]:
+        return hint(words[1:])
     elif word == "--manual":
         print(manual.page(entries()))
     elif word in names():

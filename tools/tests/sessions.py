@@ -1,7 +1,8 @@
 """Finds the sessions of a document, and runs them as a reader would.
 
 A session is a fenced block that begins with `$`. Each line that begins so is a command for the
-shell, with its here-document where it has one; below it stands what it prints, on standard output
+shell, with the next lines where it ends with a backslash, and with its here-document where it has
+one; below it stands what it prints, on standard output
 and standard error. All sessions of a document run one after the other in one scratch folder, where
 `./rdbg` and `examples/` are.
 """
@@ -31,10 +32,9 @@ class Command:
 
 def cut(lines: List[str]) -> Tuple[List[str], List[str]]:
     """The lines of the command that the first one begins, and the rest."""
-    here = HERE.search(lines[0])
-    if here is None:
-        return lines[:1], lines[1:]
-    end = lines.index(here[1]) + 1
+    last = next(at for at, line in enumerate(lines) if not line.endswith("\\"))
+    here = HERE.search(lines[last])
+    end = last + 1 if here is None else lines.index(here[1]) + 1
     return lines[:end], lines[end:]
 
 

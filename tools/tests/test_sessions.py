@@ -2,21 +2,22 @@
 import unittest
 
 from tests import sessions
-from tests.paths import DOCS
+from tests.paths import DOCS, TOP
 
 
 class Sessions(unittest.TestCase):
     """Each document whose sessions call `./rdbg` from a shell."""
 
-    def test_companions(self) -> None:
-        document = DOCS / "COMPANIONS.md"
-        self.assertEqual(list(sessions.wrong(document)), [])
-        self.assertTrue(list(sessions.commands(document.read_text())))
+    def test_documents(self) -> None:
+        for document in (TOP / "README.md", DOCS / "COMPANIONS.md"):
+            with self.subTest(document.name):
+                self.assertEqual(list(sessions.wrong(document)), [])
+                self.assertTrue(list(sessions.commands(document.read_text())))
 
-    def test_a_wrong_line_is_found(self) -> None:
-        text = "```\n$ echo one\ntwo\n$ cat <<'END'\nthree\nEND\nthree\n```\n"
+    def test_commands_and_what_they_print(self) -> None:
+        text = "```\n$ echo \\\n  one\ntwo\n$ cat <<'END'\nthree\nEND\nthree\n```\n"
         found = list(sessions.commands(text))
-        self.assertEqual([each.line for each in found], [2, 4])
+        self.assertEqual([each.line for each in found], [2, 5])
         self.assertEqual([each.output for each in found], ["two\n", "three\n"])
 
 

@@ -1,0 +1,62 @@
+"""What is said of a command line is wrong with it exactly where the program refuses it."""
+import subprocess
+import unittest
+from typing import List
+
+from rdbg.client import program
+from rdbg.command_line import OF_COMMAND, OPTIONS, unknown, why
+from rdbg.manual import help_text
+
+WRONG = (
+    ("run rx.json", "'rx.json' stands by itself; an application is given by --app FILE"),
+    ("run --ap rx.json", "run takes no --ap; --app?"),
+    ("run --port 7000", "run takes no --port"),
+    ("run --moves 0", "--moves takes 1 to 1000000, and not '0'"),
+    ("run --moves=many", "--moves takes 1 to 1000000, and not 'many'"),
+    ("run --history 1", "--history takes 2 to 1000000, and not '1'"),
+    ("run --moves 5 --moves 6", "--moves stands twice"),
+    ("run --app", "--app lacks its FILE"),
+    ("serve", "serve lacks --app, --port, --sessions"),
+    ("serve --app x.json --sessions 2", "serve lacks --port"),
+    ("serve --app x.json --port 80000 --sessions 2", "--port takes 1 to 65535, and not '80000'"),
+    ("serve --app x.json --port 1 --sessions 65", "--sessions takes 1 to 64, and not '65'"),
+)
+RIGHT = ("run", "run --moves 5", "run --moves=+5 --history 05", "run --app=no_such_file.json")
+
+
+def is_refused(words: List[str]) -> bool:
+    """Whether the program calls the words a bad command line."""
+    silent = subprocess.DEVNULL
+    ran = subprocess.run([program(), *words], stdin=silent, stdout=silent, stderr=silent)
+    return ran.returncode == 2
+
+
+class CommandLine(unittest.TestCase):
+    """`rdbg.command_line`."""
+
+    def test_wrong_words(self) -> None:
+        for line, message in WRONG:
+            with self.subTest(line):
+                self.assertEqual(why(line.split()), message)
+                self.assertTrue(is_refused(line.split()))
+
+    def test_right_words(self) -> None:
+        for line in RIGHT:
+            with self.subTest(line):
+                self.assertIsNone(why(line.split()))
+                self.assertFalse(is_refused(line.split()))
+
+    def test_unknown_words(self) -> None:
+        self.assertEqual(unknown("chekc", ["check", "run"]), "'chekc' is no word of rdbg; check?")
+        self.assertIn("see rdbg --help", unknown("xyz", ["check", "run"]))
+
+    def test_options_are_those_of_the_help(self) -> None:
+        for option, (name, limits) in OPTIONS.items():
+            self.assertIn(f"{option} {name}", help_text([]))
+            for limit in limits or ():
+                self.assertIn(str(limit), help_text([]))
+        self.assertEqual(set(OF_COMMAND["serve"]), set(OPTIONS))
+
+
+if __name__ == "__main__":
+    unittest.main()
