@@ -1,13 +1,14 @@
 """`./rdbg` finds its program and its companions, from wherever it is called."""
 import os
 import pathlib
+import pty
 import subprocess
 import tempfile
 import unittest
 from typing import Dict, Optional
 
 from rdbg.client import program
-from tests.paths import EXAMPLES, WRAPPER
+from tests.paths import EXAMPLES, TOP, WRAPPER
 
 LOST = "examples/lost_item.json"
 
@@ -26,6 +27,61 @@ def run(
         stderr=subprocess.PIPE,
         universal_newlines=True,
     )
+
+
+def at_terminal(*words: str) -> str:
+    """What a person sees who calls the wrapper in a checkout, and types nothing."""
+    controller, terminal = pty.openpty()
+    environment = {**os.environ, "RDBG_PROGRAM": program()}
+    process = subprocess.Popen(
+        [str(WRAPPER), *words],
+        cwd=TOP,
+        env=environment,
+        stdin=terminal,
+        stdout=terminal,
+        stderr=terminal,
+    )
+    os.close(terminal)
+    os.write(controller, b"\x04")
+    seen = b""
+    try:
+        while True:
+            seen += os.read(controller, 4096)
+    except OSError:
+        # (how a terminal ends that nobody has open any more)
+        process.wait()
+        os.close(controller)
+    return seen.decode().replace("\r\n", "\n")
+
+
+class Terminal(unittest.TestCase):
+    """What is said to a person besides what the program says."""
+
+    def test_the_place_of_a_fault(self) -> None:
+        with tempfile.NamedTemporaryFile("w", suffix=".json") as file:
+            file.write(
+                (EXAMPLES / "lost_item.json").read_text().replace("recv jobs max", "recv jobs")
+            )
+            file.flush()
+            seen = at_terminal("run", "--app", file.name)
+        self.assertIn("rdbg: application refused: L5 Instr\n", seen)
+        self.assertIn(f"{file.name}:6:", seen)
+        self.assertIn("lacks its block time", seen)
+
+    def test_a_text_in_lines(self) -> None:
+        with tempfile.NamedTemporaryFile("w", suffix=".fw") as file:
+            seen = at_terminal("run", f"--app={file.name}")
+        self.assertIn(f"./rdbg make {file.name} makes the JSON of it", seen)
+
+    def test_a_wrong_command_line(self) -> None:
+        seen = at_terminal("run", "--moves", "0")
+        self.assertIn(
+            "rdbg: bad command line\nrdbg: --moves takes 1 to 1000000, and not '0'\n", seen
+        )
+        self.assertIn("'chekc' is no word of rdbg; check?", at_terminal("chekc", "x.json"))
+
+    def test_a_prompt_is_pointed_to(self) -> None:
+        self.assertIn("./rdbg sh is a prompt", at_terminal("run", "--app", LOST))
 
 
 class Wrapper(unittest.TestCase):
