@@ -13,9 +13,8 @@ from rdbg.near import nearest
 from rdbg.operands import NAMED, Scope, is_name, to_text
 from rdbg.reading import NAME_RULE, read
 from rdbg.shapes import FILE, NOT_THERE, OTHER_NAMES, Key, Shape
-from rdbg.tree import Node, Number, Object, Place, Value, kind_of
-from rdbg.wording import quoted as quoted
-from rdbg.wording import shown
+from rdbg.tree import Node, Number, Object, Place, Value, kind_of, objects
+from rdbg.wording import quoted, shown
 
 SHAPE, LIMIT, NAME, INSTR = "L2 Shape", "L3 Limit", "L4 Name", "L5 Instr"
 OVERWRITE = "L6 OverwriteLength"
@@ -63,26 +62,6 @@ def proposed(text: str) -> str:
 def bounds(key: Key) -> str:
     """What a key's value can be: `how many bytes an item has, 1 to 64`."""
     return f"{key.text}, {to_text(key.least, key.most)}" if key.holds == "number" else key.text
-
-
-def remarks_of(root: Node) -> List[Fault]:
-    """What is no fault to rdbg, and most likely one all the same: a key that stands twice."""
-    found: List[Fault] = []
-    values = [root]
-    while values:
-        value = values.pop().value
-        if isinstance(value, Object):
-            places: Dict[str, Place] = {}
-            for member in value.members:
-                if member.key in places:
-                    first = f"the first, at {places[member.key]}, counts for nothing"
-                    message = f"note: the key {quoted(member.key)} stands here again; {first}"
-                    found.append(Fault(member.place, "", message))
-                places[member.key] = member.place
-                values.append(member.node)
-        elif isinstance(value, tuple):
-            values += value
-    return sorted(found, key=lambda remark: remark.place)
 
 
 class Finder:
@@ -182,13 +161,23 @@ class Finder:
                 meant, said = self.meant(shape, member.key)
                 message = f"{label}: {quoted(member.key)} is none of its keys"
                 self.fault(SHAPE, member.place, message + said)
-                if meant:
-                    found.setdefault(meant, member.node)
+                if meant and meant not in found:
+                    found[meant] = member.node
+                elif shape is FILE:
+                    self.refuse_names(member.node)
         for key in shape.keys:
             if key.is_needed and key.name not in found:
                 message = f"{label} lacks its key {key.name} ({bounds(key)})"
                 self.fault(SHAPE, node.place, message)
         return found
+
+    def refuse_names(self, node: Node) -> None:
+        """What stands under a key of the file that is none may be of any kind."""
+        for thing in objects(node):
+            name = thing.get("name")
+            if name is not None and isinstance(name.value, str):
+                for names in self.refused.values():
+                    names.add(name.value)
 
     def meant(self, shape: Shape, key: str) -> Tuple[str, str]:
         """The key that another is meant to be, if there is one, and what to say of it."""

@@ -62,9 +62,19 @@ WORDS: Dict[str, str] = {
     "halt": "end",
     "exit": "end",
     "return": "end",
+    "break": "jump L",
+    "continue": "jump L",
+    "do": "jumpz R L",
+    "else": "jump L",
+    "switch": "jump L and jumpz R L",
+    "cmp": "jumpz R L, which looks at a register alone",
+    "bne": "jumpz R L, which jumps over a jump L",
+    "jnz": "jumpz R L, which jumps over a jump L",
     "give": "send Q 0 of a queue that stands for a semaphore, or notify K I 0 inc",
     "wait": "gwait G V WISH CLR T, nwait I V V T or take I clear T",
 }
+# Those that are written in another way in lines.
+IN_LINES: Dict[str, str] = {"dec": "add R -1", "sub": "add R -N"}
 BY_NAME: Dict[str, str] = {
     **{name.lower(): it.text for it in FORMS for name in it.freertos},
     **{name.lower(): text for name, text in WRITTEN.items()},
@@ -78,7 +88,7 @@ def called(word: str) -> str:
     return found.group() if found else word
 
 
-def sentence(word: str) -> Optional[str]:
+def sentence(word: str, in_lines: bool = False) -> Optional[str]:
     """What to write in place of a word that is a name of FreeRTOS or of C: `xQueueReceive is
     written recv Q T`. None where it is no such name."""
     name = called(word)
@@ -86,8 +96,9 @@ def sentence(word: str) -> Optional[str]:
     end = "" if plain == name else INTERRUPT
     if plain.lower() in BY_NAME:
         return f"{name} is written {BY_NAME[plain.lower()]}{end}"
-    if name.lower() in WORDS:
-        return f"{name} is written {WORDS[name.lower()]}"
+    words = {**WORDS, **(IN_LINES if in_lines else {})}
+    if name.lower() in words:
+        return f"{name} is written {words[name.lower()]}"
     for pattern, why in MISSING.items():
         if re.fullmatch(pattern, plain, re.IGNORECASE):
             return f"nothing stands for {name}: {why}"

@@ -59,11 +59,13 @@ PATTERN_OF = {kind.symbol: re.compile(kind.pattern) for kind in KINDS}
 @dataclasses.dataclass(frozen=True)
 class Scope:
     """What an instruction can name: the names of each kind under its symbol (`Q`, `K`, ..), the
-    notification entries that each task has, and how many instructions its script has."""
+    notification entries that each task has, how many instructions its script has, and whether it
+    is written in lines."""
 
     names: Mapping[str, Sequence[str]]
     entries: int = 1
     length: int = 256
+    in_lines: bool = False
 
     def limits(self, symbol: str) -> Optional[Tuple[int, int]]:
         """The least and the largest number that can stand at an operand of this kind. The largest
@@ -78,6 +80,8 @@ class Scope:
 
     def choices(self, symbol: str) -> str:
         """What can stand there, in words: `0 to 4, the number of an instruction`."""
+        if symbol == "L" and self.in_lines:
+            return f"a label, or {to_text(0, self.length - 1)}, the number of an instruction"
         if symbol == "L":
             return f"{to_text(0, self.length - 1)}, the number of an instruction"
         if symbol == "I":

@@ -1,13 +1,15 @@
 """Reads an instruction: its form and operands, or what is wrong with it and what would be right."""
 import dataclasses
-import itertools
+import re
 from typing import Dict, Iterator, List, Optional, Sequence, Tuple
 
 from rdbg.freertos import sentence
 from rdbg.instructions import FORM_OF, InstructionForm, form_of
+from rdbg.layout import FEW, Layout
 from rdbg.near import nearest
 from rdbg.operands import KIND_OF, NAMED, PATTERN_OF, Scope
 from rdbg.slips import slip
+from rdbg.statements import statement
 from rdbg.tree import Node, Place
 from rdbg.wording import shown, with_article
 
@@ -15,18 +17,28 @@ Word = Tuple[str, Place]
 INSTR, NAME = "L5 Instr", "L4 Name"
 NAME_RULE = "a name is 1 to 16 characters of a to z, 0 to 9 and _, the first a letter"
 COMMENTS = ("//", "/*", "#", ";", "--")
-# So many words at the most are too many for a look at which of them they are.
-FEW = 3
+NO_BRACES = "a script has no braces: jump and jumpz stand for them"
+NO_VARIABLES = "what a task sends is its data (data HEX), and what it receives becomes it"
+# So many digits of bytes are proposed.
+MOST_DIGITS = 40
+# What an operand of an instruction is that another instruction has, by its form.
+INSTEAD = (
+    ("set", "N", PATTERN_OF["R"], "write move {} {}"),
+    ("move", "R", PATTERN_OF["N"], "write set {} {}"),
+    ("add", "N", PATTERN_OF["R"], "no instruction adds two registers"),
+)
 
 
 @dataclasses.dataclass(frozen=True)
 class Operand:
-    """An operand: its kind's symbol, what it is called, its word and where that stands."""
+    """An operand: its kind's symbol, what it is called, its word, where that stands and how it is
+    written."""
 
     symbol: str
     noun: str
     word: str
     place: Place
+    spelled: str
 
 
 @dataclasses.dataclass(frozen=True)
@@ -60,7 +72,22 @@ def read(node: Node, scope: Scope) -> Reading:
     form = form_of(words[0][0])
     if form is None:
         return refused(None, unknown([word for word, _ in words], scope), words[0][1])
-    return Reader(form, words, scope, node.place).read()
+    in_text = text_in_quotes(" ".join(word for word, _ in words[1:]))
+    if form.word == "data" and in_text:
+        return refused(form, in_text, words[1][1])
+    known = dataclasses.replace(scope, in_lines=node.written is not None)
+    return Reader(form, words, known, node).read()
+
+
+def text_in_quotes(text: str) -> str:
+    """What to write in place of bytes that are given as a text in quotes: `'A'`; empty where there
+    is none."""
+    found = re.fullmatch(r"(['\"])(.+?)\1?", text)
+    if not found:
+        return ""
+    rule = "data HEX: a text is written as hexadecimal digits"
+    digits = found[2].encode("utf-8", "replace").hex()
+    return f"{rule}: data {digits}" if len(digits) <= MOST_DIGITS else rule
 
 
 def refused(form: Optional[InstructionForm], message: str, place: Place) -> Reading:
@@ -76,9 +103,14 @@ def unknown(words: Sequence[str], scope: Scope) -> str:
     if word.endswith(":"):
         rule = "a jump names its instruction by number, counted from 0"
         return f"{shown(word)} is no instruction; {rule}"
-    known = sentence(word)
+    known = statement(words, False) or sentence(word)
     if known is not None:
         return known
+    plain = re.sub(r"[(),;\s]+", " ", " ".join(words)).strip()
+    if plain.split(" ")[0] in FORM_OF and plain != " ".join(words):
+        return f"words are separated by spaces alone; write {shown(plain)}"
+    if re.fullmatch("[{}]+", word):
+        return NO_BRACES
     message = f"there is no instruction {shown(word)}"
     kinds = [with_article(KIND_OF[it].noun) for it in NAMED if word in scope.names.get(it, ())]
     if kinds:
@@ -94,66 +126,48 @@ class Reader:
     """Lays the words of one instruction against its form."""
 
     def __init__(
-        self, form: InstructionForm, words: Sequence[Word], scope: Scope, place: Place
+        self, form: InstructionForm, words: Sequence[Word], scope: Scope, node: Node
     ) -> None:
-        self.form, self.scope, self.place = form, scope, place
+        self.form, self.scope, self.place = form, scope, node.place
         self.words, self.symbols = words[1:], form.symbols
+        self.layout = Layout(self.symbols, [word for word, _ in self.words], scope)
+        is_spelled = len(node.spelled) == len(words)
+        self.spelled = node.spelled[1:] if is_spelled else [word for word, _ in self.words]
         self.faults: List[InstructionFault] = []
 
     def read(self) -> Reading:
         """The operands and the faults."""
-        ordered = self.in_order()
-        if ordered is not None:
-            line = " ".join([self.form.word, *ordered])
-            message = f"the words of {self.form.text} stand in another order; write {line}"
-            return refused(self.form, message, self.words[self.first_unfit()][1])
+        order = self.layout.in_order()
+        if order is not None:
+            return refused(
+                self.form, self.another_order(order), self.words[self.layout.first_unfit()][1]
+            )
         operands: List[Operand] = []
-        for symbol, noun, word in self.aligned():
-            if word is not None:
-                operands.append(Operand(symbol, noun, *word))
-                self.look_at(operands[-1])
+        for operand in self.aligned():
+            operands.append(operand)
+            self.look_at(operand)
         # (of one instruction a fault of form comes before a name that nothing has)
         self.faults.sort(key=lambda fault: fault.kind, reverse=True)
         return Reading(self.form, tuple(operands), tuple(self.faults))
 
-    def fits(self, operand: int, word: int) -> bool:
-        """Whether a word has the form of an operand."""
-        return self.scope.fits(self.symbols[operand], self.words[word][0])
+    def another_order(self, order: Dict[int, int]) -> str:
+        """What to say of words that stand in another order, of which some may be missing."""
+        parts = [
+            self.spelled[order[at]] if at in order else symbol
+            for at, symbol in enumerate(self.symbols)
+        ]
+        line = " ".join([self.form.word, *parts])
+        missing = [self.described(at) for at in range(len(parts)) if at not in order]
+        if not missing:
+            return f"the words of {self.form.text} stand in another order; write {line}"
+        lacks = f"{self.form.text} lacks its {' and its '.join(missing)}"
+        return f"{lacks}, and its words stand in another order; write {line}"
 
-    def weight(self, operand: int, word: int) -> int:
-        """How well a word fits an operand; a name that nothing has fits less than others."""
-        symbol, text = self.symbols[operand], self.words[word][0]
-        is_there = symbol not in NAMED or text in self.scope.names.get(symbol, ())
-        return (1 + is_there) * self.fits(operand, word)
-
-    def first_unfit(self) -> int:
-        """The first word that hasn't the form of its operand."""
-        return next(at for at in range(len(self.symbols)) if not self.fits(at, at))
-
-    def in_order(self) -> Optional[List[str]]:
-        """The words in the order in which they are right, where they aren't right as they stand."""
-        count = len(self.symbols)
-        if len(self.words) != count:
-            return None
-        unfit = [at for at in range(count) if not self.fits(at, at)]
-        if not unfit or any(map(self.is_of_kind, unfit)):
-            return None
-        fits = [[self.fits(operand, word) for word in range(count)] for operand in range(count)]
-        orders = itertools.permutations(range(count))
-        fitting = [it for it in orders if all(fits[at][it[at]] for at in range(count))]
-        # (the order that moves the fewest words)
-        best = max(fitting, default=None, key=lambda it: sum(a == b for a, b in enumerate(it)))
-        return None if best is None else [self.words[at][0] for at in best]
-
-    def is_of_kind(self, at: int) -> bool:
-        """Whether a word has the form of its operand, but for a limit."""
-        return PATTERN_OF[self.symbols[at]].fullmatch(self.words[at][0]) is not None
-
-    def aligned(self) -> Iterator[Tuple[str, str, Optional[Word]]]:
-        """Each operand with its word, after a fault for those that lack one, or for words too
+    def aligned(self) -> Iterator[Operand]:
+        """Each operand that has a word, after a fault for those that lack one, or for words too
         many."""
         operands, words = len(self.symbols), len(self.words)
-        chosen = self.choice(operands, words)
+        chosen = self.layout.choice()
         missing = [at for at in range(operands) if at not in chosen]
         if missing:
             parts = [self.described(at) for at in missing]
@@ -162,21 +176,8 @@ class Reader:
         if extra:
             self.fault(self.too_many(extra), self.words[extra[0]][1])
         for at, (symbol, noun) in enumerate(zip(self.symbols, self.form.nouns)):
-            yield symbol, noun, self.words[chosen[at]] if at in chosen else None
-
-    def choice(self, operands: int, words: int) -> Dict[int, int]:
-        """Which word is which operand, in their order, so that as many as can be fit."""
-        few = min(operands, words)
-        if words > operands + FEW:
-            return {at: at for at in range(few)}
-        best = max(
-            itertools.product(
-                itertools.combinations(range(operands), few),
-                itertools.combinations(range(words), few),
-            ),
-            key=lambda pair: sum(self.weight(*each) for each in zip(*pair)),
-        )
-        return dict(zip(*best))
+            if at in chosen:
+                yield Operand(symbol, noun, *self.words[chosen[at]], self.spelled[chosen[at]])
 
     def described(self, at: int) -> str:
         """An operand in words: `block time (max, a number, or r0 to r7)`."""
@@ -190,8 +191,11 @@ class Reader:
         whole = "".join(word for word, _ in self.words)
         if self.form.word == "data" and self.scope.fits("HEX", whole):
             return f"bytes stand without spaces: data {shown(whole)}"
+        if any(word.startswith("&") for word in words):
+            return f"{self.form.text} has no {shown(words[0])}: {NO_VARIABLES}"
         many = "a word" if len(words) == 1 else f"{len(words)} words"
-        said = shown(" ".join(words[:FEW])) + (" .." if len(words) > FEW else "")
+        spelled = [self.spelled[at] for at in extra[:FEW]]
+        said = shown(" ".join(spelled)) + (" .." if len(words) > FEW else "")
         return f"{self.form.text} has {many} too many: {said}"
 
     def look_at(self, operand: Operand) -> None:
@@ -199,13 +203,29 @@ class Reader:
         symbol, word = operand.symbol, operand.word
         if not self.scope.fits(symbol, word):
             rule = NAME_RULE if symbol in NAMED else self.scope.choices(symbol)
-            meant = slip(symbol, word, self.scope)
-            message = f"{self.form.text}: {shown(word)} can't be its {operand.noun} ({rule})"
+            meant = self.instead(symbol, word) or slip(symbol, word, self.scope)
+            said = self.said(operand)
+            message = f"{self.form.text}: {said} can't be its {operand.noun} ({rule})"
             self.fault(message + (f"; {meant}" if meant else ""), operand.place, operand)
         elif symbol in NAMED and word not in self.scope.names.get(symbol, ()):
             self.faults.append(
                 InstructionFault(NAME, self.nobody(symbol, word), operand.place, symbol, word)
             )
+
+    def said(self, operand: Operand) -> str:
+        """A word as it is written, with its number where it is written by a name."""
+        if operand.symbol in NAMED:
+            return shown(operand.spelled)
+        if operand.spelled == operand.word or self.scope.limits(operand.symbol) is None:
+            return shown(operand.word)
+        return f"{shown(operand.spelled)} ({operand.word})"
+
+    def instead(self, symbol: str, word: str) -> str:
+        """Another instruction that has such a word; empty where there is none."""
+        for first, its, pattern, text in INSTEAD:
+            if (first, its) == (self.form.word, symbol) and pattern.fullmatch(word):
+                return text.format(*self.spelled)
+        return ""
 
     def nobody(self, symbol: str, word: str) -> str:
         """What is near to a name that nothing of its kind has."""

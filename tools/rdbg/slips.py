@@ -78,7 +78,7 @@ def number_slip(symbol: str, word: str, scope: Scope) -> Optional[str]:
         return f"a number is at most {MOST_NUMBER}"
     if symbol == "I" and value is not None:
         return f'"notes" says that there {are(scope.entries, "entry", "entries")}'
-    if symbol == "L" and re.fullmatch(r"[A-Za-z_]\w*:?", word):
+    if symbol == "L" and not scope.in_lines and re.fullmatch(r"[A-Za-z_]\w*:?", word):
         return "a jump names its instruction by number, counted from 0"
     return None
 
@@ -99,6 +99,9 @@ def bytes_slip(symbol: str, word: str, scope: Scope) -> Optional[str]:
         return None
     if re.fullmatch(r"0[xX]([0-9A-Fa-f]{2})+", word):
         return f"write {word[2:]}"
+    one = re.fullmatch(r"0[xX]([0-9A-Fa-f])", word)
+    if one:
+        return f"write 0{one[1]}"
     if re.fullmatch(r"[0-9A-Fa-f]+", word):
         return "each byte has two digits" if len(word) % 2 else "at most 256 bytes"
     return None

@@ -79,12 +79,14 @@ Value = Union[None, bool, Number, str, Tuple["Node", ...], Object]
 @dataclasses.dataclass(frozen=True)
 class Node:
     """A value and its place. Of a text, `places` are those of its characters, where they are known.
-    `written` is what stands there where it differs, as an instruction with a label."""
+    `written` is what stands there where it differs, as an instruction with a label, and `spelled`
+    each of its words."""
 
     value: Value
     place: Place
     places: Sequence[Place] = ()
     written: Optional[str] = None
+    spelled: Tuple[str, ...] = ()
 
     def place_of(self, index: int) -> Place:
         """The place of a character of a text, or of the text where that isn't known."""

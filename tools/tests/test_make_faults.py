@@ -4,7 +4,7 @@ import unittest
 from typing import List, Tuple
 
 from rdbg.failure import Failure
-from rdbg.firmware.reader import MOST_BYTES
+from rdbg.firmware.tokens import MOST_BYTES
 from rdbg.json_layout import json_of
 from rdbg.firmware.writer import text_of
 from rdbg.source import source
@@ -164,7 +164,7 @@ class Instructions(unittest.TestCase):
         (
             "data RX",
             ":6: {}: RX is no bytes: they are written as hexadecimal digits, two a byte,"
-            " or as a text in quotes",
+            " or as a text in double quotes",
         ),
         (r'data "a\q"', r":8: {}: the escapes are \n, \r, \t, \0, \\, \" and two digits behind \x"),
     )

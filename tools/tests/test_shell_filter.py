@@ -132,6 +132,12 @@ class Ends(unittest.TestCase):
             replies = (EXAMPLES / "lost_item.replies").read_text()
             self.assertEqual(run(given, str(file)), (0, replies, ""))
 
+    def test_a_file_after_app(self) -> None:
+        given = (EXAMPLES / "lost_item.commands").read_bytes()
+        replies = (EXAMPLES / "lost_item.replies").read_text()
+        self.assertEqual(run(given, "--app", LOST), (0, replies, ""))
+        self.assertEqual(run(given, "--app", LOST, LOST)[0], 2)
+
     def test_words(self) -> None:
         for words in (["--port", "x"], ["--port", "0"], ["--moves", "0"], ["--history", "1"]):
             self.assertEqual(run(b"", *words)[0], 2, words)

@@ -6,7 +6,7 @@ from typing import Any, Callable, Dict, List, Tuple
 from rdbg.looks import Look, content_of
 from rdbg.shell.conditions import read
 from rdbg.shell.changes import Changes
-from rdbg.shell.goals import Becomes, Goal, Lasting, wakes
+from rdbg.shell.goals import Becomes, Goal, Lasting, Sleeps, wakes
 from rdbg.shell.interrupt import Interrupt
 from rdbg.shell.target import Target
 from rdbg.shell.walk import Walk
@@ -60,6 +60,15 @@ def wakes_up(name: str) -> Met:
     return lambda a, b: (a.tasks[name].phase.word == "wait" and b.tasks[name].phase.word != "wait")
 
 
+def sleeps(name: str) -> Met:
+    """Whether a task has begun to wait without a deadline."""
+    return lambda a, b: (
+        a.tasks[name].phase.word != "wait"
+        and b.tasks[name].phase.word == "wait"
+        and b.tasks[name].phase.deadline is None
+    )
+
+
 def changed(kind: str, name: str) -> Met:
     """Whether an object isn't as it was."""
     return lambda a, b: content_of(a.objects[kind, name]) != content_of(b.objects[kind, name])
@@ -85,6 +94,7 @@ def goals(target: Target) -> Dict[str, Tuple[Goal, Met]]:
     }
     for name in target.names.tasks:
         found[f"wakes {name}"] = wakes(target, name), wakes_up(name)
+        found[f"sleeps {name}"] = Sleeps(name), sleeps(name)
     for kind, name in target.names.objects:
         found[f"changes {name}"] = Changes(target, kind, name), changed(kind, name)
     for text in CONDITIONS:

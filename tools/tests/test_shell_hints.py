@@ -2,12 +2,11 @@
 import unittest
 
 from rdbg.shell.target import Limits
-from tests.shell_talk import both, example
+from tests.shell_talk import both, example, said
 
 # Lines that are no commands, each with a part of its hint.
 SYNTAX = {
-    "show jobs": "`show queue jobs`",
-    "show worker": "`show task worker`",
+    "show job": "comes",
     "show queues jobs": "`show queue jobs`",
     "show": "behind `show` comes `queue` or ",
     "show task": "`info tasks` shows all tasks",
@@ -29,7 +28,15 @@ SYNTAX = {
     "forward 0": "a COUNT (a number, 1 to 1000000), and not '0'",
     "forward 1,000": "`forward 1000`",
     "back": "`back 1`",
-    "until count jobs > 0": "its COUNT is missing: `until count jobs > 0 1000`",
+    "until count jobs>0": "spaces stand round an operator: `until count jobs > 0`",
+    "until": "or stuck, failed, wakes TASK, sleeps TASK, changes QUEUE",
+    "until count jobs > 0 and phase worker wait": "a condition has no `and`: `until!` one",
+    "until count jobs > 0 || phase worker wait 9": "a condition has no `||`: `watch` each",
+    "until w0 and w1": "a condition has no `and`",
+    "until sleep worker": "or `sleeps`, and not 'sleep'",
+    "sleeps worker": "`until sleeps` runs there",
+    "until not phase worker wait": "a condition has no `not`: turn it round",
+    "watch count jobs > 0 && tick = 3": "a condition has no `&&`",
     "until count jobs>0 50": "spaces stand round an operator: `until count jobs > 0 50`",
     "until count jobs >= 1 50": ">= 1 is > 0: `until count jobs > 0 50`",
     "until count jobs <= 1 50": "`until count jobs < 2 50`",
@@ -55,6 +62,8 @@ REFUSED = {
     "show stream rx": ("no NoSuch", "there is none"),
     "show task wroker": ("no NoSuch", "near it is `worker`"),
     "until phase bob wait 5": ("no NoSuch", "there are worker, producer, poller"),
+    "until bits jobs = 1 10": ("no NoSuch", "'jobs' is a queue: `count jobs OP N`"),
+    "watch count worker = 1": ("no NoSuch", "'worker' is a task: `phase worker WORD`"),
     "step 2": ("no NoSuch", "there are 2 cores, from 0 on"),
     "poke reg worker 8 0": ("no NoSuch", "registers are 0 to 7"),
     "poke note worker 1 0": ("no NoSuch", "there is one notification entry, from 0 on"),
@@ -105,6 +114,13 @@ class Hints(unittest.TestCase):
             output, hints = both(shell, "step 0", "step 0")
             self.assertEqual(output, ["ok at 1", "no HistoryFull"])
             self.assertIn("help history", hints[0])
+
+    def test_names_are_those_of_the_file(self) -> None:
+        with example("turns") as shell:
+            task = shell.target.names.tasks[0]
+            _, hints = both(shell, "thread")
+            self.assertIn(f"`step {task}`", hints[0])
+            self.assertIn(f"`break {task} 2`", said(shell, "break")[0])
 
     def test_a_history_that_is_nearly_full(self) -> None:
         with example("turns", Limits(history=1100)) as shell:

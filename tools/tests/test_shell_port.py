@@ -3,6 +3,7 @@ import contextlib
 import io
 import os
 import pathlib
+import random
 import socket
 import subprocess
 import tempfile
@@ -18,18 +19,18 @@ from rdbg.shell.opening import attach
 from rdbg.shell.shell import Shell
 from rdbg.source import load
 from tests.paths import EXAMPLES
-from tests.shell_talk import both, said
+from tests.shell_talk import both, example, said
 
 LOST = str(EXAMPLES / "lost_item.json")
 
 
 @contextlib.contextmanager
-def server(sessions: int = 2) -> "Iterator[Tuple[int, subprocess.Popen[bytes]]]":
+def server(sessions: int = 2, path: str = LOST) -> "Iterator[Tuple[int, subprocess.Popen[bytes]]]":
     """A port at which the example is served, and the process that does."""
     with socket.socket() as free:
         free.bind(("127.0.0.1", 0))
         port = free.getsockname()[1]
-    words = ["serve", "--app", LOST, "--port", str(port), "--sessions", str(sessions)]
+    words = ["serve", "--app", path, "--port", str(port), "--sessions", str(sessions)]
     process = subprocess.Popen([program(), *words], stdout=subprocess.PIPE)
     assert process.stdout is not None
     try:
@@ -45,7 +46,7 @@ def server(sessions: int = 2) -> "Iterator[Tuple[int, subprocess.Popen[bytes]]]"
 def two(path: Optional[str] = LOST) -> Iterator[Tuple[Shell, Session]]:
     """A shell and another session at one server."""
     source = load(path) if path else None
-    with server() as (port, _):
+    with server(path=path or LOST) as (port, _):
         shell = Shell(attach(port, source), source, Interrupt())
         with shell.target.session, Session.attach(port) as other:
             yield shell, other
@@ -75,6 +76,52 @@ class Attached(unittest.TestCase):
             self.assertEqual(answers[-1], "wheel -")
             self.assertRegex(answers[-2], "^# at ")
 
+    def test_only_what_a_move_can_change_is_looked_at(self) -> None:
+        with two() as (shell, other):
+            said(shell, "set moves on", "where")
+            lines = shell.target.lines
+            self.assertEqual(said(shell, "step 1")[-1], "# producer 0 data 41")
+            self.assertEqual(shell.target.lines - lines, 9)
+            self.assertEqual(said(shell, "poke reg poller 2 5")[-1], "# poke reg poller 2 5")
+            # (others have moved core 1 since: all is looked at)
+            other.tell("step 1")
+            moved = "# the target moved meanwhile: 2 -> 3"
+            ended = "# producer 2 end, left core 1 (ended), poller took core 1"
+            self.assertEqual(said(shell, "step 1"), [moved, "ok at 4", ended])
+            self.assertEqual(said(shell, "tick"), ["ok at 5", "# tick 1"])
+
+    def test_what_is_told_is_what_whole_looks_tell(self) -> None:
+        chance = random.Random(3)
+        for name in ("lost_item", "pipeline", "barrier", "uart", "lost_notification"):
+            path = str(EXAMPLES / f"{name}.json")
+            with self.subTest(name), two(path) as (shell, _), example(name) as own:
+                said(shell, "set moves on", "where")
+                said(own, "set moves on", "where")
+                for _ in range(25):
+                    line = chance.choice(["step 0", "step 1", "tick", "s 1", "back 1", "s 2"])
+                    self.assertEqual(both(shell, line), both(own, line))
+
+    def test_moves_by_others_are_told(self) -> None:
+        moved = "# the target moved meanwhile: {} -> {}"
+        with two() as (shell, other):
+            other.ask_all(["step 0", "step 1", "tick"])
+            self.assertEqual(said(shell, "step 0"), [moved.format(0, 3), "ok at 4"])
+            self.assertEqual(said(shell, "step 1"), ["ok at 5"])
+            other.tell("back 2")
+            self.assertEqual(said(shell, "where")[0], moved.format(5, 3))
+            self.assertEqual(said(shell, "show cores")[1:], [])
+            shell.is_terminal = True
+            other.tell("tick")
+            self.assertEqual(said(shell, "show cores")[1:], [moved.format(3, 4)])
+            other.tell("tick")
+            shell.shows_moves = True
+            answers = said(shell, "tick", "until! tick = 5")
+            self.assertEqual(answers[:2], [moved.format(4, 5), "ok at 6"])
+            here = shell.target.place
+            other.tell("back 1")
+            answers = said(shell, "until! tick = 6")
+            self.assertEqual(answers[0], moved.format(here, here - 1))
+
     def test_another_has_the_wheel(self) -> None:
         with two() as (shell, other):
             said(shell, "forward 3")
@@ -98,7 +145,8 @@ class Attached(unittest.TestCase):
             self.assertEqual(len(said(shell, "info tasks")), 4)
             other.ask_all(["step 0", "step 1"])
             rows = said(shell, "info objects")
-            self.assertEqual(rows[1].split()[:3], ["#", "queue", "jobs"])
+            self.assertEqual(rows[0], "# the target moved meanwhile: 0 -> 2")
+            self.assertEqual(rows[2].split()[:3], ["#", "queue", "jobs"])
             self.assertIn("isn't known", said(shell, "list worker")[0])
             answers = said(shell, "set moves on", "step worker", "step producer")
             self.assertIn("# worker is on no core: it waits at recv:jobs", answers[0])
@@ -130,6 +178,7 @@ class Attached(unittest.TestCase):
             other.ask_all(["poke reg poller 3 7", "poke item jobs 0 42", "tick"])
             answers = said(shell, f"save {file}")
             self.assertIn("replays them", answers[-1])
+            self.assertEqual(answers[0], "# the target moved meanwhile: 2 -> 5")
             edits = ["poke reg poller 3 7", "poke item jobs 0 42"]
             self.assertEqual(file.read_text().splitlines()[2:4], edits)
             self.assertEqual(said(shell, "moves")[2], f"# 3  {edits[0]}")

@@ -7,6 +7,7 @@ from typing import List
 from unittest import mock
 
 from rdbg.client import Session
+from rdbg.shell.interrupt import Interrupted
 from rdbg.shell.target import Limits
 from tests.paths import EXAMPLES
 from tests.shell_apps import application, wander
@@ -128,6 +129,23 @@ class Reload(Folder):
         self.app.unlink()
         with example("builtin") as shell, mock.patch.object(shell, "source", None):
             self.assertIn("`rdbg sh FILE`", said(shell, "reload")[0])
+
+    def test_ctrl_c_says_which_file_is_loaded(self) -> None:
+        with file(self.app) as shell:
+            said(shell, *TO_THE_FAULT)
+            self.edit("recv jobs max", "recv jobs 10")
+            with mock.patch("rdbg.shell.replay.in_chunks", side_effect=Interrupted):
+                answers = said(shell, "reload", "show moves")
+            stopped = f"# stopped by Ctrl-C, at 9: the target is that of {self.app} as it was read"
+            self.assertEqual(answers, [f"{stopped} before", "moves 9 undone 0"])
+
+    def test_it_is_said_how_far_it_is(self) -> None:
+        with file(self.app) as shell, mock.patch("rdbg.shell.shell.MOMENT", 0.0):
+            shell.is_terminal = True
+            said(shell, *TO_THE_FAULT)
+            answers = said(shell, "reload")
+            self.assertTrue(any("9 of 9 compared" in line for line in answers), answers)
+            self.assertTrue(answers[-1].endswith(f"# all 9 moves are the same on {self.app}, at 9"))
 
     def test_a_file_that_has_gone(self) -> None:
         with file(self.app) as shell:

@@ -12,6 +12,7 @@ from tests.paths import EXAMPLES
 from tests.shell_terminal import PROMPT, Terminal
 
 LOST = str(EXAMPLES / "lost_item.json")
+LINES = ["show task worker", "step 1", "moves 1", "step 1", "break producer 2"]
 UP, TAB, CONTROL_C, CONTROL_D = "\x1b[A", "\t", "\x03", "\x04"
 
 
@@ -49,6 +50,8 @@ class AtATerminal(unittest.TestCase):
         # the line before the last one, by the key
         terminal.type(UP + UP)
         self.assertIn("producer 2 end, left core 1 (ended)", terminal.ask(""))
+        self.assertIn("ok watch 0", terminal.ask("break producer 2"))
+        self.assertNotIn("watch", terminal.ask(""))  # (which Enter doesn't repeat)
         # Ctrl-C ends the line that is typed, and not the program
         terminal.type("quit")
         terminal.interrupt(r"\^C\n" + PROMPT)
@@ -56,7 +59,7 @@ class AtATerminal(unittest.TestCase):
         terminal.type(CONTROL_D)
         self.assertEqual(terminal.end(), 0)
         kept = self.history.read_text().splitlines()
-        self.assertEqual(kept, ["show task worker", "step 1", "moves 1", "step 1", "fly"])
+        self.assertEqual(kept, [*LINES, "fly"])
         # (the next one has the lines of the one before)
         again = self.terminal(LOST)
         again.type(UP)

@@ -69,6 +69,17 @@ class Pieces(unittest.TestCase):
             answers = target.tell_all(lines)
         self.assertEqual(in_pieces(seed, limits, lines), answers)
 
+    def test_a_run_that_can_t_fit_is_one_line(self) -> None:
+        with example("turns", Limits(moves=3000)) as shell:
+            shell.is_terminal = True
+            output, hints = both(
+                shell, "set echo on", "forward 9000", "forward 2500", "forward 600"
+            )
+            self.assertEqual(output[:2], ["> forward 9000", "no MovesFull"])
+            self.assertEqual(output[-2:], ["> forward 600", "no MovesFull"])
+            self.assertIn("only 3000 more moves fit", hints[0])
+            self.assertIn("only 500 more moves fit", hints[1])
+
     def test_as_one_line(self) -> None:
         for seed in range(2):
             with self.subTest(seed):
@@ -82,7 +93,7 @@ class Pieces(unittest.TestCase):
     def test_what_is_refused_can_be_made_again(self) -> None:
         with mock.patch("rdbg.shell.walk.Pace", SmallPace), example("turns", Limits(10)) as shell:
             shell.is_terminal = True
-            answers = said(shell, "step 0", "forward 20", "show moves", "until tick = 9 99")
+            answers = said(shell, "step 0", "until tick = 99 20", "show moves", "until tick = 9 99")
             self.assertEqual(answers[:2], ["ok at 1", "no MovesFull"])
             self.assertEqual(answers[2], "# nothing is made; what was tried, `redo` can make again")
             self.assertEqual(answers[3:], ["moves 1 undone 9", "no MovesFull"])

@@ -1,11 +1,37 @@
 """Words of sh's own: tables, goals by their words, gdb's words, help and Tab."""
+import os
 import unittest
+from unittest import mock
 
-from rdbg import commands
+from rdbg import commands, instructions
+from rdbg.freertos import WRITTEN
+from rdbg.shell import glossary
 from rdbg.shell.completion import candidates
 from rdbg.shell.gdb import HINTS
 from rdbg.shell.words import BY_NAME, WORDS
-from tests.shell_talk import both, example, said
+from rdbg.shell.target import Limits
+from rdbg.source import source
+from tests.shell_talk import both, example, opened, said
+
+
+# Words on which `help` says something.
+OTHERS = (
+    "vTaskDelay(5)", "xTimerCreate", "registers", "r0", "r7", "goal", "notask", "portMAX_DELAY",
+    "xQueueGenericSend", "xTaskCreateStatic", "pdTRUE", "configTICK_RATE_HZ",
+)  # fmt: skip
+# An interrupt that stands as a task which never waits.
+BUSY = """cores 2
+queue log length 1 item 1
+queue never length 1 item 1
+task isr priority 9
+again:
+    add r1 1
+    jump again
+task flash priority 2
+    recv never 2
+    recv log max
+    end
+"""
 
 
 class Views(unittest.TestCase):
@@ -21,6 +47,14 @@ class Views(unittest.TestCase):
                 "# poller    ready  run        1   jump 0         -          -     -",
             ]
             self.assertEqual(answers[1:], expected)
+
+    def test_tables_are_as_wide_as_the_terminal(self) -> None:
+        with example("pipeline") as shell, mock.patch.dict(os.environ, {"COLUMNS": "60"}):
+            shell.is_terminal = True
+            answers = said(shell, "forward 40", "info tasks", "info objects", "where")
+            self.assertLessEqual(max(map(len, answers)), 60)
+            self.assertNotIn("notes", answers[1])
+            self.assertTrue(any(".." in row for row in answers))
 
     def test_objects(self) -> None:
         with example("pipeline") as shell:
@@ -83,7 +117,7 @@ class Moves(unittest.TestCase):
             answers = said(shell, "s", "n 3", "rs", "reverse-step 2", "rc phase worker run")
             self.assertEqual(answers[:4], ["ok at 1", "ok at 4", "ok at 3", "ok at 1"])
             self.assertEqual(answers[4], "ok at 0 met")
-            self.assertEqual(said(shell, "tick 3"), ["ok at 1", "ok at 2", "ok at 3"])
+            self.assertEqual(said(shell, "tick 3"), ["ok at 3"])
             for word in ("run", "bt", "finish", "thread", "x"):
                 output, hints = both(shell, word)
                 self.assertEqual(output, ["no Syntax"])
@@ -101,32 +135,101 @@ class Moves(unittest.TestCase):
             found = [f"# at {place} met" for place in (2, 5, 11, 16, 11)]
             self.assertEqual(met, [*found, "# at 101 limit"])
 
+    def test_lines_of_the_file(self) -> None:
+        with opened(source("busy.fw", BUSY.encode())) as shell:
+            answers = said(shell, "break busy.fw:10", "b 8", "d 1", "b other.fw:3", "b 99")
+            self.assertEqual(answers[:2], ["# busy.fw:10  flash 1 recv log max", "ok watch 0"])
+            tip = "# `continue` runs to where a watch becomes so, `rc` goes back to where one did"
+            moved = ["# busy.fw:9  flash 0 recv never 2", "ok watch 1"]
+            dropped = ["ok watch 1", "# watch 1 is dropped: pc flash = 0"]
+            self.assertEqual(answers[2:7], [tip, *moved, *dropped])
+            self.assertIn("the file is busy.fw", answers[7])
+            self.assertIn("no instruction at line 99", answers[8])
+        with example("lost_item") as shell:
+            self.assertIn("has 3 instructions: `break producer 0`", said(shell, "b 7")[0])
+
+    def test_what_a_gdb_hand_types(self) -> None:
+        with example("lost_item") as shell:
+            refused, hints = both(shell, "break changes jobs", "break count job > 0")
+            wanted = "# a watch is a condition; `until changes jobs` runs there, `rc changes jobs`"
+            self.assertEqual(refused, [f"{wanted} goes back", "no NoSuch"])
+            self.assertEqual(len(hints), 1)
+            self.assertEqual(said(shell, "step 1 2", "goto 0"), ["ok at 1", "ok at 2", "ok at 0"])
+            self.assertEqual(said(shell, "s producer", "s producer 2")[-1], "ok at 3")
+            self.assertIn("`poke reg worker 7 3`", said(shell, "print r7=3")[0])
+            self.assertIn("`poke reg poller 7 3`", said(shell, "p poller.r7 = 3")[0])
+            self.assertIn("registers are r0 to r7", said(shell, "print r9")[0])
+            self.assertIn("queue jobs  1/1", said(shell, "info queue jobs")[0])
+            self.assertIn("task worker, priority 2", said(shell, "info task worker")[0])
+            self.assertEqual(len(said(shell, "info task")), 4)
+            wrong = "# there is no queue 'worker': it is a task"
+            self.assertEqual(said(shell, "info queue worker"), [wrong])
+            self.assertEqual(said(shell, "show jobs"), said(shell, "show queue jobs"))
+            self.assertIn("`step worker`", said(shell, "s nobody")[0])
+            self.assertIn("`rs 5`", said(shell, "rs worker")[0])
+
     def test_goals(self) -> None:
         with example("lost_item") as shell:
             lines = ["until! count jobs > 0", "until wakes worker 5", "rc! count jobs > 0"]
             answers = said(shell, *lines)
-            self.assertEqual(answers[0], "# at 5 met: count jobs > 0 (3 lines)")
+            self.assertEqual(answers[0], "# at 5 met: count jobs > 0 (3 lines asked)")
             self.assertRegex(
                 answers[1], r"^# 5  core 1  producer 1 send jobs 0 -> 1, jobs 1/1, woke "
             )
             limit = "# at 10 limit: 'wakes worker' wasn't met in 5 moves"
             self.assertTrue(answers[2].startswith(limit), answers[2])
+            self.assertEqual(answers[3], "# `goto 5` goes back to where this began")
             self.assertEqual(said(shell, "goto 6", "rc! phase worker again")[1][:10], "# at 5 met")
             here = "# at 5 still: 'phase worker again' became so here, and not before"
             self.assertEqual(said(shell, "rc! phase worker again"), [here])
-            none = r"^# at 5 still: 'failed' wasn't met before \(\d+ lines\)$"
+            none = r"^# at 5 still: 'failed' wasn't met before \(\d+ lines asked\)$"
             self.assertRegex(said(shell, "rc failed")[0], none)
+
+    def test_a_condition_without_a_count(self) -> None:
+        with example("lost_item") as shell:
+            lines = ["set echo on", "until count jobs > 0", "watch tick = 9", "until w0"]
+            answers = said(shell, *lines)
+            self.assertEqual(answers[:2], ["> until count jobs > 0 10000", "ok at 5 met"])
+            self.assertEqual(answers[-2:], ["> until w0 10000", "ok at 23 met"])
+
+    def test_the_way_back_where_a_condition_did_not_come(self) -> None:
+        with example("turns") as shell:
+            shell.is_terminal = True
+            answers = said(shell, "step 0", "until tick = 90000")
+            back = "# `goto 1` goes back to where this began"
+            self.assertEqual(answers, ["ok at 1", "ok at 10001 limit", back])
+
+    def test_an_interrupt_that_is_always_busy(self) -> None:
+        made = source("busy.fw", BUSY.encode())
+        with opened(made) as shell:
+            answers = said(shell, "until stuck 50", "goto 0", "until sleeps flash")
+            self.assertIn("# not stuck: isr is busy on core 0, and no instruction", answers[1])
+            self.assertIn("so `stuck` can't come", answers[2])
+            self.assertRegex(answers[5], r"^# at 10 met: sleeps flash")
+            self.assertRegex(answers[6], "flash 1 .* left core 1 .waits without end.")
 
     def test_a_target_that_is_stuck(self) -> None:
         with example("waiting_order") as shell:
             answers = said(shell, "until stuck", "until! stuck", "c", "tick 3", "rc! stuck")
-            self.assertRegex(answers[0], r"^# at 22 met: stuck \(\d+ lines\)$")
+            self.assertRegex(answers[0], r"^# at 22 met: stuck \(\d+ lines asked\)$")
             self.assertRegex(
                 answers[2], "^# display ended; motor waits at recv:orders without end; "
             )
             self.assertRegex(answers[3], "^# stuck already; ")
             self.assertEqual(answers[4], answers[3])
-            self.assertRegex(answers[8], "^# at 22 met: stuck")
+            self.assertRegex(answers[6], "^# at 22 met: stuck")
+
+    def test_many_ticks(self) -> None:
+        with example("delay", Limits(moves=400)) as shell:
+            said(shell, "step 0", "step 0", "set moves on")
+            answers = said(shell, "tick 300", "moves 300")
+            self.assertEqual(answers[0], "ok at 302")
+            self.assertIn("woke blink, whose time was up", answers[1])
+            self.assertEqual(answers[2], "# 299 ticks woke and turned nobody")
+            self.assertRegex(answers[-2], r"^# \d+\.\.302  29\d ticks, up to tick 300$")
+            output, hints = both(shell, "set moves off", "tick 300")
+            self.assertEqual(output, ["no MovesFull", "# the moves up to 400 are made"])
+            self.assertIn("no more moves are kept", hints[0])
 
     def test_words_that_are_wrong(self) -> None:
         wrong = [
@@ -161,7 +264,10 @@ class Help(unittest.TestCase):
             for word in WORDS:
                 self.assertIn(word.form, overview)
             conditions = [form.word for form in commands.CONDITIONS]
-            for name in [*BY_NAME, *commands.WORDS, *conditions, *HINTS, "COND", "send", "history"]:
+            calls = [name for form in instructions.FORMS for name in form.freertos]
+            names = [*BY_NAME, *commands.WORDS, *conditions, *HINTS, "COND", "send", "history"]
+            names += [*candidates(shell, ["help"], ""), *calls, *WRITTEN, *glossary.REFUSALS]
+            for name in [*names, *OTHERS]:
                 with self.subTest(name):
                     answers, hints = both(shell, f"help {name}")
                     self.assertTrue(answers and "is no word" not in answers[0])

@@ -46,6 +46,7 @@ def parser() -> argparse.ArgumentParser:
     made.add_argument(
         "file", nargs="?", metavar="FILE", help="the application, JSON or in lines (.fw)"
     )
+    made.add_argument("--app", metavar="FILE", help="the same")
     made.add_argument(
         "--port", type=port, metavar="P", help="attaches to `rdbg serve` at this port"
     )
@@ -69,13 +70,15 @@ def read(path: Optional[str]) -> Optional[Source]:
 def main(words: Sequence[str]) -> int:
     """Talks with who is at the terminal, or does each line of standard input."""
     given = parser().parse_args(words)
+    if given.file is not None and given.app is not None:
+        raise Failure(f"one file at a time: {given.app}, or {given.file}", 2)
     if given.port is not None and (given.moves or given.history):
         raise Failure("--moves and --history are the server's own, where --port attaches to one", 2)
     for stream in (sys.stdout, sys.stderr):
         if isinstance(stream, io.TextIOWrapper):
             stream.reconfigure(errors="backslashreplace")
     limits = Limits(given.moves or Limits.moves, given.history or Limits.history)
-    source = read(given.file)
+    source = read(given.file or given.app)
     target = begin(source, limits) if given.port is None else attach(given.port, source)
     shell = Shell(target, source, Interrupt())
     try:

@@ -1,16 +1,19 @@
 """The scripts of a text in lines: each instruction as rdbg reads it, with numbers for labels."""
 import dataclasses
-from typing import Dict, List, Sequence, Tuple
+import re
+from typing import Container, Dict, List, Optional, Sequence, Tuple
 
-from rdbg.faults import quoted
 from rdbg.firmware.numbers import NAME, Constants, near_to
 from rdbg.firmware.operands import Operand, Operands, as_written, made
 from rdbg.firmware.tokens import Refusal, Stop, Token, shown, written
 from rdbg.instructions import FORM_OF
-from rdbg.tree import Node, Places
+from rdbg.tree import Node, Place, Places
+from rdbg.wording import quoted
 
 # So many instructions of a script are read; fewer are too many already.
 MOST_READ = 1000
+# What is no label where a register stands beside it.
+LIKE_REGISTER = re.compile("[rR][0-9]+")
 
 
 def without_parentheses(tokens: Sequence[Token]) -> Sequence[Token]:
@@ -32,13 +35,28 @@ class Draft:
     parts: Tuple[Operand, ...]
     tokens: Tuple[Token, ...]
 
+    def needs_label(self, labels: Container[str]) -> bool:
+        """Whether the instruction jumps, and where its label should be there is none: then another
+        of its words is the label, out of its place."""
+        if "L" not in FORM_OF[self.tokens[0].text].symbols:
+            return False
+        names = [part.label.text for part in self.parts if part.label is not None]
+        return not any(name in labels or not LIKE_REGISTER.fullmatch(name) for name in names)
+
     def node(self, parts: Sequence[Operand]) -> Node:
         """The instruction, of parts as rdbg reads them. A space has the place before it."""
         columns: List[int] = []
         for part in parts:
             columns += [*part.columns, part.columns[-1]]
         place, text = self.tokens[0].place, " ".join(part.text for part in parts)
-        return Node(text, place, Places(place.line, columns[:-1]), written(self.tokens))
+        spelled = tuple(part.spelled or part.text for part in self.parts)
+        return Node(text, place, Places(place.line, columns[:-1]), written(self.tokens), spelled)
+
+
+def label_out_of_place(part: Operand, line: int) -> Optional[Token]:
+    """The label that a word is which stands in the place of another."""
+    is_name = NAME.fullmatch(part.text) and not LIKE_REGISTER.fullmatch(part.text)
+    return Token(part.text, Place(line, part.columns[0])) if is_name else None
 
 
 class Script:
@@ -89,9 +107,12 @@ class Script:
         """The operands of an instruction; what is too much as it is written."""
         symbols = FORM_OF[tokens[0].text].symbols
         reader = Operands(without_parentheses(tokens[1:]), self._constants, found)
-        operands = [reader.operand(symbol) for symbol in symbols if reader.next() is not None]
+        operands: List[Operand] = []
         while reader.next() is not None:
-            operands.append(reader.whatever())
+            at, count = reader.at, len(operands)
+            read = reader.operand(symbols[count]) if count < len(symbols) else reader.whatever()
+            spelled = written(reader.tokens[at : reader.at])
+            operands.append(dataclasses.replace(read, spelled=spelled))
         return operands
 
     def nodes(self) -> Tuple[Node, ...]:
@@ -101,17 +122,26 @@ class Script:
                 message = f"{self.task}: no instruction stands behind label {shown(token.text)}"
                 self._refusals.append(Refusal(token.place, message))
         return tuple(
-            draft.node([self._numbered(part, index) for part in draft.parts])
-            for index, draft in enumerate(self._drafts)
+            draft.node(self._numbered(draft, index)) for index, draft in enumerate(self._drafts)
         )
 
-    def _numbered(self, part: Operand, index: int) -> Operand:
+    def _numbered(self, draft: Draft, index: int) -> List[Operand]:
+        """The parts of an instruction, with the number of an instruction in place of a label."""
+        first, *operands = draft.parts
+        if draft.tokens[0].text not in FORM_OF or not draft.needs_label(self._labels):
+            return [first, *(self._target(part, part.label, index) for part in operands)]
+        line = draft.tokens[0].place.line
+        labels = [label_out_of_place(part, line) for part in operands]
+        return [first, *(self._target(*pair, index) for pair in zip(operands, labels))]
+
+    def _target(self, part: Operand, label: Optional[Token], index: int) -> Operand:
         """A part of an instruction, where it is a label as the number of its instruction."""
-        if part.label is None:
+        if label is None:
             return part
-        name = part.label.text
+        name = label.text
         if name in self._labels:
-            return made(str(self._labels[name][1]), part.label.place)
+            number = made(str(self._labels[name][1]), label.place)
+            return dataclasses.replace(number, spelled=name)
         message = f"there is no label {shown(name)}{near_to(name, self._labels)}"
-        self._refusals.append(self._told(Refusal(part.label.place, message, "L5 Instr"), index))
+        self._refusals.append(self._told(Refusal(label.place, message, "L5 Instr"), index))
         return part

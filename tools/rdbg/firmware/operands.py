@@ -4,15 +4,15 @@ import re
 from typing import Callable, Dict, List, Optional, Sequence
 
 from rdbg.firmware.numbers import FOREVER, LARGEST, NAME, NOTHING_NAMED, NUMBER, Numbers
-from rdbg.firmware.tokens import Refusal, Token, shown
+from rdbg.firmware.tokens import Refusal, Token, shown, written
 from rdbg.operands import NAMED, REGISTER
-from rdbg.slips import slip
+from rdbg.slips import CONSTANTS, slip
 from rdbg.tree import Place
 
 BYTES = re.compile(r"(?:0[xX])?((?:[0-9a-fA-F]{2})+)")
 ODD = re.compile(r"(?:0[xX])?[0-9a-fA-F]+")
 CHARACTER = re.compile(r"\\x([0-9a-fA-F]{2})|\\([nrt0\\\"])|[^\\]", re.DOTALL)
-BYTES_ARE = "they are written as hexadecimal digits, two a byte, or as a text in quotes"
+BYTES_ARE = "they are written as hexadecimal digits, two a byte, or as a text in double quotes"
 ESCAPES = {"n": "\n", "r": "\r", "t": "\t", "0": "\0", "\\": "\\", '"': '"'}
 # The kinds of operands that are numbers, or can be.
 NUMBERS = ("N", "V", "T", "I", "ROOM")
@@ -21,11 +21,13 @@ JOINING = ("|", "<<")
 
 @dataclasses.dataclass(frozen=True)
 class Operand:
-    """An operand as rdbg reads it, with the columns of its characters; or the label that it is."""
+    """An operand as rdbg reads it, with the columns of its characters; or the label that it is. As
+    it is written, it is `spelled`."""
 
     text: str
     columns: Sequence[int]
     label: Optional[Token] = None
+    spelled: str = ""
 
 
 def as_written(token: Token) -> Operand:
@@ -63,7 +65,8 @@ class Operands(Numbers):
             return self.word()
         if symbol in READERS:
             return READERS[symbol](self)
-        return self.word() if symbol in NAMED else self.whatever()
+        is_const = self.tokens[self.at].text in self.constants.values
+        return self.word() if symbol in NAMED and not is_const else self.whatever()
 
     def whatever(self) -> Operand:
         """The next word, of which nothing is known: it may be a number, where one was left out."""
@@ -81,6 +84,8 @@ class Operands(Numbers):
             return False
         if not NAME.fullmatch(word):
             return not (symbol == "N" and word.startswith("-"))
+        if any(word.lower() in constants for constants in CONSTANTS.values()):
+            return True
         is_meant = word != word.lower() or self.constants.near(word) != ""
         return not is_meant or slip(symbol, word, NOTHING_NAMED) != ""
 
@@ -148,6 +153,9 @@ class Operands(Numbers):
         if token.text == "-" and len(self.tokens) == 1:
             return as_written(token)
         why = "each byte has two digits" if ODD.fullmatch(token.text) else BYTES_ARE
+        if token.text.startswith("'"):
+            text = written(self.tokens[self.at - 1 :]).replace("'", '"')
+            why = f"a text stands between double quotes: {shown(text)}"
         raise Refusal(token.place, f"{shown(token.text)} is no bytes: {why}", "L5 Instr")
 
 

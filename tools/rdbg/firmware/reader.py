@@ -5,32 +5,29 @@ found in the tree, as in that of a JSON (`rdbg.faults`).
 """
 import dataclasses
 import re
-from typing import Dict, List, Optional, Sequence, Tuple
+from typing import Dict, List, Optional, Sequence, Set, Tuple
 
-from rdbg.failure import Failure
 from rdbg.faults import Fault, faults_of
+from rdbg.firmware import meant
 from rdbg.firmware.code import MOST_READ, Script
-from rdbg.firmware.numbers import Constants, Numbers, near_to
+from rdbg.firmware.numbers import Constants, Numbers
 from rdbg.firmware.objects import OBJECTS, SETTINGS, ObjectLine, ended, form_of, number_of
-from rdbg.firmware.tokens import MOST_TOKENS, Refusal, Scanner, Stop, Token, shown
-from rdbg.freertos import called, sentence
+from rdbg.firmware.tokens import MOST_TOKENS, Refusal, Scanner, Stop, Token, decoded, shown
 from rdbg.instructions import FORM_OF
 from rdbg.shapes import FILE
 from rdbg.tree import Member, Node, Number, Object, Place
 
-# A text that is longer isn't read, nor the rest of one behind so many lines or so many refusals.
-MOST_BYTES = 1 << 20
+# The rest of a text isn't read behind so many lines or so many refusals.
 MOST_LINES = 20_000
 MOST_REFUSALS = 500
 CONST = ("const", "#define")
-FIRST_WORDS = (*FORM_OF, *OBJECTS, *SETTINGS, "const")
 SET_KEYS = ("length", "members")
-# How that is written which FreeRTOS calls otherwise.
-CALLS = {
-    **{shape.freertos: form_of(word) for word, shape in OBJECTS.items()},
-    **{key.freertos: form_of(word) for word, key in SETTINGS.items()},
-}
 TOP = Place(1, 1)
+
+
+def is_const(tokens: Sequence[Token]) -> bool:
+    """Whether a line names a number, or was meant to."""
+    return tokens[0].text in CONST or meant.as_const(tokens) is not None
 
 
 def is_label(tokens: Sequence[Token]) -> bool:
@@ -46,6 +43,10 @@ class Thing:
     word: Token
     members: Tuple[Member, ...]
     script: Optional[Script] = None
+
+    def name(self) -> str:
+        """Its name; empty where there is none."""
+        return next((str(it.node.value) for it in self.members if it.key == "name"), "")
 
     def node(self) -> Node:
         """The thing as a part of the tree."""
@@ -65,13 +66,17 @@ class Reader:
         self._numbers: Dict[str, Member] = {}
         self._things: Dict[str, List[Thing]] = {word: [] for word in OBJECTS}
         self._script: Optional[Script] = None
+        # (what lines name that are refused; words that are jumped to)
+        self._meant: List[Thing] = []
+        self._targets: Set[str] = set()
 
     def read(self, text: str) -> Optional[Node]:
         """The tree of a text, as far as it can be read; none where the rest of it isn't read. The
         lines of consts are read first, so that those of others may stand above them."""
         try:
             lines = self._lines(text)
-            for tokens in sorted(lines, key=lambda tokens: tokens[0].text not in CONST):
+            self._targets = meant.jumped_to(lines)
+            for tokens in sorted(lines, key=lambda tokens: not is_const(tokens)):
                 self._try(tokens)
         except Stop as stop:
             self.refusals.append(stop)
@@ -179,6 +184,8 @@ class Reader:
     def _const(self, tokens: Sequence[Token]) -> None:
         if len(tokens) < 2 or not tokens[1].is_word():
             raise Refusal(tokens[0].place, f"{tokens[0].text} NAME N: there is no name")
+        if meant.TYPES.fullmatch(tokens[1].text) and meant.as_const(tokens):
+            self._unknown(tokens)
         reader = Numbers(tokens, self._constants, self.refusals)
         reader.at = 2
         value = 0
@@ -215,15 +222,36 @@ class Reader:
         self._things[word.text].append(Thing(word, tuple(line.members), script))
 
     def _unknown(self, tokens: Sequence[Token]) -> None:
-        """A line that begins with no word that lines begin with. It counts as an instruction."""
-        word = tokens[0]
-        if self._script is not None:
+        """A line that begins with no word that lines begin with. What it names is there all the
+        same; where it names nothing it counts as an instruction."""
+        known = len(self.refusals)
+        try:
+            self._keep_names(tokens)
+        except Refusal as refusal:
+            if isinstance(refusal, Stop):
+                raise
+        del self.refusals[known:]
+        raise Refusal(tokens[0].place, meant.message_of(tokens, self._targets))
+
+    def _keep_names(self, tokens: Sequence[Token]) -> None:
+        """Reads a line as what it was meant to be."""
+        word, name = meant.object_of(tokens)
+        const = meant.as_const(tokens)
+        if const is not None:
+            self._const([tokens[0], *const])
+        elif name is not None:
+            first = dataclasses.replace(tokens[0], text=word)
+            line = [first, name, *tokens[tokens.index(name) + 1 :]]
+            if word == "task":
+                self._thing(line)
+                return
+            reader = ObjectLine(line, self._constants, [])
+            reader.read()
+            self._meant.append(Thing(first, tuple(reader.members)))
+        elif meant.is_label(tokens, self._targets) and self._script is not None:
+            self._script.label(tokens[0])
+        elif self._script is not None:
             self._script.placeholder(tokens)
-        name = called(word.text)
-        said = f"{name} is written {CALLS[name]}" if name in CALLS else sentence(word.text)
-        near = near_to(word.text, FIRST_WORDS)
-        message = said or f"no line begins with {shown(word.text)}{near}"
-        raise Refusal(word.place, message)
 
     def _check_constants(self) -> None:
         """Refuses consts with the name of an object or a task."""
@@ -236,6 +264,10 @@ class Reader:
                     self.refusals.append(Refusal(token.place, message))
 
     def _tree(self) -> Node:
+        for thing in self._meant:
+            others = self._things[thing.word.text]
+            if thing.name() not in [other.name() for other in others]:
+                others.append(thing)
         profile = Member("profile", TOP, Node(Number("1"), TOP))
         members: List[Member] = []
         for key in FILE.keys:
@@ -247,20 +279,6 @@ class Reader:
                 nodes = tuple(thing.node() for thing in things)
                 members.append(Member(key.name, place, Node(nodes, place)))
         return Node(Object(tuple(members)), TOP)
-
-
-def decoded(content: bytes) -> str:
-    """The text of a file. Raises `Refusal` where it isn't UTF-8, `Failure` where it is too long."""
-    if len(content) > MOST_BYTES:
-        raise Failure(f"the text has {len(content):,} bytes; {MOST_BYTES:,} is the most", 2)
-    try:
-        text = content.decode("utf-8")
-    except UnicodeDecodeError as error:
-        before = content[: error.start].decode("utf-8")
-        line, column = before.count("\n") + 1, len(before.rpartition("\n")[2]) + 1
-        message = f"the byte 0x{content[error.start]:02x} isn't UTF-8"
-        raise Refusal(Place(line, column), message) from None
-    return text[1:] if text.startswith("\ufeff") else text
 
 
 def read(content: bytes) -> Tuple[Optional[Node], List[Fault]]:

@@ -3,9 +3,12 @@ import dataclasses
 import re
 from typing import Iterator, List, Optional, Sequence
 
+from rdbg.failure import Failure
 from rdbg.tree import Place
 
 GRAMMAR = "grammar"
+# A text that is longer isn't read.
+MOST_BYTES = 1 << 20
 # So much of a word stands in a message. A longer word is in no line, nor are so many words.
 SHOWN = 40
 MOST_CHARACTERS = 2000
@@ -84,6 +87,20 @@ def shown(text: str) -> str:
 def written(tokens: Sequence[Token]) -> str:
     """The tokens as they are written, with one space wherever there is any."""
     return "".join(token.gap + token.text for token in tokens)[len(tokens[0].gap) :]
+
+
+def decoded(content: bytes) -> str:
+    """The text of a file. Raises `Refusal` where it isn't UTF-8, `Failure` where it is too long."""
+    if len(content) > MOST_BYTES:
+        raise Failure(f"the text has {len(content):,} bytes; {MOST_BYTES:,} is the most", 2)
+    try:
+        text = content.decode("utf-8")
+    except UnicodeDecodeError as error:
+        before = content[: error.start].decode("utf-8")
+        line, column = before.count("\n") + 1, len(before.rpartition("\n")[2]) + 1
+        message = f"the byte 0x{content[error.start]:02x} isn't UTF-8"
+        raise Refusal(Place(line, column), message) from None
+    return text[1:] if text.startswith("\ufeff") else text
 
 
 class Scanner:

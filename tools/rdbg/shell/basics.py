@@ -2,7 +2,8 @@
 import textwrap
 from typing import TYPE_CHECKING, List, Sequence, Tuple
 
-from rdbg import commands, instructions
+from rdbg import commands, freertos, instructions
+from rdbg.shell import glossary
 from rdbg.shell.gdb import HINTS
 from rdbg.shell.target import Unable
 
@@ -48,7 +49,8 @@ def overview() -> str:
     own = [(", ".join([it.form, *it.short[:1]]), it.does) for it in WORDS]
     rdbg = " ".join(sorted(commands.WORDS))
     more = (
-        "`help rdbg` says more of them, `help COND` of conditions, `help send` of an instruction."
+        "`help rdbg` says more of them, `help COND` of conditions, `help GOAL` of goals, `help send`"
+        " of an\ninstruction, `help xQueueSend` of what FreeRTOS calls so, `help NoTask` of a refusal."
     )
     keys = "Enter repeats the last line, Tab completes, # begins a comment, Ctrl-C ends a run."
     return "\n".join([*forms("Words of sh's own:", own), f"Lines of rdbg: {rdbg}", more, keys])
@@ -69,13 +71,13 @@ def help_on(shell: "Shell", words: Sequence[str]) -> None:
         return
     word = words[0]
     found = [*own_help(word), *rdbg_help(word), *instruction_help(word)]
-    if word == "history":
-        found += textwrap.wrap(HISTORY, WIDTH)
-    if word in HINTS and not found:
-        found.append(HINTS[word])
+    meanings = [*glossary.meaning(word), *([HISTORY] if word == "history" else [])]
+    if not found and not meanings:
+        meanings = [text for text in (HINTS.get(word), glossary.of_freertos(word)) if text]
+    found += [line for text in meanings for line in textwrap.wrap(text, WIDTH)]
     if not found:
         raise Unable(f"'{word}' is no word here; `help` lists them")
-    shell.say("\n".join(found))
+    shell.say(shell.in_its_names("\n".join(found)))
 
 
 def own_help(word: str) -> List[str]:
@@ -105,8 +107,11 @@ def rdbg_help(word: str) -> List[str]:
 
 def instruction_help(word: str) -> List[str]:
     """What an instruction of scripts does."""
-    form = instructions.form_of(word)
+    name = freertos.called(word).lower()
+    named = (it for it in instructions.FORMS if name in (each.lower() for each in it.freertos))
+    form = instructions.form_of(word) or next(named, None)
     if form is None:
         return []
     stands = f" ({', '.join(form.freertos)})" if form.freertos else ""
-    return [f"in a script, {form.text}{stands}: {form.does}; r0: {form.answer}"]
+    text = f"in a script, {form.text}{stands}: {form.does}; r0: {form.answer}"
+    return textwrap.wrap(text, WIDTH)

@@ -3,7 +3,7 @@ import glob
 from typing import TYPE_CHECKING, Iterable, List, Sequence
 
 from rdbg import commands
-from rdbg.shell import basics, seek, views, words
+from rdbg.shell import basics, glossary, seek, views, words
 
 if TYPE_CHECKING:
     from rdbg.shell.shell import Shell
@@ -41,7 +41,7 @@ def goal(behind: Sequence[str], with_conditions: bool) -> List[str]:
     """What can stand behind the words of a goal."""
     if not behind:
         return [*seek.GOALS, *(condition(behind) if with_conditions else [])]
-    if behind == ["wakes"]:
+    if len(behind) == 1 and behind[0] in seek.OF_TASKS:
         return ["K"]
     if behind == ["changes"]:
         return ["OBJECT"]
@@ -90,7 +90,7 @@ def more(shell: "Shell", symbol: str) -> List[str]:
         return [*views.INFO_WORDS, *objects]
     if symbol == "HELP":
         forms = [form.word for form in (*commands.FORMS, *commands.CONDITIONS)]
-        return [*forms, *words.names(), "history", *basics.SETTINGS]
+        return [*forms, *words.names(), "history", *basics.SETTINGS, *glossary.WORDS]
     return []
 
 

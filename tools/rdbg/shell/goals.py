@@ -208,6 +208,39 @@ def has_failed(target: Target) -> bool:
 IS_SO: Dict[str, Callable[[Target], bool]] = {"stuck": is_stuck, "failed": has_failed}
 
 
+class Sleeps(Goal):
+    """A task begins to wait without a deadline."""
+
+    def __init__(self, task: str) -> None:
+        self.task, self.text = task, f"sleeps {task}"
+        self._waits = Becomes(Condition("phase", task, phase="wait"))
+
+    def _is_met(self, target: Target) -> bool:
+        task = target.ask(f"show task {self.task}", replies.Task)
+        return task.phase.word == "wait" and task.phase.deadline is None
+
+    def next(self, walk: Walk, limit: int) -> Optional[int]:
+        start = walk.place
+        while walk.place - start < limit:
+            place = self._waits.next(walk, limit - (walk.place - start))
+            if place is None:
+                return None
+            walk.reach(place)
+            if self._is_met(walk.target):
+                return place
+        return None
+
+    def last(self, walk: Walk) -> Optional[int]:
+        while True:
+            walk.interrupt.check()
+            place = self._waits.last(walk)
+            if place is None:
+                return None
+            walk.goto(place)
+            if self._is_met(walk.target):
+                return place
+
+
 def wakes(target: Target, task: str) -> Goal:
     """A task is woken, or its time is up: it waited before a move, and doesn't after it."""
     script = target.application.task(task) if target.application else None

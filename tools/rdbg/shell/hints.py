@@ -4,7 +4,7 @@ from typing import TYPE_CHECKING, Callable, Dict
 from rdbg import commands
 from rdbg.near import nearest
 from rdbg.replies import Refused
-from rdbg.shell.syntax import syntax
+from rdbg.shell.syntax import AMOUNTS, syntax
 
 if TYPE_CHECKING:
     from rdbg.shell.shell import Shell
@@ -15,16 +15,18 @@ def no_such(shell: "Shell", line: str) -> str:
     command = commands.read(line)
     if command is None:
         return "a name, a core, a register or an entry isn't there"
-    texts = (missing(shell, symbol, it) for symbol, it in zip(command.symbols, command.words))
+    is_asked = command.condition is not None
+    pairs = zip(command.symbols, command.words)
+    texts = (missing(shell, symbol, it, is_asked) for symbol, it in pairs)
     return "; ".join(text for text in texts if text) or "what it names isn't there"
 
 
-def missing(shell: "Shell", symbol: str, it: str) -> str:
-    """What is wrong with a word of a command, if anything."""
+def missing(shell: "Shell", symbol: str, it: str, is_asked: bool) -> str:
+    """What is wrong with a word of a command, if anything; `is_asked` in a condition."""
     application = shell.target.application
     kinds = {other: kind for kind, other in commands.KIND_SYMBOLS.items()}
     if symbol in kinds:
-        return missing_name(shell, kinds[symbol], it)
+        return missing_name(shell, kinds[symbol], it, is_asked)
     if symbol == "R" and int(it) > 7:
         return "registers are 0 to 7"
     if symbol == "C" and application and int(it) >= application.cores:
@@ -41,13 +43,17 @@ def amount(number: int, noun: str) -> str:
     return f"are {number} {noun[:-1] + 'ies' if noun.endswith('y') else noun + 's'}"
 
 
-def missing_name(shell: "Shell", kind: str, name: str) -> str:
+def missing_name(shell: "Shell", kind: str, name: str, is_asked: bool) -> str:
     """Why there is nothing of this kind and name, and what there is."""
     names = shell.target.names
     of_kind = list(names.tasks) if kind == "task" else [n for k, n in names.objects if k == kind]
     if name in of_kind:
         return ""
     others = [k for k, n in names.objects if n == name] + (["task"] if name in names.tasks else [])
+    if others and is_asked:
+        of_task = f"`phase {name} WORD`, `pc {name} OP N`, `reg {name} R OP N`"
+        amount_of = f"`{AMOUNTS[others[0]]} {name} OP N`" if others[0] in AMOUNTS else "no COND"
+        return f"'{name}' is a {others[0]}: {of_task if others[0] == 'task' else amount_of}"
     if others:
         return f"'{name}' is a {others[0]}: `show {others[0]} {name}`"
     near = nearest(name, of_kind)
@@ -80,6 +86,17 @@ def nothing_undone(shell: "Shell", line: str) -> str:
     return f"{count} taken back that could be made again; a new move forgets them"
 
 
+def moves_full(shell: "Shell", line: str) -> str:
+    """How many moves are left."""
+    limits = shell.target.limits
+    if limits is None:
+        return "the server keeps no more moves: go back"
+    left = limits.moves - shell.target.place
+    more = "" if limits.moves == commands.MOST_COUNT else ", or start with --moves 1000000"
+    fits = f"only {left} more moves fit" if left else "no more moves are kept: go back"
+    return f"{fits} (--moves {limits.moves}){more}"
+
+
 def bad_edit(shell: "Shell", line: str) -> str:
     """What an edit of this sort can't do."""
     words = commands.words_of(line)
@@ -101,6 +118,7 @@ REFUSALS: Dict[str, Hint] = {
     "Syntax": syntax,
     "NoSuch": lambda shell, line: no_such(shell, line),
     "NoTask": no_task,
+    "MovesFull": moves_full,
     "NothingUndone": nothing_undone,
     "BadEdit": bad_edit,
 }
@@ -109,7 +127,6 @@ REFUSALS: Dict[str, Hint] = {
 SENTENCES: Dict[str, str] = {
     "TickLimit": "the tick can't grow any more; `back` takes ticks back",
     "TooFar": "only {number} moves are done: `goto 0` goes to boot",
-    "MovesFull": "no more moves are kept: go back, or start with --moves 1000000",
     "Held": "session {number} has the wheel: views go on, moves once it gives it",
     "WatchesFull": "there are 16 watches: `info watches`, `unwatch N`",
     "NoWatch": "there is no such watch: `info watches`",

@@ -9,6 +9,11 @@ if TYPE_CHECKING:
     from rdbg.shell.shell import Shell
 
 MOST_LINES = 2_000
+# Lines with these words aren't repeated by Enter.
+ONCE = (
+    "watch", "unwatch", "break", "b", "delete", "d", "save", "reload", "set", "help", "h", "?",
+    "wheel", "poke", "goto", "g",
+)  # fmt: skip
 
 
 def load_readline() -> Optional[ModuleType]:
@@ -98,8 +103,10 @@ def greet(shell: "Shell") -> None:
     """Says what there is, and how to go on."""
     what = shell.source.path if shell.source else "the built-in application"
     if not shell.target.is_own:
-        what = f"attached, {what if shell.source else 'its file unknown'}"
+        what = f"attached, {what}" if shell.source else "attached"
     shell.say(f"{what}; `help` lists the words, Tab completes, Ctrl-D ends")
+    if shell.target.application is None:
+        shell.say("the scripts aren't known without their file: `rdbg sh --port P FILE` shows them")
     shell.line("where")
 
 
@@ -122,6 +129,8 @@ def talk(shell: "Shell") -> None:
             last = line.strip()
             lines.keep(last)
         shell.line(last)
+        if last.split()[:1] and last.split()[0] in ONCE:
+            last = ""
 
 
 def filter_lines(shell: "Shell") -> None:

@@ -5,18 +5,20 @@ from typing import TYPE_CHECKING, List, Optional, Sequence, Tuple
 
 from rdbg import commands, replies
 from rdbg.effects import Move
-from rdbg.looks import Look, Names
+from rdbg.looks import Names
 from rdbg.failure import Failure
 from rdbg.replies import Refused
 from rdbg.shell import trail
+from rdbg.shell.interrupt import Interrupted
 from rdbg.shell.opening import begin
-from rdbg.shell.target import Limits, Target, Unable
-from rdbg.source import load
+from rdbg.shell.target import Limits, Target, Unable, read
+from rdbg.source import Source, load
 
 if TYPE_CHECKING:
     from rdbg.shell.shell import Shell
 
 DEFAULT_MOVES = 20
+CHUNK = 512
 ENDING = ".commands"
 # The words of an instruction that are values, and not names.
 VALUE = re.compile("[0-9]+|r[0-7]|max")
@@ -33,14 +35,16 @@ def moves(shell: "Shell", words: Sequence[str]) -> None:
             raise Unable("`moves` shows the last 20, `moves 100` the last 100, `moves all` all")
         count = int(words[0])
     first = max(1, done - count + 1)
-    with shell.target.wheel():
+    with shell.wheel():
         found, _ = (
-            trail.moves(shell.walk, first, shell.target.places().done) if done else ([], None)
+            trail.moves(shell.walk, first, shell.target.places().done, None, shell.progress)
+            if done
+            else ([], None)
         )
     if first > 1:
         shell.say(f".. {first - 1} moves before these")
-    for move in found:
-        shell.say(move.row(len(str(done))))
+    for row in trail.rows(found):
+        shell.say(row)
     undone = shell.target.places().undone
     end = f"at {done}" + (f"; `redo` can make {undone} more" if undone else "")
     shell.say(end)
@@ -52,7 +56,7 @@ def lines_of(shell: "Shell") -> List[str]:
     if not done:
         return []
     names = Names() if shell.target.is_own else shell.target.names
-    found, _ = trail.moves(shell.walk, 1, done, names)
+    found, _ = trail.moves(shell.walk, 1, done, names, shell.progress)
     unknown = next((move for move in found if not move.line), None)
     if unknown is not None:
         raise Unable(f"move {unknown.place} is an edit by another session, which can't be told")
@@ -66,7 +70,7 @@ def save(shell: "Shell", words: Sequence[str]) -> None:
     file = pathlib.Path(words[0])
     if file.exists() and file.suffix != ENDING:
         raise Unable(f"{file} is there, and doesn't end in {ENDING}: it stays as it is")
-    with shell.target.wheel():
+    with shell.wheel():
         lines = lines_of(shell)
         look = shell.target.look()
     try:
@@ -79,7 +83,7 @@ def save(shell: "Shell", words: Sequence[str]) -> None:
         return
     target = begin(shell.source, shell.target.limits or Limits(commands.MOST_COUNT))
     with target.session:
-        answers = target.tell_all(lines)
+        answers = in_chunks(shell, target, lines, "replayed")
         again = target.look()
     wrong = next((at for at, answer in enumerate(answers) if answer.startswith("no ")), None)
     if wrong is not None:
@@ -88,6 +92,16 @@ def save(shell: "Shell", words: Sequence[str]) -> None:
         shell.say("but the program comes to another state with them: somebody's edit is unknown")
     else:
         shell.say("the program replays them from boot to this place and state")
+
+
+def in_chunks(shell: "Shell", target: Target, lines: Sequence[str], done: str) -> List[str]:
+    """The replies to many lines; at a terminal it is said how far it is."""
+    answers: List[str] = []
+    for at in range(0, len(lines), CHUNK):
+        shell.interrupt.check()
+        answers += target.tell_all(lines[at : at + CHUNK])
+        shell.progress(len(answers), len(lines), done)
+    return answers
 
 
 def reload(shell: "Shell", words: Sequence[str]) -> None:
@@ -101,19 +115,31 @@ def reload(shell: "Shell", words: Sequence[str]) -> None:
     if source.faults or source.application is None:
         faults = "\n".join(f"{source.path}:{fault}" for fault in source.faults)
         raise Unable(f"{faults}\nthe target stays as it is")
-    done = shell.target.places().done
-    # (of very many moves only who ran on which core is laid side by side)
-    all_names = shell.target.names
-    enough = shell.target.can_afford(trail.lines_for(done, all_names))
-    names = None if enough else Names()
-    old = trail.moves(shell.walk, 1, done, names)[0] if done else []
     try:
-        target = begin(source, shell.target.limits)
-    except Failure as failure:
-        raise Unable(f"{failure}; the target stays as it is") from None
+        replayed(shell, source, shell.target.limits)
+    except Interrupted:
+        path = shell.source.path
+        shell.stopped(
+            f"at {shell.target.place}: the target is that of {path} as it was read before"
+        )
+
+
+def replayed(shell: "Shell", source: Source, limits: Limits) -> None:
+    """Makes the same moves on a source, and goes on with it."""
+    done = shell.target.places().done
+    # (who was woken and moved is seen from tasks alone; of very many moves only who ran on which
+    # core is laid side by side)
+    names = Names(shell.target.names.tasks)
+    if not shell.target.can_afford(trail.lines_for(done, names)):
+        names = Names()
+    old = trail.moves(shell.walk, 1, done, names, shell.progress)[0] if done else []
+    same = count_same(shell, source, limits, old, names)
+    target = begun(source, limits)
     try:
         watches(shell, target)
-        difference = replay(shell, target, old, names)
+        for answer in in_chunks(shell, target, [move.line for move in old[:same]], "made again"):
+            read(answer)
+        difference = first_difference(shell, target, old[same:])
     except BaseException:
         target.session.close()
         raise
@@ -124,30 +150,55 @@ def reload(shell: "Shell", words: Sequence[str]) -> None:
         return
     was, now = difference
     shell.say(f"{target.place} of {done} moves are the same on {source.path}; the next one")
-    shell.say(f"  was  {was.row()}")
+    shell.say(f"  was  {was}")
     shell.say(f"  is   {now}")
 
 
-def replay(
-    shell: "Shell", target: Target, old: Sequence[Move], names: Optional[Names]
-) -> Optional[Tuple[Move, str]]:
-    """Makes the same moves on another target. Answers the first that is another there and what it
-    is, and stays before it; `redo 1` makes it then."""
-    looked = target.names if names is None else names
-    before = target.look(looked)
-    for move in old:
-        shell.interrupt.check()
-        place = target.place
-        answer, *views = target.tell_all([move.line, *looked.lines()])
-        if answer.startswith("no "):
-            return move, f"{move.line}: {answer}"
-        after = Look.of(target.place, [replies.read(view) for view in views])
-        now = trail.between(target, before, after)
-        if outcome(now) != outcome(move):
-            target.ask(f"back {target.place - place}", replies.Moved)
-            return move, now.row()
-        before = after
-    return None
+def begun(source: Source, limits: Limits) -> Target:
+    """A new program. Raises `Unable` where it can't be begun."""
+    try:
+        return begin(source, limits)
+    except Failure as failure:
+        raise Unable(f"{failure}; the target stays as it is") from None
+
+
+def count_same(
+    shell: "Shell", source: Source, limits: Limits, old: Sequence[Move], names: Names
+) -> int:
+    """How many of these moves are the same on a source, from the first on: in a program of their
+    own, so that the looks fill no history that is used later."""
+    target = begun(source, limits)
+    with target.session:
+        looked = Names(target.names.tasks) if names.tasks else names
+        before, same = target.look(looked), 0
+        for at in range(0, len(old), trail.CHUNK):
+            shell.interrupt.check()
+            moves_here = old[at : at + trail.CHUNK]
+            for move, answer, after in trail.made(target, moves_here, looked):
+                if answer.startswith("no "):
+                    return same
+                if outcome(trail.between(target, before, after)) != outcome(move):
+                    return same
+                before, same = after, same + 1
+            shell.progress(same, len(old), "compared")
+    return same
+
+
+def first_difference(
+    shell: "Shell", target: Target, left: Sequence[Move]
+) -> Optional[Tuple[str, str]]:
+    """What the first of these moves was, and what it is on a target that is at it; none where none
+    is left. Stays before it; `redo 1` makes it then."""
+    if not left:
+        return None
+    was = trail.moves(shell.walk, left[0].place, left[0].place)[0][0]
+    before, place = target.look(), target.place
+    answer = target.tell(left[0].line)
+    if answer.startswith("no "):
+        return was.row(), f"{left[0].line}: {answer}"
+    now = trail.between(target, before, target.look())
+    target.ask(f"back {target.place - place}", replies.Moved)
+    return was.row(), now.row()
 
 
 def outcome(move: Move) -> Tuple[object, ...]:

@@ -3,20 +3,22 @@ import textwrap
 from typing import TYPE_CHECKING, List, Optional, Sequence, Tuple
 
 from rdbg import commands, replies
+from rdbg.instructions import form_of
 from rdbg.replies import Refused
 from rdbg.shell import conditions, syntax
 from rdbg.shell.changes import Changes
-from rdbg.shell.goals import AnyOf, Becomes, Goal, Lasting, is_stuck, wakes
+from rdbg.shell.goals import AnyOf, Becomes, Goal, Lasting, Sleeps, is_stuck, wakes
 from rdbg.shell.interrupt import Interrupted
 from rdbg.shell.target import Unable
-from rdbg.shell.views import check_name, phase_text
+from rdbg.shell.views import check_name, phase_text, script_of
 
 if TYPE_CHECKING:
     from rdbg.shell.shell import Shell
 
 DEFAULT_COUNT = 10_000
 WIDTH = 96
-GOALS = ("stuck", "failed", "wakes", "changes")
+GOALS = ("stuck", "failed", "wakes", "sleeps", "changes")
+OF_TASKS = ("wakes", "sleeps")
 
 
 def count_of(words: Sequence[str]) -> Optional[int]:
@@ -32,10 +34,11 @@ def own_goal(shell: "Shell", words: Sequence[str], becoming: bool) -> Tuple[Goal
     if word in ("stuck", "failed"):
         return Lasting(word, becoming), words[1:]
     if len(words) < 2:
-        raise Unable(f"{word} what? `{word} {'TASK' if word == 'wakes' else 'QUEUE'}`")
-    if word == "wakes":
+        raise Unable(f"{word} what? `{word} {'TASK' if word in OF_TASKS else 'QUEUE'}`")
+    if word in OF_TASKS:
         check_name(shell, words[1], "task")
-        return wakes(shell.target, words[1]), words[2:]
+        is_waking = word == "wakes"
+        return wakes(shell.target, words[1]) if is_waking else Sleeps(words[1]), words[2:]
     if len(words) > 2 and words[1] in commands.KIND_SYMBOLS:
         kind, name, rest = words[1], words[2], words[3:]
         check_name(shell, name, kind)
@@ -52,6 +55,9 @@ def condition_goal(shell: "Shell", words: Sequence[str], word: str) -> Tuple[Goa
     """The goal that a condition becomes so, and the words behind the condition; `word` is that of
     sh's own in front of it."""
     words = watched(shell, words)
+    joined = syntax.joined(words)
+    if joined:
+        raise Unable(joined)
     for length in (len(words), len(words) - 1):
         found = conditions.read(words[:length])
         if found is not None:
@@ -109,7 +115,7 @@ def run_to(shell: "Shell", words: Sequence[str], becoming: bool) -> None:
 def forwards(shell: "Shell", goal: Goal, count: int) -> None:
     """Goes to the first place where a goal is met, or makes so many moves."""
     walk, lines = shell.walk, shell.target.lines
-    with shell.target.wheel():
+    with shell.wheel():
         learn_all(shell)
         start = shell.target.places().done
         already = isinstance(goal, Lasting) and goal.becoming and goal.is_so(shell.target)
@@ -130,12 +136,16 @@ def forwards(shell: "Shell", goal: Goal, count: int) -> None:
             tell_why(shell, goal)
         elif is_stuck(shell.target):
             shell.say("the target is stuck: `rc! stuck` goes back to where it became so")
+        elif goal.text == "stuck":
+            tell_who_goes_on(shell)
+        if place is None and shell.target.place != start:
+            shell.say(f"`goto {start}` goes back to where this began")
 
 
 def backwards(shell: "Shell", goal: Goal) -> None:
     """Goes back to the last earlier place where a goal is met, or stays."""
     walk, lines = shell.walk, shell.target.lines
-    with shell.target.wheel():
+    with shell.wheel():
         learn_all(shell)
         start = shell.target.places().done
         try:
@@ -176,7 +186,7 @@ def gave_up(shell: "Shell", ended: Exception, start: int) -> None:
 def said(shell: "Shell", goal: Goal, how: str, start: int, lines: int) -> None:
     """Says where a goal was met, or that it wasn't, and how many lines that took."""
     asked = shell.target.lines - lines
-    by = f"({asked} line{'' if asked == 1 else 's'})"
+    by = f"({asked} line{'' if asked == 1 else 's'} asked)"
     here = shell.target.place
     none = f"'{goal.text}' wasn't met" if goal.text else "no watch, failed or stuck was met"
     if how == "met":
@@ -199,6 +209,38 @@ def tell_why(shell: "Shell", goal: Goal) -> None:
         shell.say("\n".join(textwrap.wrap(text, WIDTH)))
 
 
+def tell_who_goes_on(shell: "Shell") -> None:
+    """Says of a target that isn't stuck who keeps it so."""
+    found = []
+    for name, it in shell.look().tasks.items():
+        if it.core is not None:
+            never = (
+                ", and no instruction of its script ever waits" if never_waits(shell, name) else ""
+            )
+            found.append(f"{name} is busy on core {it.core}{never}")
+        elif it.phase.deadline is not None:
+            found.append(f"{name} {phase_text(it)}")
+    text = f"not stuck: {'; '.join(found)}"
+    shell.say("\n".join(textwrap.wrap(text, WIDTH)))
+    if any(never_waits(shell, name) for name in shell.target.names.tasks):
+        shell.say(
+            "so `stuck` can't come; `until sleeps TASK` runs to where one task waits for ever"
+        )
+
+
+def never_waits(shell: "Shell", name: str) -> bool:
+    """Whether no instruction of a task's script can wait, or end it: so it is busy for ever."""
+    script = script_of(shell, name)
+    for it in script:
+        words = it.words()
+        form = form_of(words[0])
+        if form is None or words[0] == "end":
+            return False
+        if form.symbols[-1:] == ("T",) and words[-1] != "0":
+            return False
+    return bool(script)
+
+
 def learn_all(shell: "Shell") -> None:
     """Learns the tasks of a target whose file isn't known: at the start each is on a core or
     ready."""
@@ -212,8 +254,20 @@ def learn_all(shell: "Shell") -> None:
 
 
 def until(shell: "Shell", words: Sequence[str]) -> None:
-    """`until` with a goal of sh's own."""
-    run_to(shell, words, False)
+    """`until` with a goal of sh's own, or with a condition, whose COUNT may be left out."""
+    if not words or words[0] in GOALS:
+        run_to(shell, words, False)
+    else:
+        start = shell.target.place
+        shell.command(f"until {' '.join(words)} {DEFAULT_COUNT}")
+        if shell.is_terminal and shell.target.place == start + DEFAULT_COUNT:
+            shell.say(f"`goto {start}` goes back to where this began")
+
+
+def lacks_count(words: Sequence[str]) -> bool:
+    """Whether these words are a condition, or a watch, and nothing behind it."""
+    is_watch = len(words) == 1 and commands.is_watch(words[0])
+    return is_watch or conditions.read(words) is not None
 
 
 def until_becomes(shell: "Shell", words: Sequence[str]) -> None:

@@ -1,13 +1,17 @@
 """What `rdbg sh` does with a line: rdbg's own go to rdbg as they are, its own words are done."""
+import contextlib
+import re
+import shutil
 import sys
-from typing import Optional
+import time
+from typing import Iterator, Optional
 
-from rdbg import commands, replies
-from rdbg.looks import Look
-from rdbg.replies import Refused
-from rdbg.shell import hints, trail, views
+from rdbg import commands
+from rdbg.looks import Look, Names
+from rdbg.replies import Cores, Refused
+from rdbg.shell import hints, needs, trail, views
 from rdbg.shell.interrupt import Interrupt, Interrupted
-from rdbg.shell.target import Target, Unable
+from rdbg.shell.target import SINGLE, Target, Unable, read
 from rdbg.shell.walk import Pieces, Walk
 from rdbg.source import Source
 
@@ -15,6 +19,8 @@ from rdbg.source import Source
 MANY, FEW = 20, 5
 # It is said when a tenth of the history is left, and a hundredth; not of one that is small.
 NEARLY, NOT_SMALL = (10, 100), 1_000
+# So many seconds pass before it is shown how far something is, and between two times.
+MOMENT = 0.3
 
 
 class Shell:
@@ -36,16 +42,41 @@ class Shell:
         self.knows_tasks = False
         self._seen: Optional[Look] = None
         self._seen_at = -1
+        # (what was seen last, which may be old)
+        self._last: Optional[Look] = None
         self._warned = 0
+        self._shown, self._is_showing = 0.0, False
         target.echo = self._echo
+        target.drift = None
 
     def say(self, text: str) -> None:
         """Prints lines of sh's own."""
+        self._wipe()
         for line in text.split("\n"):
             print(f"# {line}".rstrip())
 
+    def progress(self, made: int, of: int, done: str) -> None:
+        """Shows at a terminal how far something long is: it stands in one line, and goes away."""
+        now = time.monotonic()
+        if not self.is_terminal or now < self._shown + MOMENT:
+            return
+        self._shown = now
+        print(f"\r# {made} of {of} {done}\x1b[K\r", end="", flush=True)
+        self._is_showing = True
+
+    def _wipe(self) -> None:
+        """Wipes what shows how far something is."""
+        if self._is_showing:
+            self._is_showing = False
+            print("\r\x1b[K", end="")
+
+    def width(self) -> Optional[int]:
+        """How many characters a line of sh's own has room for; none where it isn't a terminal."""
+        return shutil.get_terminal_size().columns - len("# ") if self.is_terminal else None
+
     def stopped(self, where: str) -> None:
         """Says that Ctrl-C ended something, and where the target is."""
+        self._wipe()
         if self.is_terminal:
             print()  # (behind the ^C of the terminal)
         self.say(f"stopped by Ctrl-C, {where}")
@@ -54,7 +85,23 @@ class Shell:
         """Prints a hint on standard error, behind what was said."""
         if text:
             sys.stdout.flush()
-            print(f"hint: {text}", file=sys.stderr, flush=True)
+            print(f"hint: {self.in_its_names(text)}", file=sys.stderr, flush=True)
+
+    def in_its_names(self, text: str) -> str:
+        """A text whose examples name a task and a queue that there are."""
+        names = self.target.names
+        queues = [name for kind, name in names.objects if kind == "queue"]
+        for word, there in (("worker", names.tasks), ("jobs", queues)):
+            if there and word not in there:
+                text = re.sub(rf"\b{word}\b", there[0], text)
+        return text
+
+    def hint_on(self, line: str, reply: str) -> None:
+        """Prints a hint where a reply refuses a line."""
+        try:
+            read(reply)
+        except Refused as refused:
+            self.hint(hints.refusal(self, line, refused))
 
     def _echo(self, line: str) -> None:
         if self.shows_lines:
@@ -65,25 +112,42 @@ class Shell:
         from rdbg.shell.words import find
 
         self.asked = ""
+        self._shown = time.monotonic()
         stripped = without_comment(text.encode("utf-8", "replace").decode())
         words = stripped.replace("\t", " ").split()
         if not words:
             return
-        word = None if commands.read(stripped) else find(words)
+        names = self.target.names
+        known = (*names.tasks, *(name for _, name in names.objects))
+        word = None if commands.read(stripped) else find(words, known)
         try:
             if word is None:
                 self.command(stripped)
             else:
                 word.run(self, words[1:])
         except Unable as unable:
-            self.say(str(unable))
+            self.say(self.in_its_names(str(unable)))
         except Interrupted:
             self.stopped(f"at {self.target.place}")
         except Refused as refused:
             self.say(f"rdbg says: no {refused}")
             self.hint(hints.refusal(self, self.asked, refused))
+        self.notice()
         self._warn()
         sys.stdout.flush()
+
+    @contextlib.contextmanager
+    def wheel(self) -> Iterator[None]:
+        """As long as nobody else may move the target; others' moves before are told."""
+        with self.target.wheel():
+            self.notice()
+            yield
+
+    def notice(self) -> None:
+        """Says where others have moved the target since that was last told."""
+        drift, self.target.drift = self.target.drift, None
+        if drift is not None and drift[0] != drift[1]:
+            self.say(f"the target moved meanwhile: {drift[0]} -> {drift[1]}")
 
     def command(self, text: str) -> bool:
         """Asks rdbg a line as it is, prints the reply, and says what the moves did. Answers whether
@@ -93,6 +157,7 @@ class Shell:
             return False
         command = commands.read(text)
         before = self.before(command)
+        self.notice()
         place = self.target.place
         try:
             reply = self._reply(command, text)
@@ -100,12 +165,12 @@ class Shell:
             self.stopped(f"at {self.target.place}")
             self.after(place, before)
             return False
+        if self.target.drift is not None:
+            place, before = self.target.drift[1], None
+            self.notice()
         print(reply)
         if reply.startswith("no "):
-            try:
-                replies.read(reply)
-            except Refused as refused:
-                self.hint(hints.refusal(self, text, refused))
+            self.hint_on(text, reply)
             if self.is_terminal and self.pieces.is_again:
                 self.say("nothing is made; what was tried, `redo` can make again")
             elif self.target.is_own and self.target.place != place:
@@ -113,6 +178,8 @@ class Shell:
             return False
         if command is not None and command.form.moves:
             self.after(place, before)
+        elif self.is_terminal and not self.target.is_own:
+            self.target.places()
         return True
 
     def _reply(self, command: Optional[commands.Command], text: str) -> str:
@@ -124,6 +191,8 @@ class Shell:
         """A look at the target as it is, which isn't taken twice where nobody else moves it."""
         if self._seen is None or not self._is_known():
             self._keep(self.target.look())
+            self._last = self._seen
+            self.notice()
         assert self._seen is not None
         return self._seen
 
@@ -135,14 +204,29 @@ class Shell:
 
     def before(self, command: Optional[commands.Command]) -> Optional[Look]:
         """What to look at before a move, to say what it did."""
-        if not self.shows_moves or command is None or not command.form.moves:
+        if command is None or not command.form.moves:
             return None
         if self.target.is_own:
-            return self._seen if self._is_known() else None
+            return self._seen if self.shows_moves and self._is_known() else None
+        is_single = command.form.word in SINGLE or command.count() == 1
+        if not self.shows_moves or not is_single or command.form.word == "back":
+            if self.is_terminal or self.shows_moves:
+                self.target.places()  # (for the place that was said last)
+            return None
         try:
-            return self.look()
+            return self._narrow(command)
         except Refused:
             return None
+
+    def _narrow(self, command: commands.Command) -> Look:
+        """A look at what a line can change, where others move the target too."""
+        last = self._last
+        names = needs.names_for(self.target, command, last)
+        look = self.target.look(names)
+        if not needs.is_enough(command, names, look, last):
+            look = self.target.look()
+        self._last = needs.together(last, look)
+        return look
 
     def after(self, place: int, before: Optional[Look]) -> None:
         """Says what the moves from a place to this one did, or where one is after going back."""
@@ -163,10 +247,19 @@ class Shell:
             self.say(f"what this did isn't shown: {unable}; see 'help history'")
             self.shows_moves = False
 
+    def _look_again(self, before: Look) -> Look:
+        """A look behind a move at what was looked at before it."""
+        if self.target.is_own or self.target.application is None:
+            return self.look()
+        after = self.target.look(needs.names_of(before))
+        self._last = needs.together(self._last, after)
+        self.notice()
+        return after
+
     def tell_moves(self, place: int, here: int, before: Optional[Look]) -> None:
         """Says what the moves between two places did, the last few of many."""
         if here == place + 1 and before is not None and before.place == place:
-            after = self.look()
+            after = self._look_again(before)
             if after.place != here:
                 self.say("others have moved the target since: `moves` shows what was done")
                 return
@@ -175,7 +268,7 @@ class Shell:
         first = place + 1 if here - place <= MANY else here - FEW + 1
         if first > place + 1:
             self.say(f".. {first - place - 1} moves before these: `moves {here - place}` shows all")
-        with self.target.wheel():
+        with self.wheel():
             found, look = trail.moves(self.walk, first, here)
         self._keep(look)
         for move in found:
@@ -190,7 +283,12 @@ class Shell:
 
     def next_moves(self) -> str:
         """What each busy core would do next, in words."""
-        look = self.look()
+        if self.target.is_own:
+            look = self.look()
+        else:
+            running = self.target.ask("show cores", Cores).running
+            look = self.target.look(Names(tuple(name for name in running if name)))
+            self._last = needs.together(self._last, look)
         found = []
         for core, name in enumerate(look.cores.running):
             if name in look.tasks:

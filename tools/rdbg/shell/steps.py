@@ -1,8 +1,11 @@
 """Words that move the target by name, or by gdb's words: `step worker`, `s`, `rs`, `break`."""
+import pathlib
 import re
-from typing import TYPE_CHECKING, Sequence
+from typing import TYPE_CHECKING, Optional, Sequence
 
 from rdbg import commands, replies
+from rdbg.looks import Names
+from rdbg.shell import trail
 from rdbg.shell.target import Unable
 from rdbg.shell.views import check_name, phase_text
 
@@ -10,20 +13,29 @@ if TYPE_CHECKING:
     from rdbg.shell.shell import Shell
 
 
+# Ticks are asked for so many at a time, and so many that did something are told.
+TICKS, ROWS = 512, 20
+
+
 def step(shell: "Shell", words: Sequence[str]) -> None:
-    """`step TASK [COUNT]`: instructions of a task, on whichever core it is."""
+    """`step TASK [COUNT]`: instructions of a task, on whichever core it is; or of a core."""
     name = words[0]
     count = int(words[1]) if words[1:] and commands.is_count(words[1]) else 1
     if words[2:] or (words[1:] and not commands.is_count(words[1])):
         raise Unable("`step TASK [COUNT]`, or `step CORE`")
+    is_core = commands.is_number(name)
     if name not in shell.target.names.tasks and re.fullmatch(r"core_?[0-9]", name):
         raise Unable(f"a core is its number: `step {name[-1]}`")
-    if name not in shell.target.names.tasks:
+    if name not in shell.target.names.tasks and not is_core:
         look = shell.look()  # (which may tell of it, where the file isn't known)
         check_name(shell, name, "task")
         assert look is not None
     for made in range(count):
         shell.interrupt.check()
+        if is_core:
+            if not shell.command(f"step {name}"):
+                return
+            continue
         it = shell.target.ask(f"show task {name}", replies.Task)
         if it.core is None:
             behind = f" after {made} of {count} instructions" if made else ""
@@ -36,10 +48,41 @@ def tick(shell: "Shell", words: Sequence[str]) -> None:
     """`tick COUNT`: so many ticks."""
     if len(words) != 1 or not commands.is_count(words[0]):
         raise Unable("`tick`, or `tick COUNT` for so many")
-    for _ in range(int(words[0])):
+    with shell.wheel():
+        start = shell.target.places().done
+        reply = many_ticks(shell, int(words[0]))
+        here = shell.target.place
+        print(reply)
+        shell.hint_on("tick", reply)
+        if reply.startswith("no ") and here > start:
+            shell.say(f"the moves up to {here} are made")
+        if shell.shows_moves and here > start:
+            tell_ticks(shell, start + 1, here)
+
+
+def many_ticks(shell: "Shell", count: int) -> str:
+    """So many ticks, up to one that is refused. Answers the last reply."""
+    reply, left = "", count
+    while left and not reply.startswith("no "):
         shell.interrupt.check()
-        if not shell.command("tick"):
-            return
+        answers = shell.target.tell_all(["tick"] * min(left, TICKS))
+        left -= len(answers)
+        reply = answers[-1]
+    return reply
+
+
+def tell_ticks(shell: "Shell", first: int, last: int) -> None:
+    """Says which of these ticks woke or turned somebody."""
+    names = Names(shell.target.names.tasks)
+    found = trail.moves(shell.walk, first, last, names, shell.progress)[0]
+    told = [move for move in found if move.effects]
+    if len(told) > ROWS:
+        shell.say(f".. {len(told) - ROWS} ticks that did something before these")
+    for move in told[-ROWS:]:
+        shell.say(move.row(len(str(last))))
+    others = len(found) - len(told)
+    if others:
+        shell.say(f"{others} tick{'' if others == 1 else 's'} woke and turned nobody")
 
 
 def why_on_none(shell: "Shell", it: replies.Task) -> str:
@@ -57,12 +100,19 @@ def why_on_none(shell: "Shell", it: replies.Task) -> str:
 
 
 def forward(shell: "Shell", words: Sequence[str]) -> None:
-    """`s [COUNT]`: moves of a run's choice."""
+    """`s [COUNT]`: moves of a run's choice; `s TASK` is `step TASK`."""
+    if words and words[0] in shell.target.names.tasks:
+        step(shell, words)
+        return
+    if len(words) > 1 or not all(commands.is_count(word) for word in words):
+        raise Unable("`s` is a move as a run chooses it, `s 5` five; `step worker` is a task's own")
     shell.command(" ".join(["forward", *(words or ["1"])]))
 
 
 def back(shell: "Shell", words: Sequence[str]) -> None:
     """`rs [COUNT]`: takes moves back."""
+    if len(words) > 1 or not all(commands.is_count(word) for word in words):
+        raise Unable("`rs` takes the last move back, `rs 5` the last five, whosever they are")
     shell.command(" ".join(["back", *(words or ["1"])]))
 
 
@@ -84,23 +134,58 @@ def goto(shell: "Shell", words: Sequence[str]) -> None:
 
 
 def break_at(shell: "Shell", words: Sequence[str]) -> None:
-    """`break TASK PC`, `break COND`: a watch, to which `continue` goes."""
+    """`break TASK PC`, `break FILE:LINE`, `break COND`: a watch, to which `continue` goes."""
+    if words and words[0] in ("stuck", "failed", "wakes", "sleeps", "changes"):
+        goal = " ".join(words)
+        raise Unable(f"a watch is a condition; `until {goal}` runs there, `rc {goal}` goes back")
+    line = re.fullmatch(r"(?:(.+):)?([0-9]{1,9})", " ".join(words))
+    if line and line[1] not in shell.target.names.tasks and len(words) == 1:
+        words = at_line(shell, line[1], int(line[2]))
+    is_made = False
     parts = [part for word in words for part in word.split(":") if part]
     if len(parts) == 2 and commands.is_name(parts[0]) and commands.is_number(parts[1]):
-        shell.command(f"watch pc {parts[0]} = {parts[1]}")
+        is_made = shell.command(f"watch pc {parts[0]} = {parts[1]}")
     elif len(parts) == 1 and parts[0] in shell.target.names.tasks:
         raise Unable(f"at which instruction? `list {parts[0]}` numbers them, `break {parts[0]} 2`")
     elif words:
-        shell.command(f"watch {' '.join(words)}")
+        is_made = shell.command(f"watch {' '.join(words)}")
     else:
         raise Unable("break where? `break worker 2`, or a condition, `break count jobs > 0`")
-    if not shell.told_of_breaks:
+    if is_made and not shell.told_of_breaks:
         shell.told_of_breaks = True
         shell.say("`continue` runs to where a watch becomes so, `rc` goes back to where one did")
+
+
+def at_line(shell: "Shell", file: Optional[str], line: int) -> Sequence[str]:
+    """The task and the number of the first instruction at a line of the file, or behind it."""
+    source, application = shell.source, shell.target.application
+    if source is None or application is None:
+        raise Unable("no file is known: `break TASK PC`")
+    if file is not None and pathlib.Path(file).name != pathlib.Path(source.path).name:
+        raise Unable(f"the file is {source.path}: `break {line}`, or `break TASK PC`")
+    found = [
+        (it.place.line, task.name, number, it.written)
+        for task in application.tasks
+        for number, it in enumerate(task.code)
+        if it.place.line >= line
+    ]
+    if not found:
+        raise Unable(f"{source.path} has no instruction at line {line} or behind it")
+    first = min(at for at, *_ in found)
+    there = [(name, number, written) for at, name, number, written in found if at == first]
+    if len(there) > 1:
+        texts = [f"`break {name} {number}` ({written})" for name, number, written in there]
+        raise Unable(f"line {first} has {len(there)} instructions: {', '.join(texts)}")
+    name, number, written = there[0]
+    shell.say(f"{source.path}:{first}  {name} {number} {written}")
+    return [name, str(number)]
 
 
 def delete(shell: "Shell", words: Sequence[str]) -> None:
     """`delete N`: drops a watch."""
     if len(words) != 1:
         raise Unable("delete which watch? `info watches` shows them, `delete 0`")
-    shell.command(f"unwatch {words[0].lstrip('w')}")
+    number = words[0].lstrip("w")
+    text = shell.target.watches.get(int(number), "") if commands.is_number(number) else ""
+    if shell.command(f"unwatch {number}"):
+        shell.say(f"watch {number} is dropped: {text}")

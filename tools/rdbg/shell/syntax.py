@@ -5,6 +5,7 @@ from typing import TYPE_CHECKING, Callable, List, Optional, Sequence, Tuple
 from rdbg import commands
 from rdbg.near import nearest
 from rdbg.shell.gdb import HINTS
+from rdbg.shell.glossary import GOALS
 
 if TYPE_CHECKING:
     from rdbg.shell.shell import Shell
@@ -16,7 +17,7 @@ Words = List[str]
 Repair = Callable[["Shell", Words], Optional[Tuple[Words, str]]]
 
 
-COUNTS = {"until": "1000", "forward": "100", "back": "1", "redo": "1"}
+COUNTS = {"forward": "100", "back": "1", "redo": "1"}
 
 
 def small_letters(shell: "Shell", words: Words) -> Optional[Tuple[Words, str]]:
@@ -160,9 +161,31 @@ def syntax(shell: "Shell", line: str) -> str:
         return "an empty line is no command"
     if words[0] == "show" and len(words) == 2 and words[1] in SHOWN:
         return SHOWN[words[1]]
-    return HINTS.get(words[0]) or mended(shell, line) or at_fault(shell, words)
+    return HINTS.get(words[0]) or joined(words[1:]) or mended(shell, line) or at_fault(shell, words)
 
 
+JOINING = ("and", "or", "not", "&&", "||", "&", "|", "!")
+
+
+def joined(words: Sequence[str]) -> str:
+    """That a condition isn't made of others, where these words are meant to be one; else empty."""
+    found = next((word for word in words if word.lower() in JOINING), None)
+    if found is None or not any(word in STARTS or commands.is_watch(word) for word in words):
+        return ""
+    if found.lower() in ("or", "||", "|"):
+        return (
+            f"a condition has no `{found}`: `watch` each of them, and `continue` runs to where one"
+            " becomes so"
+        )
+    if found.lower() in ("not", "!"):
+        return f"a condition has no `{found}`: turn it round, `> 0` for not `= 0`, or another phase"
+    return (
+        f"a condition has no `{found}`: `until!` one of them, and look whether the other is so"
+        " (`info tasks`, `info objects`), then `until!` again"
+    )
+
+
+STARTS = tuple(form.word for form in commands.CONDITIONS)
 ALL = "`info objects` shows all objects"
 
 
@@ -187,9 +210,14 @@ def mended(shell: "Shell", line: str) -> str:
             repaired, reason = found
             reasons.append(reason)
     text = " ".join(repaired)
-    if reasons and commands.read(text) is not None:
+    if reasons and (commands.read(text) is not None or is_open(repaired)):
         return f"{'; '.join(reasons)}: `{text}`"
     return ""
+
+
+def is_open(words: Sequence[str]) -> bool:
+    """Whether a line is an `until` whose COUNT is left out, which sh takes."""
+    return words[:1] == ["until"] and commands.read(" ".join([*words, "1"])) is not None
 
 
 def at_fault(shell: "Shell", words: Sequence[str]) -> str:
@@ -210,6 +238,11 @@ def at_fault(shell: "Shell", words: Sequence[str]) -> str:
         expected = [symbol for symbol in expected if symbol not in words_of_conditions]
         expected.insert(0, f"COND: {', '.join(words_of_conditions)}")
     wanted = " or ".join(describe(symbol) for symbol in expected)
+    near = nearest(words[1], GOALS) if words[0] in ("until", "back") and words[1:] else None
+    if near and most == 1:
+        wanted += f", or `{near}`"
+    if list(words) == ["until"]:
+        wanted += ", or stuck, failed, wakes TASK, sleeps TASK, changes QUEUE"
     behind = f"behind `{' '.join(words[:most])}`"
     if most == len(words):
         return f"{behind} comes {wanted}"
@@ -234,6 +267,8 @@ def unknown_word(first: str) -> str:
     """What a first word may have been meant to be."""
     from rdbg.shell.words import names
 
+    if first in GOALS:
+        return f"`until {first}` runs there, `rc {first}` goes back there; `help {first}`"
     near = nearest(first, [*commands.WORDS, *names()])
     return (
         f"'{first}' is no word" + (f"; near it is `{near}`" if near else "") + "; `help` lists them"

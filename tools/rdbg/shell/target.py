@@ -1,6 +1,7 @@
 """A session with what is known of its target: names, place, edits, watches, and what was asked."""
 import contextlib
 import dataclasses
+import functools
 from typing import Callable, Dict, Iterable, Iterator, List, Optional, Tuple, Type, TypeVar
 
 from rdbg import commands, replies
@@ -11,6 +12,8 @@ from rdbg.replies import Refused, Unreadable
 
 # Refusals of lines that have no place in the history.
 UNCOUNTED = ("Syntax", "LineTooLong", "HistoryFull", "NoMemory")
+# Words of which a line makes one move.
+SINGLE = ("step", "tick", "poke")
 # So many places of the history are left to the lines that are typed.
 RESERVE = 1_000
 # A look is taken anew so many times at the most.
@@ -26,6 +29,9 @@ KIND_OF_PLACE = {
     "group": "group",
 }
 Value = TypeVar("Value")
+# Many looks have the same replies, and many lines are the same: each is read once.
+read = functools.lru_cache(maxsize=16_384)(replies.read)
+read_line = functools.lru_cache(maxsize=4_096)(commands.read)
 
 
 class Unable(Exception):
@@ -54,6 +60,8 @@ class Target:
         self.session, self.application, self.limits = session, application, limits
         self.names = Names() if application is None else Names.of(application)
         self.place, self.undone = 0, 0
+        # From where to where others have moved the target since that was last told.
+        self.drift: Optional[Tuple[int, int]] = None
         # The lines of the edits that were made here, each by the place behind it.
         self.edits: Dict[int, str] = {}
         self.watches: Dict[int, str] = {}
@@ -82,7 +90,7 @@ class Target:
     def ask(self, line: str, kind: Type[Value]) -> Value:
         """The reply to a line, of a kind that is known. Raises `Refused`."""
         reply = self.tell(line)
-        value = replies.read(reply)
+        value = read(reply)
         if not isinstance(value, kind):
             raise Unreadable(reply)
         return value
@@ -121,11 +129,11 @@ class Target:
     def _look(self, names: Names) -> Tuple[Look, bool]:
         lines = names.lines()
         if self.is_own:
-            return Look.of(self.place, [replies.read(it) for it in self.tell_all(lines)]), True
+            return Look.of(self.place, [read(it) for it in self.tell_all(lines)]), True
         answers = self.tell_all(["show moves", *lines, "show moves"])
-        first = replies.read(answers[0])
+        first = read(answers[0])
         assert isinstance(first, replies.Moves)
-        seen = [replies.read(it) for it in answers[1:-1]]
+        seen = [read(it) for it in answers[1:-1]]
         return Look.of(first.done, seen), answers[0] == answers[-1]
 
     @contextlib.contextmanager
@@ -152,12 +160,12 @@ class Target:
             self.echo(line)
         self.lines += 1
         try:
-            value = replies.read(reply)
+            value = read(reply)
         except Refused as refused:
             self.used += refused.name not in UNCOUNTED
             return
         self.used += 1
-        command = commands.read(line)
+        command = read_line(line)
         if command is None:
             return
         if command.form.answers and not isinstance(value, command.form.answers):
@@ -169,19 +177,28 @@ class Target:
         elif isinstance(value, replies.WheelDone):
             self.has_wheel = command.words[1] == "take"
         elif isinstance(value, replies.Moves):
+            self._drifted(value.done)
             self.place, self.undone = value.done, value.undone
         elif self.application is None:
             self._learn(value)
 
+    def _drifted(self, place: int) -> None:
+        """Keeps account of moves by others: a place that isn't the one that was known."""
+        if not self.is_own and place != self.place:
+            self.drift = (self.drift[0] if self.drift else self.place, place)
+
     def _moved(self, command: commands.Command, at: int) -> None:
         """Keeps account of places and edits."""
         word = command.form.word
+        count = 1 if word in SINGLE else command.count()
+        if count is not None and word != "until":
+            self._drifted(at + count if word == "back" else at - count)
         self.changes += 1
         if word in ("back", "redo"):
             self.undone = max(0, self.undone + self.place - at)
         else:
             self.undone = 0
-            first = at if word in ("step", "tick", "poke") else self.place + 1
+            first = at if word in SINGLE else self.place + 1
             self.edits = {place: line for place, line in self.edits.items() if place < first}
         if word == "poke":
             self.edits[at] = " ".join(command.words)

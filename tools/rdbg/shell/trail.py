@@ -1,14 +1,16 @@
 """The moves that were made, as values: found by going back and making them again, with looks."""
 import dataclasses
-from typing import List, Optional, Tuple
+from typing import Callable, Iterator, List, Optional, Sequence, Tuple
 
 from rdbg import replies
 from rdbg.effects import Move, edit_of, move_between
 from rdbg.looks import Look, Names
-from rdbg.shell.target import Target
+from rdbg.shell.target import Target, read
 from rdbg.shell.walk import Walk
 
 CHUNK = 64
+# Is told how many of how many were done, and what was done with them.
+Progress = Callable[[int, int, str], None]
 
 
 def between(target: Target, before: Look, after: Look) -> Move:
@@ -33,7 +35,11 @@ def lines_for(count: int, names: Names) -> int:
 
 
 def moves(
-    walk: Walk, first: int, last: int, names: Optional[Names] = None
+    walk: Walk,
+    first: int,
+    last: int,
+    names: Optional[Names] = None,
+    progress: Optional[Progress] = None,
 ) -> Tuple[List[Move], Look]:
     """The moves to the places `first` to `last`, and the look at the last, which there must be.
     Stays where it is. Raises `Unable` where the history has too little room, `Interrupted` after
@@ -50,9 +56,46 @@ def moves(
             for after in again(target, min(CHUNK, last - walk.place), looked):
                 found.append(between(target, before, after))
                 before = after
+            if progress is not None:
+                progress(len(found), last - first + 1, "looked at")
         return found, before
     finally:
         walk.goto(here)
+
+
+def rows(found: Sequence[Move]) -> List[str]:
+    """Moves in a line each; ticks in a row that did nothing else stand in one."""
+    width = max((len(str(move.place)) for move in found), default=0)
+    shown: List[str] = []
+    at = 0
+    while at < len(found):
+        end = at
+        while end < len(found) and is_bare(found[end]):
+            end += 1
+        if end > at + 1:
+            first, last = found[at], found[end - 1]
+            shown.append(f"{first.place}..{last.place}  {end - at} ticks, up to tick {last.tick}")
+            at = end
+        else:
+            shown.append(found[at].row(width))
+            at += 1
+    return shown
+
+
+def is_bare(move: Move) -> bool:
+    """Whether a move is a tick that woke and turned nobody."""
+    return move.kind == "tick" and not move.effects
+
+
+def made(target: Target, moves: Sequence[Move], names: Names) -> Iterator[Tuple[Move, str, Look]]:
+    """Makes these moves anew, and yields each with its reply and the look behind it. A move behind
+    one that is refused, or that does something else, is made too."""
+    views = names.lines()
+    answers = target.tell_all(line for move in moves for line in (move.line, *views))
+    width = len(views) + 1
+    for at, move in enumerate(moves):
+        answer, *seen = answers[at * width : (at + 1) * width]
+        yield move, answer, Look.of(move.place, [read(each) for each in seen])
 
 
 def again(target: Target, count: int, names: Names) -> List[Look]:
@@ -61,8 +104,8 @@ def again(target: Target, count: int, names: Names) -> List[Look]:
     answers = target.tell_all(lines * count)
     looks = []
     for at in range(0, len(answers), len(lines)):
-        moved = replies.read(answers[at])
+        moved = read(answers[at])
         assert isinstance(moved, replies.Moved)
-        seen = [replies.read(answer) for answer in answers[at + 1 : at + len(lines)]]
+        seen = [read(answer) for answer in answers[at + 1 : at + len(lines)]]
         looks.append(Look.of(moved.at, seen))
     return looks

@@ -1,4 +1,5 @@
 """What there is, as tables and sentences: `info`, `where`, `list`, `print`."""
+import re
 from typing import TYPE_CHECKING, Callable, Dict, List, Optional, Sequence
 
 from rdbg import commands, replies
@@ -17,6 +18,32 @@ def table(cells: Sequence[Sequence[str]]) -> List[str]:
     """A table's rows as lines, each column as wide as it must be."""
     widths = [max(len(row[at]) for row in cells) for at in range(len(cells[0]))]
     return ["  ".join(it.ljust(width) for it, width in zip(row, widths)).rstrip() for row in cells]
+
+
+def fitted(cells: Sequence[Sequence[str]], width: Optional[int], long: Sequence[int]) -> List[str]:
+    """A table's rows as lines that aren't wider than a terminal, where one is given: without
+    columns that say nothing, and the columns `long` cut, the widest first, down to LEAST."""
+    if width is None:
+        return table(cells)
+    kept = [at for at in range(len(cells[0])) if at == 0 or any(r[at] != "-" for r in cells[1:])]
+    rows = [[row[at] for at in kept] for row in cells]
+    cut = [kept.index(at) for at in long if at in kept]
+    widths = [max(len(row[at]) for row in rows) for at in range(len(kept))]
+    while cut and sum(widths) + 2 * len(widths) > width:
+        widest = max(cut, key=lambda at: widths[at])
+        if widths[widest] <= LEAST:
+            break
+        widths[widest] -= 1
+    short = [[shortened(it, most) for it, most in zip(row, widths)] for row in rows]
+    return table(short)
+
+
+def shortened(text: str, most: int) -> str:
+    """A text of so many characters at the most."""
+    return text if len(text) <= most else f"{text[: most - 2]}.."
+
+
+LEAST = 8
 
 
 def script_of(shell: "Shell", name: str) -> Sequence[Instruction]:
@@ -74,10 +101,16 @@ def tasks(shell: "Shell") -> None:
     """All tasks, as a table."""
     rows = [["task", "core", "phase", "pc", "instruction", "registers", "data", "notes"]]
     for name, it in shell.look().tasks.items():
-        instruction = written(shell, name, it.pc) or "?"
-        here = [name, seat(it), it.phase.text, str(it.pc), instruction]
+        here = [name, seat(it), it.phase.text, str(it.pc), written(shell, name, it.pc) or "-"]
         rows.append([*here, registers(it), hexadecimal(it.data), notes(it)])
-    shell.say("\n".join(table(rows)))
+    if shell.target.application is None:
+        rows = [[*row[:4], *row[5:]] for row in rows]
+    long = [rows[0].index(name) for name in LONG if name in rows[0]]
+    shell.say("\n".join(fitted(rows, shell.width(), long)))
+
+
+# The columns of `info tasks` that are cut where the terminal is too narrow.
+LONG = ("instruction", "registers", "data", "notes", "phase")
 
 
 def object_text(key: Key, it: Object) -> List[str]:
@@ -137,7 +170,7 @@ def objects(shell: "Shell") -> None:
         return
     rows = [["object", "has", "contents", "who waits"]]
     rows += [object_text(key, it) for key, it in found.items()]
-    shell.say("\n".join(table(rows)))
+    shell.say("\n".join(fitted(rows, shell.width(), (2, 3))))
 
 
 def task(shell: "Shell", name: str) -> None:
@@ -165,11 +198,11 @@ def where(shell: "Shell", words: Sequence[str]) -> None:
         if name in look.tasks:
             it = look.tasks[str(name)]
             phase = "" if it.phase.word == "run" else f"({it.phase.text})"
-            text = f"{it.pc} {written(shell, it.name, it.pc)}"
+            text = f"{it.pc} {written(shell, it.name, it.pc)}".rstrip()
             row[2:] = [text, phase, place_in_file(shell, it.name, it.pc)]
         rows.append(row)
     ready = ",".join(look.cores.ready) or "-"
-    shell.say("\n".join(table(rows)))
+    shell.say("\n".join(fitted(rows, shell.width(), (2, 4, 3))))
     shell.say(f"ready {ready}  tick {look.cores.tick}  turn {look.cores.turn}  at {look.place}")
 
 
@@ -211,16 +244,27 @@ def check_name(shell: "Shell", name: str, kind: str = "") -> str:
     if kind in kinds or (kinds and not kind):
         return kind or kinds[0]
     names = shell.target.names
-    known = [*names.tasks, *(other for _, other in names.objects if not kind)]
+    tasks_there = names.tasks if kind in ("", "task") else ()
+    known = [*tasks_there, *(other for each, other in names.objects if kind in ("", each))]
     near = nearest(name, known)
     what = kind or "task or object"
+    if kinds:
+        raise Unable(f"there is no {what} '{name}': it is a {kinds[0]}")
     raise Unable(f"there is no {what} '{name}'" + (f"; near it is '{near}'" if near else ""))
 
 
 def values(shell: "Shell", words: Sequence[str]) -> None:
     """A register, the data, the pc, the phase or the notes of a task, or of those on the cores; or
     what an object has."""
+    given = re.fullmatch(r"\$?(?:(\w+)\.)?r([0-7])\s*(?:\w+\s*)?=\s*(\w+)", " ".join(words))
+    if given:
+        raise Unable(
+            f"`print` shows alone; `poke reg {given[1] or 'worker'} {given[2]} {given[3]}`"
+        )
     parts = [part for word in words for part in word.lstrip("$").split(".") if part]
+    wrong = next((part for part in parts if re.fullmatch("r[0-9]+", part)), None)
+    if wrong is not None and wrong not in REGISTERS:
+        raise Unable(f"there is no {wrong}: registers are r0 to r7")
     wanted = [part for part in parts if part in FIELDS or part in REGISTERS]
     names = [part for part in parts if part not in wanted]
     look = shell.look()
@@ -248,10 +292,16 @@ def field(it: replies.Task, part: str) -> str:
     return texts[part] if part in texts else notes(it)
 
 
-def about(shell: "Shell", name: str) -> None:
-    """All of a task or of the objects of a name."""
-    check_name(shell, name)
-    for kind in kinds_of(shell, name):
+def show(shell: "Shell", words: Sequence[str]) -> None:
+    """`show NAME`: rdbg's own view of each thing of this name."""
+    for kind in kinds_of(shell, words[0]):
+        shell.command(f"show {kind} {words[0]}")
+
+
+def about(shell: "Shell", name: str, only: str = "") -> None:
+    """All of a task or of the objects of a name, or of the one of a kind."""
+    check_name(shell, name, only)
+    for kind in [only] if only else kinds_of(shell, name):
         if kind == "task":
             task(shell, name)
         else:
@@ -281,12 +331,18 @@ def history(shell: "Shell") -> None:
 def info(shell: "Shell", words: Sequence[str]) -> None:
     """A table, or all of a task or an object."""
     word = words[0] if words else ""
-    if word in TABLES:
+    singular = word[:-1] if word.endswith("s") else word
+    kind = singular if singular in commands.KIND_SYMBOLS and not kinds_of(shell, word) else ""
+    if word in TABLES and not (kind and len(words) == 2):
         TABLES[word](shell)
     elif word == "registers":
         values(shell, [*REGISTERS, *words[1:]])
     elif word == "line":
         where(shell, [])
+    elif kind and len(words) == 2:
+        about(shell, words[1], kind)
+    elif kind:
+        (tasks if kind == "task" else objects)(shell)
     elif word:
         about(shell, word)
     else:

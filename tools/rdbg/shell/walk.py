@@ -149,8 +149,12 @@ class Pieces:
     def _run(self, command: commands.Command, count: int, line: str) -> str:
         """A run. Where moves were taken back that a run refused as a whole would leave, it is asked
         in one piece."""
-        if not self.target.can_afford(2 * count // LEAST_PIECE):
-            return self.target.tell(line)
+        limits = self.target.limits
+        fits = limits is None or self.walk.place + count <= limits.moves
+        if not self.target.can_afford(2 * count // LEAST_PIECE) or (
+            command.form.word == "forward" and not fits
+        ):
+            return self.target.tell(line)  # (which refuses it, or does it, as a whole)
         try:
             with self.target.wheel():
                 if self.target.places().undone and not self._is_surely_made(count):

@@ -1,6 +1,6 @@
 """The words of sh's own: one table, for what they do, for help and for Tab."""
 import dataclasses
-from typing import TYPE_CHECKING, Callable, Dict, List, Optional, Sequence, Tuple
+from typing import TYPE_CHECKING, Callable, Container, Dict, List, Optional, Sequence, Tuple
 
 from rdbg import commands
 from rdbg.shell import basics, replay, seek, steps, views
@@ -31,8 +31,20 @@ class Word:
 
 GOALS = (
     "GOAL is COND, or stuck (no core is busy, and no task has a deadline), failed (a task has),\n"
-    "wakes TASK (it waited, and doesn't now), changes QUEUE (or another object: what it holds).\n"
+    "wakes TASK (it waited, and doesn't now), sleeps TASK (it begins to wait without a deadline),\n"
+    "changes QUEUE (or another object: what it holds). Without COUNT at most 10,000 moves.\n"
+    "`(22 lines asked)`: so many lines of rdbg's it took to find the place.\n"
     "A run goes one order of many: one that doesn't meet a goal says nothing of the others."
+)
+
+SAVE = (
+    "`./rdbg run --app FILE < found.commands` comes to this place and state; a new program tries it\n"
+    "at once. A file that is there already stays, if its name doesn't end in .commands."
+)
+RELOAD = (
+    "A new program begins with the file as it is now, and makes the same moves up to the first that\n"
+    "does something else (another instruction, answer, or other tasks woken); `redo 1` makes that\n"
+    "one. Watches are kept. Where the file is wrong, or after Ctrl-C, the target stays as it is."
 )
 
 WORDS: Tuple[Word, ...] = (
@@ -73,7 +85,7 @@ WORDS: Tuple[Word, ...] = (
         steps.back,
         ("rn", "rsi", "rni", "reverse-step", "reverse-stepi", "reverse-next", "undo"),
     ),
-    Word("until GOAL [COUNT]", "runs to a goal of sh's own", seek.until, (), ("GOAL",), GOALS),
+    Word("until GOAL [COUNT]", "runs to where GOAL is so", seek.until, (), ("GOAL",), GOALS),
     Word(
         "until! GOAL [COUNT]",
         "runs to where it becomes so, and wasn't before",
@@ -99,7 +111,7 @@ WORDS: Tuple[Word, ...] = (
     ),
     Word(
         "break TASK PC",
-        "a watch; or break COND, which is watch COND",
+        "a watch; or break FILE:LINE, or break COND",
         steps.break_at,
         ("b",),
         ("BREAK",),
@@ -107,8 +119,8 @@ WORDS: Tuple[Word, ...] = (
     Word("delete N", "drops a watch: unwatch N", steps.delete, ("d",)),
     Word("moves [COUNT|all]", "who did what, and what came of it", replay.moves, (), ("all",)),
     Word("goto PLACE", "to the place with so many moves done", steps.goto, ("g",)),
-    Word("save FILE", "the moves as lines that rdbg replays", replay.save, (), ("FILE",)),
-    Word("reload", "the same moves on the edited file", replay.reload),
+    Word("save FILE", "the moves as lines that rdbg replays", replay.save, (), ("FILE",), SAVE),
+    Word("reload", "the same moves on the edited file", replay.reload, more=RELOAD),
     Word(
         "set moves|echo on|off",
         "say what moves did; show lines to rdbg",
@@ -120,6 +132,7 @@ WORDS: Tuple[Word, ...] = (
     Word("quit", "ends, as Ctrl-D does", basics.leave, ("q", "exit")),
 )
 BACK = Word("back until GOAL", "as rc", seek.back_until)
+SHOW = Word("show NAME", "what rdbg shows of it", views.show)
 BY_NAME: Dict[str, Word] = {}
 for _word in WORDS:
     for _name in (_word.name, *_word.short):
@@ -131,16 +144,20 @@ def names() -> List[str]:
     return list(BY_NAME)
 
 
-def find(words: Sequence[str]) -> Optional[Word]:
+def find(words: Sequence[str], known: Container[str] = ()) -> Optional[Word]:
     """The word of sh's own that a line begins with, where it isn't one of rdbg's lines; the words
-    `step`, `until` and `back` are rdbg's too."""
+    `step`, `until`, `back` and `show` are rdbg's too. `known` are the names that there are."""
     first, second = words[0], words[1] if len(words) > 1 else ""
+    if first == "show":
+        return SHOW if len(words) == 2 and second in known else None
     if first == "step":
-        return BY_NAME["step"] if commands.is_name(second) else None
+        has_count = len(words) == 3 and commands.is_number(second) and commands.is_count(words[2])
+        return BY_NAME["step"] if commands.is_name(second) or has_count else None
     if first == "tick":
         return BY_NAME["tick"] if second else None
     if first == "until":
-        return BY_NAME["until"] if second in seek.GOALS else None
+        is_goal = second in seek.GOALS or seek.lacks_count(words[1:])
+        return BY_NAME["until"] if is_goal else None
     if first == "back":
         is_own = second == "until!" or (second == "until" and words[2:3] and words[2] in seek.GOALS)
         return BACK if is_own else None

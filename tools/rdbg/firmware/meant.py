@@ -1,0 +1,145 @@
+"""What a line was meant to be that begins with no word that lines begin with.
+
+Such a line is refused. The names that it gives are kept all the same, so that the lines that use
+them aren't refused as well.
+"""
+import re
+from typing import Dict, Optional, Sequence, Set, Tuple
+
+from rdbg.firmware.numbers import LONGEST, NAME, near_to
+from rdbg.firmware.objects import OBJECTS, SETTINGS, form_of
+from rdbg.firmware.tokens import Token, shown
+from rdbg.freertos import called, sentence
+from rdbg.instructions import FORM_OF
+from rdbg.near import nearest
+from rdbg.reading import NO_BRACES
+from rdbg.statements import statement
+
+FIRST_WORDS = (*FORM_OF, *OBJECTS, *SETTINGS, "const")
+SEMAPHORE = "a queue stands for it (docs/FROM_C.md): queue NAME length 1 item 1"
+# How that is written which FreeRTOS calls otherwise.
+CALLS = {
+    **{shape.freertos: form_of(word) for word, shape in OBJECTS.items()},
+    **{key.freertos: form_of(word) for word, key in SETTINGS.items()},
+}
+CREATED = {shape.freertos: word for word, shape in OBJECTS.items()}
+# What things are called elsewhere, in small letters, and the word of their line.
+OTHER_WORDS: Dict[str, str] = {
+    "event": "group",
+    "events": "group",
+    "eventgroup": "group",
+    "event_group": "group",
+    "flags": "group",
+    "streambuffer": "stream",
+    "stream_buffer": "stream",
+    "messagebuffer": "message",
+    "message_buffer": "message",
+    "queueset": "set",
+    "queue_set": "set",
+    "thread": "task",
+    "queuehandle_t": "queue",
+    "queuesethandle_t": "set",
+    "streambufferhandle_t": "stream",
+    "messagebufferhandle_t": "message",
+    "eventgrouphandle_t": "group",
+    "taskhandle_t": "task",
+}
+SEMAPHORES = ("semaphore", "sem", "mutex", "lock", "semaphorehandle_t")
+CONSTANTS = ("constant", "constexpr", "define", "static", "enum", "let", "cosnt", "conts", "cnst")
+TYPES = re.compile(r"const|static|constexpr|unsigned|long|short|int|char|size_t|u?int[0-9]+_t")
+STORAGE = re.compile("static|const|extern|volatile")
+# So many words of a line are looked at.
+MOST_TOKENS = 30
+FIXED = ("const", "constexpr", "static", "define")
+VARIABLES = re.compile(rf"{TYPES.pattern}|float|double|bool|struct|extern|volatile|[A-Za-z0-9_]+_t")
+BRACES = re.compile(r"[{}]+")
+JUMPS = ("jump", "jumpz", "goto")
+ASSIGNS = re.compile(r"[-+*/|&]?=|\+\+|--")
+NO_VARIABLES = "a script has no variables: r0 to r7 stand for them"
+
+
+def jumped_to(lines: Sequence[Sequence[Token]]) -> Set[str]:
+    """The last words of lines that jump."""
+    return {
+        next((token.text for token in reversed(tokens) if token.is_word()), "")
+        for tokens in lines
+        if any(token.text in JUMPS for token in tokens[:MOST_TOKENS])
+    }
+
+
+def is_label(tokens: Sequence[Token], targets: Set[str]) -> bool:
+    """Whether a line is a label without its colon: one word, to which some line jumps."""
+    word = tokens[0].text
+    return len(tokens) == 1 and NAME.fullmatch(word) is not None and word in targets
+
+
+def object_of(tokens: Sequence[Token]) -> Tuple[str, Optional[Token]]:
+    """The word of the object that a line was meant to give, and its name; an empty word where it
+    gives none."""
+    while STORAGE.fullmatch(tokens[0].text) and len(tokens) > 1:
+        tokens = tokens[1:]
+    tokens = tokens[:MOST_TOKENS]
+    words = [called(token.text) for token in tokens]
+    for at, word in enumerate(words):
+        if word in CREATED:
+            name = tokens[at - 2] if at > 1 and words[at - 1] == "=" else None
+            if name is None and CREATED[word] == "task":
+                name = next((token for token in tokens[at + 1 :] if token.is_word()), None)
+            return (CREATED[word], name) if name else ("", None)
+    small = words[0].lower()
+    meant = "queue" if small in SEMAPHORES else OTHER_WORDS.get(small)
+    meant = meant or near_object(small, words[2:])
+    name = tokens[1] if len(tokens) > 1 and tokens[1].is_word() else None
+    is_set = meant == "set" and not any(token.text == "length" for token in tokens)
+    return (meant, name) if name and meant in OBJECTS and not is_set else ("", None)
+
+
+def near_object(word: str, others: Sequence[str]) -> str:
+    """The word of an object's line that is near to another, where its keys stand behind it; else
+    an empty word."""
+    near = nearest(word[:LONGEST], FIRST_WORDS) or ""
+    keys = OBJECTS[near].names()[1:] if near in OBJECTS else ()
+    has_keys = any(nearest(other[:LONGEST], keys) for other in others[:6]) if keys else not others
+    return near if near in OBJECTS and has_keys else ""
+
+
+def as_const(tokens: Sequence[Token]) -> Optional[Sequence[Token]]:
+    """The name and the number of a const that is written otherwise: `const int RX = 5`, `cosnt RX
+    5`. None where a line is none."""
+    words = [token.text for token in tokens[:MOST_TOKENS]]
+    at = 0
+    while at < len(words) and (TYPES.fullmatch(words[at]) or words[at].lower() in CONSTANTS):
+        at += 1
+    rest = [token for token in tokens[at:] if token.text != "="] if at else []
+    is_one = len(rest) > 1 and NAME.fullmatch(rest[0].text) and re.match("[0-9(]", rest[1].text)
+    return rest if is_one else None
+
+
+def message_of(tokens: Sequence[Token], targets: Set[str]) -> str:
+    """What to say of a line that begins with no word that lines begin with."""
+    word = tokens[0].text
+    meant = as_const(tokens)
+    if meant is not None:
+        value = "N" if meant[1].text == "(" else meant[1].text
+        const = f"a const is written const {shown(meant[0].text)} {shown(value)}"
+        is_variable = all(token.text not in FIXED for token in tokens[:MOST_TOKENS])
+        return f"{NO_VARIABLES}; {const}" if is_variable and TYPES.fullmatch(word) else const
+    for name in (called(token.text) for token in tokens[:MOST_TOKENS]):
+        if name in CALLS:
+            return f"{name} is written {CALLS[name]}"
+    if word.lower() in SEMAPHORES:
+        return f"no line begins with {shown(word)}: {SEMAPHORE}"
+    said = statement([token.text for token in tokens[:MOST_TOKENS]], True) or sentence(word, True)
+    if said:
+        return said
+    if BRACES.fullmatch(word):
+        return NO_BRACES
+    if len(tokens) > 1 and VARIABLES.fullmatch(word) and word.lower() not in OTHER_WORDS:
+        return f"no line begins with {shown(word)}: {NO_VARIABLES}"
+    if len(tokens) > 1 and NAME.fullmatch(word) and ASSIGNS.fullmatch(tokens[1].text):
+        return f"no line begins with {shown(word)}: {NO_VARIABLES}"
+    if word.lower() in OTHER_WORDS and len(tokens) > 1:
+        return f"{shown(word)} is written {form_of(OTHER_WORDS[word.lower()])}"
+    if is_label(tokens, targets):
+        return f"no line begins with {shown(word)}; a label has a colon: {shown(word)}:"
+    return f"no line begins with {shown(word)}{near_to(word, FIRST_WORDS)}"

@@ -1,0 +1,107 @@
+"""Words that stand in replies, and not at the beginning of a line: what each of them means."""
+import re
+from typing import Dict, List
+
+from rdbg import freertos
+
+from rdbg.shell.views import REGISTERS
+
+PHASES: Dict[str, str] = {
+    "run": "the task goes on with its next instruction, on a core or ready for one",
+    "wait": "the task waits in a call: wait:PLACE:DEADLINE, as wait:recv:jobs:10, until tick 10 at"
+    " the most, or max without a deadline",
+    "again": "the task was woken and hasn't run yet: its next step tries the call again, and another"
+    " task may have been there first; again:DEADLINE",
+    "given": "the task was woken with the bits of an event group, which its next step returns",
+    "ended": "the task has done `end`, and never runs again",
+    "failed": "a call went wrong in a way that no answer tells, as SetFull or BadBits, where the"
+    " kernel would assert; the task never runs again",
+}
+GOALS: Dict[str, str] = {
+    "stuck": "no core is busy, and no task has a deadline: only ticks are left. A task that never"
+    " waits, as an interrupt that ends in a jump, keeps it off: then `until sleeps TASK`",
+    "failed": "a task's phase is failed",
+    "wakes": "`wakes TASK`: it waited before the move, and doesn't after it",
+    "sleeps": "`sleeps TASK`: it begins to wait without a deadline",
+    "changes": "`changes QUEUE`, or another object: what it holds isn't what it was before the move",
+}
+REFUSALS: Dict[str, str] = {
+    "NoTask": "the core is idle: `where` says who is on which",
+    "TickLimit": "the tick is 4294967295, and can't grow any more",
+    "TooFar": "TooFar N: there are only N moves to take back",
+    "NothingUndone": "fewer moves were taken back than are to be made again",
+    "MovesFull": "the moves done are at their limit, --moves",
+    "Held": "Held N: session N has the wheel; views and watches go on",
+    "NoSuch": "there is no core, register, notification entry or name like this",
+    "BadEdit": "the edit can't be made: the pc of a task that isn't in phase run, an item or a byte"
+    " that isn't there, or a value too large for it",
+    "WatchesFull": "the session has 16 watches",
+    "NoWatch": "the session has no watch of this number",
+    "NotHolder": "the wheel isn't this session's, so it can't give it",
+    "HistoryFull": "no place of the history is free, --history: `help history`",
+    "NoMemory": "a growth was refused",
+    "Syntax": "the line is no command: a word too many, one missing, or one of another form",
+    "LineTooLong": "the line has over 1024 bytes; the session ends",
+    "Broken": "the session's receipts aren't those of the history: a fault of rdbg",
+    "Full": "the server has as many sessions as it was started for",
+}
+TERMS: Dict[str, str] = {
+    "goal": "a GOAL is a COND, or stuck, failed, wakes TASK, sleeps TASK or changes QUEUE: `until"
+    " GOAL` runs there, `rc GOAL` goes back there; with `!` to where it became so",
+    "registers": "each task has r0 to r7; r0 is the answer of its last call (docs/CALLS.md):"
+    " `print r0 TASK`, `info registers TASK`; `poke reg TASK R N` sets one",
+    "turn": "the core after that of the last step, 0 after a tick; it binds you to nothing",
+    "tick": "block times are reckoned in ticks; a run makes one after an instruction of each core",
+    "ready": "the task can run, and no core is free for it",
+    "met": "a run or a way back came to where its condition or goal is so",
+    "limit": "a run made COUNT moves, and the goal wasn't met in this order of many",
+    "start": "a way back came to boot, and the condition held nowhere before",
+    "lines": "`(22 lines asked)`: so many lines of rdbg's it took to find a place",
+    "echo": "`set echo on` shows each line that goes to rdbg, behind >",
+}
+CONSTANTS: Dict[str, str] = {
+    "portMAX_DELAY": "max, as a block time: without a deadline",
+    "pdTRUE": "1",
+    "pdPASS": "1",
+    "pdFALSE": "0",
+    "pdFAIL": "0",
+    "errQUEUE_FULL": "0",
+    "errQUEUE_EMPTY": "0",
+    "pdMS_TO_TICKS": "the number of ticks itself: a block time is ticks",
+}
+# What a name of FreeRTOS looks like.
+CALLED = re.compile(
+    r"(u|ul|ux|x|v|pv|pc|e)(Queue|Task|Event|Stream|Message|Semaphore|Timer|CoRoutine|Port)\w*"
+    r"|(pd|err|port|task|config|trace)[A-Z_]\w*|INCLUDE_\w+"
+)
+WORDS: List[str] = [*PHASES, *GOALS, *REFUSALS, "GOAL", *TERMS, *REGISTERS]
+
+
+def meaning(word: str) -> List[str]:
+    """What a word means, a sentence for each of its meanings."""
+    found = [f"phase {word}: {PHASES[word]}"] if word in PHASES else []
+    if word in GOALS:
+        found.append(f"goal {word}: {GOALS[word]}")
+    refusal = next((name for name in REFUSALS if name.lower() == word.lower()), None)
+    if refusal:
+        found.append(f"no {refusal}: {REFUSALS[refusal]}")
+    term = "registers" if word in REGISTERS else word.lower()
+    if term in TERMS and word.lower() not in GOALS:
+        found.append(TERMS[term])
+    return found
+
+
+def of_freertos(word: str) -> str:
+    """What stands for a name of FreeRTOS or of C; empty where it is no such name."""
+    name = freertos.called(word)
+    plain = re.sub("Static$", "", name)
+    known = freertos.sentence(word) or (freertos.sentence(plain) if plain != name else "")
+    if name in CONSTANTS:
+        return f"{name} is written {CONSTANTS[name]}"
+    if known:
+        return known
+    if CALLED.fullmatch(name):
+        return (
+            f"nothing stands for {name}; docs/CALLS.md has each call that an instruction stands for"
+        )
+    return ""
