@@ -48,5 +48,11 @@ pub passes : (app : Application) (names : NamesView) → AreAsMany app names
     && (nat_eq (length names.messages) (length app.objects.messages)
     && (nat_eq (length names.groups) (length app.objects.groups) && nat_eq (length names.tasks) (length app.tasks)))))) ≡ true
 passes app names paired =
-    rw (eq-eqb _ _ paired.queues, eq-eqb _ _ paired.queue_sets, eq-eqb _ _ paired.streams, eq-eqb _ _ paired.messages, eq-eqb _ _ paired.groups,
-    eq-eqb _ _ paired.tasks) refl
+    rw (
+      eq-eqb _ _ paired.queues,
+      eq-eqb _ _ paired.queue_sets,
+      eq-eqb _ _ paired.streams,
+      eq-eqb _ _ paired.messages,
+      eq-eqb _ _ paired.groups,
+      eq-eqb _ _ paired.tasks,
+    ) refl

@@ -10,9 +10,9 @@ ghost use Rattle.rd_reply.specs.Replies.{on_met_name, wait_for_name, waiter_text
 
 use crate::page::Page;
 use crate::reply::{Appended, append_comma, append_name, append_number};
-use rd_names::names::Names;
 use rd_group::group::Group;
 use rd_group::wish::{OnMet, WaitFor, Wish};
+use rd_names::names::Names;
 use rd_text::kind::Kind;
 
 // Whether a task waits for any of its bits or for all, as a word.

@@ -26,8 +26,8 @@ ghost use Rattle.rd_reply.specs.Pages.{Appends, LacksRoom, KeepsFront};
 use crate::buffers::append_held;
 use crate::page::Page;
 use itoa::{Buffer, Integer};
-use rd_names::names::Names;
 use rd_bytes::bytes::MAX_BYTES;
+use rd_names::names::Names;
 use rd_notify::entries::{Entry, EntryState};
 use rd_queue::queue::Queue;
 use rd_queue::queue_set::QueueSet;
@@ -331,7 +331,12 @@ fn append_handle_names(page: &mut Page<'_>, names: &Names, queue_set: &QueueSet)
 }
 
 // The name of an object or a task; `-` for none.
-pub(crate) fn append_name_or_dash(page: &mut Page<'_>, names: &Names, kind: Kind, number: Option<usize>)
+pub(crate) fn append_name_or_dash(
+    page: &mut Page<'_>,
+    names: &Names,
+    kind: Kind,
+    number: Option<usize>,
+)
     requires { IsNamedOrNone (names_of kind names.now) number }
     ensures { Appends page.old page.new (name_or_dash (names_of kind names.now) number) }
 {
@@ -540,7 +545,11 @@ fn append_waiting(page: &mut Page<'_>, names: &Names, queue: &Queue)
     ensures { Appends page.old page.new (waiting_text names.now queue.now) }
 {
     page.append(" recv ");
-    append_task_names(page, names, queue.waiting(WaitingList::Receiving).as_slice());
+    append_task_names(
+        page,
+        names,
+        queue.waiting(WaitingList::Receiving).as_slice(),
+    );
     page.append(" send ");
     append_task_names(page, names, queue.waiting(WaitingList::Sending).as_slice());
 }
@@ -556,7 +565,12 @@ fn append_membership(page: &mut Page<'_>, names: &Names, queue: &Queue)
 
 /// Appends the view of a queue set. An `Err` says that there is no memory for it, and comes only
 /// where the page has no room for it; the page may then have some part of it after what it had.
-pub fn show_queue_set(page: &mut Vec<u8>, names: &Names, name: &str, queue_set: &QueueSet) -> Appended
+pub fn show_queue_set(
+    page: &mut Vec<u8>,
+    names: &Names,
+    name: &str,
+    queue_set: &QueueSet,
+) -> Appended
     requires { QueueSetIsNamed names.now queue_set.now }
     ensures text { OnOk result (page.new.items
         ≡ page.old.items ++ line_of (queue_set_text names.now name.now queue_set.now)) }
