@@ -9,13 +9,27 @@ TOP = pathlib.Path(__file__).resolve().parent.parent
 
 
 def read_crates():
-    """The repository's libraries that each crate stands on, itself not counted, lowest first."""
+    """The repository's libraries that each crate stands on, itself not counted, lowest first.
+
+    crates.txt names for a crate what its own sources name; what those stand on is added here.
+    """
     text = (TOP / "crates.txt").read_text()
     lines = [line.partition("#")[0].strip() for line in text.splitlines()]
-    uses = {}
+    named = {}
     for name, _, words in (line.partition(":") for line in lines if line):
-        uses[name.split()[0]] = words.split()
-    return {name: [other for other in uses if other in words] for name, words in uses.items()}
+        named[name.split()[0]] = words.split()
+    below = {}
+
+    def close(name):
+        if name not in below:
+            below[name] = set()
+            for other in filter(named.__contains__, named[name]):
+                below[name] |= {other, *close(other)}
+        return below[name]
+
+    closed = {name: close(name) for name in named}
+    ordered = sorted(named, key=lambda name: len(closed[name]))
+    return {name: [other for other in ordered if other in closed[name]] for name in named}
 
 
 def processors():

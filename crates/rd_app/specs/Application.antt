@@ -1,4 +1,4 @@
--- An application: what a contract sees of an `App`, and the limits that each keeps.
+-- What runs of an application: what a contract sees of a `Program`, and the limits that each keeps.
 use Rattle.std.specs.Prelude.{ℕ, ◌≡◌, ◌-◌, ◌^◌, ◌<◌, ◌≤◌, Bool, true, false}
 use Rattle.std.specs.Prelude.{List, [], length, map, slice_index_or, All, Option, None, Some}
 use Rattle.rd_bytes.specs.declared.bytes.TheConstants.{MAX_BYTES}
@@ -6,7 +6,6 @@ use Rattle.rd_notify.specs.declared.entries.TheConstants.{MAX_ENTRIES}
 use Rattle.rd_app.specs.declared.app.TheConstants.{MAX_CODE, MAX_CORES, MAX_PRIORITY, MAX_TASKS}
 use Rattle.rd_app.specs.declared.instr.TheConstants.{REGISTERS}
 use Rattle.rd_app.specs.declared.objects.QueueShape.{QueueShape}
-use Rattle.rd_text.specs.declared.kind.Kind.{Kind}
 use Rattle.rd_app.specs.declared.instr.Operand.{Operand}
 use Rattle.rd_app.specs.declared.instr.Operand.TheVariants.{Number, Register}
 use Rattle.rd_app.specs.declared.instr.Instr.{Instr}
@@ -33,23 +32,18 @@ use Rattle.rd_queue.specs.declared.waiting_list.WaitingList.TheVariants.{Receivi
 use Rattle.rd_stream.specs.declared.side.Side.{Side}
 use Rattle.rd_stream.specs.declared.side.Side.TheVariants.{Reader, Writer}
 use Rattle.rd_app.specs.TaskScript.{TaskScript}
-use Rattle.rd_app.specs.Named.{AreNamed, Named}
-use Rattle.rd_app.specs.Objects.{AreObjects, NamedObjects, names_in, shape_at}
+use Rattle.rd_app.specs.Objects.{AreObjects, ObjectShapes, shape_at}
 
 pub record Application : Type 0 where
   pub cores : ℕ
   pub entries : ℕ
   pub tick : ℕ
-  pub objects : NamedObjects
-  pub tasks : Named TaskScript
-
--- the names of one kind
-abbrev pub names_of : Kind → Application → List (List ℕ)
-names_of kind app = names_in app.objects app.tasks.names kind
+  pub objects : ObjectShapes
+  pub tasks : List TaskScript
 
 -- the script of a task
 abbrev pub script_of : Application → ℕ → TaskScript
-script_of app task = slice_index_or app.tasks.things task (record { priority = 0; code = [] })
+script_of app task = slice_index_or app.tasks task (record { priority = 0; code = [] })
 
 -- the instructions of a task
 abbrev pub code_of : Application → ℕ → List Instr
@@ -61,7 +55,7 @@ instr_at app task pc = slice_index_or (code_of app task) pc (Local local.End)
 
 -- the tasks' priorities, by number
 abbrev pub priorities_of : Application → List ℕ
-priorities_of app = map (λ script. script.priority) app.tasks.things
+priorities_of app = map (λ script. script.priority) app.tasks
 
 -- the block time of a call that waits without end
 abbrev pub max_delay : ℕ
@@ -202,18 +196,18 @@ waits_in_group (group_call.Sync set bits wait) = true
 abbrev pub IsWithin : Application → ℕ → Instr → Type 0
 IsWithin app len (Local instr) = IsLocalWithin len instr
 IsWithin app len (Queue queue call) =
-    (queue < length app.objects.queues.things)
-    × IsQueueCall (length app.objects.queue_sets.things) call
+    (queue < length app.objects.queues)
+    × IsQueueCall (length app.objects.queue_sets) call
     × IsCallFor (shape_at app.objects queue) call
 IsWithin app len (QueueSet queue_set call) =
-    (queue_set < length app.objects.queue_sets.things) × IsQueueSetCall call
+    (queue_set < length app.objects.queue_sets) × IsQueueSetCall call
 IsWithin app len (Stream stream call) =
-    (stream < length app.objects.streams.things) × IsStreamCall call
+    (stream < length app.objects.streams) × IsStreamCall call
 IsWithin app len (Message message call) =
-    (message < length app.objects.messages.things) × IsMessageCall call
+    (message < length app.objects.messages) × IsMessageCall call
 IsWithin app len (Group group call) =
-    (group < length app.objects.groups.things) × IsGroupCall call
-IsWithin app len (Notify call) = IsNotifyCall (length app.tasks.things) app.entries call
+    (group < length app.objects.groups) × IsGroupCall call
+IsWithin app len (Notify call) = IsNotifyCall (length app.tasks) app.entries call
 
 -- does the script never go on at the next instruction?
 abbrev pub is_local_final : LocalInstr → Bool
@@ -260,7 +254,6 @@ pub record IsApplication (app : Application) : Type 0 where
   pub few_entries : app.entries ≤ MAX_ENTRIES
   pub tick : app.tick < 2 ^ 32
   pub objects : AreObjects app.objects
-  pub named_tasks : AreNamed app.tasks
-  pub some_tasks : 0 < length app.tasks.things
-  pub few_tasks : length app.tasks.things ≤ MAX_TASKS
-  pub tasks : All (IsScript app) app.tasks.things
+  pub some_tasks : 0 < length app.tasks
+  pub few_tasks : length app.tasks ≤ MAX_TASKS
+  pub tasks : All (IsScript app) app.tasks

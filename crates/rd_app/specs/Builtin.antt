@@ -1,5 +1,5 @@
 -- The built-in application: one task that sends three times to a queue with room for two items.
-use Rattle.std.specs.Prelude.{codes, List, [], ◌∷◌}
+use Rattle.std.specs.Prelude.{List, [], ◌∷◌}
 use Rattle.rd_app.specs.declared.instr.Instr.{Instr}
 use Rattle.rd_app.specs.declared.instr.Operand.TheVariants.{Number}
 use Rattle.rd_app.specs.declared.instr.Instr.TheVariants.{Local, Queue}
@@ -7,7 +7,7 @@ use Rattle.rd_app.specs.declared.instr.LocalInstr.TheVariants.{Data, End}
 use Rattle.rd_app.specs.declared.instr.QueueCall.TheVariants.{Send}
 use Rattle.rd_queue.specs.declared.end.End.TheVariants.{Back}
 use Rattle.rd_app.specs.Application.{Application}
-use Rattle.rd_app.specs.Objects.{no_named_objects}
+use Rattle.rd_app.specs.Objects.{no_shapes}
 
 -- the instructions of its task
 abbrev pub builtin_code : List Instr
@@ -24,14 +24,6 @@ builtin = record {
   cores = 1;
   entries = 1;
   tick = 0;
-  objects = record no_named_objects {
-    queues = record {
-      names = codes "q0" ∷ [];
-      things = record { capacity = 2; item_size = 1 } ∷ [];
-    };
-  };
-  tasks = record {
-    names = codes "t0" ∷ [];
-    things = record { priority = 1; code = builtin_code } ∷ [];
-  };
+  objects = record no_shapes { queues = record { capacity = 2; item_size = 1 } ∷ [] };
+  tasks = record { priority = 1; code = builtin_code } ∷ [];
 }

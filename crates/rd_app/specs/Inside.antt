@@ -1,7 +1,6 @@
 -- The application that its parts make.
 use Rattle.rd_app.specs.declared.app.Parts.{Parts}
 use Rattle.rd_app.specs.Application.{Application}
-use Rattle.rd_app.specs.Named.{named_view}
 use Rattle.rd_app.specs.Objects.{objects_view}
 
 abbrev pub application_of : Parts → Application
@@ -10,5 +9,5 @@ application_of parts = record {
   entries = parts.entries;
   tick = parts.tick;
   objects = objects_view parts.objects;
-  tasks = named_view parts.tasks;
+  tasks = parts.tasks.items;
 }

@@ -3,6 +3,5 @@ pub mod TaskScript
 pub mod QueueSetShapeView
 pub mod Objects
 pub mod Application
-pub mod Named
 pub mod Inside
 pub mod Builtin

@@ -1,9 +1,8 @@
--- The objects of an application, and the limits that each keeps.
+-- The objects of an application, and the limits that each keeps. They go by number: the index in
+-- the list of their kind.
 use Rattle.std.specs.Prelude.{ℕ, ◌<◌, ◌≤◌, List, [], length, map, slice_index_or, All, Option}
 use Rattle.std.specs.Prelude.{nat_eq, position}
 use Rattle.std.specs.List.{IsDistinct, concat, list_any}
-use Rattle.rd_text.specs.declared.kind.Kind.{Kind}
-use Rattle.rd_text.specs.declared.kind.Kind.TheVariants as kind
 use Rattle.rd_queue.specs.declared.item.TheConstants.{MAX_ITEM_SIZE}
 use Rattle.rd_queue.specs.declared.queue.TheConstants.{MAX_ITEMS}
 use Rattle.rd_queue.specs.declared.queue_set.TheConstants.{MAX_HANDLES}
@@ -16,53 +15,37 @@ use Rattle.rd_app.specs.declared.objects.GroupShape.{GroupShape}
 use Rattle.rd_app.specs.declared.objects.QueueShape.{QueueShape}
 use Rattle.rd_app.specs.declared.objects.StreamShape.{StreamShape}
 use Rattle.rd_app.specs.declared.objects.MessageShape.{MessageShape}
-use Rattle.rd_app.specs.declared.objects.NamedObjects as code
-use Rattle.rd_app.specs.Named.{AreNamed, Named, named_view}
+use Rattle.rd_app.specs.declared.objects.ObjectShapes as code
 use Rattle.rd_app.specs.QueueSetShapeView.{QueueSetShapeView}
 
-pub record NamedObjects : Type 0 where
-  pub queues : Named QueueShape
-  pub queue_sets : Named QueueSetShapeView
-  pub streams : Named StreamShape
-  pub messages : Named MessageShape
-  pub groups : Named GroupShape
+pub record ObjectShapes : Type 0 where
+  pub queues : List QueueShape
+  pub queue_sets : List QueueSetShapeView
+  pub streams : List StreamShape
+  pub messages : List MessageShape
+  pub groups : List GroupShape
 
-abbrev pub no_named_objects : NamedObjects
-no_named_objects = record {
-  queues = record { names = []; things = [] };
-  queue_sets = record { names = []; things = [] };
-  streams = record { names = []; things = [] };
-  messages = record { names = []; things = [] };
-  groups = record { names = []; things = [] };
-}
+abbrev pub no_shapes : ObjectShapes
+no_shapes = record { queues = []; queue_sets = []; streams = []; messages = []; groups = [] }
 
 -- what a contract sees of the code's
-abbrev pub objects_view : code.NamedObjects → NamedObjects
+abbrev pub objects_view : code.ObjectShapes → ObjectShapes
 objects_view objects = record {
-  queues = named_view objects.queues;
-  queue_sets = named_view objects.queue_sets;
-  streams = named_view objects.streams;
-  messages = named_view objects.messages;
-  groups = named_view objects.groups;
+  queues = objects.queues.items;
+  queue_sets = objects.queue_sets.items;
+  streams = objects.streams.items;
+  messages = objects.messages.items;
+  groups = objects.groups.items;
 }
 
--- the names of a kind, among these objects and the tasks of these names
-abbrev pub names_in : NamedObjects → List (List ℕ) → Kind → List (List ℕ)
-names_in o tasks kind.Queue = o.queues.names
-names_in o tasks kind.QueueSet = o.queue_sets.names
-names_in o tasks kind.Stream = o.streams.names
-names_in o tasks kind.Message = o.messages.names
-names_in o tasks kind.Group = o.groups.names
-names_in o tasks kind.Task = tasks
-
 -- the shape of a queue
-abbrev pub shape_at : NamedObjects → ℕ → QueueShape
-shape_at o queue = slice_index_or o.queues.things queue (record { capacity = 0; item_size = 0 })
+abbrev pub shape_at : ObjectShapes → ℕ → QueueShape
+shape_at o queue = slice_index_or o.queues queue (record { capacity = 0; item_size = 0 })
 
 -- the set that a queue is a member of at boot, if it is one of any
-abbrev pub queue_set_at_boot : NamedObjects → ℕ → Option ℕ
+abbrev pub queue_set_at_boot : ObjectShapes → ℕ → Option ℕ
 queue_set_at_boot o queue =
-    position (λ queue_set. list_any (nat_eq queue) queue_set.members) o.queue_sets.things
+    position (λ queue_set. list_any (nat_eq queue) queue_set.members) o.queue_sets
 
 -- the members of all these sets, one set after another
 abbrev pub members_of : List QueueSetShapeView → List ℕ
@@ -76,10 +59,10 @@ IsQueueShape queue =
     × (queue.item_size ≤ MAX_ITEM_SIZE)
 
 -- There is room for handles, and the members are queues.
-pub record IsQueueSetShape (o : NamedObjects) (queue_set : QueueSetShapeView) : Type 0 where
+pub record IsQueueSetShape (o : ObjectShapes) (queue_set : QueueSetShapeView) : Type 0 where
   pub some : 0 < queue_set.capacity
   pub few : queue_set.capacity ≤ MAX_HANDLES
-  pub members : All (λ queue. queue < length o.queues.things) queue_set.members
+  pub members : All (λ queue. queue < length o.queues) queue_set.members
 
 -- There is room for a byte, and the trigger level is a number of bytes for which there is room.
 abbrev pub IsStreamShape : StreamShape → Type 0
@@ -93,19 +76,14 @@ abbrev pub IsMessageShape : MessageShape → Type 0
 IsMessageShape buffer =
     (MIN_MESSAGE_BUFFER_SIZE ≤ buffer.capacity) × (buffer.capacity ≤ MAX_MESSAGE_BUFFER_SIZE)
 
-pub record AreObjects (o : NamedObjects) : Type 0 where
-  pub named_queues : AreNamed o.queues
-  pub few_queues : length o.queues.things ≤ MAX_QUEUES
-  pub queues : All IsQueueShape o.queues.things
-  pub named_queue_sets : AreNamed o.queue_sets
-  pub few_queue_sets : length o.queue_sets.things ≤ MAX_QUEUE_SETS
-  pub queue_sets : All (IsQueueSetShape o) o.queue_sets.things
-  pub one_queue_set_each : IsDistinct nat_eq (members_of o.queue_sets.things)
-  pub named_streams : AreNamed o.streams
-  pub few_streams : length o.streams.things ≤ MAX_STREAMS
-  pub streams : All IsStreamShape o.streams.things
-  pub named_messages : AreNamed o.messages
-  pub few_messages : length o.messages.things ≤ MAX_MESSAGE_BUFFERS
-  pub messages : All IsMessageShape o.messages.things
-  pub named_groups : AreNamed o.groups
-  pub few_groups : length o.groups.things ≤ MAX_GROUPS
+pub record AreObjects (o : ObjectShapes) : Type 0 where
+  pub few_queues : length o.queues ≤ MAX_QUEUES
+  pub queues : All IsQueueShape o.queues
+  pub few_queue_sets : length o.queue_sets ≤ MAX_QUEUE_SETS
+  pub queue_sets : All (IsQueueSetShape o) o.queue_sets
+  pub one_queue_set_each : IsDistinct nat_eq (members_of o.queue_sets)
+  pub few_streams : length o.streams ≤ MAX_STREAMS
+  pub streams : All IsStreamShape o.streams
+  pub few_messages : length o.messages ≤ MAX_MESSAGE_BUFFERS
+  pub messages : All IsMessageShape o.messages
+  pub few_groups : length o.groups ≤ MAX_GROUPS

@@ -1,22 +1,18 @@
-//! An application: its cores, its objects, its tasks with their scripts, and names.
+//! What runs of an application: its cores, its objects, and its tasks with their scripts. All of it
+//! goes by number; what it is called is elsewhere.
 
-ghost use Rattle.std.specs.Prelude.{◌≡◌, ◌<◌, ◌≤◌, length, map, position, slice_get};
-ghost use Rattle.std.specs.Prelude.{All, Some, IfOk};
-ghost use Rattle.std.specs.Str.{bytes_eq};
-ghost use Rattle.rd_app.specs.Application.{IsApplication, IsWithin, names_of, code_of};
-ghost use Rattle.rd_app.specs.Application.{priorities_of};
+ghost use Rattle.std.specs.Prelude.{◌≡◌, ◌<◌, ◌≤◌, length, map};
+ghost use Rattle.std.specs.Prelude.{All, IfOk};
+ghost use Rattle.rd_app.specs.Application.{IsApplication, IsWithin, code_of, priorities_of};
 ghost use Rattle.rd_app.specs.Builtin.{builtin, builtin_code};
 ghost use Rattle.rd_app.specs.Inside.{application_of};
-ghost use Rattle.rd_app.specs.Named.{named_view};
 ghost use Rattle.rd_app.specs.Objects.{objects_view};
 
 use crate::both::both;
 use crate::instr::{Instr, LocalInstr, Operand, QueueCall};
-use crate::objects::{Named, NamedObjects, QueueShape};
+use crate::objects::{ObjectShapes, QueueShape};
 use rd_bytes::bytes::Bytes;
 use rd_queue::end::End;
-use rd_text::kind::Kind;
-use rd_text::names::Names;
 use std::alloc::{AllocError, Global};
 use std::marker::Model;
 
@@ -56,7 +52,7 @@ impl Model for Script {
     ghost view = { λ s. record { priority = s.priority; code = s.code.items } };
 }
 
-/// What an application is made of.
+/// What a program is made of.
 #[derive(Drop)]
 pub struct Parts {
     /// How many cores there are, 1 to 8.
@@ -66,28 +62,28 @@ pub struct Parts {
     /// The tick at boot.
     pub tick: u32,
     /// The objects.
-    pub objects: NamedObjects,
-    /// The tasks' scripts, 1 to 32.
-    pub tasks: Named<Script>,
+    pub objects: ObjectShapes,
+    /// The tasks' scripts, 1 to 32. They go by number: the index here.
+    pub tasks: Vec<Script>,
 }
 
-/// An application within the limits. It never changes.
-pub struct App {
+/// What runs of an application within the limits. It never changes.
+pub struct Program {
     parts: Parts,
     priorities: Vec<u8>,
 }
 
 // (Written out, so that a drop of one is a call: no proof elsewhere has to look into its parts.)
-impl Drop for App {
+impl Drop for Program {
     fn drop(self) {
-        let App {
+        let Program {
             parts: _parts,
             priorities: _priorities,
         } = self;
     }
 }
 
-impl Model for App {
+impl Model for Program {
     ghost use Rattle.std.specs.Prelude.{◌≡◌};
     ghost use Rattle.rd_app.specs.Application.{Application, priorities_of, IsApplication};
 
@@ -148,46 +144,47 @@ fn builtin_code(alloc: Global) -> Result<Vec<Instr>, AllocError>
 }
 
 // The built-in application's task.
-fn builtin_tasks(alloc: Global) -> Result<Named<Script>, AllocError>
-    ensures { IfOk result (λ tasks. named_view tasks ≡ builtin.tasks) }
+fn builtin_tasks(alloc: Global) -> Result<Vec<Script>, AllocError>
+    ensures { IfOk result (λ tasks. tasks.items ≡ builtin.tasks) }
 {
     let mut scripts = Vec::with_capacity(alloc, 1)?;
     scripts.push_reserved(Script::new(1, builtin_code(alloc)?));
-    Named::new(alloc, &["t0"], scripts)
+    Ok(scripts)
 }
 
-impl App {
-    /// The application of these parts, which are within the limits.
-    pub fn new(alloc: Global, parts: Parts) -> Result<App, AllocError>
+impl Program {
+    /// What these parts make, which are within the limits.
+    pub fn new(alloc: Global, parts: Parts) -> Result<Program, AllocError>
         requires { IsApplication (application_of parts) }
         ensures { IfOk result (λ app. app ≡ application_of parts) }
     {
-        let priorities = priorities_of(alloc, parts.tasks.things.as_slice());
+        let priorities = priorities_of(alloc, parts.tasks.as_slice());
         let (parts, priorities) = both(Ok(parts), priorities)?;
-        Ok(App { parts, priorities })
+        Ok(Program { parts, priorities })
     }
 
-    /// The built-in application: one task that sends three times to a queue for two items.
-    pub fn builtin(alloc: Global) -> Result<App, AllocError>
+    /// What runs of the built-in application: one task that sends three times to a queue for two
+    /// items.
+    pub fn builtin(alloc: Global) -> Result<Program, AllocError>
         ensures { IfOk result (λ app. app ≡ builtin) }
     {
         let queue = QueueShape {
             capacity: 2,
             item_size: 1,
         };
-        let queues = Named::new(alloc, &["q0"], vec![in alloc; queue]?);
-        let (queues, tasks) = both(queues, builtin_tasks(alloc))?;
+        let queues = vec![in alloc; queue]?;
+        let tasks = builtin_tasks(alloc)?;
         let parts = Parts {
             cores: 1,
             entries: 1,
             tick: 0,
-            objects: NamedObjects::of_queues(alloc, queues),
+            objects: ObjectShapes::of_queues(alloc, queues),
             tasks,
         };
-        App::new(alloc, parts)
+        Program::new(alloc, parts)
     }
 
-    /// The limits that every application keeps.
+    /// The limits that every program keeps.
     pub fn limits(&self)
         ensures { IsApplication self.now }
     {
@@ -216,43 +213,20 @@ impl App {
     }
 
     /// The objects.
-    pub fn objects(&self) -> &NamedObjects
+    pub fn objects(&self) -> &ObjectShapes
         ensures { objects_view result.now ≡ self.now.objects }
     {
         &self.parts.objects
     }
 
-    // The names of a kind.
-    fn names(&self, kind: Kind) -> &Names
-        ensures { result.now ≡ names_of kind self.now }
-    {
-        let Parts { objects, tasks, .. } = &self.parts;
-        objects.names(&tasks.names, kind)
-    }
-
-    /// The number of the thing of that kind with that name, if there is one.
-    pub fn find(&self, kind: Kind, name: &str) -> Option<usize>
-        ensures { result ≡ position (λ other. bytes_eq name.now other) (names_of kind self.now) }
-    {
-        self.names(kind).find(name)
-    }
-
-    /// The name of the thing of that kind with that number.
-    pub fn name(&self, kind: Kind, number: usize) -> &str
-        requires { number < length (names_of kind self.now) }
-        ensures { slice_get (names_of kind self.now) number ≡ Some result.now }
-    {
-        self.names(kind).name(number)
-    }
-
     /// The instructions of the task's script.
     pub fn code(&self, task: usize) -> &[Instr]
-        requires { task < length self.now.tasks.things }
+        requires { task < length self.now.tasks }
         ensures code { result.now ≡ code_of self.now task }
         ensures few { length result.now ≤ MAX_CODE }
         ensures within { All (IsWithin self.now (length result.now)) result.now }
     {
-        let script = &self.parts.tasks.things[task];
+        let script = &self.parts.tasks[task];
         script.code.as_slice()
     }
 

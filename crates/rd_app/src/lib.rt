@@ -1,9 +1,8 @@
-//! The application that is debugged: its tasks' scripts, its cores, its objects (queues and their
-//! sets), and their names.
+//! What runs of the application that is debugged: its tasks' scripts, its cores and its objects. No
+//! crate from here to the timeline knows a name.
 #![tactic(auto)]
 
 pub mod app;
 pub mod both;
-mod copying;
 pub mod instr;
 pub mod objects;

@@ -1,15 +1,10 @@
 //! The objects of an application, as they are to be made. A kind has a field or a row in each of
 //! these.
 
-ghost use Rattle.std.specs.Prelude.{◌≡◌, ◌<◌, [], true, length, IfOk, IfSome};
-ghost use Rattle.rd_text.specs.Names.{are_distinct};
-ghost use Rattle.rd_text.specs.Words.{texts};
-ghost use Rattle.rd_app.specs.Named.{named_view};
-ghost use Rattle.rd_app.specs.Objects.{names_in, no_named_objects, objects_view, queue_set_at_boot};
+ghost use Rattle.std.specs.Prelude.{◌≡◌, ◌<◌, length, IfSome};
+ghost use Rattle.rd_app.specs.Objects.{no_shapes, objects_view, queue_set_at_boot};
 
-use rd_text::kind::Kind;
-use rd_text::names::Names;
-use std::alloc::{AllocError, Global};
+use std::alloc::Global;
 use std::marker::Model;
 
 /// How many queues an application has at the most.
@@ -92,127 +87,79 @@ pub struct MessageShape {
 #[derive(Clone, Copy, Default)]
 pub struct GroupShape {}
 
-/// Things of one kind, with their names. They go by number: the index in both.
-#[derive(Drop)]
-pub struct Named<T> {
-    /// Their names.
-    pub names: Names,
-    /// The things.
-    pub things: Vec<T>,
-}
-
 /// What objects there are, each kind by number.
 #[derive(Drop)]
-pub struct NamedObjects {
+pub struct ObjectShapes {
     /// The queues, at most 32.
-    pub queues: Named<QueueShape>,
+    pub queues: Vec<QueueShape>,
     /// The queue sets, at most 32.
-    pub queue_sets: Named<QueueSetShape>,
+    pub queue_sets: Vec<QueueSetShape>,
     /// The stream buffers, at most 32.
-    pub streams: Named<StreamShape>,
+    pub streams: Vec<StreamShape>,
     /// The message buffers, at most 32.
-    pub messages: Named<MessageShape>,
+    pub messages: Vec<MessageShape>,
     /// The event groups, at most 32.
-    pub groups: Named<GroupShape>,
+    pub groups: Vec<GroupShape>,
 }
 
-impl<T: Drop> Named<T> {
-    /// Things with these names, no two of which are equal.
-    pub fn new(alloc: Global, names: &[&str], things: Vec<T>) -> Result<Named<T>, AllocError>
-        requires { are_distinct (texts names.now) ≡ true }
-        ensures { IfOk result
-            (λ named. named_view named
-            ≡ record { names = texts names.now; things = things.items }) }
-    {
-        let names = Names::new(alloc, names)?;
-        Ok(Named { names, things })
-    }
-
-    /// No things, which takes no memory.
-    fn none(alloc: Global) -> Named<T>
-        ensures { named_view result ≡ record { names = []; things = [] } }
-    {
-        Named {
-            names: Names::none(alloc),
-            things: Vec::new(alloc),
-        }
-    }
-}
-
-impl NamedObjects {
+impl ObjectShapes {
     /// These queues, and no objects of any other kind.
-    pub fn of_queues(alloc: Global, queues: Named<QueueShape>) -> NamedObjects
-        ensures { objects_view result
-            ≡ record no_named_objects { queues = named_view queues } }
+    pub fn of_queues(alloc: Global, queues: Vec<QueueShape>) -> ObjectShapes
+        ensures { objects_view result ≡ record no_shapes { queues = queues.items } }
     {
-        NamedObjects {
+        ObjectShapes {
             queues,
-            queue_sets: Named::none(alloc),
-            streams: Named::none(alloc),
-            messages: Named::none(alloc),
-            groups: Named::none(alloc),
+            queue_sets: Vec::new(alloc),
+            streams: Vec::new(alloc),
+            messages: Vec::new(alloc),
+            groups: Vec::new(alloc),
         }
     }
 
     /// The queues, by number.
     pub fn queues(&self) -> &[QueueShape]
-        ensures { result.now ≡ (objects_view self.now).queues.things }
+        ensures { result.now ≡ (objects_view self.now).queues }
     {
-        self.queues.things.as_slice()
+        self.queues.as_slice()
     }
 
     /// The queue sets, by number.
     pub fn queue_sets(&self) -> &[QueueSetShape]
-        ensures { result.now ≡ (objects_view self.now).queue_sets.things }
+        ensures { result.now ≡ (objects_view self.now).queue_sets }
     {
-        self.queue_sets.things.as_slice()
+        self.queue_sets.as_slice()
     }
 
     /// The stream buffers, by number.
     pub fn streams(&self) -> &[StreamShape]
-        ensures { result.now ≡ (objects_view self.now).streams.things }
+        ensures { result.now ≡ (objects_view self.now).streams }
     {
-        self.streams.things.as_slice()
+        self.streams.as_slice()
     }
 
     /// The message buffers, by number.
     pub fn messages(&self) -> &[MessageShape]
-        ensures { result.now ≡ (objects_view self.now).messages.things }
+        ensures { result.now ≡ (objects_view self.now).messages }
     {
-        self.messages.things.as_slice()
+        self.messages.as_slice()
     }
 
     /// The event groups, by number.
     pub fn groups(&self) -> &[GroupShape]
-        ensures { result.now ≡ (objects_view self.now).groups.things }
+        ensures { result.now ≡ (objects_view self.now).groups }
     {
-        self.groups.things.as_slice()
+        self.groups.as_slice()
     }
 
     /// The set that the queue is a member of at boot, if it is one of any.
     pub fn set_of(&self, queue: usize) -> Option<usize>
         ensures queue_set { result ≡ queue_set_at_boot (objects_view self.now) queue }
         ensures within { IfSome result
-            (λ queue_set. queue_set < length (objects_view self.now).queue_sets.things) }
+            (λ queue_set. queue_set < length (objects_view self.now).queue_sets) }
     {
         self.queue_sets
-            .things
             .iter()
             .position(|queue_set| queue_set.members.contains(&queue))
-    }
-
-    /// The names of a kind, among these objects and the tasks of these names.
-    pub(crate) fn names<'a>(&'a self, tasks: &'a Names, kind: Kind) -> &'a Names
-        ensures { result.now ≡ names_in (objects_view self.now) tasks.now kind }
-    {
-        match kind {
-            Kind::Queue => &self.queues.names,
-            Kind::QueueSet => &self.queue_sets.names,
-            Kind::Stream => &self.streams.names,
-            Kind::Message => &self.messages.names,
-            Kind::Group => &self.groups.names,
-            Kind::Task => tasks,
-        }
     }
 }
 

@@ -38,10 +38,10 @@ IsConsistent-next_instr : (app : Application) (s : Snapshot) (core task : ℕ) �
     → IsConsistent app (all_have_time_left s.tick) (performed (priorities_of app) s core task (next_instr app s task))
 IsConsistent-next_instr app s core task limits valid has_core e =
     let there = is_task_on_core app s core task valid has_core e in
-    let script = get_or app.tasks.things task (record { priority = 0; code = [] }) in
+    let script = get_or app.tasks task (record { priority = 0; code = [] }) in
     let pc = (task_at s task).pc in
     let ok : IsScript app script =
-    All-get_or (IsScript app) app.tasks.things task (record { priority = 0; code = [] }) (omega (arith, there, valid.in_limits.tasks)) limits.tasks in
+    All-get_or (IsScript app) app.tasks task (record { priority = 0; code = [] }) (omega (arith, there, valid.in_limits.tasks)) limits.tasks in
     let within = valid.in_limits.pcs task there in
     let fits = All-get_or (IsWithin app (length script.code)) script.code pc (Local End) within ok.within in
     IsConsistent-performed app s core task (next_instr app s task) limits.some_entries valid there (runs_on_core app s core task valid has_core e) has_core e refl fits

@@ -11,7 +11,7 @@ ghost use Rattle.rd_calls.specs.Step.{performed, core_step, instr_cost};
 ghost use Rattle.rd_calls.specs.Step.{next_instr, NamesParts};
 
 use crate::local::do_local;
-use rd_app::app::App;
+use rd_app::app::Program;
 use rd_app::instr::Instr;
 use rd_bytes::no_memory::NoMemory;
 use rd_group_calls::calls::call_group;
@@ -26,7 +26,7 @@ use rd_stream_calls::streams::call_stream;
 
 // Does one instruction of the task on a core.
 fn perform(
-    app: &App,
+    app: &Program,
     editing: &mut Editing,
     core: usize,
     task: usize,
@@ -72,7 +72,12 @@ fn perform(
 }
 
 /// The move of a core whose task is known: its instruction, the turn, the scheduler.
-pub fn move_core(app: &App, editing: &mut Editing, core: usize, task: usize) -> Result<(), NoMemory>
+pub fn move_core(
+    app: &Program,
+    editing: &mut Editing,
+    core: usize,
+    task: usize,
+) -> Result<(), NoMemory>
     requires caller { IsCalling app.now editing.old.now task }
     requires core { core < length editing.old.now.cores }
     ensures ok { OnOk result

@@ -18,7 +18,7 @@ ghost use Rattle.rd_calls.specs.Step.{IsSmall, LeavesSettled, Plays};
 use crate::moves::Move;
 use crate::perform::move_core;
 use crate::tick::move_tick;
-use rd_app::app::App;
+use rd_app::app::Program;
 use rd_bytes::no_memory::NoMemory;
 use rd_edits::edit::Edit;
 use rd_kernel::calling::caller_on;
@@ -51,7 +51,7 @@ fn finish(editing: &mut Editing, made: Result<(), NoMemory>) -> Result<(), NoMem
 }
 
 // The move of a core whose task is known.
-fn play_core(editing: &mut Editing, app: &App, core: usize, task: usize) -> Result<(), NoMemory>
+fn play_core(editing: &mut Editing, app: &Program, core: usize, task: usize) -> Result<(), NoMemory>
     requires caller { IsCalling app.now editing.old.now task }
     requires core { core < length editing.old.now.cores }
     requires task { core_at editing.old.now core ≡ Some task }
@@ -64,7 +64,7 @@ fn play_core(editing: &mut Editing, app: &App, core: usize, task: usize) -> Resu
 }
 
 // A tick that isn't the last one.
-fn play_tick(editing: &mut Editing, app: &App) -> Result<(), NoMemory>
+fn play_tick(editing: &mut Editing, app: &Program) -> Result<(), NoMemory>
     requires valid { IsValid app.now editing.old.now }
     requires later { editing.old.now.tick < last_tick }
     ensures { Plays app.now Move.Tick editing.old editing.new result }
@@ -76,7 +76,7 @@ fn play_tick(editing: &mut Editing, app: &App) -> Result<(), NoMemory>
 }
 
 // An edit that can be made.
-fn play_edit(editing: &mut Editing, app: &App, edit: &Edit) -> Result<(), NoMemory>
+fn play_edit(editing: &mut Editing, app: &Program, edit: &Edit) -> Result<(), NoMemory>
     requires valid { IsValid app.now editing.old.now }
     requires named { IsEditOf app.now edit.now }
     requires good { is_good_edit app.now editing.old.now edit.now ≡ true }
@@ -89,7 +89,7 @@ fn play_edit(editing: &mut Editing, app: &App, edit: &Edit) -> Result<(), NoMemo
 
 /// Why the rules refuse a move, if they do: `NoTask` where the core is idle, `TickLimit` where the
 /// tick is 4,294,967,295, `BadEdit` where the edit can't be made.
-pub fn why_not(app: &App, state: &State, action: &Move) -> Option<Refusal>
+pub fn why_not(app: &Program, state: &State, action: &Move) -> Option<Refusal>
     requires valid { IsValid app.now state.now }
     requires named { IsMoveOf app.now action.now }
     ensures refused { IfSome result (λ refusal. step app.now state.now action.now ≡ Err refusal) }
@@ -108,7 +108,7 @@ pub fn why_not(app: &App, state: &State, action: &Move) -> Option<Refusal>
 /// where the core is idle, `TickLimit` where the tick is 4,294,967,295, `BadEdit` where the edit
 /// can't be made, `NoMemory` where a growth was refused, as none is where the record has room for
 /// the move. There is no other. The record keeps the memory that it has.
-pub fn play_on(editing: &mut Editing, app: &App, action: &Move) -> Result<(), Refusal>
+pub fn play_on(editing: &mut Editing, app: &Program, action: &Move) -> Result<(), Refusal>
     requires valid { IsValid app.now editing.old.now }
     requires named { IsMoveOf app.now action.now }
     ensures before { OnOk result
@@ -146,7 +146,7 @@ pub fn play_on(editing: &mut Editing, app: &App, action: &Move) -> Result<(), Re
 /// Makes a move and returns its record, which undoes it exactly. A refusal leaves the state as it
 /// was: `NoTask` where the core is idle, `TickLimit` where the tick is 4,294,967,295, `BadEdit`
 /// where the edit can't be made, `NoMemory` where a growth was refused. There is no other.
-pub fn play(alloc: Global, state: &mut State, app: &App, action: Move) -> Result<Undo, Refusal>
+pub fn play(alloc: Global, state: &mut State, app: &Program, action: Move) -> Result<Undo, Refusal>
     requires valid { IsValid app.now state.old }
     requires named { IsMoveOf app.now action }
     ensures step { OnOk result (step app.now state.old action ≡ Ok state.new) }

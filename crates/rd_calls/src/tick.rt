@@ -5,7 +5,7 @@ ghost use Rattle.rd_state.specs.Edit.{Reaches, GivesUp};
 ghost use Rattle.rd_state.specs.Valid.{IsValid};
 ghost use Rattle.rd_calls.specs.Step.{ticked, tick_step, last_tick};
 
-use rd_app::app::App;
+use rd_app::app::Program;
 use rd_bytes::no_memory::NoMemory;
 use rd_kernel::changes::set_turn;
 use rd_kernel::waking::wake_if_due;
@@ -13,7 +13,7 @@ use rd_state::change::Change;
 use rd_state::editing::Editing;
 
 // The tick that begins, and the end of waiting for those whose time is up, by rising number.
-fn begin_tick(app: &App, editing: &mut Editing, tick: u32) -> Result<(), NoMemory>
+fn begin_tick(app: &Program, editing: &mut Editing, tick: u32) -> Result<(), NoMemory>
     requires valid { IsValid app.now editing.old.now }
     requires tick { tick ≡ editing.old.now.tick + 1 }
     ensures ok { OnOk result
@@ -32,7 +32,7 @@ fn begin_tick(app: &App, editing: &mut Editing, tick: u32) -> Result<(), NoMemor
 
 /// A tick passes (`xTaskIncrementTick`): tasks whose time is up are woken, the scheduler runs, and
 /// then tasks of one priority take turns on core `tick % cores`.
-pub fn move_tick(app: &App, editing: &mut Editing) -> Result<(), NoMemory>
+pub fn move_tick(app: &Program, editing: &mut Editing) -> Result<(), NoMemory>
     requires valid { IsValid app.now editing.old.now }
     requires later { editing.old.now.tick < last_tick }
     ensures ok { OnOk result (Reaches editing.old editing.new (tick_step app.now editing.old.now)

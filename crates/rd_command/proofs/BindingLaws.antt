@@ -8,8 +8,8 @@ use Rattle.std.proofs.lemmas.List.Quantifiers.{position-Some}
 use Rattle.rd_text.specs.declared.kind.Kind.{Kind}
 use Rattle.rd_text.specs.Words.{name_of, number_of}
 use Rattle.rd_text.proofs.Offered.{and_left, and_right}
-use Rattle.rd_app.specs.Application.{Application, IsApplication, names_of}
-use Rattle.rd_app.specs.Objects.{AreObjects}
+use Rattle.rd_names.specs.Apps.{AppView, AreAsMany}
+use Rattle.rd_names.specs.Names.{names_of}
 use Rattle.rd_condition.specs.declared.condition.Condition.{Condition}
 use Rattle.rd_condition.specs.Conditions.{IsConditionOf}
 use Rattle.rd_command.specs.declared.binding.Bound.{Bound}
@@ -24,24 +24,24 @@ use Rattle.rd_command.specs.declared.keyword.Keyword.TheVariants.{Step, Tick, Ba
 use Rattle.rd_command.specs.declared.keyword.Parameter.{Parameter}
 use Rattle.rd_command.specs.declared.keyword.Parameter.TheVariants.{Core, Count, Register, Index, Number, Data, Operator, Phase, Name}
 use Rattle.rd_command.specs.declared.keyword.Parameter.TheVariants as parameter
-use Rattle.rd_command.specs.Bindings.{IsBoundOf, IsCount, IsWatch, Reading, after_word, bound_made, bound_of, bound_with, condition_made, made_of, next_condition, next_keyword, next_value, number_below, number_named, value_of}
+use Rattle.rd_command.specs.Bindings.{IsBoundOf, IsCount, IsWatch, Known, Reading, after_word, bound_made, bound_of, bound_with, condition_made, known_of, made_of, next_condition, next_keyword, next_value, number_below, number_named, value_of}
 use Rattle.rd_command.specs.Commands.{CommandView}
 use Rattle.rd_command.specs.Forms.{count_of, watch_number, watch_of}
 use Rattle.rd_command.specs.Keywords.{ConditionRow, Makes, MakesBound, Operands, Plain, Row, Spelled, Value, WithCondition, Written, condition_keyword_of, condition_row, row_of}
 use Rattle.rd_command.proofs.Steps.{mapped, option_if, some_if, then_some}
 
 -- what an operand of that kind may stand for
-abbrev IsValue : Application → (parameter : Parameter) → Value parameter → Type 0
-IsValue app Core core = core < app.cores
-IsValue app Count count = IsCount count
-IsValue app Register register = register < 8
-IsValue app Index index = index < app.entries
-IsValue app Number number = Unit {0}
-IsValue app Data bytes = Unit {0}
-IsValue app Operator operator = Unit {0}
-IsValue app Phase name = Unit {0}
-IsValue app parameter.Watch watch = IsWatch watch
-IsValue app (Name kind) number = number < length (names_of kind app)
+abbrev IsValue : Known → (parameter : Parameter) → Value parameter → Type 0
+IsValue known Core core = core < known.cores
+IsValue known Count count = IsCount count
+IsValue known Register register = register < 8
+IsValue known Index index = index < known.entries
+IsValue known Number number = Unit {0}
+IsValue known Data bytes = Unit {0}
+IsValue known Operator operator = Unit {0}
+IsValue known Phase name = Unit {0}
+IsValue known parameter.Watch watch = IsWatch watch
+IsValue known (Name kind) number = number < length (names_of kind known.names)
 
 below_small : (limit : ℕ) (word : List ℕ) (number : ℕ) → number_below limit word ≡ Some number → number < limit
 below_small limit word number e =
@@ -67,109 +67,124 @@ watch_small : (word : List ℕ) (watch : ℕ) → watch_of word ≡ Some watch �
 watch_small [] watch e = absurd cc
 watch_small (first ∷ digits) watch e = watch_number_small digits watch (option_if (nat_eq first 119) (watch_number digits) watch e).1
 
-named_there : (app : Application) (kind : Kind) (word : List ℕ) (number : ℕ) → number_named app kind word ≡ Some number → number < length (names_of kind app)
-named_there app kind word number e =
-    let name = then_some (λ name. position (bytes_eq name) (names_of kind app)) (name_of word) number e in
-    (position-Some (bytes_eq name.0) (names_of kind app) number [] name.2).0
+named_there : (known : Known) (kind : Kind) (word : List ℕ) (number : ℕ) → number_named known.names kind word ≡ Some number → number < length (names_of kind known.names)
+named_there known kind word number e =
+    let name = then_some (λ name. position (bytes_eq name) (names_of kind known.names)) (name_of word) number e in
+    (position-Some (bytes_eq name.0) (names_of kind known.names) number [] name.2).0
 
-value_there : (app : Application) (parameter : Parameter) (word : List ℕ) (value : Value parameter) → value_of app parameter word ≡ Some value
-    → IsValue app parameter value
-value_there app Core word value e = below_small app.cores word value e
-value_there app Count word value e = count_small word value e
-value_there app Register word value e = below_small 8 word value e
-value_there app Index word value e = below_small app.entries word value e
-value_there app Number word value e = tt
-value_there app Data word value e = tt
-value_there app Operator word value e = tt
-value_there app Phase word value e = tt
-value_there app parameter.Watch word value e = watch_small word value e
-value_there app (Name kind) word value e = named_there app kind word value e
+value_there : (known : Known) (parameter : Parameter) (word : List ℕ) (value : Value parameter) → value_of known parameter word ≡ Some value
+    → IsValue known parameter value
+value_there known Core word value e = below_small known.cores word value e
+value_there known Count word value e = count_small word value e
+value_there known Register word value e = below_small 8 word value e
+value_there known Index word value e = below_small known.entries word value e
+value_there known Number word value e = tt
+value_there known Data word value e = tt
+value_there known Operator word value e = tt
+value_there known Phase word value e = tt
+value_there known parameter.Watch word value e = watch_small word value e
+value_there known (Name kind) word value e = named_there known kind word value e
 
 -- what the next word stands for is there, and the words are read in the same application
 next_there : (parameter : Parameter) (reading : Reading) (next : Value parameter × Reading) → next_value parameter reading ≡ Some next
-    → IsValue reading.app parameter next.0 × (reading.app ≡ next.1.app)
+    → IsValue reading.known parameter next.0 × (reading.known ≡ next.1.known)
 unfolding next_value
 next_there parameter reading next e =
-    let word = then_some (λ word. option_map (λ value. (value, after_word reading)) (value_of reading.app parameter word)) (slice_get reading.words 0) next e in
-    let value = mapped (λ value. (value, after_word reading)) (value_of reading.app parameter word.0) next word.2 in
-    subst (λ (next : Value parameter × Reading). IsValue reading.app parameter next.0 × (reading.app ≡ next.1.app)) value.2
-    (value_there reading.app parameter word.0 value.0 value.1, refl)
+    let word = then_some (λ word. option_map (λ value. (value, after_word reading)) (value_of reading.known parameter word)) (slice_get reading.words 0) next e in
+    let value = mapped (λ value. (value, after_word reading)) (value_of reading.known parameter word.0) next word.2 in
+    subst (λ (next : Value parameter × Reading). IsValue reading.known parameter next.0 × (reading.known ≡ next.1.known)) value.2
+    (value_there reading.known parameter word.0 value.0 value.1, refl)
 
 -- Whatever the operands stand for, what they make is good.
-abbrev MakesGood : Application → (Made : Type 0) → (Made → Type 0) → (parameters : List Parameter) → Makes Made parameters → Type 0
-MakesGood app Made Good [] made = Good made
-MakesGood app Made Good (parameter ∷ others) make =
-    (value : Value parameter) → IsValue app parameter value → MakesGood app Made Good others (make value)
+abbrev MakesGood : Known → (Made : Type 0) → (Made → Type 0) → (parameters : List Parameter) → Makes Made parameters → Type 0
+MakesGood known Made Good [] made = Good made
+MakesGood known Made Good (parameter ∷ others) make =
+    (value : Value parameter) → IsValue known parameter value → MakesGood known Made Good others (make value)
 
-made_good : (app : Application) (Made : Type 0) (Good : Made → Type 0) (parameters : List Parameter) (make : Makes Made parameters) (reading : Reading)
-    (made : Made × Reading) → app ≡ reading.app → MakesGood app Made Good parameters make → made_of Made parameters make reading ≡ Some made
-    → Good made.0 × (app ≡ made.1.app)
-made_good app Made Good [] make reading made same good e =
-    let is : (make, reading) ≡ made = cc in subst (λ (made : Made × Reading). Good made.0 × (app ≡ made.1.app)) is (good, same)
-made_good app Made Good (parameter ∷ others) make reading made same good e =
+made_good : (known : Known) (Made : Type 0) (Good : Made → Type 0) (parameters : List Parameter) (make : Makes Made parameters) (reading : Reading)
+    (made : Made × Reading) → known ≡ reading.known → MakesGood known Made Good parameters make → made_of Made parameters make reading ≡ Some made
+    → Good made.0 × (known ≡ made.1.known)
+made_good known Made Good [] make reading made same good e =
+    let is : (make, reading) ≡ made = cc in subst (λ (made : Made × Reading). Good made.0 × (known ≡ made.1.known)) is (good, same)
+made_good known Made Good (parameter ∷ others) make reading made same good e =
     let next = then_some (λ next. made_of Made others (make next.0) next.1) (next_value parameter reading) made e in
     let there = next_there parameter reading next.0 next.1 in
-    let value = subst (λ (app : Application). IsValue app parameter next.0.0) (sym same) there.0 in
-    made_good app Made Good others (make next.0.0) next.0.1 made (same ∙ there.1) (good next.0.0 value) next.2
+    let value = subst (λ (known : Known). IsValue known parameter next.0.0) (sym same) there.0 in
+    made_good known Made Good others (make next.0.0) next.0.1 made (same ∙ there.1) (good next.0.0 value) next.2
 
 -- ---- conditions
 
 -- each thing has its name
-abbrev pub AreThere : Application → Type 0
-AreThere app = AreObjects app.objects × (length app.tasks.names ≡ length app.tasks.things)
+abbrev pub AreThere : AppView → Type 0
+AreThere app = AreAsMany app.runs app.names
 
-abbrev ConditionGood : Application → ConditionRow → Type 0
-ConditionGood app (Written text parameters make) = MakesGood app Condition (IsConditionOf app) parameters make
+queue_there : (app : AppView) → AreThere app → (queue : ℕ) → queue < length app.names.queues → queue < length app.runs.objects.queues
+queue_there app there queue named = rw (← there.queues) named
 
-amount_good : (app : Application) → AreThere app → (k : AmountKeyword) → ConditionGood app (condition_row (Compares k))
-amount_good app there compared.Items = λ queue named operator _ bound _. rw (← there.0.named_queues.paired) named
-amount_good app there compared.Bytes = λ stream named operator _ bound _. rw (← there.0.named_streams.paired) named
-amount_good app there compared.Messages = λ message named operator _ bound _. rw (← there.0.named_messages.paired) named
-amount_good app there compared.Bits = λ group named operator _ bound _. rw (← there.0.named_groups.paired) named
-amount_good app there compared.Register = λ task named register few operator _ bound _. (rw (← there.1) named, few)
-amount_good app there compared.Pc = λ task named operator _ bound _. rw (← there.1) named
-amount_good app there compared.Value = λ task named index few operator _ bound _. (rw (← there.1) named, few)
+stream_there : (app : AppView) → AreThere app → (stream : ℕ) → stream < length app.names.streams → stream < length app.runs.objects.streams
+stream_there app there stream named = rw (← there.streams) named
+
+message_there : (app : AppView) → AreThere app → (message : ℕ) → message < length app.names.messages → message < length app.runs.objects.messages
+message_there app there message named = rw (← there.messages) named
+
+group_there : (app : AppView) → AreThere app → (group : ℕ) → group < length app.names.groups → group < length app.runs.objects.groups
+group_there app there group named = rw (← there.groups) named
+
+task_there : (app : AppView) → AreThere app → (task : ℕ) → task < length app.names.tasks → task < length app.runs.tasks
+task_there app there task named = rw (← there.tasks) named
+
+abbrev ConditionGood : AppView → ConditionRow → Type 0
+ConditionGood app (Written text parameters make) = MakesGood (known_of app) Condition (IsConditionOf app.runs) parameters make
+
+amount_good : (app : AppView) → AreThere app → (k : AmountKeyword) → ConditionGood app (condition_row (Compares k))
+amount_good app there compared.Items = λ queue named operator _ bound _. queue_there app there queue named
+amount_good app there compared.Bytes = λ stream named operator _ bound _. stream_there app there stream named
+amount_good app there compared.Messages = λ message named operator _ bound _. message_there app there message named
+amount_good app there compared.Bits = λ group named operator _ bound _. group_there app there group named
+amount_good app there compared.Register = λ task named register few operator _ bound _. (task_there app there task named, few)
+amount_good app there compared.Pc = λ task named operator _ bound _. task_there app there task named
+amount_good app there compared.Value = λ task named index few operator _ bound _. (task_there app there task named, few)
 amount_good app there compared.Tick = λ operator _ bound _. tt
 
-condition_good : (app : Application) → AreThere app → (k : ConditionKeyword) → ConditionGood app (condition_row k)
+condition_good : (app : AppView) → AreThere app → (k : ConditionKeyword) → ConditionGood app (condition_row k)
 condition_good app there (Compares k) = amount_good app there k
-condition_good app there InPhase = λ task named name _. rw (← there.1) named
+condition_good app there InPhase = λ task named name _. task_there app there task named
 
-condition_made_good : (app : Application) (of : ConditionRow) (reading : Reading) (found : Condition × Reading) → app ≡ reading.app
-    → ConditionGood app of → condition_made of reading ≡ Some found → IsConditionOf app found.0 × (app ≡ found.1.app)
+condition_made_good : (app : AppView) (of : ConditionRow) (reading : Reading) (found : Condition × Reading) → known_of app ≡ reading.known
+    → ConditionGood app of → condition_made of reading ≡ Some found → IsConditionOf app.runs found.0 × (known_of app ≡ found.1.known)
 condition_made_good app (Written text parameters make) reading found same good e =
-    made_good app Condition (IsConditionOf app) parameters make reading found same good e
+    made_good (known_of app) Condition (IsConditionOf app.runs) parameters make reading found same good e
 
-condition_there : (app : Application) (reading : Reading) (found : Condition × Reading) → AreThere app → app ≡ reading.app
-    → next_condition reading ≡ Some found → IsConditionOf app found.0 × (app ≡ found.1.app)
+condition_there : (app : AppView) (reading : Reading) (found : Condition × Reading) → AreThere app → known_of app ≡ reading.known
+    → next_condition reading ≡ Some found → IsConditionOf app.runs found.0 × (known_of app ≡ found.1.known)
 unfolding next_keyword
 condition_there app reading found there same e =
     let next = then_some (λ next. condition_made (condition_row next.0) next.1) (next_keyword reading) found e in
     let word = then_some (λ word. option_map (λ keyword. (keyword, after_word reading)) (condition_keyword_of word)) (slice_get reading.words 0) next.0 next.1 in
     let keyword = mapped (λ keyword. (keyword, after_word reading)) (condition_keyword_of word.0) next.0 word.2 in
-    let left : reading.app ≡ next.0.1.app = ap (λ (next : ConditionKeyword × Reading). next.1.app) keyword.2 in
+    let left : reading.known ≡ next.0.1.known = ap (λ (next : ConditionKeyword × Reading). next.1.known) keyword.2 in
     condition_made_good app (condition_row next.0.0) next.0.1 found (same ∙ left) (condition_good app there next.0.0) next.2
 
 -- ---- commands
 
-abbrev OperandsGood : Application → (operands : Operands) → MakesBound operands → Type 0
-OperandsGood app (Plain parameters) make = MakesGood app Bound (IsBoundOf app) parameters make
+abbrev OperandsGood : AppView → (operands : Operands) → MakesBound operands → Type 0
+OperandsGood app (Plain parameters) make = MakesGood (known_of app) Bound (IsBoundOf app) parameters make
 OperandsGood app (WithCondition parameters) make =
-    (condition : Condition) → IsConditionOf app condition → MakesGood app Bound (IsBoundOf app) parameters (make condition)
+    (condition : Condition) → IsConditionOf app.runs condition → MakesGood (known_of app) Bound (IsBoundOf app) parameters (make condition)
 
-abbrev RowGood : Application → Row → Type 0
+abbrev RowGood : AppView → Row → Type 0
 RowGood app (Spelled verb more operands make) = OperandsGood app operands make
 
-poke_good : (app : Application) → AreThere app → (k : EditKeyword) → RowGood app (row_of (Poke k))
-poke_good app there poked.Register = λ task named register few value _. (rw (← there.1) named, few)
-poke_good app there poked.Data = λ task named bytes _. rw (← there.1) named
-poke_good app there poked.Pc = λ task named pc _. rw (← there.1) named
-poke_good app there poked.Value = λ task named index few value _. (rw (← there.1) named, few)
-poke_good app there poked.Bits = λ group named bits _. rw (← there.0.named_groups.paired) named
-poke_good app there poked.Item = λ queue named index _ bytes _. rw (← there.0.named_queues.paired) named
-poke_good app there poked.Byte = λ stream named index _ value _. rw (← there.0.named_streams.paired) named
+poke_good : (app : AppView) → AreThere app → (k : EditKeyword) → RowGood app (row_of (Poke k))
+poke_good app there poked.Register = λ task named register few value _. (task_there app there task named, few)
+poke_good app there poked.Data = λ task named bytes _. task_there app there task named
+poke_good app there poked.Pc = λ task named pc _. task_there app there task named
+poke_good app there poked.Value = λ task named index few value _. (task_there app there task named, few)
+poke_good app there poked.Bits = λ group named bits _. group_there app there group named
+poke_good app there poked.Item = λ queue named index _ bytes _. queue_there app there queue named
+poke_good app there poked.Byte = λ stream named index _ value _. stream_there app there stream named
 
-row_good : (app : Application) → AreThere app → (k : Keyword) → RowGood app (row_of k)
+row_good : (app : AppView) → AreThere app → (k : Keyword) → RowGood app (row_of k)
 row_good app there Step = λ core few. few
 row_good app there Tick = tt
 row_good app there Back = λ count is. is
@@ -190,26 +205,25 @@ row_good app there ShowMoves = tt
 row_good app there ShowWheel = tt
 row_good app there ShowWatches = tt
 
-bound_good : (app : Application) (operands : Operands) (make : MakesBound operands) (reading : Reading) (made : Bound) → AreThere app → app ≡ reading.app
+bound_good : (app : AppView) (operands : Operands) (make : MakesBound operands) (reading : Reading) (made : Bound) → AreThere app → known_of app ≡ reading.known
     → OperandsGood app operands make → bound_with operands make reading ≡ Some made → IsBoundOf app made
 bound_good app (Plain parameters) make reading made there same good e =
     let found = mapped (λ made. made.0) (made_of Bound parameters make reading) made e in
-    subst (IsBoundOf app) found.2 (made_good app Bound (IsBoundOf app) parameters make reading found.0 same good found.1).0
+    subst (IsBoundOf app) found.2 (made_good (known_of app) Bound (IsBoundOf app) parameters make reading found.0 same good found.1).0
 bound_good app (WithCondition parameters) make reading made there same good e =
     let found =
     then_some (λ found. option_map (λ made. made.0) (made_of Bound parameters (make found.0) found.1)) (next_condition reading) made e in
     let holds = condition_there app reading found.0 there same found.1 in
     let last = mapped (λ made. made.0) (made_of Bound parameters (make found.0.0) found.0.1) made found.2 in
     subst (IsBoundOf app) last.2
-    (made_good app Bound (IsBoundOf app) parameters (make found.0.0) found.0.1 last.0 holds.1 (good found.0.0 holds.0) last.1).0
+    (made_good (known_of app) Bound (IsBoundOf app) parameters (make found.0.0) found.0.1 last.0 holds.1 (good found.0.0 holds.0) last.1).0
 
-row_bound : (app : Application) (of : Row) (reading : Reading) (made : Bound) → AreThere app → app ≡ reading.app → RowGood app of
+row_bound : (app : AppView) (of : Row) (reading : Reading) (made : Bound) → AreThere app → known_of app ≡ reading.known → RowGood app of
     → bound_made of reading ≡ Some made → IsBoundOf app made
 row_bound app (Spelled verb more operands make) reading made there same good e = bound_good app operands make reading made there same good e
 
-pub bound_there : {Fault : Type 0} (app : Application) (command : CommandView) (result : Result Bound Fault) → IsApplication app
+pub bound_there : {Fault : Type 0} (app : AppView) (command : CommandView) (result : Result Bound Fault) → AreAsMany app.runs app.names
     → result_ok result ≡ bound_of app command → IfOk result (IsBoundOf app)
-bound_there app command (Ok made) limits e =
-    let there : AreThere app = (limits.objects, limits.named_tasks.paired) in
-    row_bound app (row_of command.keyword) (record { app = app; words = command.operands }) made there refl (row_good app there command.keyword) (sym e)
-bound_there app command (Err fault) limits e = tt
+bound_there app command (Ok made) there e =
+    row_bound app (row_of command.keyword) (record { known = known_of app; words = command.operands }) made there refl (row_good app there command.keyword) (sym e)
+bound_there app command (Err fault) there e = tt

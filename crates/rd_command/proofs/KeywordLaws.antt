@@ -1,6 +1,6 @@
 -- What is bound has the keyword of its command.
 use Rattle.std.proofs.Common.{◌≡◌, [], ◌∷◌, List, Option, Some, option_map, refl, subst}
-use Rattle.rd_app.specs.Application.{Application}
+use Rattle.rd_names.specs.Apps.{AppView}
 use Rattle.rd_condition.specs.declared.condition.Condition.{Condition}
 use Rattle.rd_command.specs.declared.binding.Bound.{Bound}
 use Rattle.rd_command.specs.declared.keyword.EditKeyword.{EditKeyword}
@@ -8,7 +8,7 @@ use Rattle.rd_command.specs.declared.keyword.EditKeyword.TheVariants as poked
 use Rattle.rd_command.specs.declared.keyword.Keyword.{Keyword}
 use Rattle.rd_command.specs.declared.keyword.Keyword.TheVariants.{Step, Tick, Back, Forward, Redo, Until, UntilWatch, BackUntil, BackUntilWatch, Poke, TakeWheel, GiveWheel, Watch, Unwatch, Show, ShowCores, ShowMoves, ShowWheel, ShowWatches}
 use Rattle.rd_command.specs.declared.keyword.Parameter.{Parameter}
-use Rattle.rd_command.specs.Bindings.{Reading, bound_made, bound_of, bound_with, keyword_of, made_of, next_condition, next_value}
+use Rattle.rd_command.specs.Bindings.{known_of, Reading, bound_made, bound_of, bound_with, keyword_of, made_of, next_condition, next_value}
 use Rattle.rd_command.specs.Commands.{CommandView}
 use Rattle.rd_command.specs.Keywords.{Makes, MakesBound, Operands, Plain, Row, Spelled, Value, WithCondition, row_of}
 use Rattle.rd_command.proofs.Steps.{mapped, then_some}
@@ -79,6 +79,6 @@ made_keyword k (WithCondition parameters) make reading made good e =
 row_keyword : (k : Keyword) (of : Row) (reading : Reading) (made : Bound) → RowMakes k of → bound_made of reading ≡ Some made → keyword_of made ≡ k
 row_keyword k (Spelled verb more operands make) reading made good e = made_keyword k operands make reading made good e
 
-pub bound_keyword : (app : Application) (command : CommandView) (made : Bound) → bound_of app command ≡ Some made → keyword_of made ≡ command.keyword
+pub bound_keyword : (app : AppView) (command : CommandView) (made : Bound) → bound_of app command ≡ Some made → keyword_of made ≡ command.keyword
 bound_keyword app command made e =
-    row_keyword command.keyword (row_of command.keyword) (record { app = app; words = command.operands }) made (row_makes command.keyword) e
+    row_keyword command.keyword (row_of command.keyword) (record { known = known_of app; words = command.operands }) made (row_makes command.keyword) e

@@ -5,71 +5,71 @@ use Rattle.std.specs.Option.{option_map_or}
 use Rattle.std.specs.Str.{bytes_eq}
 use Rattle.rd_text.specs.declared.kind.Kind.{Kind}
 use Rattle.rd_text.specs.Words.{is_name}
-use Rattle.rd_app.specs.Application.{Application, names_of}
+use Rattle.rd_names.specs.Names.{names_of}
 use Rattle.rd_condition.specs.declared.condition.Condition.{Condition}
 use Rattle.rd_command.specs.declared.binding.Bound.{Bound}
 use Rattle.rd_command.specs.declared.keyword.ConditionKeyword.{ConditionKeyword}
 use Rattle.rd_command.specs.declared.keyword.Parameter.{Parameter}
 use Rattle.rd_command.specs.declared.keyword.Parameter.TheVariants.{Core, Count, Register, Index, Number, Data, Operator, Phase, Watch, Name}
-use Rattle.rd_command.specs.Bindings.{Reading, are_there, are_there_with, bound_made, bound_of, bound_with, condition_made, has_all, has_operands, is_there, made_of, next_condition, next_keyword, next_value, number_named, value_of}
+use Rattle.rd_command.specs.Bindings.{Known, Reading, are_there, are_there_with, bound_in, bound_made, bound_with, condition_made, has_all, has_operands, is_there, made_of, next_condition, next_keyword, next_value, number_named, value_of}
 use Rattle.rd_command.specs.Commands.{AreFormed, AreOperands, CommandView, Spells}
 use Rattle.rd_command.specs.Forms.{is_formed}
 use Rattle.rd_command.specs.Keywords.{ConditionRow, Makes, MakesBound, Operands, Plain, Row, Spelled, Value, WithCondition, Written, condition_row, operands_of, parameters_of, row_of, text_of}
 use Rattle.rd_command.proofs.CommandLaws.{condition_again}
 
-reading : Application → List (List ℕ) → Reading
-reading app words = record { app = app; words = words }
+reading : Known → List (List ℕ) → Reading
+reading known words = record { known = known; words = words }
 
-named_there : (app : Application) (kind : Kind) (word : List ℕ) → is_name word ≡ true
-    → is_some (number_named app kind word) ≡ is_some (position (bytes_eq word) (names_of kind app))
-named_there app kind word e =
-    ap (λ b. is_some (option_and_then (λ name. position (bytes_eq name) (names_of kind app)) (cond b (Some word) None))) e
+named_there : (known : Known) (kind : Kind) (word : List ℕ) → is_name word ≡ true
+    → is_some (number_named known.names kind word) ≡ is_some (position (bytes_eq word) (names_of kind known.names))
+named_there known kind word e =
+    ap (λ b. is_some (option_and_then (λ name. position (bytes_eq name) (names_of kind known.names)) (cond b (Some word) None))) e
 
-value_there : (app : Application) (parameter : Parameter) (word : List ℕ) → is_formed parameter word ≡ true
-    → is_some (value_of app parameter word) ≡ is_there app parameter word
-value_there app Core word e = refl
-value_there app Count word e = e
-value_there app Register word e = refl
-value_there app Index word e = refl
-value_there app Number word e = e
-value_there app Data word e = e
-value_there app Operator word e = e
-value_there app Phase word e = e
-value_there app Watch word e = e
-value_there app (Name kind) word e = named_there app kind word e
+value_there : (known : Known) (parameter : Parameter) (word : List ℕ) → is_formed parameter word ≡ true
+    → is_some (value_of known parameter word) ≡ is_there known parameter word
+value_there known Core word e = refl
+value_there known Count word e = e
+value_there known Register word e = refl
+value_there known Index word e = refl
+value_there known Number word e = e
+value_there known Data word e = e
+value_there known Operator word e = e
+value_there known Phase word e = e
+value_there known Watch word e = e
+value_there known (Name kind) word e = named_there known kind word e
 
 -- What is made, and goes on so, is something exactly where all that is named is there.
-abbrev GoesOn : Application → (Made Last : Type 0) → (Made × Reading → Option Last) → List Parameter → Type 0
-GoesOn app Made Last next others =
-    (made : Made) (words : List (List ℕ)) → AreFormed others words → is_some (next (made, reading app words)) ≡ are_there app others words
+abbrev GoesOn : Known → (Made Last : Type 0) → (Made × Reading → Option Last) → List Parameter → Type 0
+GoesOn known Made Last next others =
+    (made : Made) (words : List (List ℕ)) → AreFormed others words → is_some (next (made, reading known words)) ≡ are_there known others words
 
-step_there : (app : Application) (Made Last : Type 0) (next : Made × Reading → Option Last) (parameter : Parameter) (parameters others : List Parameter)
+step_there : (known : Known) (Made Last : Type 0) (next : Made × Reading → Option Last) (parameter : Parameter) (parameters others : List Parameter)
     (make : Value parameter → Makes Made parameters) (words : List (List ℕ)) (found : Option (Value parameter)) (there : Bool) → is_some found ≡ there
-    → ((value : Value parameter) → is_some (option_and_then next (made_of Made parameters (make value) (reading app words))) ≡ are_there app (parameters ++ others) words)
+    → ((value : Value parameter) → is_some (option_and_then next (made_of Made parameters (make value) (reading known words))) ≡ are_there known (parameters ++ others) words)
     → is_some
     (option_and_then next
-    (option_and_then (λ (taken : Value parameter × Reading). made_of Made parameters (make taken.0) taken.1) (option_map (λ value. (value, reading app words)) found)))
-    ≡ (there && are_there app (parameters ++ others) words)
-step_there app Made Last next parameter parameters others make words (Some value) there is h =
-    h value ∙ ap (λ there. there && are_there app (parameters ++ others) words) is
-step_there app Made Last next parameter parameters others make words None there is h = ap (λ there. there && are_there app (parameters ++ others) words) is
+    (option_and_then (λ (taken : Value parameter × Reading). made_of Made parameters (make taken.0) taken.1) (option_map (λ value. (value, reading known words)) found)))
+    ≡ (there && are_there known (parameters ++ others) words)
+step_there known Made Last next parameter parameters others make words (Some value) there is h =
+    h value ∙ ap (λ there. there && are_there known (parameters ++ others) words) is
+step_there known Made Last next parameter parameters others make words None there is h = ap (λ there. there && are_there known (parameters ++ others) words) is
 
-made_there : (app : Application) (Made Last : Type 0) (next : Made × Reading → Option Last) (parameters others : List Parameter) (make : Makes Made parameters)
-    (words : List (List ℕ)) → GoesOn app Made Last next others → AreFormed (parameters ++ others) words
-    → is_some (option_and_then next (made_of Made parameters make (reading app words))) ≡ are_there app (parameters ++ others) words
+made_there : (known : Known) (Made Last : Type 0) (next : Made × Reading → Option Last) (parameters others : List Parameter) (make : Makes Made parameters)
+    (words : List (List ℕ)) → GoesOn known Made Last next others → AreFormed (parameters ++ others) words
+    → is_some (option_and_then next (made_of Made parameters make (reading known words))) ≡ are_there known (parameters ++ others) words
 unfolding next_value reading
-made_there app Made Last next [] others make words goes h = goes make words h
-made_there app Made Last next (parameter ∷ parameters) others make words goes h =
-    ap (λ words. is_some (option_and_then next (made_of Made (parameter ∷ parameters) make (reading app words)))) h.2
-    ∙ step_there app Made Last next parameter parameters others make h.1 (value_of app parameter h.0) (is_there app parameter h.0)
-    (value_there app parameter h.0 h.3) (λ value. made_there app Made Last next parameters others (make value) h.1 goes h.4)
-    ∙ ap (are_there app (parameter ∷ (parameters ++ others))) (sym h.2)
+made_there known Made Last next [] others make words goes h = goes make words h
+made_there known Made Last next (parameter ∷ parameters) others make words goes h =
+    ap (λ words. is_some (option_and_then next (made_of Made (parameter ∷ parameters) make (reading known words)))) h.2
+    ∙ step_there known Made Last next parameter parameters others make h.1 (value_of known parameter h.0) (is_there known parameter h.0)
+    (value_there known parameter h.0 h.3) (λ value. made_there known Made Last next parameters others (make value) h.1 goes h.4)
+    ∙ ap (are_there known (parameter ∷ (parameters ++ others))) (sym h.2)
 
 -- ---- commands
 
 -- the words of no more operands
-nothing_more : (app : Application) → GoesOn app Bound Bound (λ (made : Bound × Reading). Some made.0) []
-nothing_more app made words h = refl
+nothing_more : (known : Known) → GoesOn known Bound Bound (λ (made : Bound × Reading). Some made.0) []
+nothing_more known made words h = refl
 
 mapped_then : {X Y : Type 0} (f : X → Y) (o : Option X) → option_map f o ≡ option_and_then (λ x. Some (f x)) o
 mapped_then f (Some x) = refl
@@ -79,51 +79,51 @@ no_others : (parameters : List Parameter) → parameters ++ [] ≡ parameters
 no_others [] = refl
 no_others (parameter ∷ parameters) = ap (λ (others : List Parameter). parameter ∷ others) (no_others parameters)
 
-last_there : (app : Application) (parameters : List Parameter) (make : Makes Bound parameters) (words : List (List ℕ)) → AreFormed parameters words
-    → is_some (option_map (λ (made : Bound × Reading). made.0) (made_of Bound parameters make (reading app words))) ≡ are_there app parameters words
-last_there app parameters make words h =
-    ap is_some (mapped_then (λ (made : Bound × Reading). made.0) (made_of Bound parameters make (reading app words)))
-    ∙ made_there app Bound Bound (λ (made : Bound × Reading). Some made.0) parameters [] make words (nothing_more app)
+last_there : (known : Known) (parameters : List Parameter) (make : Makes Bound parameters) (words : List (List ℕ)) → AreFormed parameters words
+    → is_some (option_map (λ (made : Bound × Reading). made.0) (made_of Bound parameters make (reading known words))) ≡ are_there known parameters words
+last_there known parameters make words h =
+    ap is_some (mapped_then (λ (made : Bound × Reading). made.0) (made_of Bound parameters make (reading known words)))
+    ∙ made_there known Bound Bound (λ (made : Bound × Reading). Some made.0) parameters [] make words (nothing_more known)
     (subst (λ (parameters : List Parameter). AreFormed parameters words) (sym (no_others parameters)) h)
-    ∙ ap (λ (parameters : List Parameter). are_there app parameters words) (no_others parameters)
+    ∙ ap (λ (parameters : List Parameter). are_there known parameters words) (no_others parameters)
 
-row_there : (app : Application) (parameters : List Parameter) (make : Condition → Makes Bound parameters) (of : ConditionRow) (words : List (List ℕ))
+row_there : (known : Known) (parameters : List Parameter) (make : Condition → Makes Bound parameters) (of : ConditionRow) (words : List (List ℕ))
     → AreFormed (parameters_of of ++ parameters) words
-    → is_some (option_and_then (λ (found : Condition × Reading). option_map (λ (made : Bound × Reading). made.0) (made_of Bound parameters (make found.0) found.1)) (condition_made of (reading app words)))
-    ≡ are_there app (parameters_of of ++ parameters) words
-row_there app parameters make (Written text own condition) words h =
-    made_there app Condition Bound (λ (found : Condition × Reading). option_map (λ (made : Bound × Reading). made.0) (made_of Bound parameters (make found.0) found.1)) own parameters condition words
-    (λ found left formed. last_there app parameters (make found) left formed) h
+    → is_some (option_and_then (λ (found : Condition × Reading). option_map (λ (made : Bound × Reading). made.0) (made_of Bound parameters (make found.0) found.1)) (condition_made of (reading known words)))
+    ≡ are_there known (parameters_of of ++ parameters) words
+row_there known parameters make (Written text own condition) words h =
+    made_there known Condition Bound (λ (found : Condition × Reading). option_map (λ (made : Bound × Reading). made.0) (made_of Bound parameters (make found.0) found.1)) own parameters condition words
+    (λ found left formed. last_there known parameters (make found) left formed) h
 
-condition_there : (app : Application) (parameters : List Parameter) (make : Condition → Makes Bound parameters) (k : ConditionKeyword) (words : List (List ℕ))
+condition_there : (known : Known) (parameters : List Parameter) (make : Condition → Makes Bound parameters) (k : ConditionKeyword) (words : List (List ℕ))
     → AreFormed (parameters_of (condition_row k) ++ parameters) words
     → is_some
     (option_and_then (λ (found : Condition × Reading). option_map (λ (made : Bound × Reading). made.0) (made_of Bound parameters (make found.0) found.1))
-    (next_condition (reading app (text_of (condition_row k) ∷ words))))
-    ≡ are_there_with app parameters (text_of (condition_row k) ∷ words)
+    (next_condition (reading known (text_of (condition_row k) ∷ words))))
+    ≡ are_there_with known parameters (text_of (condition_row k) ∷ words)
 unfolding next_keyword reading
-condition_there app parameters make k words h =
+condition_there known parameters make k words h =
     ap
     (λ (found : Option ConditionKeyword).
     is_some
     (option_and_then (λ (found : Condition × Reading). option_map (λ (made : Bound × Reading). made.0) (made_of Bound parameters (make found.0) found.1))
-    (option_and_then (λ (next : ConditionKeyword × Reading). condition_made (condition_row next.0) next.1) (option_map (λ keyword. (keyword, reading app words)) found))))
+    (option_and_then (λ (next : ConditionKeyword × Reading). condition_made (condition_row next.0) next.1) (option_map (λ keyword. (keyword, reading known words)) found))))
     (condition_again k)
-    ∙ row_there app parameters make (condition_row k) words h
-    ∙ sym (ap (λ (found : Option ConditionKeyword). option_map_or (λ keyword. are_there app (parameters_of (condition_row keyword) ++ parameters) words) found true) (condition_again k))
+    ∙ row_there known parameters make (condition_row k) words h
+    ∙ sym (ap (λ (found : Option ConditionKeyword). option_map_or (λ keyword. are_there known (parameters_of (condition_row keyword) ++ parameters) words) found true) (condition_again k))
 
-operands_there : (app : Application) (operands : Operands) (make : MakesBound operands) (words : List (List ℕ)) → AreOperands operands words
-    → is_some (bound_with operands make (reading app words)) ≡ has_operands app operands words
-operands_there app (Plain parameters) make words h = last_there app parameters make words h
-operands_there app (WithCondition parameters) make words h =
-    ap (λ words. is_some (bound_with (WithCondition parameters) make (reading app words))) h.2 ∙ condition_there app parameters make h.0 h.1 h.3
-    ∙ ap (are_there_with app parameters) (sym h.2)
+operands_there : (known : Known) (operands : Operands) (make : MakesBound operands) (words : List (List ℕ)) → AreOperands operands words
+    → is_some (bound_with operands make (reading known words)) ≡ has_operands known operands words
+operands_there known (Plain parameters) make words h = last_there known parameters make words h
+operands_there known (WithCondition parameters) make words h =
+    ap (λ words. is_some (bound_with (WithCondition parameters) make (reading known words))) h.2 ∙ condition_there known parameters make h.0 h.1 h.3
+    ∙ ap (are_there_with known parameters) (sym h.2)
 
-command_there : (app : Application) (of : Row) (words : List (List ℕ)) → AreOperands (operands_of of) words
-    → is_some (bound_made of (reading app words)) ≡ has_operands app (operands_of of) words
-command_there app (Spelled verb more operands make) words h = operands_there app operands make words h
+command_there : (known : Known) (of : Row) (words : List (List ℕ)) → AreOperands (operands_of of) words
+    → is_some (bound_made of (reading known words)) ≡ has_operands known (operands_of of) words
+command_there known (Spelled verb more operands make) words h = operands_there known operands make words h
 
-pub bound_exactly : (app : Application) (command : CommandView) (bound : Option Bound) → bound ≡ bound_of app command → (words : List (List ℕ))
-    → Spells words command → is_some bound ≡ has_all app command
+pub bound_exactly : (known : Known) (command : CommandView) (bound : Option Bound) → bound ≡ bound_in known command → (words : List (List ℕ))
+    → Spells words command → is_some bound ≡ has_all known command
 unfolding reading
-bound_exactly app command bound is words h = ap is_some is ∙ command_there app (row_of command.keyword) command.operands h.formed
+bound_exactly known command bound is words h = ap is_some is ∙ command_there known (row_of command.keyword) command.operands h.formed

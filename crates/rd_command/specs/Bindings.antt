@@ -8,7 +8,8 @@ use Rattle.std.specs.Str.{bytes_eq}
 use Rattle.rd_text.specs.Words.{number_of, bytes_of, name_of}
 use Rattle.rd_text.specs.declared.kind.Kind.{Kind}
 use Rattle.rd_app.specs.declared.instr.TheConstants.{REGISTERS}
-use Rattle.rd_app.specs.Application.{Application, names_of}
+use Rattle.rd_names.specs.Apps.{AppView}
+use Rattle.rd_names.specs.Names.{NamesView, names_of}
 use Rattle.rd_condition.specs.declared.condition.Condition.{Condition}
 use Rattle.rd_condition.specs.Conditions.{IsConditionOf}
 use Rattle.rd_edits.specs.Edits.{IsEditOf}
@@ -45,22 +46,22 @@ abbrev pub IsWatch : ℕ → Type 0
 IsWatch watch = watch < MAX_WATCHES
 
 -- The application has what the command names.
-abbrev pub IsBoundOf : Application → Bound → Type 0
-IsBoundOf app (bound.Step core) = core < app.cores
+abbrev pub IsBoundOf : AppView → Bound → Type 0
+IsBoundOf app (bound.Step core) = core < app.runs.cores
 IsBoundOf app bound.Tick = Unit {0}
 IsBoundOf app (bound.Forward count) = IsCount count
 IsBoundOf app (bound.Redo count) = IsCount count
 IsBoundOf app (bound.Back count) = IsCount count
-IsBoundOf app (bound.Until condition count) = IsConditionOf app condition × IsCount count
+IsBoundOf app (bound.Until condition count) = IsConditionOf app.runs condition × IsCount count
 IsBoundOf app (bound.UntilWatch watch count) = IsWatch watch × IsCount count
-IsBoundOf app (bound.BackUntil condition) = IsConditionOf app condition
+IsBoundOf app (bound.BackUntil condition) = IsConditionOf app.runs condition
 IsBoundOf app (bound.BackUntilWatch watch) = IsWatch watch
-IsBoundOf app (bound.Poke edit) = IsEditOf app edit
+IsBoundOf app (bound.Poke edit) = IsEditOf app.runs edit
 IsBoundOf app bound.TakeWheel = Unit {0}
 IsBoundOf app bound.GiveWheel = Unit {0}
-IsBoundOf app (bound.Watch condition) = IsConditionOf app condition
+IsBoundOf app (bound.Watch condition) = IsConditionOf app.runs condition
 IsBoundOf app (bound.Unwatch number) = Unit {0}
-IsBoundOf app (bound.Show kind number) = number < length (names_of kind app)
+IsBoundOf app (bound.Show kind number) = number < length (names_of kind app.names)
 IsBoundOf app bound.ShowCores = Unit {0}
 IsBoundOf app bound.ShowMoves = Unit {0}
 IsBoundOf app bound.ShowWheel = Unit {0}
@@ -98,6 +99,20 @@ keyword_of bound.ShowMoves = keyword.ShowMoves
 keyword_of bound.ShowWheel = keyword.ShowWheel
 keyword_of bound.ShowWatches = keyword.ShowWatches
 
+-- ---- what is known of an application when a command is bound
+
+-- its names, and how many cores there are, and notification entries of each task
+pub record Known : Type 0 where
+  pub names : NamesView
+  pub cores : ℕ
+  pub entries : ℕ
+
+abbrev pub made_known : NamesView → ℕ → ℕ → Known
+made_known names cores entries = record { names = names; cores = cores; entries = entries }
+
+abbrev pub known_of : AppView → Known
+known_of app = made_known app.names app.runs.cores app.runs.entries
+
 -- ---- what a word stands for
 
 -- a number below a limit
@@ -106,28 +121,28 @@ number_below limit word =
     option_and_then (λ number. if nat_lt number limit then Some number else None) (number_of word)
 
 -- the number of the thing of that kind that a word names
-abbrev pub number_named : Application → Kind → List ℕ → Option ℕ
-number_named app kind word =
-    option_and_then (λ name. position (bytes_eq name) (names_of kind app)) (name_of word)
+abbrev pub number_named : NamesView → Kind → List ℕ → Option ℕ
+number_named names kind word =
+    option_and_then (λ name. position (bytes_eq name) (names_of kind names)) (name_of word)
 
 -- in that application
-abbrev pub value_of : Application → (parameter : Parameter) → List ℕ → Option (Value parameter)
-value_of app Core word = number_below app.cores word
-value_of app Count word = count_of word
-value_of app Register word = number_below REGISTERS word
-value_of app Index word = number_below app.entries word
-value_of app Number word = number_of word
-value_of app Data word = bytes_of word
-value_of app Operator word = operator_of word
-value_of app Phase word = phase_of word
-value_of app Watch word = watch_of word
-value_of app (Name kind) word = number_named app kind word
+abbrev pub value_of : Known → (parameter : Parameter) → List ℕ → Option (Value parameter)
+value_of known Core word = number_below known.cores word
+value_of known Count word = count_of word
+value_of known Register word = number_below REGISTERS word
+value_of known Index word = number_below known.entries word
+value_of known Number word = number_of word
+value_of known Data word = bytes_of word
+value_of known Operator word = operator_of word
+value_of known Phase word = phase_of word
+value_of known Watch word = watch_of word
+value_of known (Name kind) word = number_named known.names kind word
 
 -- ---- from the first operand to the last
 
 -- the words that are left, in that application
 pub record Reading : Type 0 where
-  pub app : Application
+  pub known : Known
   pub words : List (List ℕ)
 
 -- what is left behind the next word
@@ -138,7 +153,7 @@ after_word reading = record reading { words = drop 1 reading.words }
 unfoldable pub next_value : (parameter : Parameter) → Reading → Option (Value parameter × Reading)
 next_value parameter reading =
     option_and_then (λ word.
-    option_map (λ value. (value, after_word reading)) (value_of reading.app parameter word))
+    option_map (λ value. (value, after_word reading)) (value_of reading.known parameter word))
     (slice_get reading.words 0)
 
 -- What was read, and the reading that is left, are what it gives; or it gives nothing.
@@ -185,44 +200,47 @@ abbrev pub bound_made : Row → Reading → Option Bound
 bound_made (Spelled verb more operands make) reading = bound_with operands make reading
 
 -- what the command is bound to, if the application has all that it names
-abbrev pub bound_of : Application → CommandView → Option Bound
-bound_of app command =
-    bound_made (row_of command.keyword) (record { app = app; words = command.operands })
+abbrev pub bound_in : Known → CommandView → Option Bound
+bound_in known command =
+    bound_made (row_of command.keyword) (record { known = known; words = command.operands })
+
+abbrev pub bound_of : AppView → CommandView → Option Bound
+bound_of app command = bound_in (known_of app) command
 
 -- ---- what an application has
 
 -- Has the application what the word names? A word that names nothing is no matter.
-abbrev pub is_there : Application → Parameter → List ℕ → Bool
-is_there app Core word = is_some (number_below app.cores word)
-is_there app Count word = true
-is_there app Register word = is_some (number_below REGISTERS word)
-is_there app Index word = is_some (number_below app.entries word)
-is_there app Number word = true
-is_there app Data word = true
-is_there app Operator word = true
-is_there app Phase word = true
-is_there app Watch word = true
-is_there app (Name kind) word = is_some (position (bytes_eq word) (names_of kind app))
+abbrev pub is_there : Known → Parameter → List ℕ → Bool
+is_there known Core word = is_some (number_below known.cores word)
+is_there known Count word = true
+is_there known Register word = is_some (number_below REGISTERS word)
+is_there known Index word = is_some (number_below known.entries word)
+is_there known Number word = true
+is_there known Data word = true
+is_there known Operator word = true
+is_there known Phase word = true
+is_there known Watch word = true
+is_there known (Name kind) word = is_some (position (bytes_eq word) (names_of kind known.names))
 
-abbrev pub are_there : Application → List Parameter → List (List ℕ) → Bool
-are_there app [] words = true
-are_there app (parameter ∷ others) [] = true
-are_there app (parameter ∷ others) (word ∷ words) =
-    is_there app parameter word && are_there app others words
+abbrev pub are_there : Known → List Parameter → List (List ℕ) → Bool
+are_there known [] words = true
+are_there known (parameter ∷ others) [] = true
+are_there known (parameter ∷ others) (word ∷ words) =
+    is_there known parameter word && are_there known others words
 
 -- the same of a condition, after its keyword, and of what stands behind it
-abbrev pub are_there_with : Application → List Parameter → List (List ℕ) → Bool
-are_there_with app parameters [] = true
-are_there_with app parameters (word ∷ words) =
+abbrev pub are_there_with : Known → List Parameter → List (List ℕ) → Bool
+are_there_with known parameters [] = true
+are_there_with known parameters (word ∷ words) =
     option_map_or
-    (λ keyword. are_there app (parameters_of (condition_row keyword) ++ parameters) words)
+    (λ keyword. are_there known (parameters_of (condition_row keyword) ++ parameters) words)
     (condition_keyword_of word)
     true
 
-abbrev pub has_operands : Application → Operands → List (List ℕ) → Bool
-has_operands app (Plain parameters) words = are_there app parameters words
-has_operands app (WithCondition parameters) words = are_there_with app parameters words
+abbrev pub has_operands : Known → Operands → List (List ℕ) → Bool
+has_operands known (Plain parameters) words = are_there known parameters words
+has_operands known (WithCondition parameters) words = are_there_with known parameters words
 
 -- has the application all that the command names?
-abbrev pub has_all : Application → CommandView → Bool
-has_all app command = has_operands app (operands_of (row_of command.keyword)) command.operands
+abbrev pub has_all : Known → CommandView → Bool
+has_all known command = has_operands known (operands_of (row_of command.keyword)) command.operands

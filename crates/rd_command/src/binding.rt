@@ -6,7 +6,9 @@ ghost use Rattle.rd_condition.specs.declared.condition.Condition as conditions;
 ghost use Rattle.rd_condition.specs.declared.condition.Condition.TheVariants as condition;
 ghost use Rattle.rd_command.specs.declared.keyword.Keyword.TheVariants as keyword;
 ghost use Rattle.rd_command.specs.declared.keyword.Parameter.TheVariants as parameter;
-ghost use Rattle.rd_command.specs.Bindings.{IsBoundOf, Takes, bound_made, bound_of};
+ghost use Rattle.rd_names.specs.Apps.{AppView, AreAsMany};
+ghost use Rattle.rd_command.specs.Bindings.{IsBoundOf, Takes, bound_in, bound_made};
+ghost use Rattle.rd_command.specs.Bindings.{known_of, made_known};
 ghost use Rattle.rd_command.specs.Bindings.{condition_made, has_all, made_of, next_condition};
 ghost use Rattle.rd_command.specs.Commands.{Spells};
 ghost use Rattle.rd_command.specs.Keywords.{amount_row, edit_row, row_of};
@@ -15,8 +17,8 @@ use crate::command::Command;
 use crate::keyword::{AmountKeyword, ConditionKeyword, EditKeyword, Keyword};
 use crate::poke::{Parts, Poke};
 use crate::reader::Reader;
-use rd_app::app::App;
 use rd_condition::condition::{Amount, Condition};
+use rd_names::names::Names;
 use rd_text::kind::Kind;
 
 /// How many watches a session has at the most. They are numbered from 0.
@@ -247,17 +249,23 @@ fn read_bound<'a>(keyword: Keyword, reader: &mut Reader<'_, 'a>) -> Result<Bound
     }
 }
 
-/// Looks up what a command names: cores below those of the application, registers below 8,
-/// notification entries below those of each task, and names of each kind, also inside a condition.
+/// Looks up what a command names: cores below the number of them, registers below 8, notification
+/// entries below the number that each task has, and names of each kind, also inside a condition.
 /// `Unknown` exactly where one of these isn't there.
-pub fn bind<'a>(command: &Command<'a>, app: &App) -> Result<Bound<'a>, Unknown>
-    ensures bound { result_ok result ≡ bound_of app.now command.now }
-    // What is bound is there.
-    ensures named { IfOk result (IsBoundOf app.now) }
+pub fn bind<'a>(
+    command: &Command<'a>,
+    names: &Names,
+    cores: usize,
+    entries: usize,
+) -> Result<Bound<'a>, Unknown>
+    ensures bound { result_ok result ≡ bound_in (made_known names.now cores entries) command.now }
+    // What is bound is there, in every application with these names, cores and entries.
+    ensures named { (app : AppView) → AreAsMany app.runs app.names
+        → known_of app ≡ made_known names.now cores entries → IfOk result (IsBoundOf app) }
     // A command that is spelled is bound exactly where all that it names is there.
     ensures exact { (words : List (List ℕ)) → Spells words command.now
-        → is_some (result_ok result) ≡ has_all app.now command.now }
+        → is_some (result_ok result) ≡ has_all (made_known names.now cores entries) command.now }
 {
-    app.limits();
-    read_bound(command.keyword(), &mut Reader::new(app, command.operands()))
+    let mut reader = Reader::new(names, cores, entries, command.operands());
+    read_bound(command.keyword(), &mut reader)
 }

@@ -4,15 +4,15 @@ ghost use Rattle.std.specs.Prelude.{◌≡◌};
 ghost use Rattle.std.specs.Result.{result_ok};
 ghost use Rattle.rd_command.specs.declared.keyword.Parameter.TheVariants as parameter;
 ghost use Rattle.rd_command.specs.Bindings.{Takes, next_keyword, next_value};
-ghost use Rattle.rd_command.specs.Bindings.{number_below, number_named};
+ghost use Rattle.rd_command.specs.Bindings.{made_known, number_below, number_named};
 
 use crate::binding::Unknown;
 use crate::form::{count_of, operator_of, phase_of, watch_of};
 use crate::keyword::{ConditionKeyword, condition_keyword_of};
 use crate::poke::Digits;
-use rd_app::app::App;
 use rd_app::instr::REGISTERS;
 use rd_condition::condition::{Comparison, PhaseName};
+use rd_names::names::Names;
 use rd_text::kind::Kind;
 use rd_text::words::{Words, name, number};
 use std::marker::Model;
@@ -28,35 +28,48 @@ fn number_below(word: &[u8], limit: usize) -> Result<usize, Unknown>
 }
 
 // The number of the thing of that kind that a word names.
-fn number_named(word: &[u8], kind: Kind, app: &App) -> Result<usize, Unknown>
-    ensures { result_ok result ≡ number_named app.now kind word.now }
+fn number_named(word: &[u8], kind: Kind, names: &Names) -> Result<usize, Unknown>
+    ensures { result_ok result ≡ number_named names.now kind word.now }
 {
     let name = name(word).ok_or(Unknown)?;
-    app.find(kind, name).ok_or(Unknown)
+    names.find(kind, name).ok_or(Unknown)
 }
 
 /// Reads the operands of a command, which have their forms, and answers `Unknown` to one that the
 /// application doesn't have.
 #[derive(Drop)]
 pub(crate) struct Reader<'r, 'a> {
-    app: &'r App,
+    names: &'r Names,
+    cores: usize,
+    entries: usize,
     words: Words<'a>,
 }
 
 impl<'r, 'a> Model for Reader<'r, 'a> {
-    ghost use Rattle.rd_command.specs.Bindings.{Reading};
+    ghost use Rattle.rd_command.specs.Bindings.{Reading, made_known};
 
     ghost Value = { Reading };
 
-    ghost view = { λ r. record { app = r.app.now; words = r.words } };
+    ghost view = { λ r. record { known = made_known r.names.now r.cores r.entries; words = r.words } };
 }
 
 impl<'r, 'a> Reader<'r, 'a> {
-    /// Reads these words.
-    pub(crate) fn new(app: &'r App, words: Words<'a>) -> Reader<'r, 'a>
-        ensures { result ≡ record { app = app.now; words = words.entry } }
+    /// Reads these words over such names, so many cores and so many notification entries.
+    pub(crate) fn new(
+        names: &'r Names,
+        cores: usize,
+        entries: usize,
+        words: Words<'a>,
+    ) -> Reader<'r, 'a>
+        ensures { result
+            ≡ record { known = made_known names.now cores entries; words = words.entry } }
     {
-        Reader { app, words }
+        Reader {
+            names,
+            cores,
+            entries,
+            words,
+        }
     }
 
     /// The next word, as the keyword of a condition.
@@ -75,7 +88,7 @@ impl<'r, 'a> Reader<'r, 'a> {
     pub(crate) fn core(&mut self) -> Result<usize, Unknown>
         ensures { Takes (next_value parameter.Core self.old) result self.new }
     {
-        number_below(self.words.next().ok_or(Unknown)?, self.app.cores())
+        number_below(self.words.next().ok_or(Unknown)?, self.cores)
     }
 
     /// The next word, as a number of moves.
@@ -100,7 +113,7 @@ impl<'r, 'a> Reader<'r, 'a> {
     pub(crate) fn index(&mut self) -> Result<usize, Unknown>
         ensures { Takes (next_value parameter.Index self.old) result self.new }
     {
-        number_below(self.words.next().ok_or(Unknown)?, self.app.entries())
+        number_below(self.words.next().ok_or(Unknown)?, self.entries)
     }
 
     /// The next word, as a number.
@@ -148,6 +161,6 @@ impl<'r, 'a> Reader<'r, 'a> {
     pub(crate) fn named(&mut self, kind: Kind) -> Result<usize, Unknown>
         ensures { Takes (next_value (parameter.Name kind) self.old) result self.new }
     {
-        number_named(self.words.next().ok_or(Unknown)?, kind, self.app)
+        number_named(self.words.next().ok_or(Unknown)?, kind, self.names)
     }
 }

@@ -79,16 +79,16 @@ HasAmount s Tick = Unit {0}
 
 -- The condition names what the application has.
 abbrev pub IsAmountOf : Application → Amount → Type 0
-IsAmountOf app (Items queue) = queue < length app.objects.queues.things
-IsAmountOf app (Bytes stream) = stream < length app.objects.streams.things
-IsAmountOf app (Messages message) = message < length app.objects.messages.things
-IsAmountOf app (Bits group) = group < length app.objects.groups.things
+IsAmountOf app (Items queue) = queue < length app.objects.queues
+IsAmountOf app (Bytes stream) = stream < length app.objects.streams
+IsAmountOf app (Messages message) = message < length app.objects.messages
+IsAmountOf app (Bits group) = group < length app.objects.groups
 IsAmountOf app (Register task register) =
-    (task < length app.tasks.things) × (register < REGISTERS)
-IsAmountOf app (Pc task) = task < length app.tasks.things
-IsAmountOf app (Value task index) = (task < length app.tasks.things) × (index < app.entries)
+    (task < length app.tasks) × (register < REGISTERS)
+IsAmountOf app (Pc task) = task < length app.tasks
+IsAmountOf app (Value task index) = (task < length app.tasks) × (index < app.entries)
 IsAmountOf app Tick = Unit {0}
 
 abbrev pub IsConditionOf : Application → Condition → Type 0
 IsConditionOf app (Compares amount comparison bound) = IsAmountOf app amount
-IsConditionOf app (InPhase task name) = task < length app.tasks.things
+IsConditionOf app (InPhase task name) = task < length app.tasks

@@ -6,7 +6,7 @@ ghost use Rattle.rd_condition.specs.Conditions.{holds, is_named};
 ghost use Rattle.rd_condition.specs.Conditions.{HasAmount, IsConditionOf};
 ghost use Rattle.rd_state.specs.Valid.{IsValid};
 
-use rd_app::app::App;
+use rd_app::app::Program;
 use rd_state::phase::Phase;
 use rd_state::state::State;
 
@@ -155,7 +155,7 @@ impl Amount {
 
 impl Condition {
     /// Whether the condition holds in this state. It names what the application has.
-    pub fn holds(self, app: &App, state: &State) -> bool
+    pub fn holds(self, app: &Program, state: &State) -> bool
         requires valid { IsValid app.now state.now }
         requires named { IsConditionOf app.now self }
         ensures { result ≡ holds state.now self }

@@ -81,8 +81,8 @@ refused_request app most moves (request.BackUntil condition) refusal leads is =
 
 same_request : (d : Debugger) (asked : Request) (refusal : Refusal) → IsMade d → reply_to_request d asked ≡ refused refusal → after_request d asked ≡ d
 same_request d asked refusal made is =
-    let told : request_reply d.app d.most_moves d.moves asked ≡ Refused refusal = cc in
-    ap (λ (moves : Moves). record d { moves = moves }) (refused_request d.app d.most_moves d.moves asked refusal made told)
+    let told : request_reply d.app.runs d.most_moves d.moves asked ≡ Refused refusal = cc in
+    ap (λ (moves : Moves). record d { moves = moves }) (refused_request d.app.runs d.most_moves d.moves asked refusal made told)
 
 same_watched : (d : Debugger) (watch : Option Condition) (make : Condition → Request) (refusal : Refusal) → IsMade d
     → reply_to_watched d watch make ≡ refused refusal → after_watched d watch make ≡ d
@@ -171,14 +171,14 @@ back_again app most done move false moves other is same = absurd cc
 
 pub back_gives_the_target_back : BackGivesTheTargetBack
 back_gives_the_target_back d move at made is =
-    let told : request_reply d.app d.most_moves d.moves (request.Go move) ≡ Done at = cc in
+    let told : request_reply d.app.runs d.most_moves d.moves (request.Go move) ≡ Done at = cc in
     let longer : Moves = record { done = d.moves.done ++ move ∷ []; undone = [] } in
-    let went : answered d.app d.most_moves d.moves (request.Go move) ≡ longer =
-    ap (λ b. cond b longer d.moves) (made_go d.app d.most_moves d.moves move at made told) in
+    let went : answered d.app.runs d.most_moves d.moves (request.Go move) ≡ longer =
+    ap (λ b. cond b longer d.moves) (made_go d.app.runs d.most_moves d.moves move at made told) in
     let there : nat_le 1 (length longer.done) ≡ true = le-leb 1 (length longer.done) (omega (arith, length_push d.moves.done move)) in
-    let back : (answered d.app d.most_moves longer (request.Back 1)).done ≡ d.moves.done =
-    back_again d.app d.most_moves d.moves.done move (nat_le 1 (length longer.done)) (back_at longer (length longer.done - 1)) longer there
+    let back : (answered d.app.runs d.most_moves longer (request.Back 1)).done ≡ d.moves.done =
+    back_again d.app.runs d.most_moves d.moves.done move (nat_le 1 (length longer.done)) (back_at longer (length longer.done - 1)) longer there
     (taken_back d.moves.done move) in
-    let both : (answered d.app d.most_moves (answered d.app d.most_moves d.moves (request.Go move)) (request.Back 1)).done ≡ d.moves.done =
-    ap (λ (moves : Moves). (answered d.app d.most_moves moves (request.Back 1)).done) went ∙ back in
-    ap (λ (done : List Move). state_or (boot_of d.app) (state_after d.app done)) both
+    let both : (answered d.app.runs d.most_moves (answered d.app.runs d.most_moves d.moves (request.Go move)) (request.Back 1)).done ≡ d.moves.done =
+    ap (λ (moves : Moves). (answered d.app.runs d.most_moves moves (request.Back 1)).done) went ∙ back in
+    ap (λ (done : List Move). state_or (boot_of d.app.runs) (state_after d.app.runs done)) both

@@ -1,4 +1,4 @@
--- What views show has names, and the watches that are shown.
+-- The watches that are shown.
 use Rattle.std.proofs.Common.{◌≡◌, ◌∙◌, ℕ, ◌+◌, ◌<◌, ◌≤◌, List, ◌∷◌, ◌++◌, length, drop, None, ap, subst, sym, arith, add-one, drop-cons, append_assoc}
 use Rattle.std.proofs.lemmas.List.{append-nil, drop_all}
 use Rattle.std.specs.Prelude.{All, IfSome}
@@ -9,19 +9,6 @@ use Rattle.rd_reply.specs.declared.reply.WatchShown.{WatchShown}
 use Rattle.rd_reply.specs.Names.{SeatedAreNamed}
 use Rattle.rd_desk.specs.Sessions.{WatchesView, watch_at}
 use Rattle.rd_desk.specs.Views.{shown_at, shown_from}
-
--- Each task of the state has a name.
-tasks_named : (app : Application) (s : Snapshot) → IsApplication app → IsValid app s → length s.tasks ≡ length app.tasks.names
-tasks_named app s limits valid = omega (arith, limits.named_tasks.paired, valid.in_limits.tasks)
-
--- Who runs and who is ready has a name.
-pub seated_named : (app : Application) (s : Snapshot) → IsApplication app → IsValid app s → SeatedAreNamed app s
-seated_named app s limits valid =
-    let tasks = tasks_named app s limits valid in
-    record {
-      cores = subst (λ n. All (λ core. IfSome core (λ task. task < n)) s.cores) tasks valid.in_limits.sized.scheduling.cores;
-      ready = subst (λ n. All (λ task. task < n) s.ready) tasks valid.in_limits.sized.scheduling.ready;
-    }
 
 -- ---- watches, one after another
 

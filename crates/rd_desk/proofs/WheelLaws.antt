@@ -69,7 +69,7 @@ other_request app most moves (request.BackUntil condition) = other_way_back (las
 -- ---- the wheel behind a command
 
 request_wheel : (d : Debugger) (taken : Option ℕ) (asked : Request) → d.wheel ≡ cond (is_wheel (reply_to_request d asked)) taken d.wheel
-request_wheel d taken asked = ap (λ b. cond b taken d.wheel) (sym (other_request d.app d.most_moves d.moves asked))
+request_wheel d taken asked = ap (λ b. cond b taken d.wheel) (sym (other_request d.app.runs d.most_moves d.moves asked))
 
 watched_wheel : (d : Debugger) (taken : Option ℕ) (watch : Option Condition) (make : Condition → Request)
     → (after_watched d watch make).wheel ≡ cond (is_wheel (reply_to_watched d watch make)) taken d.wheel

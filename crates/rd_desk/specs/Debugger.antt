@@ -1,7 +1,7 @@
 -- The sequential debugger: what it has, and the target that it shows.
 use Rattle.std.specs.Prelude.{ℕ, Option, None, Some, [], nat_eq, if◌then◌else◌, Bool}
 use Rattle.std.specs.Prelude.{false}
-use Rattle.rd_app.specs.Application.{Application}
+use Rattle.rd_names.specs.Apps.{AppView}
 use Rattle.rd_state.specs.Snapshot.{Snapshot}
 use Rattle.rd_timeline.specs.Runs.{Moves, state_of}
 use Rattle.rd_desk.specs.Sessions.{SessionsView, WatchesView, watches_of, with_watches}
@@ -9,14 +9,14 @@ use Rattle.rd_desk.specs.Sessions.{SessionsView, WatchesView, watches_of, with_w
 -- the application, how many moves may be done, the moves done from the start and those undone, the
 -- session that has the wheel, if one has, and the sessions with their watches
 pub record Debugger : Type 0 where
-  pub app : Application
+  pub app : AppView
   pub most_moves : ℕ
   pub moves : Moves
   pub wheel : Option ℕ
   pub sessions : SessionsView
 
 -- the debugger as it begins
-abbrev pub opening : Application → ℕ → Debugger
+abbrev pub opening : AppView → ℕ → Debugger
 opening app most_moves = record {
   app = app;
   most_moves = most_moves;
@@ -27,7 +27,7 @@ opening app most_moves = record {
 
 -- the target: what the moves done, and not undone, give from the start
 abbrev pub target_of : Debugger → Snapshot
-target_of d = state_of d.app d.moves
+target_of d = state_of d.app.runs d.moves
 
 -- ---- the wheel
 

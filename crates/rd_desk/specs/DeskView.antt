@@ -26,7 +26,7 @@ pub record IsKept (d : DeskView) : Type 0 where
   pub legal : IsLegal d.history d.debugger
   pub within : used d ≤ d.most_entries
   pub joins : length d.debugger.sessions ≤ MAX_JOINS
-  pub leads : state_after d.debugger.app d.debugger.moves.done ≡ Ok (target_of d.debugger)
+  pub leads : state_after d.debugger.app.runs d.debugger.moves.done ≡ Ok (target_of d.debugger)
 
 -- the entry of an event
 abbrev pub entry_of : Debugger → ℕ → Event → Entry

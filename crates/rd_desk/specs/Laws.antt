@@ -20,7 +20,7 @@ use Rattle.rd_desk.specs.Wheel.{holder_after}
 
 -- The moves done, and not undone, give the target from the start.
 abbrev pub IsMade : Debugger → Type 0
-IsMade d = state_after d.app d.moves.done ≡ Ok (target_of d)
+IsMade d = state_after d.app.runs d.moves.done ≡ Ok (target_of d)
 
 -- A refused command changes nothing: no move done or undone, no wheel and no watch, so no target.
 abbrev pub RefusedCommandsChangeNothing : Type 0

@@ -1,4 +1,5 @@
 -- The debugger that the fields of a `Machine` stand for.
+use Rattle.rd_names.specs.Apps.{AreAsMany}
 use Rattle.rd_timeline.specs.Runs.{moves_of}
 use Rattle.rd_desk.specs.declared.machine.Machine.TheInside.{Inside}
 use Rattle.rd_desk.specs.Debugger.{Debugger}
@@ -6,13 +7,14 @@ use Rattle.rd_desk.specs.Sessions.{AreSessionsOf}
 
 abbrev pub debugger_of : Inside → Debugger
 debugger_of m = record {
-  app = m.timeline.app;
+  app = record { runs = m.timeline.app; names = m.names };
   most_moves = m.timeline.limit;
   moves = moves_of m.timeline;
   wheel = m.wheel;
   sessions = m.sessions;
 }
 
--- Each watch is of what the application has.
+-- Each kind has as many names as things, and each watch is of what the application has.
 pub record IsMachine (m : Inside) : Type 0 where
+  pub named : AreAsMany m.timeline.app m.names
   pub watches : AreSessionsOf m.timeline.app m.sessions

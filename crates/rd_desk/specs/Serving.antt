@@ -37,10 +37,10 @@ shown text = Shown (line_of text)
 
 -- what a request of the timeline makes of the debugger, and its reply
 abbrev pub after_request : Debugger → Request → Debugger
-after_request d request = record d { moves = answered d.app d.most_moves d.moves request }
+after_request d request = record d { moves = answered d.app.runs d.most_moves d.moves request }
 
 abbrev pub reply_to_request : Debugger → Request → Reply
-reply_to_request d request = Told (request_reply d.app d.most_moves d.moves request)
+reply_to_request d request = Told (request_reply d.app.runs d.most_moves d.moves request)
 
 -- the same of a request with the condition of a watch, if there is that watch
 abbrev pub after_watched : Debugger → Option Condition → (Condition → Request) → Debugger
@@ -131,8 +131,8 @@ reply_to_bound d who (bound.Watch condition) =
     reply_to_kept (position is_none (own_watches d who))
 reply_to_bound d who (bound.Unwatch number) =
     reply_to_dropped number (watch_at (own_watches d who) number)
-reply_to_bound d who (bound.Show kind number) = shown (view_text d.app (target_of d) kind number)
-reply_to_bound d who bound.ShowCores = shown (cores_text d.app (target_of d))
+reply_to_bound d who (bound.Show kind number) = shown (view_text d.app.names (target_of d) kind number)
+reply_to_bound d who bound.ShowCores = shown (cores_text d.app.names (target_of d))
 reply_to_bound d who bound.ShowMoves =
     Told (Moves (length d.moves.done) (length d.moves.undone))
 reply_to_bound d who bound.ShowWheel = Told (Holder d.wheel)

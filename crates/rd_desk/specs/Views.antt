@@ -1,6 +1,6 @@
 -- What views show.
 use Rattle.std.specs.Prelude.{ℕ, ◌+◌, List, [], ◌∷◌, ◌++◌, position, Option, None, Some}
-use Rattle.rd_app.specs.Application.{Application, names_of}
+use Rattle.rd_names.specs.Names.{NamesView, names_of}
 use Rattle.rd_condition.specs.declared.condition.Condition.{Condition}
 use Rattle.rd_condition.specs.Conditions.{holds}
 use Rattle.rd_text.specs.declared.kind.Kind.{Kind}
@@ -14,23 +14,23 @@ use Rattle.rd_reply.specs.Replies.{stream_text, task_text}
 use Rattle.rd_desk.specs.Sessions.{WatchesView}
 
 -- the name of the thing of a kind with that number
-abbrev pub name_in : Application → Kind → ℕ → List ℕ
-name_in app kind number = name_at (names_of kind app) number
+abbrev pub name_in : NamesView → Kind → ℕ → List ℕ
+name_in names kind number = name_at (names_of kind names) number
 
 -- what a view shows of the thing of a kind with that number, in this state
-abbrev pub view_text : Application → Snapshot → Kind → ℕ → List ℕ
-view_text app s kind.Queue queue =
-    queue_text app (name_in app kind.Queue queue) (queue_at s queue)
-view_text app s kind.QueueSet queue_set =
-    queue_set_text app (name_in app kind.QueueSet queue_set) (queue_set_at s queue_set)
-view_text app s kind.Stream stream =
-    stream_text app (name_in app kind.Stream stream) (stream_at s stream)
-view_text app s kind.Message message =
-    message_text app (name_in app kind.Message message) (message_at s message)
-view_text app s kind.Group group =
-    group_text app (name_in app kind.Group group) (group_at s group)
-view_text app s kind.Task task =
-    task_text app (name_in app kind.Task task) (position (is_task task) s.cores) (task_at s task)
+abbrev pub view_text : NamesView → Snapshot → Kind → ℕ → List ℕ
+view_text names s kind.Queue queue =
+    queue_text names (name_in names kind.Queue queue) (queue_at s queue)
+view_text names s kind.QueueSet queue_set =
+    queue_set_text names (name_in names kind.QueueSet queue_set) (queue_set_at s queue_set)
+view_text names s kind.Stream stream =
+    stream_text names (name_in names kind.Stream stream) (stream_at s stream)
+view_text names s kind.Message message =
+    message_text names (name_in names kind.Message message) (message_at s message)
+view_text names s kind.Group group =
+    group_text names (name_in names kind.Group group) (group_at s group)
+view_text names s kind.Task task =
+    task_text names (name_in names kind.Task task) (position (is_task task) s.cores) (task_at s task)
 
 -- a watch with that number, if there is one, and whether its condition holds in this state
 abbrev pub shown_at : Snapshot → ℕ → Option Condition → List WatchShown

@@ -21,10 +21,12 @@ use crate::machine::Machine;
 use crate::reply::Reply;
 use crate::sessions::MAX_JOINS;
 use crate::tally::Tally;
-use rd_app::app::App;
+use rd_app::app::Program;
 use rd_bytes::no_memory::NoMemory;
 use rd_command::binding::{Bound, Unknown};
 use rd_command::command::Command;
+use rd_names::app::App;
+use rd_names::names::Names;
 use rd_state::state::State;
 use std::alloc::Global;
 use std::marker::Model;
@@ -163,11 +165,18 @@ impl Desk {
         self.machine.target()
     }
 
-    /// The application.
-    pub fn app(&self) -> &App
-        ensures { result.now ≡ self.now.debugger.app }
+    /// What runs of the application.
+    pub fn program(&self) -> &Program
+        ensures { result.now ≡ self.now.debugger.app.runs }
     {
-        self.machine.app()
+        self.machine.program()
+    }
+
+    /// What the application's things are called.
+    pub fn names(&self) -> &Names
+        ensures { result.now ≡ self.now.debugger.app.names }
+    {
+        self.machine.names()
     }
 
     /// How many entries the history has.

@@ -10,7 +10,7 @@ ghost use Rattle.rd_condition.specs.Conditions.{IsConditionOf};
 ghost use Rattle.rd_timeline.specs.History.{state_after};
 ghost use Rattle.rd_timeline.specs.declared.runs.Request.TheVariants as request;
 ghost use Rattle.rd_calls.specs.Step.{IsMoveOf};
-ghost use Rattle.rd_app.specs.Application.{names_of};
+ghost use Rattle.rd_names.specs.Names.{names_of};
 ghost use Rattle.rd_reply.specs.declared.reply.Reply.TheVariants as short;
 ghost use Rattle.rd_reply.specs.Replies.{cores_text, watches_text};
 ghost use Rattle.rd_desk.specs.Debugger.{freed, is_holder, opening, other_holder, own_watches};
@@ -25,13 +25,15 @@ use crate::reply::Reply;
 use crate::sessions::{MAX_JOINS, Sessions};
 use crate::showing::{show_all_cores, show_all_watches, show_thing};
 use crate::text::Text;
-use rd_app::app::App;
+use rd_app::app::Program;
 use rd_bytes::no_memory::NoMemory;
 use rd_calls::moves::Move;
 use rd_command::binding::{Bound, Unknown};
 use rd_command::command::Command;
 use rd_command::poke::Poke;
 use rd_condition::condition::Condition;
+use rd_names::app::App;
+use rd_names::names::Names;
 use rd_refusal::refusal::Refusal;
 use rd_reply::reply::Reply as Short;
 use rd_state::state::State;
@@ -44,6 +46,7 @@ use std::marker::Model;
 pub struct Machine {
     alloc: Global,
     timeline: Timeline,
+    names: Names,
     wheel: Option<u32>,
     sessions: Sessions,
 }
@@ -113,11 +116,14 @@ impl Machine {
     pub fn new(alloc: Global, app: App, moves: u32) -> Result<Machine, NoMemory>
         ensures { IfOk result (λ machine. machine ≡ opening app moves) }
     {
+        app.limits();
         let sessions = Sessions::new(alloc)?;
-        let timeline = Timeline::new(alloc, app, moves as usize)?;
+        let (program, names) = app.split();
+        let timeline = Timeline::new(alloc, program, moves as usize)?;
         Ok(Machine {
             alloc,
             timeline,
+            names,
             wheel: None,
             sessions,
         })
@@ -125,7 +131,7 @@ impl Machine {
 
     /// The moves done, and not undone, give the target from the start.
     pub fn keeps(&self)
-        ensures { state_after self.now.app self.now.moves.done ≡ Ok (target_of self.now) }
+        ensures { state_after self.now.app.runs self.now.moves.done ≡ Ok (target_of self.now) }
     {
         self.timeline.keeps();
     }
@@ -138,11 +144,18 @@ impl Machine {
         self.timeline.target()
     }
 
-    /// The application.
-    pub fn app(&self) -> &App
-        ensures { result.now ≡ self.now.app }
+    /// What runs.
+    pub fn program(&self) -> &Program
+        ensures { result.now ≡ self.now.app.runs }
     {
         self.timeline.app()
+    }
+
+    /// What it is called.
+    pub fn names(&self) -> &Names
+        ensures { result.now ≡ self.now.app.names }
+    {
+        &self.names
     }
 
     /// How many sessions have entered.
@@ -188,7 +201,7 @@ impl Machine {
     // The task on a core does one instruction.
     #[inline(never)]
     fn step(&mut self, core: usize) -> Result<Reply, NoMemory>
-        requires { IsMoveOf self.old.app (move.Core core) }
+        requires { IsMoveOf self.old.app.runs (move.Core core) }
         ensures after { IfOk result (λ reply.
             self.new ≡ after_request self.old (request.Go (move.Core core))) }
         ensures reply { IfOk result (λ reply.
@@ -202,7 +215,7 @@ impl Machine {
     // A tick passes.
     #[inline(never)]
     fn tick(&mut self) -> Result<Reply, NoMemory>
-        requires { IsMoveOf self.old.app move.Tick }
+        requires { IsMoveOf self.old.app.runs move.Tick }
         ensures after { IfOk result (λ reply.
             self.new ≡ after_request self.old (request.Go move.Tick)) }
         ensures reply { IfOk result (λ reply.
@@ -216,7 +229,7 @@ impl Machine {
     // Changes something by hand.
     #[inline(never)]
     fn poke(&mut self, edit: &Poke<'_>) -> Result<Reply, NoMemory>
-        requires { IsMoveOf self.old.app (move.Edit edit.now) }
+        requires { IsMoveOf self.old.app.runs (move.Edit edit.now) }
         ensures after { IfOk result (λ reply.
             self.new ≡ after_request self.old (request.Go (move.Edit edit.now))) }
         ensures reply { IfOk result (λ reply.
@@ -272,7 +285,7 @@ impl Machine {
     #[inline(never)]
     fn until(&mut self, condition: Condition, count: usize) -> Result<Reply, NoMemory>
         requires some { 0 < count }
-        requires named { IsConditionOf self.old.app condition }
+        requires named { IsConditionOf self.old.app.runs condition }
         ensures after { IfOk result (λ reply.
             self.new ≡ after_request self.old (request.Until condition count)) }
         ensures reply { IfOk result (λ reply.
@@ -286,7 +299,7 @@ impl Machine {
     // Goes back to where a condition held.
     #[inline(never)]
     fn back_until(&mut self, condition: Condition) -> Reply
-        requires { IsConditionOf self.old.app condition }
+        requires { IsConditionOf self.old.app.runs condition }
         ensures after { self.new ≡ after_request self.old (request.BackUntil condition) }
         ensures reply { result ≡ reply_to_request self.old (request.BackUntil condition) }
     {
@@ -346,7 +359,7 @@ impl Machine {
     fn put_watch(&mut self, who: u32, number: usize, slot: Option<Condition>)
         requires there { IsPresent self.old.sessions who }
         requires number { number < length (own_watches self.old who) }
-        requires named { IfSome slot (IsConditionOf self.old.app) }
+        requires named { IfSome slot (IsConditionOf self.old.app.runs) }
         ensures { self.new
             ≡ watching self.old who (slice_set (own_watches self.old who) number slot) }
     {
@@ -358,7 +371,7 @@ impl Machine {
     #[inline(never)]
     fn watch(&mut self, who: u32, condition: Condition) -> Reply
         requires there { IsPresent self.old.sessions who }
-        requires named { IsConditionOf self.old.app condition }
+        requires named { IsConditionOf self.old.app.runs condition }
         ensures { IsDone self.old who (bound.Watch condition) self.new result }
     {
         match self.sessions.watches(who).free() {
@@ -398,22 +411,22 @@ impl Machine {
     // The view of the thing of that kind and number.
     #[inline(never)]
     fn thing(&self, kind: Kind, number: usize) -> Result<Reply, NoMemory>
-        requires { number < length (names_of kind self.now.app) }
+        requires { number < length (names_of kind self.now.app.names) }
         ensures { IfOk result (λ reply. reply
-            ≡ shown (view_text self.now.app (target_of self.now) kind number)) }
+            ≡ shown (view_text self.now.app.names (target_of self.now) kind number)) }
     {
         self.timeline.keeps();
-        Ok(shown(show_thing(&self.timeline, self.alloc, kind, number)?))
+        Ok(shown(show_thing(&self.timeline, &self.names, self.alloc, kind, number)?))
     }
 
     // The view of the cores.
     #[inline(never)]
     fn cores(&self) -> Result<Reply, NoMemory>
         ensures { IfOk result (λ reply.
-            reply ≡ shown (cores_text self.now.app (target_of self.now))) }
+            reply ≡ shown (cores_text self.now.app.names (target_of self.now))) }
     {
         self.timeline.keeps();
-        Ok(shown(show_all_cores(&self.timeline, self.alloc)?))
+        Ok(shown(show_all_cores(&self.timeline, &self.names, self.alloc)?))
     }
 
     // The view of the session's watches.
@@ -489,7 +502,7 @@ impl Machine {
         if let Some(holder) = self.held_by(who, command) {
             return Ok(refused(Refusal::Held { holder }));
         }
-        self.timeline.app().limits();
+        let _ = &self.names;
         match bound {
             Ok(bound) => self.obey(who, bound),
             Err(_) => Ok(refused(Refusal::NoSuch)),
@@ -501,6 +514,7 @@ impl Machine {
         let Machine {
             alloc: _,
             timeline,
+            names: _names,
             wheel: _,
             sessions: _,
         } = self;

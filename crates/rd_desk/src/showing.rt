@@ -1,7 +1,8 @@
 //! The lines of views.
 
 ghost use Rattle.std.specs.Prelude.{◌≡◌, ◌++◌, ◌<◌, length, IfOk, IfSome, OnOk};
-ghost use Rattle.rd_app.specs.Application.{names_of};
+ghost use Rattle.rd_names.specs.Apps.{AreAsMany};
+ghost use Rattle.rd_names.specs.Names.{names_of};
 ghost use Rattle.rd_reply.specs.Replies.{cores_text, line_of, watches_text};
 ghost use Rattle.rd_desk.specs.Sessions.{AreWatchesOf};
 ghost use Rattle.rd_condition.specs.Conditions.{IsConditionOf};
@@ -11,6 +12,7 @@ use crate::text::Text;
 use crate::watches::Watches;
 use rd_bytes::no_memory::NoMemory;
 use rd_condition::condition::Condition;
+use rd_names::names::Names;
 use rd_reply::buffers::{show_message, show_stream};
 use rd_reply::groups::show_group;
 use rd_reply::reply::{
@@ -26,28 +28,28 @@ const ROOM: usize = 128;
 // Appends what is shown of the thing of that kind and number.
 fn append_thing(
     timeline: &Timeline,
+    names: &Names,
     line: &mut Vec<u8>,
     kind: Kind,
     number: usize,
 ) -> Result<(), AllocError>
-    requires { number < length (names_of kind timeline.now.app) }
+    requires paired { AreAsMany timeline.now.app names.now }
+    requires named { number < length (names_of kind names.now) }
     ensures { OnOk result (line.new.items ≡ line.old.items
-        ++ line_of (view_text timeline.now.app timeline.now.target kind number)) }
+        ++ line_of (view_text names.now timeline.now.target kind number)) }
 {
-    let app = timeline.app();
     let target = timeline.target();
-    let name = app.name(kind, number);
-    app.limits();
+    let name = names.name(kind, number);
     timeline.keeps();
     match kind {
-        Kind::Queue => show_queue(line, app, name, target.queue(number)),
-        Kind::QueueSet => show_queue_set(line, app, name, target.queue_set(number)),
-        Kind::Stream => show_stream(line, app, name, target.stream(number)),
-        Kind::Message => show_message(line, app, name, target.message(number)),
-        Kind::Group => show_group(line, app, name, target.group(number)),
+        Kind::Queue => show_queue(line, names, name, target.queue(number)),
+        Kind::QueueSet => show_queue_set(line, names, name, target.queue_set(number)),
+        Kind::Stream => show_stream(line, names, name, target.stream(number)),
+        Kind::Message => show_message(line, names, name, target.message(number)),
+        Kind::Group => show_group(line, names, name, target.group(number)),
         Kind::Task => {
             let core = core_of(target.cores(), number);
-            show_task(line, app, name, core, target.task(number))
+            show_task(line, names, name, core, target.task(number))
         }
     }
 }
@@ -55,28 +57,34 @@ fn append_thing(
 /// The view of the thing of that kind and number. An `Err` says that there is no memory for it.
 pub(crate) fn show_thing(
     timeline: &Timeline,
+    names: &Names,
     alloc: Global,
     kind: Kind,
     number: usize,
 ) -> Result<Text, NoMemory>
-    requires { number < length (names_of kind timeline.now.app) }
+    requires paired { AreAsMany timeline.now.app names.now }
+    requires named { number < length (names_of kind names.now) }
     ensures { IfOk result (λ text.
-        text ≡ line_of (view_text timeline.now.app timeline.now.target kind number)) }
+        text ≡ line_of (view_text names.now timeline.now.target kind number)) }
 {
     let mut line = Vec::with_capacity(alloc, ROOM)?;
-    append_thing(timeline, &mut line, kind, number)?;
+    append_thing(timeline, names, &mut line, kind, number)?;
     Ok(Text::new(line))
 }
 
 /// The view of the cores. An `Err` says that there is no memory for it.
-pub(crate) fn show_all_cores(timeline: &Timeline, alloc: Global) -> Result<Text, NoMemory>
+pub(crate) fn show_all_cores(
+    timeline: &Timeline,
+    names: &Names,
+    alloc: Global,
+) -> Result<Text, NoMemory>
+    requires { AreAsMany timeline.now.app names.now }
     ensures { IfOk result (λ text.
-        text ≡ line_of (cores_text timeline.now.app timeline.now.target)) }
+        text ≡ line_of (cores_text names.now timeline.now.target)) }
 {
-    timeline.app().limits();
     timeline.keeps();
     let mut line = Vec::with_capacity(alloc, ROOM)?;
-    show_cores(&mut line, timeline.app(), timeline.target())?;
+    show_cores(&mut line, names, timeline.target())?;
     Ok(Text::new(line))
 }
 

@@ -154,10 +154,10 @@ IsSized-byte s stream index value there within sized =
 -- ---- all edits
 
 -- A script is no longer than one may be.
-short_code : (app : Application) (task : ℕ) → IsApplication app → task < length app.tasks.things → length (code_of app task) ≤ 256
+short_code : (app : Application) (task : ℕ) → IsApplication app → task < length app.tasks → length (code_of app task) ≤ 256
 short_code app task limits there =
     let nothing : TaskScript = record { priority = 0; code = [] } in
-    (All-get_or (IsScript app) app.tasks.things task nothing there limits.tasks).few
+    (All-get_or (IsScript app) app.tasks task nothing there limits.tasks).few
 
 sized_task : (s : Snapshot) (task : ℕ) → IsSized s → task < length s.tasks → IsSizedTask (task_at s task)
 sized_task s task sized there = All-get_or IsSizedTask s.tasks task no_task there sized.tasks.tasks

@@ -22,13 +22,13 @@ use Rattle.rd_edits.specs.declared.edit.Edit.TheVariants.{Bits, Item, Byte}
 -- The application has the task, with its register or its entry, or the object.
 abbrev pub IsEditOf : Application → Edit → Type 0
 IsEditOf app (Register task register value) =
-    (task < length app.tasks.things) × (register < REGISTERS)
-IsEditOf app (Data task bytes) = task < length app.tasks.things
-IsEditOf app (Pc task pc) = task < length app.tasks.things
-IsEditOf app (Value task index value) = (task < length app.tasks.things) × (index < app.entries)
-IsEditOf app (Bits group bits) = group < length app.objects.groups.things
-IsEditOf app (Item queue index bytes) = queue < length app.objects.queues.things
-IsEditOf app (Byte stream index value) = stream < length app.objects.streams.things
+    (task < length app.tasks) × (register < REGISTERS)
+IsEditOf app (Data task bytes) = task < length app.tasks
+IsEditOf app (Pc task pc) = task < length app.tasks
+IsEditOf app (Value task index value) = (task < length app.tasks) × (index < app.entries)
+IsEditOf app (Bits group bits) = group < length app.objects.groups
+IsEditOf app (Item queue index bytes) = queue < length app.objects.queues
+IsEditOf app (Byte stream index value) = stream < length app.objects.streams
 
 -- So a state of it has these.
 abbrev pub IsEditAt : Snapshot → Edit → Type 0

@@ -15,7 +15,7 @@ ghost use Rattle.rd_edits.specs.Edits.{edit_cost, edited, is_good_byte, is_good_
 ghost use Rattle.rd_edits.specs.Edits.{is_good_pc, with_byte_at, with_item_at};
 ghost use Rattle.rd_edits.specs.Edits.{with_value, IsEditAt, IsEditOf, IsSizedEdit};
 
-use rd_app::app::App;
+use rd_app::app::Program;
 use rd_bytes::bytes::Bytes;
 use rd_bytes::no_memory::NoMemory;
 use rd_group::group_change::GroupChange;
@@ -79,8 +79,8 @@ pub enum Edit {
 }
 
 // May a task be put at that instruction? In a call it stands at that call until it returns.
-fn is_good_pc(app: &App, state: &State, task: usize, pc: usize) -> bool
-    requires named { task < length app.now.tasks.things }
+fn is_good_pc(app: &Program, state: &State, task: usize, pc: usize) -> bool
+    requires named { task < length app.now.tasks }
     requires task { task < length state.now.tasks }
     ensures { result ≡ is_good_pc app.now state.now task pc }
 {
@@ -288,7 +288,7 @@ impl Edit {
     }
 
     // What an edit names of the application is there in its state.
-    fn is_there(&self, app: &App, state: &State)
+    fn is_there(&self, app: &Program, state: &State)
         requires valid { IsValid app.now state.now }
         requires named { IsEditOf app.now self.now }
         ensures { IsEditAt state.now self.now }
@@ -301,7 +301,7 @@ impl Edit {
     /// go on elsewhere, or a task beyond its script's end; where bits are above 2^24 - 1; where
     /// there is no such item, or the bytes aren't as many as it has; where there is no such byte,
     /// or the value is above 255. A register, data and a value are never refused.
-    pub fn is_good(&self, app: &App, state: &State) -> bool
+    pub fn is_good(&self, app: &Program, state: &State) -> bool
         requires valid { IsValid app.now state.now }
         requires named { IsEditOf app.now self.now }
         ensures { result ≡ is_good_edit app.now state.now self.now }
@@ -326,7 +326,7 @@ impl Edit {
 
     /// Makes an edit that can be made, and records what undoes it. One that changes nothing takes
     /// no memory. `NoMemory` where there is none for the record; then the move goes no further.
-    pub fn make(&self, app: &App, editing: &mut Editing) -> Result<(), NoMemory>
+    pub fn make(&self, app: &Program, editing: &mut Editing) -> Result<(), NoMemory>
         requires valid { IsValid app.now editing.old.now }
         requires named { IsEditOf app.now self.now }
         requires good { is_good_edit app.now editing.old.now self.now ≡ true }

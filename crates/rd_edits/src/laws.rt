@@ -6,11 +6,11 @@ ghost use Rattle.rd_edits.specs.EditLaws.{EditsChangeOneThing, EditsWriteOneSpot
 ghost use Rattle.rd_edits.specs.Edits.{edited, is_good_edit, IsEditOf};
 
 use crate::edit::Edit;
-use rd_app::app::App;
+use rd_app::app::Program;
 use rd_state::state::State;
 
 /// A valid state stays valid after an edit that can be made, whichever it is.
-pub fn edits_keep_validity(app: &App, state: &State, edit: &Edit)
+pub fn edits_keep_validity(app: &Program, state: &State, edit: &Edit)
     requires valid { IsValid app.now state.now }
     requires named { IsEditOf app.now edit.now }
     requires good { is_good_edit app.now state.now edit.now ≡ true }

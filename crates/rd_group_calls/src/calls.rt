@@ -22,7 +22,7 @@ ghost use Rattle.rd_group_calls.specs.GroupCalls.{GroupCallChangesNothing};
 ghost use Rattle.rd_state.specs.Valid.{IsValid};
 
 use arrayvec::ArrayVec;
-use rd_app::app::App;
+use rd_app::app::Program;
 use rd_app::instr::{GroupCall, Operand};
 use rd_bytes::no_memory::NoMemory;
 use rd_group::group::MAX_WAITERS;
@@ -80,7 +80,7 @@ fn together(there: u32, set: u32) -> u32
 
 // Those who wait at a group for what these bits meet. The ready list has room for all of them.
 fn whom_they_meet(
-    app: &App,
+    app: &Program,
     editing: &Editing,
     group: usize,
     bits: u32,
@@ -97,7 +97,7 @@ fn whom_they_meet(
 }
 
 // Gives bits to all whose wishes they meet, and leaves the group what those leave.
-fn give_bits(app: &App, editing: &mut Editing, group: usize, bits: u32) -> Result<u32, NoMemory>
+fn give_bits(app: &Program, editing: &mut Editing, group: usize, bits: u32) -> Result<u32, NoMemory>
     requires valid { IsValid app.now editing.old.now }
     requires group { group < length editing.old.now.objects.groups }
     requires bits { bits ≤ MAX_BITS }
@@ -122,7 +122,7 @@ fn give_bits(app: &App, editing: &mut Editing, group: usize, bits: u32) -> Resul
 
 // Sets bits of a group (`xEventGroupSetBits`).
 fn set(
-    app: &App,
+    app: &Program,
     editing: &mut Editing,
     task: usize,
     group: usize,
@@ -219,7 +219,7 @@ fn wish_for(
 
 // Waits for bits of a group (`xEventGroupWaitBits`).
 fn wait_for(
-    app: &App,
+    app: &Program,
     editing: &mut Editing,
     task: usize,
     group: usize,
@@ -247,7 +247,7 @@ fn wait_for(
 
 // Sets bits at the first try of a call, and looks whether all that it waits for came together.
 fn meet(
-    app: &App,
+    app: &Program,
     editing: &mut Editing,
     task: usize,
     group: usize,
@@ -279,7 +279,7 @@ fn meet(
 
 // Sets bits, and waits for all of others (`xEventGroupSync`).
 fn sync(
-    app: &App,
+    app: &Program,
     editing: &mut Editing,
     task: usize,
     group: usize,
@@ -320,7 +320,7 @@ fn sync(
 /// Does a call of an event group. One that is refused, that returns bits that were given, or that
 /// clears, reads or waits and changes nothing, takes no memory.
 pub fn call_group(
-    app: &App,
+    app: &Program,
     editing: &mut Editing,
     task: usize,
     group: usize,

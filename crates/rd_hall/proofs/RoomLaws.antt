@@ -2,7 +2,7 @@
 use Rattle.std.proofs.Common.{◌≡◌, ◌∙◌, ℕ, ◌+◌, List, length, refl, ap, subst, sym}
 use Rattle.std.specs.Prelude.{Option, None, Some, Result, Ok, Err, IfOk}
 use Rattle.std.proofs.lemmas.List.{length_push}
-use Rattle.rd_app.specs.Application.{Application}
+use Rattle.rd_names.specs.Apps.{AppView}
 use Rattle.rd_condition.specs.declared.condition.Condition.{Condition}
 use Rattle.rd_timeline.specs.declared.runs.Request.{Request}
 use Rattle.rd_timeline.specs.declared.runs.Request.TheVariants as request
@@ -73,7 +73,7 @@ same_served d who Enter = (refl, refl)
 same_served d who (Ask command) = same_held d who command (held_by d who command)
 same_served d who Leave = (refl, refl)
 
-pub IsOf-does : (old new : DeskView) (who : ℕ) (event : Event) (receipt : Receipt) (app : Application) (moves entries : ℕ)
+pub IsOf-does : (old new : DeskView) (who : ℕ) (event : Event) (receipt : Receipt) (app : AppView) (moves entries : ℕ)
     → Does old who event new receipt → IsOf old app moves entries → IsOf new app moves entries
 IsOf-does old new who event receipt app moves entries does kept =
     let same = same_served old.debugger who event in record {
@@ -88,12 +88,12 @@ counted-does old new who event receipt does = ap length does.history ∙ length_
 
 -- ---- what is known of a debugger that has ended
 
-pub legal_of : {E : Type 0} (result : Result ClosedView E) (history : List Entry) (gones : List SeatView) (d : Debugger) (app : Application) (moves : ℕ)
+pub legal_of : {E : Type 0} (result : Result ClosedView E) (history : List Entry) (gones : List SeatView) (d : Debugger) (app : AppView) (moves : ℕ)
     → IfOk result (λ closed. closed ≡ record { history = history; gones = gones }) → IsLegal history d → d.app ≡ app → d.most_moves ≡ moves
     → IfOk result (λ closed. (end : Debugger) × Leads (opening app moves) closed.history end)
 legal_of (Ok closed) history gones d app moves is legal a m =
     let of_moves : Leads (opening d.app moves) history d = subst (λ (n : ℕ). Leads (opening d.app n) history d) m legal in
-    let of_app : Leads (opening app moves) history d = subst (λ (x : Application). Leads (opening x moves) history d) a of_moves in
+    let of_app : Leads (opening app moves) history d = subst (λ (x : AppView). Leads (opening x moves) history d) a of_moves in
     (d, subst (λ (h : List Entry). Leads (opening app moves) h d) (sym (ap (λ (c : ClosedView). c.history) is)) of_app)
 legal_of (Err error) history gones d app moves is legal a m = tt
 

@@ -1,6 +1,6 @@
 -- What a call does to a room and to a seat.
 use Rattle.std.specs.Prelude.{ℕ, ◌≡◌, ◌+◌, ◌≤◌, [], ◌∷◌, length}
-use Rattle.rd_app.specs.Application.{Application}
+use Rattle.rd_names.specs.Apps.{AppView}
 use Rattle.rd_desk.specs.declared.entry.Event.{Event}
 use Rattle.rd_desk.specs.declared.entry.Event.TheVariants.{Enter}
 use Rattle.rd_desk.specs.declared.entry.Receipt.{Receipt}
@@ -14,7 +14,7 @@ pub record RoomView : Type 0 where
   pub total : ℕ
 
 -- The debugger is of this application, and no more moves may be done and no more entries be made.
-pub record IsOf (d : DeskView) (used_app : Application) (moves entries : ℕ) : Type 0 where
+pub record IsOf (d : DeskView) (used_app : AppView) (moves entries : ℕ) : Type 0 where
   pub app : d.debugger.app ≡ used_app
   pub most_moves : d.debugger.most_moves ≡ moves
   pub most_entries : d.most_entries ≡ entries

@@ -13,23 +13,28 @@ use crate::account::{Broken, Closed};
 use crate::room::Room;
 use crate::seat::{Gone, Pass, Seat};
 use crate::setup::Setup;
-use rd_app::app::App;
 use rd_bytes::no_memory::NoMemory;
 use rd_command::binding::bind;
 use rd_command::command::Command;
 use rd_desk::desk::{EnterError, NotServed};
 use rd_desk::limits::Limits;
+use rd_names::app::App;
+use rd_names::names::Names;
 use std::alloc::Global;
 use std::sync::ledger::Blank;
 use std::sync::{Mutex, Wait};
 
-/// A room behind one lock, with a copy of its application outside of it. It can't be dropped: it
-/// ends in `finish`.
+/// A room behind one lock, and outside of it what a command is bound by: a copy of the names, and
+/// how many cores and notification entries there are. It can't be dropped: it ends in `finish`.
 pub struct Hall<L: Setup> {
     room: Mutex<Room<L>>,
-    app: App,
+    names: Names,
+    cores: usize,
+    entries: usize,
     limit: usize,
-    ghost set_up: { app ≡ L.app },
+    ghost named: { names ≡ L.app.names },
+    ghost core_count: { cores ≡ L.app.runs.cores },
+    ghost entry_count: { entries ≡ L.app.runs.entries },
     ghost limited: { limit ≡ L.most_entries },
 }
 
@@ -50,11 +55,15 @@ impl<L: Setup> Hall<L> {
         requires entries { limits.history ≡ L.most_entries }
         ensures { IfOk result (λ opened. vec_len opened.1 ≡ MAX_JOINS) }
     {
-        let copy = app.copy(alloc)?;
+        let names = app.names().copy(alloc)?;
+        let cores = app.program().cores();
+        let entries = app.program().entries();
         let (room, passes) = Room::open(alloc, blank, app, limits)?;
         let hall = Hall {
             room: Mutex::new(room),
-            app: copy,
+            names,
+            cores,
+            entries,
             limit: limits.history as usize,
         };
         Ok((hall, passes))
@@ -67,11 +76,11 @@ impl<L: Setup> Hall<L> {
         self.limit
     }
 
-    /// The application.
-    pub fn app(&self) -> &App
-        ensures { result.now ≡ L.app }
+    /// What the application's things are called.
+    pub fn names(&self) -> &Names
+        ensures { result.now ≡ L.app.names }
     {
-        &self.app
+        &self.names
     }
 
     /// A session joins, under the lock: it has the receipt of that. `Full` where 64 have joined,
@@ -104,7 +113,7 @@ impl<L: Setup> Hall<L> {
             × (tally.limit ≡ tally.entries + tally.present))) }
         ensures err { OnErr result.1 (result.0 ≡ seat) }
     {
-        let bound = bind(command, &self.app);
+        let bound = bind(command, &self.names, self.cores, self.entries);
         let mut room = self.room.lock(rt);
         room.keeps();
         room.ask(seat, command, &bound)
@@ -130,7 +139,9 @@ impl<L: Setup> Hall<L> {
     {
         let Hall {
             room,
-            app: _app,
+            names: _names,
+            cores: _,
+            entries: _,
             limit: _,
         } = self;
         let room = room.into_inner();

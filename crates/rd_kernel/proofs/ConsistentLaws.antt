@@ -54,7 +54,7 @@ pub record IsConsistentTask (app : Application) (D : ℕ → Phase → Type 0) (
 
 pub record IsConsistent (app : Application) (D : ℕ → Phase → Type 0) (s : Snapshot) : Type 0 where
   pub cores : length s.cores ≡ app.cores
-  pub tasks : length s.tasks ≡ length app.tasks.things
+  pub tasks : length s.tasks ≡ length app.tasks
   pub each : (task : ℕ) → task < length s.tasks → IsConsistentTask app D task (task_at s task)
   pub shapes : AreShaped app s.objects
   pub seated_once : SeatedOnce s

@@ -388,7 +388,7 @@ timed_out-next priorities n s =
     fold-append (woken priorities TriesAgain) s (due_below s n) (if_due s n) ∙ ap (woken_all priorities TriesAgain p) due
 
 -- When all were looked at, the deadlines of all that still wait are ahead.
-pub all_looked_at : (app : Application) (s p : Snapshot) → length s.tasks ≡ length app.tasks.things → TimedOut app (length s.tasks) s p
+pub all_looked_at : (app : Application) (s p : Snapshot) → length s.tasks ≡ length app.tasks → TimedOut app (length s.tasks) s p
     → IsConsistent app (all_have_time_left s.tick) p
 all_looked_at app s p tasks done =
     IsConsistent-deadlines app any_deadline (all_have_time_left s.tick) p

@@ -16,7 +16,7 @@ ghost use Rattle.rd_kernel.specs.Waking.{left, woken, woken_all, woken_first, Is
 
 use crate::changes::set_phase;
 use crate::outcome::Outcome;
-use rd_app::app::App;
+use rd_app::app::Program;
 use rd_app::instr::{MAX_DELAY, Operand};
 use rd_bytes::no_memory::NoMemory;
 use rd_state::editing::Editing;
@@ -108,7 +108,7 @@ pub fn may_wait(editing: &Editing, task: usize, wait: Operand) -> bool
 /// where its block time lasts, and else the call fails. The task is the last of those of its
 /// priority there. A call that fails takes no memory.
 pub fn block(
-    app: &App,
+    app: &Program,
     editing: &mut Editing,
     task: usize,
     list: Listed,

@@ -9,7 +9,6 @@ ghost use Rattle.rd_session.specs.Hearing.{AllMade};
 ghost use Rattle.rd_main.specs.Running.{AttendedAlone, FailsAlone};
 
 use crate::failure::Failure;
-use rd_app::app::App;
 use rd_bytes::no_memory::NoMemory;
 use rd_desk::limits::Limits;
 use rd_desk::sessions::MAX_JOINS;
@@ -18,6 +17,7 @@ use rd_ends::over::Over;
 use rd_hall::account::Closed;
 use rd_hall::hall::Hall;
 use rd_hall::setup::Setup;
+use rd_names::app::App;
 use rd_session::buffers::Buffers;
 use rd_session::gate::NoGate;
 use rd_session::session::session;

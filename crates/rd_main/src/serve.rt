@@ -6,12 +6,12 @@ ghost use Rattle.rd_main.specs.Running.{FailsTogether};
 ghost use Rattle.rd_main.specs.declared.failure.Failure.TheVariants.{Broken, CannotListen};
 
 use crate::failure::Failure;
-use rd_app::app::App;
 use rd_desk::limits::Limits;
 use rd_desk::sessions::MAX_JOINS;
 use rd_hall::hall::Hall;
 use rd_hall::seat::{Gone, Pass};
 use rd_hall::setup::Setup;
+use rd_names::app::App;
 use rd_net::net::{Served, serve_net};
 use rd_session::gate::NoGate;
 use std::alloc::Global;

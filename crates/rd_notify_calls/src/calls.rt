@@ -16,7 +16,7 @@ ghost use Rattle.rd_notify_calls.specs.NotifyCalls.{entry_opened, notify_call_co
 ghost use Rattle.rd_notify_calls.specs.NotifyCalls.{notify_call_outcome, notify_wait_outcome};
 ghost use Rattle.rd_notify_calls.specs.NotifyCalls.{take_outcome, NotifyCallChangesNothing};
 
-use rd_app::app::App;
+use rd_app::app::Program;
 use rd_app::instr::{NotifyCall, Operand};
 use rd_bytes::no_memory::NoMemory;
 use rd_kernel::changes::set_entry;
@@ -38,7 +38,7 @@ fn entry_of(editing: &Editing, task: usize, index: usize) -> Entry
 // A notification comes to an entry of a task: the entry takes it, and whoever waits for it is
 // woken, or it is left alone. Answers 1, or 0.
 fn notify(
-    app: &App,
+    app: &Program,
     editing: &mut Editing,
     task: usize,
     target: usize,
@@ -213,7 +213,7 @@ fn clear_value(
 /// Does a call that notifies a task, or looks at an entry of one. One that leaves all as it is
 /// takes no memory.
 pub fn call_notify(
-    app: &App,
+    app: &Program,
     editing: &mut Editing,
     task: usize,
     call: NotifyCall,

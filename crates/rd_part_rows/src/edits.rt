@@ -3,7 +3,7 @@
 ghost use Rattle.rd_state.specs.Valid.{IsValid};
 
 use crate::asserts::assert_same;
-use rd_app::app::App;
+use rd_app::app::Program;
 use rd_edits::edit::Edit;
 use rd_state::editing::Editing;
 use rd_state::state::State;
@@ -11,7 +11,7 @@ use rd_state::undo::Undo;
 use std::test::Fail;
 
 // Register 0 of the first task becomes 7, and then what it was. Answers both values.
-fn edits_and_goes_back(app: &App, editing: &mut Editing) -> Option<(u32, u32)>
+fn edits_and_goes_back(app: &Program, editing: &mut Editing) -> Option<(u32, u32)>
     requires { IsValid app.now editing.old.now }
 {
     app.limits();
@@ -33,7 +33,7 @@ fn edits_and_goes_back(app: &App, editing: &mut Editing) -> Option<(u32, u32)>
 #[test]
 fn register_is_edited(rt: HostRuntime) -> Result<(), Fail> {
     let alloc = rt.alloc();
-    let app = App::builtin(alloc)?;
+    let app = Program::builtin(alloc)?;
     let boot = State::boot(alloc, &app)?;
     let mut editing = Editing::new(boot, Undo::new(alloc));
     let values = edits_and_goes_back(&app, &mut editing);

@@ -6,7 +6,7 @@ ghost use Rattle.rd_state.specs.Edit.{SameShape};
 
 use crate::asserts::assert_same;
 use crate::files::read;
-use rd_app::app::App;
+use rd_app::app::Program;
 use rd_bytes::no_memory::NoMemory;
 use rd_calls::moves::Move;
 use rd_group::group_change::GroupChange;

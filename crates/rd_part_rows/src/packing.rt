@@ -3,7 +3,7 @@
 ghost use Rattle.rd_state.specs.Change.{the_change, Fits};
 
 use crate::asserts::assert_same;
-use rd_app::app::App;
+use rd_app::app::Program;
 use rd_bytes::no_memory::NoMemory;
 use rd_packed::packed::Packed;
 use rd_state::change::Change;
@@ -74,7 +74,7 @@ fn packs(rt: &impl Abort, alloc: Global, undo: Undo, bytes: &[u8]) {
 #[test]
 fn record_of_a_register(rt: HostRuntime) -> Result<(), Fail> {
     let alloc = rt.alloc();
-    let mut state = State::boot(alloc, &App::builtin(alloc)?)?;
+    let mut state = State::boot(alloc, &Program::builtin(alloc)?)?;
     assert!(&rt; state.task_count() > 0);
     let (register, value) = (3, 9);
     let change = TaskChange::SetReg { register, value };
@@ -86,7 +86,7 @@ fn record_of_a_register(rt: HostRuntime) -> Result<(), Fail> {
 #[test]
 fn record_of_data(rt: HostRuntime) -> Result<(), Fail> {
     let alloc = rt.alloc();
-    let mut state = State::boot(alloc, &App::builtin(alloc)?)?;
+    let mut state = State::boot(alloc, &Program::builtin(alloc)?)?;
     assert!(&rt; state.task_count() > 0);
     let change = TaskChange::SetData { bytes: &[0x41] };
     recorded(alloc, &mut state, Change::Task { task: 0, change })?.retire();

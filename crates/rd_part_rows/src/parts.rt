@@ -4,7 +4,7 @@ ghost use Rattle.std.specs.Prelude.{◌<◌};
 ghost use Rattle.rd_state.specs.Valid.{IsValid};
 
 use crate::asserts::assert_same;
-use rd_app::app::App;
+use rd_app::app::Program;
 use rd_bytes::no_memory::NoMemory;
 use rd_calls::moves::Move;
 use rd_calls::play::play;
@@ -29,7 +29,7 @@ fn step_core_0(rt: &impl Abort, timeline: &mut Timeline) -> Result<usize, Refusa
 
 // A timeline of the built-in application, with room for so many moves.
 fn timeline_with(alloc: Global, moves: usize) -> Result<Timeline, NoMemory> {
-    Timeline::new(alloc, App::builtin(alloc)?, moves)
+    Timeline::new(alloc, Program::builtin(alloc)?, moves)
 }
 
 // The state at boot comes back whole, and the moves can be redone.
@@ -83,7 +83,7 @@ fn moves_full(rt: HostRuntime) -> Result<(), Fail> {
 }
 
 // A move of core 0 is played, and its record is kept.
-fn is_kept(alloc: Global, app: &App, state: &mut State, log: &mut Log) -> bool
+fn is_kept(alloc: Global, app: &Program, state: &mut State, log: &mut Log) -> bool
     requires valid { IsValid app.now state.old }
     requires core { 0 < app.now.cores }
 {

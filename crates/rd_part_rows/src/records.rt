@@ -6,7 +6,7 @@ ghost use Rattle.rd_state.specs.Valid.{IsValid};
 
 use crate::asserts::assert_same;
 use crate::files::read;
-use rd_app::app::App;
+use rd_app::app::Program;
 use rd_calls::moves::Move;
 use rd_calls::play::play;
 use rd_state::state::State;
@@ -32,7 +32,7 @@ fn file(alloc: Global) -> Result<String, AllocError> {
 fn weighs(
     rt: &impl Abort,
     alloc: Global,
-    app: &App,
+    app: &Program,
     state: &mut State,
     action: Move,
     want: (usize, usize),
@@ -76,7 +76,7 @@ const WEIGHTS: [(usize, usize); 9] = [
     (2, 2),
 ];
 
-fn weighs_instrs(rt: &impl Abort, alloc: Global, app: &App, state: &mut State)
+fn weighs_instrs(rt: &impl Abort, alloc: Global, app: &Program, state: &mut State)
     requires valid { IsValid app.now state.old }
     requires core { app.now.cores ≡ 1 }
     ensures { IsValid app.now state.new }

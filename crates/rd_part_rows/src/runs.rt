@@ -4,7 +4,7 @@ ghost use Rattle.std.specs.Prelude.{◌≡◌};
 
 use crate::asserts::assert_same;
 use crate::files::read;
-use rd_app::app::App;
+use rd_app::app::Program;
 use rd_calls::moves::Move;
 use rd_calls::policy::policy;
 use rd_timeline::runs::Request;
@@ -62,7 +62,7 @@ fn goes_back_once(rt: &impl Abort, timeline: &mut Timeline) {
 #[test]
 fn whole_runs(rt: HostRuntime) -> Result<(), Fail> {
     let alloc = rt.alloc();
-    let mut timeline = Timeline::new(alloc, App::builtin(alloc)?, 3)?;
+    let mut timeline = Timeline::new(alloc, Program::builtin(alloc)?, 3)?;
     goes_to_the_limit(&rt, &mut timeline);
     goes_back_too_far(&rt, &mut timeline);
     let result = goes_there_and_back(&rt, alloc, &mut timeline);

@@ -26,7 +26,7 @@ ghost use Rattle.rd_queue_calls.specs.QueueCalls.{queue_call_cost};
 ghost use Rattle.rd_kernel.specs.Tasks.{KeepsPc};
 
 use crate::posts::{is_in_full_queue_set, post};
-use rd_app::app::App;
+use rd_app::app::Program;
 use rd_app::instr::{Operand, QueueCall};
 use rd_bytes::no_memory::NoMemory;
 use rd_kernel::outcome::Outcome;
@@ -75,7 +75,7 @@ fn sending(queue: usize) -> Listed
 
 // Puts the task's data at an end of a queue with room for it, unless its set is full.
 fn deliver(
-    app: &App,
+    app: &Program,
     editing: &mut Editing,
     task: usize,
     queue: usize,
@@ -104,7 +104,7 @@ fn deliver(
 // Puts the task's data at an end of the queue (`xQueueSend`, `xQueueSendToFront`), or waits for
 // room.
 fn send(
-    app: &App,
+    app: &Program,
     editing: &mut Editing,
     task: usize,
     queue: usize,
@@ -130,7 +130,7 @@ fn send(
 
 // Takes the queue's first item as the task's data (`xQueueReceive`), or waits for one.
 fn receive(
-    app: &App,
+    app: &Program,
     editing: &mut Editing,
     task: usize,
     queue: usize,
@@ -155,7 +155,7 @@ fn receive(
 
 // Copies the queue's first item as the task's data (`xQueuePeek`), or waits for one.
 fn peek(
-    app: &App,
+    app: &Program,
     editing: &mut Editing,
     task: usize,
     queue: usize,
@@ -181,7 +181,7 @@ fn peek(
 
 // Makes the task's data the queue's only item (`xQueueOverwrite`).
 fn overwrite(
-    app: &App,
+    app: &Program,
     editing: &mut Editing,
     task: usize,
     queue: usize,
@@ -209,7 +209,12 @@ fn overwrite(
 }
 
 // Empties the queue (`xQueueReset`).
-fn reset(app: &App, editing: &mut Editing, task: usize, queue: usize) -> Result<Outcome, NoMemory>
+fn reset(
+    app: &Program,
+    editing: &mut Editing,
+    task: usize,
+    queue: usize,
+) -> Result<Outcome, NoMemory>
     requires caller { IsCalling app.now editing.old.now task }
     requires queue { queue < length editing.old.now.objects.queues }
     ensures ok { IfOk result (DoesCall editing.old editing.new
@@ -279,7 +284,7 @@ fn remove_from_set(
 /// Does a call of a queue. One that changes nothing takes no memory: it can't be done and may not
 /// wait, is refused, or only counts.
 pub fn call_queue(
-    app: &App,
+    app: &Program,
     editing: &mut Editing,
     task: usize,
     queue: usize,

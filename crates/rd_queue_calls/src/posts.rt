@@ -8,7 +8,7 @@ ghost use Rattle.rd_kernel.specs.Waking.{ReadyHasRoom};
 ghost use Rattle.rd_queue_calls.specs.Posts.{is_in_full_queue_set, posted};
 ghost use Rattle.rd_state.specs.Edit.{GivesUp};
 
-use rd_app::app::App;
+use rd_app::app::Program;
 use rd_bytes::no_memory::NoMemory;
 use rd_kernel::outcome::Outcome;
 use rd_kernel::waking::pass;
@@ -34,7 +34,7 @@ pub fn is_in_full_queue_set(state: &State, queue_set: Option<usize>) -> bool
 /// Ends a call that has put an item into a queue: of a member the set gets a handle, and the first
 /// who waits to select is woken; else the first who waits to receive.
 pub fn post(
-    app: &App,
+    app: &Program,
     editing: &mut Editing,
     queue: usize,
     queue_set: Option<usize>,

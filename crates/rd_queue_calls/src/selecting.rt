@@ -11,7 +11,7 @@ ghost use Rattle.rd_queue_calls.specs.QueueSetCalls.{has_no_handle, QueueSetCall
 ghost use Rattle.rd_state.specs.Edit.{GivesUp};
 ghost use Rattle.rd_kernel.specs.Tasks.{KeepsPc};
 
-use rd_app::app::App;
+use rd_app::app::Program;
 use rd_app::instr::{Operand, QueueSetCall};
 use rd_bytes::no_memory::NoMemory;
 use rd_kernel::outcome::Outcome;
@@ -24,7 +24,7 @@ use rd_state::phase::Listed;
 
 // Takes the set's oldest handle (`xQueueSelectFromSet`), or waits for one.
 fn select(
-    app: &App,
+    app: &Program,
     editing: &mut Editing,
     task: usize,
     queue_set: usize,
@@ -54,7 +54,7 @@ fn select(
 
 /// Does a call of a queue set. One that can't be done and may not wait takes no memory.
 pub fn call_queue_set(
-    app: &App,
+    app: &Program,
     editing: &mut Editing,
     task: usize,
     queue_set: usize,

@@ -10,7 +10,7 @@ use Rattle.rd_refusal.specs.declared.refusal.Refusal.TheVariants.{BadEdit, NoMem
 use Rattle.rd_refusal.specs.declared.refusal.Refusal.TheVariants.{LineTooLong, HistoryFull}
 use Rattle.rd_refusal.specs.declared.refusal.Refusal.TheVariants.{WatchesFull, NoWatch, NotHolder}
 use Rattle.rd_refusal.specs.declared.refusal.Refusal.TheVariants as refusal
-use Rattle.rd_app.specs.Application.{Application}
+use Rattle.rd_names.specs.Names.{NamesView}
 use Rattle.rd_group.specs.GroupSnapshot.{GroupSnapshot}
 use Rattle.rd_group.specs.declared.wish.OnMet.{OnMet}
 use Rattle.rd_group.specs.declared.wish.OnMet.TheVariants.{Keep, Clear}
@@ -143,12 +143,12 @@ list_name Receiving = codes "recv"
 list_name Sending = codes "send"
 
 -- a list in which tasks wait, by the name of its queue, its set or its event group
-abbrev pub listed_text : Application → Listed → List ℕ
-listed_text app (Queue queue list) =
-    list_name list ++ codes ":" ++ name_at app.objects.queues.names queue
-listed_text app (QueueSet queue_set) =
-    codes "set:" ++ name_at app.objects.queue_sets.names queue_set
-listed_text app (Group group) = codes "group:" ++ name_at app.objects.groups.names group
+abbrev pub listed_text : NamesView → Listed → List ℕ
+listed_text names (Queue queue list) =
+    list_name list ++ codes ":" ++ name_at names.queues queue
+listed_text names (QueueSet queue_set) =
+    codes "set:" ++ name_at names.queue_sets queue_set
+listed_text names (Group group) = codes "group:" ++ name_at names.groups group
 
 -- what the place at a side of a stream buffer is called, and of a message buffer
 abbrev pub stream_side_name : Side → List ℕ
@@ -160,17 +160,17 @@ message_side_name Reader = codes "mread"
 message_side_name Writer = codes "mwrite"
 
 -- a place of a buffer, by the buffer's name
-abbrev pub held_text : Application → Held → List ℕ
-held_text app (held.Stream stream side) =
-    stream_side_name side ++ codes ":" ++ name_at app.objects.streams.names stream
-held_text app (held.Message message side) =
-    message_side_name side ++ codes ":" ++ name_at app.objects.messages.names message
+abbrev pub held_text : NamesView → Held → List ℕ
+held_text names (held.Stream stream side) =
+    stream_side_name side ++ codes ":" ++ name_at names.streams stream
+held_text names (held.Message message side) =
+    message_side_name side ++ codes ":" ++ name_at names.messages message
 
 -- a place where tasks wait: its list, the place of a buffer, or the index of an entry
-abbrev pub place_text : Application → Place → List ℕ
-place_text app (sort.Listed list) = listed_text app list
-place_text app (sort.Held held) = held_text app held
-place_text app (sort.Entry index) = codes "note:" ++ decimal index
+abbrev pub place_text : NamesView → Place → List ℕ
+place_text names (sort.Listed list) = listed_text names list
+place_text names (sort.Held held) = held_text names held
+place_text names (sort.Entry index) = codes "note:" ++ decimal index
 
 -- why a call failed
 abbrev pub cause_text : Cause → List ℕ
@@ -180,14 +180,14 @@ cause_text TwoWriters = codes "TwoWriters"
 cause_text EmptyData = codes "EmptyData"
 cause_text BadBits = codes "BadBits"
 
-abbrev pub phase_text : Application → Phase → List ℕ
-phase_text app Run = codes "run"
-phase_text app (Again deadline) = codes "again:" ++ deadline_text deadline
-phase_text app (Given bits) = codes "given:" ++ decimal bits
-phase_text app (Wait place deadline) =
-    codes "wait:" ++ place_text app place ++ codes ":" ++ deadline_text deadline
-phase_text app Ended = codes "ended"
-phase_text app (Failed cause) = codes "failed:" ++ cause_text cause
+abbrev pub phase_text : NamesView → Phase → List ℕ
+phase_text names Run = codes "run"
+phase_text names (Again deadline) = codes "again:" ++ deadline_text deadline
+phase_text names (Given bits) = codes "given:" ++ decimal bits
+phase_text names (Wait place deadline) =
+    codes "wait:" ++ place_text names place ++ codes ":" ++ deadline_text deadline
+phase_text names Ended = codes "ended"
+phase_text names (Failed cause) = codes "failed:" ++ cause_text cause
 
 abbrev pub entry_state_text : EntryState → List ℕ
 entry_state_text Idle = codes "idle"
@@ -220,43 +220,43 @@ contents_text queue =
     ++ list_text bytes_text queue.items
 
 -- who waits to receive and to send, by the tasks' names
-abbrev pub waiting_text : Application → QueueSnapshot → List ℕ
-waiting_text app queue =
-    codes " recv " ++ list_text (name_at app.tasks.names) queue.receiving
-    ++ codes " send " ++ list_text (name_at app.tasks.names) queue.sending
+abbrev pub waiting_text : NamesView → QueueSnapshot → List ℕ
+waiting_text names queue =
+    codes " recv " ++ list_text (name_at names.tasks) queue.receiving
+    ++ codes " send " ++ list_text (name_at names.tasks) queue.sending
 
 -- the set that a queue is a member of, by its name; `-` for none
-abbrev pub membership_text : Application → QueueSnapshot → List ℕ
-membership_text app queue =
-    codes " set " ++ name_or_dash app.objects.queue_sets.names queue.queue_set
+abbrev pub membership_text : NamesView → QueueSnapshot → List ℕ
+membership_text names queue =
+    codes " set " ++ name_or_dash names.queue_sets queue.queue_set
 
 -- a queue of that name
-abbrev pub queue_text : Application → List ℕ → QueueSnapshot → List ℕ
-queue_text app name queue =
-    codes "queue " ++ name ++ codes " " ++ contents_text queue ++ waiting_text app queue
-    ++ membership_text app queue
+abbrev pub queue_text : NamesView → List ℕ → QueueSnapshot → List ℕ
+queue_text names name queue =
+    codes "queue " ++ name ++ codes " " ++ contents_text queue ++ waiting_text names queue
+    ++ membership_text names queue
 
 -- what is in a queue set: handles, the oldest first, by the names of their queues
-abbrev pub handles_text : Application → QueueSetSnapshot → List ℕ
-handles_text app queue_set =
+abbrev pub handles_text : NamesView → QueueSetSnapshot → List ℕ
+handles_text names queue_set =
     counts_text (length queue_set.handles) queue_set.capacity ++ codes " handles "
-    ++ list_text (name_at app.objects.queues.names) queue_set.handles
+    ++ list_text (name_at names.queues) queue_set.handles
 
 -- who waits to select, by the tasks' names
-abbrev pub selecting_text : Application → QueueSetSnapshot → List ℕ
-selecting_text app queue_set =
-    codes " wait " ++ list_text (name_at app.tasks.names) queue_set.waiting
+abbrev pub selecting_text : NamesView → QueueSetSnapshot → List ℕ
+selecting_text names queue_set =
+    codes " wait " ++ list_text (name_at names.tasks) queue_set.waiting
 
 -- a queue set of that name
-abbrev pub queue_set_text : Application → List ℕ → QueueSetSnapshot → List ℕ
-queue_set_text app name queue_set =
-    codes "set " ++ name ++ codes " " ++ handles_text app queue_set ++ selecting_text app queue_set
+abbrev pub queue_set_text : NamesView → List ℕ → QueueSetSnapshot → List ℕ
+queue_set_text names name queue_set =
+    codes "set " ++ name ++ codes " " ++ handles_text names queue_set ++ selecting_text names queue_set
 
 -- whom the reader's and the writer's place of a buffer name, by the tasks' names; `-` for nobody
-abbrev pub holders_text : Application → Option ℕ → Option ℕ → List ℕ
-holders_text app reader writer =
-    codes " reader " ++ name_or_dash app.tasks.names reader
-    ++ codes " writer " ++ name_or_dash app.tasks.names writer
+abbrev pub holders_text : NamesView → Option ℕ → Option ℕ → List ℕ
+holders_text names reader writer =
+    codes " reader " ++ name_or_dash names.tasks reader
+    ++ codes " writer " ++ name_or_dash names.tasks writer
 
 -- what is in a stream buffer, and how many bytes have to be there to complete a reader's wait
 abbrev pub stream_contents_text : StreamSnapshot → List ℕ
@@ -265,10 +265,10 @@ stream_contents_text stream =
     ++ codes " trigger " ++ decimal stream.trigger ++ codes " bytes " ++ bytes_text stream.bytes
 
 -- a stream buffer of that name
-abbrev pub stream_text : Application → List ℕ → StreamSnapshot → List ℕ
-stream_text app name stream =
+abbrev pub stream_text : NamesView → List ℕ → StreamSnapshot → List ℕ
+stream_text names name stream =
     codes "stream " ++ name ++ codes " " ++ stream_contents_text stream
-    ++ holders_text app stream.holders.reader stream.holders.writer
+    ++ holders_text names stream.holders.reader stream.holders.writer
 
 -- what is in a message buffer, where each message takes four bytes more than it has
 abbrev pub message_contents_text : MessageSnapshot → List ℕ
@@ -277,10 +277,10 @@ message_contents_text buffer =
     ++ list_text bytes_text buffer.messages
 
 -- a message buffer of that name
-abbrev pub message_text : Application → List ℕ → MessageSnapshot → List ℕ
-message_text app name buffer =
+abbrev pub message_text : NamesView → List ℕ → MessageSnapshot → List ℕ
+message_text names name buffer =
     codes "message " ++ name ++ codes " " ++ message_contents_text buffer
-    ++ holders_text app buffer.holders.reader buffer.holders.writer
+    ++ holders_text names buffer.holders.reader buffer.holders.writer
 
 -- whether a task waits for any of its bits or for all, and what becomes of them once they have come
 abbrev pub wait_for_name : WaitFor → List ℕ
@@ -298,23 +298,23 @@ wish_text wish =
     ++ on_met_name wish.on_met
 
 -- a task that waits, by its name, with its wish
-abbrev pub waiter_text : Application → ℕ × Wish → List ℕ
-waiter_text app waiter = name_at app.tasks.names waiter.0 ++ codes ":" ++ wish_text waiter.1
+abbrev pub waiter_text : NamesView → ℕ × Wish → List ℕ
+waiter_text names waiter = name_at names.tasks waiter.0 ++ codes ":" ++ wish_text waiter.1
 
 -- an event group of that name, with those who wait in the order of arrival
-abbrev pub group_text : Application → List ℕ → GroupSnapshot → List ℕ
-group_text app name group =
+abbrev pub group_text : NamesView → List ℕ → GroupSnapshot → List ℕ
+group_text names name group =
     codes "group " ++ name ++ codes " bits " ++ decimal group.bits ++ codes " wait "
-    ++ list_text (waiter_text app) (zip group.waiting group.wishes)
+    ++ list_text (waiter_text names) (zip group.waiting group.wishes)
 
 abbrev pub ticks_text : Snapshot → List ℕ
 ticks_text s = codes " tick " ++ decimal s.tick ++ codes " turn " ++ decimal s.turn
 
 -- who runs and who is ready, by the tasks' names, with the tick and the turn
-abbrev pub cores_text : Application → Snapshot → List ℕ
-cores_text app s =
-    codes "cores " ++ list_text (name_or_dash app.tasks.names) s.cores
-    ++ codes " ready " ++ list_text (name_at app.tasks.names) s.ready ++ ticks_text s
+abbrev pub cores_text : NamesView → Snapshot → List ℕ
+cores_text names s =
+    codes "cores " ++ list_text (name_or_dash names.tasks) s.cores
+    ++ codes " ready " ++ list_text (name_at names.tasks) s.ready ++ ticks_text s
 
 -- what a task has, from its registers on
 abbrev pub state_text : TaskSnapshot → List ℕ
@@ -323,10 +323,10 @@ state_text task =
     ++ codes " notes " ++ list_text entry_text task.entries
 
 -- a task of that name that runs on that core, if on any
-abbrev pub task_text : Application → List ℕ → Option ℕ → TaskSnapshot → List ℕ
-task_text app name core task =
+abbrev pub task_text : NamesView → List ℕ → Option ℕ → TaskSnapshot → List ℕ
+task_text names name core task =
     codes "task " ++ name ++ codes " core " ++ running_core_text core
-    ++ codes " pc " ++ decimal task.pc ++ codes " phase " ++ phase_text app task.phase
+    ++ codes " pc " ++ decimal task.pc ++ codes " phase " ++ phase_text names task.phase
     ++ state_text task
 
 -- a watch, by its number, and whether its condition holds

@@ -3,8 +3,8 @@
 
 ghost use Rattle.std.specs.Prelude.{◌≡◌, ◌++◌, ◌≤◌, length, OnErr, OnOk};
 ghost use Rattle.hex.specs.Hex.{encode_lower};
-ghost use Rattle.rd_state.specs.Objects.{numbers_named};
 ghost use Rattle.rd_state.specs.Waiting.{IsHeld};
+ghost use Rattle.rd_reply.specs.Names.{numbers_named};
 ghost use Rattle.rd_reply.specs.Names.{HoldersAreNamed, IsNamedOrNone};
 ghost use Rattle.rd_reply.specs.Pages.{Appends, KeepsFront, LacksRoom};
 ghost use Rattle.rd_reply.specs.Replies.{bytes_text, holders_text, line_of, list_text};
@@ -16,7 +16,7 @@ use crate::page::Page;
 use crate::reply::{
     Appended, append_comma, append_counts, append_name, append_name_or_dash, append_number,
 };
-use rd_app::app::App;
+use rd_names::names::Names;
 use rd_state::phase::Held;
 use rd_stream::message_buf::{MessageBuf, limits_of_messages};
 use rd_stream::side::Side;
@@ -44,20 +44,20 @@ fn message_side_name(side: Side) -> &'static str
 }
 
 // The place of a buffer, at which a task waits.
-pub(crate) fn append_held(page: &mut Page<'_>, app: &App, held: Held)
-    requires { IsHeld (numbers_named app.now.objects) held }
-    ensures { Appends page.old page.new (held_text app.now held) }
+pub(crate) fn append_held(page: &mut Page<'_>, names: &Names, held: Held)
+    requires { IsHeld (numbers_named names.now) held }
+    ensures { Appends page.old page.new (held_text names.now held) }
 {
     match held {
         Held::Stream { stream, side } => {
             page.append(stream_side_name(side));
             page.append(":");
-            append_name(page, app, Kind::Stream, stream);
+            append_name(page, names, Kind::Stream, stream);
         }
         Held::Message { message, side } => {
             page.append(message_side_name(side));
             page.append(":");
-            append_name(page, app, Kind::Message, message);
+            append_name(page, names, Kind::Message, message);
         }
     }
 }
@@ -90,43 +90,43 @@ fn append_pieces(page: &mut Page<'_>, front: &[u8], back: &[u8])
 }
 
 // Whom the places of a buffer name.
-fn append_holders(page: &mut Page<'_>, app: &App, reader: Option<usize>, writer: Option<usize>)
-    requires reader { IsNamedOrNone app.now.tasks.names reader }
-    requires writer { IsNamedOrNone app.now.tasks.names writer }
-    ensures { Appends page.old page.new (holders_text app.now reader writer) }
+fn append_holders(page: &mut Page<'_>, names: &Names, reader: Option<usize>, writer: Option<usize>)
+    requires reader { IsNamedOrNone names.now.tasks reader }
+    requires writer { IsNamedOrNone names.now.tasks writer }
+    ensures { Appends page.old page.new (holders_text names.now reader writer) }
 {
     page.append(" reader ");
-    append_name_or_dash(page, app, Kind::Task, reader);
+    append_name_or_dash(page, names, Kind::Task, reader);
     page.append(" writer ");
-    append_name_or_dash(page, app, Kind::Task, writer);
+    append_name_or_dash(page, names, Kind::Task, writer);
 }
 
 /// Appends the view of a stream buffer. An `Err` says that there is no memory for it, and comes
 /// only where the page has no room for it; the page may then have some part of it after what it
 /// had.
-pub fn show_stream(page: &mut Vec<u8>, app: &App, name: &str, stream: &StreamBuf) -> Appended
-    requires { HoldersAreNamed app.now stream.now.holders }
+pub fn show_stream(page: &mut Vec<u8>, names: &Names, name: &str, stream: &StreamBuf) -> Appended
+    requires { HoldersAreNamed names.now stream.now.holders }
     ensures text { OnOk result (page.new.items
-        ≡ page.old.items ++ line_of (stream_text app.now name.now stream.now)) }
+        ≡ page.old.items ++ line_of (stream_text names.now name.now stream.now)) }
     ensures full { OnErr result
-        (LacksRoom page.old (line_of (stream_text app.now name.now stream.now))) }
+        (LacksRoom page.old (line_of (stream_text names.now name.now stream.now))) }
     ensures kept { KeepsFront page.old page.new }
 {
     let mut line = Page::new(page);
-    append_stream(&mut line, app, name, stream);
+    append_stream(&mut line, names, name, stream);
     line.end()
 }
 
 // The line of a stream buffer.
-fn append_stream(page: &mut Page<'_>, app: &App, name: &str, stream: &StreamBuf)
-    requires { HoldersAreNamed app.now stream.now.holders }
-    ensures { Appends page.old page.new (line_of (stream_text app.now name.now stream.now)) }
+fn append_stream(page: &mut Page<'_>, names: &Names, name: &str, stream: &StreamBuf)
+    requires { HoldersAreNamed names.now stream.now.holders }
+    ensures { Appends page.old page.new (line_of (stream_text names.now name.now stream.now)) }
 {
     page.append("stream ");
     page.append(name);
     page.append(" ");
     append_stream_contents(page, stream);
-    append_holders(page, app, stream.reader(), stream.writer());
+    append_holders(page, names, stream.reader(), stream.writer());
     page.append("\n");
 }
 
@@ -154,29 +154,29 @@ fn append_stream_bytes(page: &mut Page<'_>, stream: &StreamBuf)
 /// Appends the view of a message buffer. An `Err` says that there is no memory for it, and comes
 /// only where the page has no room for it; the page may then have some part of it after what it
 /// had.
-pub fn show_message(page: &mut Vec<u8>, app: &App, name: &str, buffer: &MessageBuf) -> Appended
-    requires { HoldersAreNamed app.now buffer.now.holders }
+pub fn show_message(page: &mut Vec<u8>, names: &Names, name: &str, buffer: &MessageBuf) -> Appended
+    requires { HoldersAreNamed names.now buffer.now.holders }
     ensures text { OnOk result (page.new.items
-        ≡ page.old.items ++ line_of (message_text app.now name.now buffer.now)) }
+        ≡ page.old.items ++ line_of (message_text names.now name.now buffer.now)) }
     ensures full { OnErr result
-        (LacksRoom page.old (line_of (message_text app.now name.now buffer.now))) }
+        (LacksRoom page.old (line_of (message_text names.now name.now buffer.now))) }
     ensures kept { KeepsFront page.old page.new }
 {
     let mut line = Page::new(page);
-    append_message_buffer(&mut line, app, name, buffer);
+    append_message_buffer(&mut line, names, name, buffer);
     line.end()
 }
 
 // The line of a message buffer.
-fn append_message_buffer(page: &mut Page<'_>, app: &App, name: &str, buffer: &MessageBuf)
-    requires { HoldersAreNamed app.now buffer.now.holders }
-    ensures { Appends page.old page.new (line_of (message_text app.now name.now buffer.now)) }
+fn append_message_buffer(page: &mut Page<'_>, names: &Names, name: &str, buffer: &MessageBuf)
+    requires { HoldersAreNamed names.now buffer.now.holders }
+    ensures { Appends page.old page.new (line_of (message_text names.now name.now buffer.now)) }
 {
     page.append("message ");
     page.append(name);
     page.append(" ");
     append_message_contents(page, buffer);
-    append_holders(page, app, buffer.reader(), buffer.writer());
+    append_holders(page, names, buffer.reader(), buffer.writer());
     page.append("\n");
 }
 

@@ -3,9 +3,9 @@
 
 ghost use Rattle.std.specs.Prelude.{◌≡◌, ◌+◌, ◌*◌, ◌++◌, ◌≤◌, decimal, length, position};
 ghost use Rattle.std.specs.Prelude.{All, IsOk, OnErr, OnOk, vec_capacity, vec_len};
-ghost use Rattle.rd_app.specs.Application.{names_of};
-ghost use Rattle.rd_state.specs.Objects.{numbers_named};
+ghost use Rattle.rd_names.specs.Names.{names_of};
 ghost use Rattle.rd_state.specs.Waiting.{IsList, IsPlace};
+ghost use Rattle.rd_reply.specs.Names.{numbers_named};
 ghost use Rattle.rd_reply.specs.Names.{name_at, name_or_dash};
 ghost use Rattle.rd_reply.specs.Names.{IsNamed, IsNamedOrNone, PlaceIsNamed};
 ghost use Rattle.rd_reply.specs.Names.{QueueIsNamed, QueueSetIsNamed, SeatedAreNamed};
@@ -26,8 +26,8 @@ ghost use Rattle.rd_reply.specs.Pages.{Appends, LacksRoom, KeepsFront};
 use crate::buffers::append_held;
 use crate::page::Page;
 use itoa::{Buffer, Integer};
-use rd_app::app::App;
 use rd_bytes::bytes::MAX_BYTES;
+use rd_names::names::Names;
 use rd_notify::entries::{Entry, EntryState};
 use rd_queue::queue::Queue;
 use rd_queue::queue_set::QueueSet;
@@ -270,11 +270,11 @@ pub(crate) fn append_comma(page: &mut Page<'_>, index: usize)
 }
 
 // The name of an object or a task.
-pub(crate) fn append_name(page: &mut Page<'_>, app: &App, kind: Kind, number: usize)
-    requires { IsNamed (names_of kind app.now) number }
-    ensures { Appends page.old page.new (name_at (names_of kind app.now) number) }
+pub(crate) fn append_name(page: &mut Page<'_>, names: &Names, kind: Kind, number: usize)
+    requires { IsNamed (names_of kind names.now) number }
+    ensures { Appends page.old page.new (name_at (names_of kind names.now) number) }
 {
-    page.append(app.name(kind, number));
+    page.append(names.name(kind, number));
 }
 
 fn append_items(page: &mut Page<'_>, queue: &Queue)
@@ -302,56 +302,61 @@ fn append_number_list(page: &mut Page<'_>, numbers: &[u32])
 }
 
 // The names of tasks.
-fn append_task_names(page: &mut Page<'_>, app: &App, tasks: &[usize])
-    requires { All (IsNamed app.now.tasks.names) tasks.now }
-    ensures { Appends page.old page.new (list_text (name_at app.now.tasks.names) tasks.now) }
+fn append_task_names(page: &mut Page<'_>, names: &Names, tasks: &[usize])
+    requires { All (IsNamed names.now.tasks) tasks.now }
+    ensures { Appends page.old page.new (list_text (name_at names.now.tasks) tasks.now) }
 {
     if tasks.is_empty() {
         return page.append("-");
     }
     for (index, task) in tasks.iter().enumerate() {
         append_comma(page, index);
-        append_name(page, app, Kind::Task, *task);
+        append_name(page, names, Kind::Task, *task);
     }
 }
 
 // The names of the queues whose handles are in a set.
-fn append_handle_names(page: &mut Page<'_>, app: &App, queue_set: &QueueSet)
-    requires { All (IsNamed app.now.objects.queues.names) queue_set.now.handles }
+fn append_handle_names(page: &mut Page<'_>, names: &Names, queue_set: &QueueSet)
+    requires { All (IsNamed names.now.queues) queue_set.now.handles }
     ensures { Appends page.old page.new
-        (list_text (name_at app.now.objects.queues.names) queue_set.now.handles) }
+        (list_text (name_at names.now.queues) queue_set.now.handles) }
 {
     if queue_set.count() == 0 {
         return page.append("-");
     }
     for index in 0..queue_set.count() {
         append_comma(page, index);
-        append_name(page, app, Kind::Queue, queue_set.handle(index));
+        append_name(page, names, Kind::Queue, queue_set.handle(index));
     }
 }
 
 // The name of an object or a task; `-` for none.
-pub(crate) fn append_name_or_dash(page: &mut Page<'_>, app: &App, kind: Kind, number: Option<usize>)
-    requires { IsNamedOrNone (names_of kind app.now) number }
-    ensures { Appends page.old page.new (name_or_dash (names_of kind app.now) number) }
+pub(crate) fn append_name_or_dash(
+    page: &mut Page<'_>,
+    names: &Names,
+    kind: Kind,
+    number: Option<usize>,
+)
+    requires { IsNamedOrNone (names_of kind names.now) number }
+    ensures { Appends page.old page.new (name_or_dash (names_of kind names.now) number) }
 {
     match number {
-        Some(number) => append_name(page, app, kind, number),
+        Some(number) => append_name(page, names, kind, number),
         None => page.append("-"),
     }
 }
 
 // The names of the tasks on the cores.
-fn append_seat_names(page: &mut Page<'_>, app: &App, cores: &[Option<usize>])
-    requires { All (IsNamedOrNone app.now.tasks.names) cores.now }
-    ensures { Appends page.old page.new (list_text (name_or_dash app.now.tasks.names) cores.now) }
+fn append_seat_names(page: &mut Page<'_>, names: &Names, cores: &[Option<usize>])
+    requires { All (IsNamedOrNone names.now.tasks) cores.now }
+    ensures { Appends page.old page.new (list_text (name_or_dash names.now.tasks) cores.now) }
 {
     if cores.is_empty() {
         return page.append("-");
     }
     for (index, running) in cores.iter().enumerate() {
         append_comma(page, index);
-        append_name_or_dash(page, app, Kind::Task, *running);
+        append_name_or_dash(page, names, Kind::Task, *running);
     }
 }
 
@@ -399,35 +404,35 @@ fn list_name(list: WaitingList) -> &'static str
 }
 
 // The list in which a task waits.
-fn append_listed(page: &mut Page<'_>, app: &App, list: Listed)
-    requires { IsList (numbers_named app.now.objects) list }
-    ensures { Appends page.old page.new (listed_text app.now list) }
+fn append_listed(page: &mut Page<'_>, names: &Names, list: Listed)
+    requires { IsList (numbers_named names.now) list }
+    ensures { Appends page.old page.new (listed_text names.now list) }
 {
     match list {
         Listed::Queue { queue, list } => {
             page.append(list_name(list));
             page.append(":");
-            append_name(page, app, Kind::Queue, queue);
+            append_name(page, names, Kind::Queue, queue);
         }
         Listed::QueueSet { queue_set } => {
             page.append("set:");
-            append_name(page, app, Kind::QueueSet, queue_set);
+            append_name(page, names, Kind::QueueSet, queue_set);
         }
         Listed::Group { group } => {
             page.append("group:");
-            append_name(page, app, Kind::Group, group);
+            append_name(page, names, Kind::Group, group);
         }
     }
 }
 
 // Where a task waits.
-fn append_place(page: &mut Page<'_>, app: &App, place: Place)
-    requires { IsPlace (numbers_named app.now.objects) place }
-    ensures { Appends page.old page.new (place_text app.now place) }
+fn append_place(page: &mut Page<'_>, names: &Names, place: Place)
+    requires { IsPlace (numbers_named names.now) place }
+    ensures { Appends page.old page.new (place_text names.now place) }
 {
     match place {
-        Place::Listed { list } => append_listed(page, app, list),
-        Place::Held { held } => append_held(page, app, held),
+        Place::Listed { list } => append_listed(page, names, list),
+        Place::Held { held } => append_held(page, names, held),
         Place::Entry { index } => {
             page.append("note:");
             append_number(page, index);
@@ -448,9 +453,9 @@ fn append_cause(page: &mut Page<'_>, cause: Cause)
     }
 }
 
-fn append_phase(page: &mut Page<'_>, app: &App, phase: Phase)
-    requires { PlaceIsNamed app.now phase }
-    ensures { Appends page.old page.new (phase_text app.now phase) }
+fn append_phase(page: &mut Page<'_>, names: &Names, phase: Phase)
+    requires { PlaceIsNamed names.now phase }
+    ensures { Appends page.old page.new (phase_text names.now phase) }
 {
     match phase {
         Phase::Run => page.append("run"),
@@ -464,7 +469,7 @@ fn append_phase(page: &mut Page<'_>, app: &App, phase: Phase)
         }
         Phase::Wait { place, deadline } => {
             page.append("wait:");
-            append_place(page, app, place);
+            append_place(page, names, place);
             page.append(":");
             append_deadline(page, deadline);
         }
@@ -488,31 +493,31 @@ fn append_running_core(page: &mut Page<'_>, core: Option<usize>)
 
 /// Appends the view of a queue. An `Err` says that there is no memory for it, and comes only where
 /// the page has no room for it; the page may then have some part of it after what it had.
-pub fn show_queue(page: &mut Vec<u8>, app: &App, name: &str, queue: &Queue) -> Appended
-    requires { QueueIsNamed app.now queue.now }
+pub fn show_queue(page: &mut Vec<u8>, names: &Names, name: &str, queue: &Queue) -> Appended
+    requires { QueueIsNamed names.now queue.now }
     ensures text { OnOk result (page.new.items
-        ≡ page.old.items ++ line_of (queue_text app.now name.now queue.now)) }
+        ≡ page.old.items ++ line_of (queue_text names.now name.now queue.now)) }
     ensures full { OnErr result
-        (LacksRoom page.old (line_of (queue_text app.now name.now queue.now))) }
+        (LacksRoom page.old (line_of (queue_text names.now name.now queue.now))) }
     ensures kept { KeepsFront page.old page.new }
 {
     let mut line = Page::new(page);
-    append_queue(&mut line, app, name, queue);
+    append_queue(&mut line, names, name, queue);
     line.end()
 }
 
 // The line of a queue.
-fn append_queue(page: &mut Page<'_>, app: &App, name: &str, queue: &Queue)
-    requires { QueueIsNamed app.now queue.now }
+fn append_queue(page: &mut Page<'_>, names: &Names, name: &str, queue: &Queue)
+    requires { QueueIsNamed names.now queue.now }
     ensures { Appends page.old page.new
-        (line_of (queue_text app.now name.now queue.now)) }
+        (line_of (queue_text names.now name.now queue.now)) }
 {
     page.append("queue ");
     page.append(name);
     page.append(" ");
     append_contents(page, queue);
-    append_waiting(page, app, queue);
-    append_membership(page, app, queue);
+    append_waiting(page, names, queue);
+    append_membership(page, names, queue);
     page.append("\n");
 }
 
@@ -535,98 +540,107 @@ fn append_contents(page: &mut Page<'_>, queue: &Queue)
 }
 
 // Who waits at a queue.
-fn append_waiting(page: &mut Page<'_>, app: &App, queue: &Queue)
-    requires { QueueIsNamed app.now queue.now }
-    ensures { Appends page.old page.new (waiting_text app.now queue.now) }
+fn append_waiting(page: &mut Page<'_>, names: &Names, queue: &Queue)
+    requires { QueueIsNamed names.now queue.now }
+    ensures { Appends page.old page.new (waiting_text names.now queue.now) }
 {
     page.append(" recv ");
-    append_task_names(page, app, queue.waiting(WaitingList::Receiving).as_slice());
+    append_task_names(
+        page,
+        names,
+        queue.waiting(WaitingList::Receiving).as_slice(),
+    );
     page.append(" send ");
-    append_task_names(page, app, queue.waiting(WaitingList::Sending).as_slice());
+    append_task_names(page, names, queue.waiting(WaitingList::Sending).as_slice());
 }
 
 // The set that a queue is a member of.
-fn append_membership(page: &mut Page<'_>, app: &App, queue: &Queue)
-    requires { QueueIsNamed app.now queue.now }
-    ensures { Appends page.old page.new (membership_text app.now queue.now) }
+fn append_membership(page: &mut Page<'_>, names: &Names, queue: &Queue)
+    requires { QueueIsNamed names.now queue.now }
+    ensures { Appends page.old page.new (membership_text names.now queue.now) }
 {
     page.append(" set ");
-    append_name_or_dash(page, app, Kind::QueueSet, queue.set_of());
+    append_name_or_dash(page, names, Kind::QueueSet, queue.set_of());
 }
 
 /// Appends the view of a queue set. An `Err` says that there is no memory for it, and comes only
 /// where the page has no room for it; the page may then have some part of it after what it had.
-pub fn show_queue_set(page: &mut Vec<u8>, app: &App, name: &str, queue_set: &QueueSet) -> Appended
-    requires { QueueSetIsNamed app.now queue_set.now }
+pub fn show_queue_set(
+    page: &mut Vec<u8>,
+    names: &Names,
+    name: &str,
+    queue_set: &QueueSet,
+) -> Appended
+    requires { QueueSetIsNamed names.now queue_set.now }
     ensures text { OnOk result (page.new.items
-        ≡ page.old.items ++ line_of (queue_set_text app.now name.now queue_set.now)) }
+        ≡ page.old.items ++ line_of (queue_set_text names.now name.now queue_set.now)) }
     ensures full { OnErr result
-        (LacksRoom page.old (line_of (queue_set_text app.now name.now queue_set.now))) }
+        (LacksRoom page.old (line_of (queue_set_text names.now name.now queue_set.now))) }
     ensures kept { KeepsFront page.old page.new }
 {
     let mut line = Page::new(page);
-    append_queue_set(&mut line, app, name, queue_set);
+    append_queue_set(&mut line, names, name, queue_set);
     line.end()
 }
 
 // The line of a queue set.
-fn append_queue_set(page: &mut Page<'_>, app: &App, name: &str, queue_set: &QueueSet)
-    requires { QueueSetIsNamed app.now queue_set.now }
-    ensures { Appends page.old page.new (line_of (queue_set_text app.now name.now queue_set.now)) }
+fn append_queue_set(page: &mut Page<'_>, names: &Names, name: &str, queue_set: &QueueSet)
+    requires { QueueSetIsNamed names.now queue_set.now }
+    ensures { Appends page.old page.new (line_of (queue_set_text names.now name.now queue_set.now)) }
 {
     page.append("set ");
     page.append(name);
     page.append(" ");
-    append_handles(page, app, queue_set);
-    append_selecting(page, app, queue_set);
+    append_handles(page, names, queue_set);
+    append_selecting(page, names, queue_set);
     page.append("\n");
 }
 
 // What is in a set.
-fn append_handles(page: &mut Page<'_>, app: &App, queue_set: &QueueSet)
-    requires { QueueSetIsNamed app.now queue_set.now }
-    ensures { Appends page.old page.new (handles_text app.now queue_set.now) }
+fn append_handles(page: &mut Page<'_>, names: &Names, queue_set: &QueueSet)
+    requires { QueueSetIsNamed names.now queue_set.now }
+    ensures { Appends page.old page.new (handles_text names.now queue_set.now) }
 {
     append_counts(page, queue_set.count(), queue_set.capacity());
     page.append(" handles ");
-    append_handle_names(page, app, queue_set);
+    append_handle_names(page, names, queue_set);
 }
 
 // Who waits to select from a set.
-fn append_selecting(page: &mut Page<'_>, app: &App, queue_set: &QueueSet)
-    requires { QueueSetIsNamed app.now queue_set.now }
-    ensures { Appends page.old page.new (selecting_text app.now queue_set.now) }
+fn append_selecting(page: &mut Page<'_>, names: &Names, queue_set: &QueueSet)
+    requires { QueueSetIsNamed names.now queue_set.now }
+    ensures { Appends page.old page.new (selecting_text names.now queue_set.now) }
 {
     page.append(" wait ");
-    append_task_names(page, app, queue_set.waiting().as_slice());
+    append_task_names(page, names, queue_set.waiting().as_slice());
 }
 
 /// Appends the view of a task. An `Err` says that there is no memory for it, and comes only where
 /// the page has no room for it; the page may then have some part of it after what it had.
 pub fn show_task(
     page: &mut Vec<u8>,
-    app: &App,
+    names: &Names,
     name: &str,
     core: Option<usize>,
     task: &Task,
 ) -> Appended
-    requires { PlaceIsNamed app.now task.now.phase }
+    requires { PlaceIsNamed names.now task.now.phase }
     ensures text { OnOk result (page.new.items
-        ≡ page.old.items ++ line_of (task_text app.now name.now core task.now)) }
+        ≡ page.old.items ++ line_of (task_text names.now name.now core task.now)) }
     ensures full { OnErr result
-        (LacksRoom page.old (line_of (task_text app.now name.now core task.now))) }
+        (LacksRoom page.old (line_of (task_text names.now name.now core task.now))) }
     ensures kept { KeepsFront page.old page.new }
 {
     let mut line = Page::new(page);
-    append_task(&mut line, app, name, core, task);
+    append_task(&mut line, names, name, core, task);
     line.end()
 }
 
 // The line of a task.
-fn append_task(page: &mut Page<'_>, app: &App, name: &str, core: Option<usize>, task: &Task)
-    requires { PlaceIsNamed app.now task.now.phase }
+fn append_task(page: &mut Page<'_>, names: &Names, name: &str, core: Option<usize>, task: &Task)
+    requires { PlaceIsNamed names.now task.now.phase }
     ensures { Appends page.old page.new
-        (line_of (task_text app.now name.now core task.now)) }
+        (line_of (task_text names.now name.now core task.now)) }
 {
     page.append("task ");
     page.append(name);
@@ -635,7 +649,7 @@ fn append_task(page: &mut Page<'_>, app: &App, name: &str, core: Option<usize>, 
     page.append(" pc ");
     append_number(page, task.pc());
     page.append(" phase ");
-    append_phase(page, app, task.phase());
+    append_phase(page, names, task.phase());
     append_state(page, task);
     page.append("\n");
 }
@@ -654,28 +668,28 @@ fn append_state(page: &mut Page<'_>, task: &Task)
 
 /// Appends the view of the cores. An `Err` says that there is no memory for it, and comes only
 /// where the page has no room for it; the page may then have some part of it after what it had.
-pub fn show_cores(page: &mut Vec<u8>, app: &App, state: &State) -> Appended
-    requires { SeatedAreNamed app.now state.now }
+pub fn show_cores(page: &mut Vec<u8>, names: &Names, state: &State) -> Appended
+    requires { SeatedAreNamed names.now state.now }
     ensures text { OnOk result (page.new.items
-        ≡ page.old.items ++ line_of (cores_text app.now state.now)) }
+        ≡ page.old.items ++ line_of (cores_text names.now state.now)) }
     ensures full { OnErr result
-        (LacksRoom page.old (line_of (cores_text app.now state.now))) }
+        (LacksRoom page.old (line_of (cores_text names.now state.now))) }
     ensures kept { KeepsFront page.old page.new }
 {
     let mut line = Page::new(page);
-    append_cores(&mut line, app, state);
+    append_cores(&mut line, names, state);
     line.end()
 }
 
 // The line of the cores.
-fn append_cores(page: &mut Page<'_>, app: &App, state: &State)
-    requires { SeatedAreNamed app.now state.now }
-    ensures { Appends page.old page.new (line_of (cores_text app.now state.now)) }
+fn append_cores(page: &mut Page<'_>, names: &Names, state: &State)
+    requires { SeatedAreNamed names.now state.now }
+    ensures { Appends page.old page.new (line_of (cores_text names.now state.now)) }
 {
     page.append("cores ");
-    append_seat_names(page, app, state.cores());
+    append_seat_names(page, names, state.cores());
     page.append(" ready ");
-    append_task_names(page, app, state.ready().as_slice());
+    append_task_names(page, names, state.ready().as_slice());
     append_ticks(page, state);
     page.append("\n");
 }

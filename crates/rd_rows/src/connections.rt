@@ -4,12 +4,12 @@ ghost use Rattle.std.specs.Prelude.{◌≡◌, ◌+◌};
 ghost use Rattle.rd_desk.specs.declared.sessions.TheConstants.{MAX_JOINS};
 
 use crate::asserts::assert_same;
-use rd_app::app::App;
 use rd_desk::limits::Limits;
 use rd_desk::sessions::MAX_JOINS;
 use rd_hall::hall::Hall;
 use rd_hall::setup::Setup;
 use rd_main::run_main;
+use rd_names::app::App;
 use rd_net::net::{Served, serve_net};
 use rd_session::gate::NoGate;
 use std::alloc::{AllocGlobal, Global};

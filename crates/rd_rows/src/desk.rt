@@ -4,7 +4,6 @@ ghost use Rattle.std.specs.Prelude.{◌≡◌};
 ghost use Rattle.rd_desk.specs.Sessions.{IsPresent};
 
 use crate::asserts::assert_same;
-use rd_app::app::App;
 use rd_command::binding::bind;
 use rd_command::command::parse_line;
 use rd_desk::desk::{Desk, EnterError, NotServed};
@@ -12,6 +11,7 @@ use rd_desk::entry::Receipt;
 use rd_desk::limits::Limits;
 use rd_desk::reply::Reply;
 use rd_desk::tally::Tally;
+use rd_names::app::App;
 use rd_reply::reply::{MAX_REPLY, append_reply_reserved};
 use std::alloc::{AllocError, AllocGlobal};
 use std::process::Abort;
@@ -102,7 +102,12 @@ fn assert_asked<H: AllocGlobal + Abort>(rt: &H, desk: &mut Desk, asked: Asked) -
         panic!(rt; "{} is no command", asked.line);
     };
     assert_present(rt, desk, asked.who);
-    let bound = bind(&command, desk.app());
+    let bound = bind(
+        &command,
+        desk.names(),
+        desk.program().cores(),
+        desk.program().entries(),
+    );
     match desk.serve(asked.who, &command, &bound) {
         Ok(receipt) => {
             assert_receipt(rt, &receipt, place, asked.who);
@@ -433,7 +438,12 @@ fn assert_no_place(rt: &impl Abort, desk: &mut Desk) {
         panic!(rt; "no command");
     };
     assert_present(rt, desk, 1);
-    let bound = bind(&command, desk.app());
+    let bound = bind(
+        &command,
+        desk.names(),
+        desk.program().cores(),
+        desk.program().entries(),
+    );
     match desk.serve(1, &command, &bound) {
         Ok(_receipt) => assert!(rt; false, "the history isn't full"),
         Err(refusal) => match refusal {
@@ -466,7 +476,12 @@ fn serve(rt: &impl Abort, desk: &mut Desk, who: u32, line: &str) -> Receipt {
         panic!(rt; "{line} is no command");
     };
     assert_present(rt, desk, who);
-    let bound = bind(&command, desk.app());
+    let bound = bind(
+        &command,
+        desk.names(),
+        desk.program().cores(),
+        desk.program().entries(),
+    );
     match desk.serve(who, &command, &bound) {
         Ok(receipt) => receipt,
         Err(_) => panic!(rt; "{line} isn't served"),

@@ -5,13 +5,13 @@ ghost use Rattle.rd_desk.specs.declared.sessions.TheConstants.{MAX_JOINS};
 
 use crate::asserts::assert_same;
 use crate::desk::line_of;
-use rd_app::app::App;
 use rd_command::command::parse_line;
 use rd_desk::limits::Limits;
 use rd_desk::sessions::MAX_JOINS;
 use rd_hall::hall::Hall;
 use rd_hall::seat::{Gone, Pass, Seat};
 use rd_hall::setup::Setup;
+use rd_names::app::App;
 use std::alloc::AllocGlobal;
 use std::marker::Brand;
 use std::process::Abort;

@@ -5,7 +5,6 @@ ghost use Rattle.std.specs.Prelude.{◌≡◌, ◌+◌};
 ghost use Rattle.rd_desk.specs.declared.sessions.TheConstants.{MAX_JOINS};
 
 use crate::asserts::assert_same;
-use rd_app::app::App;
 use rd_desk::limits::Limits;
 use rd_desk::sessions::MAX_JOINS;
 use rd_ends::ends::{ReadFault, Source};
@@ -13,6 +12,7 @@ use rd_ends::over::Over;
 use rd_hall::hall::Hall;
 use rd_hall::seat::{Gone, Pass};
 use rd_hall::setup::Setup;
+use rd_names::app::App;
 use rd_session::buffers::Buffers;
 use rd_session::gate::Gate;
 use rd_session::session::session;

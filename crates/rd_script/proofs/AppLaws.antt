@@ -1,6 +1,6 @@
 -- An application that is read is what its file says, within the limits.
 use Rattle.std.proofs.Common.{IfOk, IsOkAnd, inl, inr, ◌∷◌, ◌<◌, ◌≡◌, ◌∙◌, ℕ, ◌-◌, ◌^◌, ◌≤◌, true, codes, List, [], length, Option}
-use Rattle.std.proofs.Common.{Some, None, IsUtf8, cond, false, Result, Ok, Err, ok_or, refl, sym, ap, subst, arith}
+use Rattle.std.proofs.Common.{rules, IsSome, MatchOption, Some, None, IsUtf8, cond, false, Result, Ok, Err, ok_or, refl, sym, ap, subst, arith}
 use Rattle.std.specs.List.{AllByRecursion}
 use Rattle.std.specs.Str.{is_utf8}
 use Rattle.std.proofs.lemmas.List.Elements.{All-from_recursion, recursion_from_All}
@@ -9,14 +9,20 @@ use Rattle.serde_json.specs.Read.{read}
 use Rattle.serde_json.proofs.OnLiterals.{serde_json_on_literals}
 use Rattle.serde_json.specs.Data.{Data, number, unsigned, array, Items}
 use Rattle.serde_json.specs.Find.{get}
-use Rattle.rd_app.specs.Application.{Application, IsApplication, IsScript}
-use Rattle.rd_app.specs.Named.{Named}
+use Rattle.rd_app.specs.Application.{IsScript}
+use Rattle.rd_app.specs.Application.{Application}
+use Rattle.rd_names.specs.Apps.{AppView, AreAsMany, IsApp}
+use Rattle.rd_names.specs.Names.{NamesView, named_by}
+use Rattle.rd_names.proofs.Offered.{names_among-distinct}
+use Rattle.rd_script.specs.Named.{Named, NamedApplication, apart, names_with, runs_of, together}
+use Rattle.rd_script.proofs.LimitLaws.{IsNamedApplication, limits_apart, limits_together}
+use Rattle.rd_text.specs.declared.kind.Kind.TheVariants as kind
 use Rattle.rd_app.specs.TaskScript.{TaskScript}
 use Rattle.rd_script.specs.declared.error.AppError.{AppError}
 use Rattle.rd_script.specs.declared.error.AppError.TheVariants as fault
 use Rattle.rd_script.specs.Values.{object_with, field, number_in, number_or, array_in, nothing_named, IsNumberOr}
 use Rattle.rd_script.specs.Objects.{file_keys, objects_of}
-use Rattle.rd_script.specs.File.{TaskDraft, task_of, tasks_after, scripts_after, AppDraft, draft_of, with_scripts, app_of, app_of_text, app_of_bytes, checked}
+use Rattle.rd_script.specs.File.{TaskDraft, task_of, tasks_after, scripts_after, AppDraft, draft_of, program_of, with_scripts, app_of, app_of_text, app_of_bytes, checked}
 use Rattle.rd_script.specs.File.{GivesFaultFirst, GivesOrNoMemory, scope_of_draft}
 use Rattle.rd_script.specs.Scope.{scope_of}
 use Rattle.rd_script.specs.Says.{Says, FileSays}
@@ -34,11 +40,11 @@ number_or_ok otherwise least most None n low high e = let is : otherwise ≡ n =
 number_or_ok otherwise least most (Some d) n low high e = number_ok least most d n e
 
 -- drafts with the names of the tasks
-abbrev drafts_of : Application → List TaskDraft → Named TaskDraft
+abbrev drafts_of : NamedApplication → List TaskDraft → Named TaskDraft
 drafts_of app drafts = record { names = app.tasks.names; things = drafts }
 
 -- the application was read so
-pub record IsRead (d : Data) (app : Application) (profile cores tasks : Data) (task_items : Items) (drafts : List TaskDraft)
+pub record IsRead (d : Data) (app : NamedApplication) (profile cores tasks : Data) (task_items : Items) (drafts : List TaskDraft)
     : Type 0 where
   pub keys : object_with file_keys d ≡ Ok tt
   pub profile_at : field (codes "profile") d ≡ Ok profile
@@ -53,8 +59,8 @@ pub record IsRead (d : Data) (app : Application) (profile cores tasks : Data) (t
   pub drafts_are : tasks_after nothing_named task_items ≡ Ok (drafts_of app drafts)
   pub scripts : scripts_after (scope_of app) [] drafts ≡ Ok app.tasks.things
 
-pub read_takes : (d : Data) (app : Application) (profile cores tasks : Data) (task_items : Items) (drafts : List TaskDraft)
-    → IsRead d app profile cores tasks task_items drafts → Says d app task_items × IsApplication app
+pub read_takes : (d : Data) (app : NamedApplication) (profile cores tasks : Data) (task_items : Items) (drafts : List TaskDraft)
+    → IsRead d app profile cores tasks task_items drafts → Says d app task_items × IsNamedApplication app
 read_takes d app profile cores tasks task_items drafts read =
     let one = number_ok 1 1 profile 1 read.one in
     let core_count = number_ok 1 8 cores app.cores read.core_count in
@@ -92,7 +98,7 @@ read_takes d app profile cores tasks task_items drafts read =
         objects = objects.1;
         some_tasks = omega (arith, task_array, count, tasks_said.1);
         few_tasks = omega (arith, task_array, count, tasks_said.1);
-        tasks = All-from_recursion (IsScript app) app.tasks.things within;
+        tasks = All-from_recursion (IsScript (runs_of app)) app.tasks.things within;
         named_tasks = record { paired = tasks_said.1; names = taken.2.kept.are_names };
       },
     )
@@ -110,7 +116,7 @@ ok_is : {A : Type 0} (x y : A) → done x ≡ done y → x ≡ y
 ok_is x y e = cc
 
 -- a draft with its scripts
-abbrev app_with : AppDraft → List TaskScript → Application
+abbrev app_with : AppDraft → List TaskScript → NamedApplication
 app_with draft scripts = record {
   cores = draft.cores;
   entries = draft.entries;
@@ -119,12 +125,12 @@ app_with draft scripts = record {
   tasks = record { names = draft.tasks.names; things = scripts };
 }
 
-app_is : (draft other : AppDraft) (scripts : List TaskScript) (app : Application) → draft ≡ other → done (app_with other scripts) ≡ done app
+app_is : (draft other : AppDraft) (scripts : List TaskScript) (app : NamedApplication) → draft ≡ other → done (app_with other scripts) ≡ done app
     → app_with draft scripts ≡ app
 app_is draft other scripts app same e = ap (λ (draft : AppDraft). app_with draft scripts) same ∙ ok_is (app_with other scripts) app e
 
-pub app_takes : (d : Data) (app : Application) → app_of d ≡ Ok app
-    → (task_items : Items) × Says d app task_items × IsApplication app
+pub app_takes : (d : Data) (app : NamedApplication) → app_of d ≡ Ok app
+    → (task_items : Items) × Says d app task_items × IsNamedApplication app
 unfolding draft_of
 app_takes d app e =
     let drafted = bind_ok (draft_of d) with_scripts app e in
@@ -164,8 +170,8 @@ app_takes d app e =
       drafts_are = drafts.1;
       scripts = ap (λ (draft : AppDraft). scripts_after (scope_of_draft draft) [] draft.tasks.things) {x = draft} draft_is ∙ scripts.1;
     }) in
-    let says = subst (λ (app : Application). Says d app task_items.0) {x = made} is all.0 in
-    (task_items.0, says, subst IsApplication {x = made} is all.1)
+    let says = subst (λ (app : NamedApplication). Says d app task_items.0) {x = made} is all.0 in
+    (task_items.0, says, subst IsNamedApplication {x = made} is all.1)
 
 -- ---- what a file says is read
 
@@ -175,7 +181,7 @@ number_or_again otherwise least most None n h low high = ap Ok (sym h)
 number_or_again otherwise least most (Some d) n h low high = number_again least most d n h low high
 
 -- the draft of an application whose scripts are those of drafts
-abbrev draft_from : Application → List TaskDraft → AppDraft
+abbrev draft_from : NamedApplication → List TaskDraft → AppDraft
 draft_from app drafts = record {
   cores = app.cores;
   entries = app.entries;
@@ -185,7 +191,7 @@ draft_from app drafts = record {
 }
 
 -- what was read so is the answer
-draft_read : (d : Data) (app : Application) (profile cores tasks : Data) (task_items : Items) (drafts : List TaskDraft)
+draft_read : (d : Data) (app : NamedApplication) (profile cores tasks : Data) (task_items : Items) (drafts : List TaskDraft)
     → IsRead d app profile cores tasks task_items drafts → draft_of d ≡ Ok (draft_from app drafts)
 unfolding draft_of
 draft_read d app profile cores tasks task_items drafts read =
@@ -202,16 +208,16 @@ draft_read d app profile cores tasks task_items drafts read =
     (then_is (tasks_after nothing_named task_items) _ (drafts_of app drafts) _ read.drafts_are
     refl))))))))))
 
-app_read : (d : Data) (app : Application) (profile cores tasks : Data) (task_items : Items) (drafts : List TaskDraft)
+app_read : (d : Data) (app : NamedApplication) (profile cores tasks : Data) (task_items : Items) (drafts : List TaskDraft)
     → IsRead d app profile cores tasks task_items drafts → app_of d ≡ Ok app
 app_read d app profile cores tasks task_items drafts read =
     then_is (draft_of d) with_scripts (draft_from app drafts) _ (draft_read d app profile cores tasks task_items drafts read)
     (then_is (scripts_after (scope_of app) [] drafts) _ app.tasks.things _ read.scripts refl)
 
-pub app_again : (d : Data) (app : Application) (task_items : Items) → Says d app task_items → IsApplication app
+pub app_again : (d : Data) (app : NamedApplication) (task_items : Items) → Says d app task_items → IsNamedApplication app
     → app_of d ≡ Ok app
 app_again d app task_items says limits =
-    let scripts = recursion_from_All (IsScript app) app.tasks.things limits.tasks in
+    let scripts = recursion_from_All (IsScript (runs_of app)) app.tasks.things limits.tasks in
     let split = task.tasks_split app (scope_of app) task_items app.tasks.names app.tasks.things says.tasks scripts in
     let count = (length_named task.IsDraft task_items app.tasks.names split.0 split.1).0 in
     app_read d app (number (unsigned 1)) (number (unsigned app.cores)) (array task_items) task_items split.0 (record {
@@ -233,7 +239,7 @@ app_again d app task_items says limits =
 
 -- ---- the bytes of a file
 
-pub file_takes : (bytes : List ℕ) (app : Application) → app_of_bytes bytes ≡ Ok app → FileSays bytes app × IsApplication app
+pub file_takes : (bytes : List ℕ) (app : NamedApplication) → app_of_bytes bytes ≡ Ok app → FileSays bytes (apart app) × IsNamedApplication app
 file_takes bytes app e =
     let text = chosen (is_utf8 bytes) _ _ app e in
     let d = bind_ok (ok_or (read bytes) _) _ app text.1 in
@@ -254,8 +260,8 @@ text_is_some [] d is = absurd cc
 text_is_some (byte ∷ text) d is = omega arith
 
 -- the bytes of a text
-pub utf8_read : (bytes text : List ℕ) (r : Result Application AppError) → text ≡ bytes → IsUtf8 bytes
-    → GivesOrNoMemory (λ app. app) r (app_of_text text) → GivesOrNoMemory (λ app. app) r (app_of_bytes bytes)
+pub utf8_read : (bytes text : List ℕ) (r : Result AppView AppError) → text ≡ bytes → IsUtf8 bytes
+    → GivesOrNoMemory together r (app_of_text text) → GivesOrNoMemory together r (app_of_bytes bytes)
 utf8_read bytes text r same utf8 h = rw (is_utf8-from_IsUtf8 bytes utf8, ← same) h
 
 -- bytes of no text
@@ -267,24 +273,25 @@ not_utf8 bytes none =
     ] refl
 
 -- where a fault comes first, memory runs out nowhere else
-pub at_any : (r : Result Application AppError) (read : Result Application AppError) → GivesFaultFirst (λ app. app) r read → GivesOrNoMemory (λ app. app) r read
+pub at_any : (r : Result AppView AppError) (read : Result NamedApplication AppError) → GivesFaultFirst together r read → GivesOrNoMemory together r read
 at_any (Ok app) read h = h
 at_any (Err e) read h = λ other. elim h [ inl is ↦ is | inr memory ↦ absurd (other memory.0) ]
 
 kept_app : (d : Data) (draft : AppDraft) (r : Result (List TaskScript) AppError) → draft_of d ≡ Ok draft → scripts_after (scope_of_draft draft) [] draft.tasks.things ≡ r
     → checked r ≡ Ok tt
-    → IsOkAnd (r >>= λ scripts. Ok (app_with draft scripts)) IsApplication
+    → IsOkAnd (r >>= λ scripts. Ok (app_with draft scripts)) (λ app. IsApp (apart app))
 kept_app d draft (Ok scripts) drafted e h =
+    limits_apart (app_with draft scripts)
     (app_takes d (app_with draft scripts)
     (then_is (draft_of d) with_scripts draft _ drafted (then_is (scripts_after (scope_of_draft draft) [] draft.tasks.things) _ scripts _ e refl))).2
 kept_app d draft (Err x) drafted e h = absurd cc
 
 -- a draft whose scripts were checked is an application within the limits
 pub checked_app : (d : Data) (draft : AppDraft) → draft_of d ≡ Ok draft → checked (scripts_after (scope_of_draft draft) [] draft.tasks.things) ≡ Ok tt
-    → IsOkAnd (with_scripts draft) IsApplication
+    → IsOkAnd (with_scripts draft) (λ app. IsApp (apart app))
 checked_app d draft drafted h = kept_app d draft (scripts_after (scope_of_draft draft) [] draft.tasks.things) drafted refl h
 
-fault_kept : (r : Result (List TaskScript) AppError) (f : List TaskScript → Result Application AppError) (e : AppError) → checked r ≡ Err e → (r >>= f) ≡ Err e
+fault_kept : (r : Result (List TaskScript) AppError) (f : List TaskScript → Result NamedApplication AppError) (e : AppError) → checked r ≡ Err e → (r >>= f) ≡ Err e
 fault_kept (Ok scripts) f e h = absurd cc
 fault_kept (Err d) f e h = cc
 
@@ -293,24 +300,75 @@ pub fault_found : (d : Data) (draft : AppDraft) (e : AppError) → draft_of d �
     → app_of d ≡ Err e
 fault_found d draft e drafted h = then_is (draft_of d) with_scripts draft (Err e) drafted (fault_kept (scripts_after (scope_of_draft draft) [] draft.tasks.things) _ e h)
 
-pub file_again : (bytes : List ℕ) (app : Application) → FileSays bytes app → IsApplication app → app_of_bytes bytes ≡ Ok app
+pub file_again : (bytes : List ℕ) (app : AppView) → FileSays bytes app → IsApp app → app_of_bytes bytes ≡ Ok (together app)
 file_again bytes app says limits =
-    rw (is_utf8-from_IsUtf8 bytes says.1) (text_is_file bytes says.0 says.2) ∙ app_again says.0 app says.3 says.4 limits
+    rw (is_utf8-from_IsUtf8 bytes says.1)
+    (text_is_file bytes says.0 says.2) ∙ app_again says.0 (together app) says.3 says.4 (limits_together (together app) limits)
 
-pub is_accepted : (bytes : List ℕ) (r : Result Application AppError) → GivesOrNoMemory (λ app. app) r (app_of_bytes bytes)
-    → IfOk r (FileSays bytes) × IfOk r IsApplication
-is_accepted bytes (Ok app) e = let taken = file_takes bytes app e in (taken.0, taken.1)
+pub is_accepted : (bytes : List ℕ) (r : Result AppView AppError) → GivesOrNoMemory together r (app_of_bytes bytes)
+    → IfOk r (FileSays bytes) × IfOk r IsApp
+is_accepted bytes (Ok app) e = let taken = file_takes bytes (together app) e in (taken.0, limits_apart (together app) taken.1)
 is_accepted bytes (Err d) e = (tt, tt)
 
--- the application whose scripts were kept is the one that the draft says
-pub draft_is_kept : (draft : AppDraft) (scripts : List TaskScript) (app : Application)
+-- an application that is the same with its names beside it is the same
+pub same_apart : (r : Result AppView AppError) (app : AppView) → GivesOrNoMemory together r (Ok (together app))
+    → GivesOrNoMemory (λ app. app) r (Ok app)
+same_apart (Ok other) app h = let same : together app ≡ together other = cc in ap (λ (app : NamedApplication). Ok (apart app)) same
+same_apart (Err e) app h = λ other. let none : Ok (together app) ≡ Err e = h other in absurd cc
+
+-- what runs of the draft is the program that was kept
+pub draft_runs : (draft : AppDraft) (scripts : List TaskScript) (program : Application)
     → scripts_after (scope_of_draft draft) [] draft.tasks.things ≡ Ok scripts
-    → app ≡ record {
-      cores = draft.cores;
-      entries = draft.entries;
-      tick = draft.tick;
-      objects = draft.objects;
-      tasks = record { names = draft.tasks.names; things = scripts };
+    → program ≡ runs_of (app_with draft scripts)
+    → program_of draft ≡ Ok program
+draft_runs draft scripts program read is = rw (read, is) refl
+
+-- the names of an application within the limits are all kept
+names_kept : (app : AppView) → IsApp app → named_by app.names ≡ app.names
+names_kept app is = λ i. record {
+  queues = names_among-distinct app.names.queues (is.named kind.Queue) i;
+  queue_sets = names_among-distinct app.names.queue_sets (is.named kind.QueueSet) i;
+  streams = names_among-distinct app.names.streams (is.named kind.Stream) i;
+  messages = names_among-distinct app.names.messages (is.named kind.Message) i;
+  groups = names_among-distinct app.names.groups (is.named kind.Group) i;
+  tasks = names_among-distinct app.names.tasks (is.named kind.Task) i;
+}
+
+-- what runs of an application, and its names, are the application
+pub record IsKept (r : Result NamedApplication AppError) (program : Application) (names : NamesView) : Type 0 where
+  pub paired : AreAsMany program names
+  pub is : r ≡ Ok (together (record { runs = program; names = names }))
+
+kept_apart : (app : NamedApplication) (program : Application) (names : NamesView) → runs_of app ≡ program → IsApp (apart app)
+    → names ≡ named_by (names_with app.objects app.tasks.names) → IsKept (Ok app) program names
+kept_apart app program names runs limits named =
+    let called : names ≡ (apart app).names = named ∙ names_kept (apart app) limits in
+    record {
+      paired = subst (λ (program : Application). AreAsMany program names) {x = runs_of app} runs
+          (subst (AreAsMany (runs_of app)) (sym called) limits.paired);
+      is = ap (λ (program : Application). Ok (together (record { runs = program; names = (apart app).names }))) {x = runs_of app} runs
+          ∙ ap (λ (names : NamesView). Ok (together (record { runs = program; names = names }))) (sym called);
     }
-    → with_scripts draft ≡ Ok app
-draft_is_kept draft scripts app read is = rw (read, is) refl
+
+-- what runs of the draft, and its names, are its application
+pub draft_is_kept : (draft : AppDraft) (program : Application) (names : NamesView) (scripts : Result (List TaskScript) AppError)
+    → scripts_after (scope_of_draft draft) [] draft.tasks.things ≡ scripts
+    → program_of draft ≡ Ok program → IsOkAnd (with_scripts draft) (λ app. IsApp (apart app))
+    → names ≡ named_by (names_with draft.objects draft.tasks.names) → IsKept (with_scripts draft) program names
+draft_is_kept draft program names (Err e) read = rw read (λ runs limits named. absurd cc)
+draft_is_kept draft program names (Ok scripts) read =
+    rw read (λ runs limits named.
+    let same : runs_of (app_with draft scripts) ≡ program = cc in kept_apart (app_with draft scripts) program names same limits named)
+
+-- the same, of the names that were listed
+pub kept_by : (draft : AppDraft) (program : Application) (names lists : NamesView) → program_of draft ≡ Ok program
+    → IsOkAnd (with_scripts draft) (λ app. IsApp (apart app)) → names ≡ named_by lists → lists ≡ names_with draft.objects draft.tasks.names
+    → IsKept (with_scripts draft) program names
+kept_by draft program names lists runs limits named is =
+    draft_is_kept draft program names _ refl runs limits (named ∙ ap named_by is)
+
+-- with as many names as things there is an application of them
+pub there_is : (o : Option AppView) (program : Application) (names : NamesView) → AreAsMany program names
+    → MatchOption o (¬ AreAsMany program names) (λ app. app ≡ record { runs = program; names = names }) → IsSome o
+there_is None program names paired is = absurd (is paired)
+there_is (Some app) program names paired is = search rules

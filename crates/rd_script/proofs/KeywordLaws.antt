@@ -6,8 +6,10 @@ use Rattle.std.specs.Prelude.{IfSome}
 use Rattle.std.specs.List.{find}
 use Rattle.std.specs.Str.{bytes_eq}
 use Rattle.std.proofs.lemmas.Slice.Eq.{bytes_eq-Decides}
-use Rattle.rd_app.specs.Application.{Application, IsOperand, IsWithin}
-use Rattle.rd_app.specs.Objects.{AreObjects, names_in}
+use Rattle.rd_app.specs.Application.{IsOperand, IsWithin}
+use Rattle.rd_script.specs.Named.{NamedApplication, runs_of}
+use Rattle.rd_script.specs.Named.{names_in, shapes_of}
+use Rattle.rd_script.proofs.LimitLaws.{AreNamedObjects}
 use Rattle.rd_script.specs.declared.keyword.Parameter.{Parameter}
 use Rattle.rd_script.specs.declared.keyword.Parameter.TheVariants.{Register, Number, Target, Data, Time, Operand, Index, Room, Action, OnExit, WaitFor, OnMet, Name}
 use Rattle.rd_script.specs.declared.keyword.Keyword.{Keyword}
@@ -141,12 +143,12 @@ keyword_again (keyword.Group k) = group_again k
 keyword_again (keyword.Notify k) = notify_again k
 
 -- The objects of an application are within the limits, and each of its tasks has its name.
-pub record AreThere (app : Application) : Type 0 where
-  pub objects : AreObjects app.objects
+pub record AreThere (app : NamedApplication) : Type 0 where
+  pub objects : AreNamedObjects app.objects
   pub tasks : length app.tasks.names ≡ length app.tasks.things
 
 -- what an operand of that kind may stand for
-abbrev pub IsValue : Application → ℕ → (parameter : Parameter) → Value parameter → Type 0
+abbrev pub IsValue : NamedApplication → ℕ → (parameter : Parameter) → Value parameter → Type 0
 IsValue app len Register register = register < 8
 IsValue app len Number value = Unit {0}
 IsValue app len Target target = target < len
@@ -162,14 +164,14 @@ IsValue app len OnMet on_met = Unit {0}
 IsValue app len (Name kind) number = number < length (names_in app.objects app.tasks.names kind)
 
 -- Whatever its operands stand for, what a keyword makes is within the application.
-abbrev pub MakesWithin : Application → ℕ → (parameters : List Parameter) → Makes parameters → Type 0
-MakesWithin app len [] made = IsForQueue app.objects made → IsWithin app len made
+abbrev pub MakesWithin : NamedApplication → ℕ → (parameters : List Parameter) → Makes parameters → Type 0
+MakesWithin app len [] made = IsForQueue app.objects made → IsWithin (runs_of app) len made
 MakesWithin app len (parameter ∷ others) make = (value : Value parameter) → IsValue app len parameter value → MakesWithin app len others (make value)
 
-abbrev pub RowWithin : Application → ℕ → Row → Type 0
+abbrev pub RowWithin : NamedApplication → ℕ → Row → Type 0
 RowWithin app len (Written text operands make) = MakesWithin app len operands make
 
-local_within : (app : Application) (len : ℕ) (k : LocalKeyword) → RowWithin app len (local_row k)
+local_within : (app : NamedApplication) (len : ℕ) (k : LocalKeyword) → RowWithin app len (local_row k)
 local_within app len of.Set = λ register there value _ fits. there
 local_within app len of.Add = λ register there value _ fits. there
 local_within app len of.Move = λ into there from also_there fits. (there, also_there)
@@ -180,7 +182,7 @@ local_within app len of.Jump = λ target there fits. there
 local_within app len of.JumpZero = λ register there target also_there fits. (there, also_there)
 local_within app len of.End = λ fits. tt
 
-queue_within : (app : Application) (len : ℕ) → AreThere app → (k : QueueKeyword) → RowWithin app len (queue_row k)
+queue_within : (app : NamedApplication) (len : ℕ) → AreThere app → (k : QueueKeyword) → RowWithin app len (queue_row k)
 queue_within app len there Send = λ queue named wait read fits. (rw (← there.objects.named_queues.paired) named, read, fits)
 queue_within app len there Front = λ queue named wait read fits. (rw (← there.objects.named_queues.paired) named, read, fits)
 queue_within app len there Receive = λ queue named wait read fits. (rw (← there.objects.named_queues.paired) named, read, fits)
@@ -192,10 +194,10 @@ queue_within app len there Spaces = λ queue named fits. (rw (← there.objects.
 queue_within app len there AddToSet = λ queue named queue_set also_named fits. (rw (← there.objects.named_queues.paired) named, rw (← there.objects.named_queue_sets.paired) also_named, fits)
 queue_within app len there RemoveFromSet = λ queue named queue_set also_named fits. (rw (← there.objects.named_queues.paired) named, rw (← there.objects.named_queue_sets.paired) also_named, fits)
 
-queue_set_within : (app : Application) (len : ℕ) → AreThere app → (k : QueueSetKeyword) → RowWithin app len (queue_set_row k)
+queue_set_within : (app : NamedApplication) (len : ℕ) → AreThere app → (k : QueueSetKeyword) → RowWithin app len (queue_set_row k)
 queue_set_within app len there Select = λ queue_set named wait read fits. (rw (← there.objects.named_queue_sets.paired) named, read)
 
-stream_within : (app : Application) (len : ℕ) → AreThere app → (k : StreamKeyword) → RowWithin app len (stream_row k)
+stream_within : (app : NamedApplication) (len : ℕ) → AreThere app → (k : StreamKeyword) → RowWithin app len (stream_row k)
 stream_within app len there stream_keyword.Write = λ stream named wait read fits. (rw (← there.objects.named_streams.paired) named, read)
 stream_within app len there stream_keyword.Read = λ stream named room takes wait read fits. (rw (← there.objects.named_streams.paired) named, (takes.0, takes.1, read))
 stream_within app len there stream_keyword.Reset = λ stream named fits. (rw (← there.objects.named_streams.paired) named, tt)
@@ -203,21 +205,21 @@ stream_within app len there stream_keyword.SetTrigger = λ stream named trigger 
 stream_within app len there stream_keyword.Count = λ stream named fits. (rw (← there.objects.named_streams.paired) named, tt)
 stream_within app len there stream_keyword.Spaces = λ stream named fits. (rw (← there.objects.named_streams.paired) named, tt)
 
-message_within : (app : Application) (len : ℕ) → AreThere app → (k : MessageKeyword) → RowWithin app len (message_row k)
+message_within : (app : NamedApplication) (len : ℕ) → AreThere app → (k : MessageKeyword) → RowWithin app len (message_row k)
 message_within app len there message_keyword.Write = λ message named wait read fits. (rw (← there.objects.named_messages.paired) named, read)
 message_within app len there message_keyword.Read = λ message named room takes wait read fits. (rw (← there.objects.named_messages.paired) named, (takes.0, takes.1, read))
 message_within app len there message_keyword.Reset = λ message named fits. (rw (← there.objects.named_messages.paired) named, tt)
 message_within app len there message_keyword.Spaces = λ message named fits. (rw (← there.objects.named_messages.paired) named, tt)
 message_within app len there message_keyword.NextLength = λ message named fits. (rw (← there.objects.named_messages.paired) named, tt)
 
-group_within : (app : Application) (len : ℕ) → AreThere app → (k : GroupKeyword) → RowWithin app len (group_row k)
+group_within : (app : NamedApplication) (len : ℕ) → AreThere app → (k : GroupKeyword) → RowWithin app len (group_row k)
 group_within app len there group_keyword.Set = λ group named bits read fits. (rw (← there.objects.named_groups.paired) named, read)
 group_within app len there group_keyword.Clear = λ group named bits read fits. (rw (← there.objects.named_groups.paired) named, read)
 group_within app len there group_keyword.Get = λ group named fits. (rw (← there.objects.named_groups.paired) named, tt)
 group_within app len there group_keyword.Wait = λ group named bits read wait_for _ on_met _ wait also_read fits. (rw (← there.objects.named_groups.paired) named, (read, also_read))
 group_within app len there group_keyword.Sync = λ group named set read bits also_read wait read_too fits. (rw (← there.objects.named_groups.paired) named, (read, also_read, read_too))
 
-notify_within : (app : Application) (len : ℕ) → AreThere app → (k : NotifyKeyword) → RowWithin app len (notify_row k)
+notify_within : (app : NamedApplication) (len : ℕ) → AreThere app → (k : NotifyKeyword) → RowWithin app len (notify_row k)
 notify_within app len there told.Notify = λ task named index few value read action _ fits. (rw (← there.tasks) named, few, read)
 notify_within app len there told.Query = λ task named index few value read action _ fits. (rw (← there.tasks) named, few, read)
 notify_within app len there told.Take = λ index few exit _ wait read fits. (few, read)
@@ -225,7 +227,7 @@ notify_within app len there told.Wait = λ index few entry_bits read exit_bits a
 notify_within app len there told.ClearState = λ task named index few fits. (rw (← there.tasks) named, few)
 notify_within app len there told.ClearValue = λ task named index few bits read fits. (rw (← there.tasks) named, few, read)
 
-pub row_within : (app : Application) (len : ℕ) → AreThere app → (k : Keyword) → RowWithin app len (row_of k)
+pub row_within : (app : NamedApplication) (len : ℕ) → AreThere app → (k : Keyword) → RowWithin app len (row_of k)
 row_within app len there (keyword.Local k) = local_within app len k
 row_within app len there (keyword.Queue k) = queue_within app len there k
 row_within app len there (keyword.QueueSet k) = queue_set_within app len there k

@@ -13,5 +13,6 @@ pub mod GroupLaws
 pub mod ObjectLaws
 pub mod ScriptLaws
 pub mod TaskLaws
+pub mod LimitLaws
 pub mod AppLaws
 pub mod CheckLaws

@@ -7,7 +7,7 @@ use Rattle.serde_json.specs.Events.{items_len}
 use Rattle.rd_text.specs.Names.{AreDistinctNames}
 use Rattle.rd_text.proofs.Offered.{AreDistinctNames-push, IsNewName, IsNewName-in}
 use Rattle.rd_script.specs.declared.error.AppError.{AppError}
-use Rattle.rd_app.specs.Named.{Named}
+use Rattle.rd_script.specs.Named.{Named}
 use Rattle.rd_script.specs.Values.{named_after, with_named, SayEach, SayEachNamed}
 use Rattle.rd_script.proofs.Steps.{bind_ok, then_is}
 

@@ -6,8 +6,11 @@ use Rattle.serde_json.specs.Data.{Data, Items, no_items}
 use Rattle.serde_json.specs.Events.{items_len}
 use Rattle.serde_json.specs.Find.{get}
 use Rattle.rd_app.specs.declared.objects.GroupShape.{GroupShape}
-use Rattle.rd_app.specs.Named.{AreNamed, Named}
-use Rattle.rd_app.specs.Objects.{AreObjects, IsMessageShape, IsQueueShape, IsQueueSetShape, IsStreamShape, NamedObjects}
+use Rattle.rd_script.specs.Named.{Named}
+use Rattle.rd_script.proofs.LimitLaws.{AreNamed}
+use Rattle.rd_app.specs.Objects.{IsMessageShape, IsQueueShape, IsQueueSetShape, IsStreamShape}
+use Rattle.rd_script.specs.Named.{NamedObjects, shapes_of}
+use Rattle.rd_script.proofs.LimitLaws.{AreNamedObjects}
 use Rattle.rd_text.proofs.Offered.{IsNewName}
 use Rattle.rd_script.specs.declared.error.AppError.{AppError}
 use Rattle.rd_script.specs.Objects.{IsGroup, IsMessage, IsQueue, IsStream, group_of, message_of, objects_of, queue_of, SaysObjects, SaysQueueSet, queue_set_of, stream_of}
@@ -90,7 +93,7 @@ objects_made : (d : Data) (o : NamedObjects) → named_at (λ before. queue_of b
     → named_at (queue_set_of o.queues.names) 32 (codes "sets") d ≡ Ok o.queue_sets
     → named_at (λ before. stream_of before.names) 32 (codes "streams") d ≡ Ok o.streams
     → named_at (λ before. message_of before.names) 32 (codes "messages") d ≡ Ok o.messages
-    → named_at (λ before. group_of before.names) 32 (codes "groups") d ≡ Ok o.groups → SaysObjects d o × AreObjects o
+    → named_at (λ before. group_of before.names) 32 (codes "groups") d ≡ Ok o.groups → SaysObjects d o × AreNamedObjects o
 objects_made d o queues_read queue_sets_read streams_read messages_read groups_are_read =
     let queues = named_taken (λ before. queue_of before.names) IsQueue (AllByRecursion IsQueueShape)
     (each_takes queue_of IsQueue IsQueueShape queue.queue_takes) tt 32 (codes "queues") d o.queues queues_read in
@@ -115,7 +118,7 @@ objects_made d o queues_read queue_sets_read streams_read messages_read groups_a
         queues = All-from_recursion IsQueueShape o.queues.things queues.in_limits;
         named_queue_sets = queue_sets.named_each;
         few_queue_sets = queue_sets.few;
-        queue_sets = All-from_recursion (IsQueueSetShape o) o.queue_sets.things
+        queue_sets = All-from_recursion (IsQueueSetShape (shapes_of o)) o.queue_sets.things
             (queue_set.queue_sets_in_limits o (length o.queues.names) o.queue_sets.things (sym queues.named_each.paired) queue_sets.in_limits.shapes);
         one_queue_set_each = queue_sets.in_limits.one_each;
         named_streams = streams.named_each;
@@ -129,7 +132,7 @@ objects_made d o queues_read queue_sets_read streams_read messages_read groups_a
       },
     )
 
-pub objects_take : (d : Data) (o : NamedObjects) → objects_of d ≡ Ok o → SaysObjects d o × AreObjects o
+pub objects_take : (d : Data) (o : NamedObjects) → objects_of d ≡ Ok o → SaysObjects d o × AreNamedObjects o
 objects_take d o e =
     let queues = bind_ok (named_at (λ before. queue_of before.names) 32 (codes "queues") d) _ o e in
     let queue_sets = bind_ok (named_at (queue_set_of queues.0.names) 32 (codes "sets") d) _ o queues.2 in
@@ -138,12 +141,12 @@ objects_take d o e =
     let groups = bind_ok (named_at (λ before. group_of before.names) 32 (codes "groups") d) _ o messages.2 in
     let made : NamedObjects = record { queues = queues.0; queue_sets = queue_sets.0; streams = streams.0; messages = messages.0; groups = groups.0 } in
     let is : made ≡ o = cc in
-    subst (λ (o : NamedObjects). SaysObjects d o × AreObjects o) {x = made} is (objects_made d made queues.1 queue_sets.1 streams.1 messages.1 groups.1)
+    subst (λ (o : NamedObjects). SaysObjects d o × AreNamedObjects o) {x = made} is (objects_made d made queues.1 queue_sets.1 streams.1 messages.1 groups.1)
 
-pub objects_again : (d : Data) (o : NamedObjects) → SaysObjects d o → AreObjects o → objects_of d ≡ Ok o
+pub objects_again : (d : Data) (o : NamedObjects) → SaysObjects d o → AreNamedObjects o → objects_of d ≡ Ok o
 objects_again d o says limits =
     let of_queues = queue_set.queue_sets_of_limits o (length o.queues.names) o.queue_sets.things (sym limits.named_queues.paired)
-    (recursion_from_All (IsQueueSetShape o) o.queue_sets.things limits.queue_sets) in
+    (recursion_from_All (IsQueueSetShape (shapes_of o)) o.queue_sets.things limits.queue_sets) in
     then_is (named_at (λ before. queue_of before.names) 32 (codes "queues") d) _ o.queues _
     (named_read (λ before. queue_of before.names) IsQueue (AllByRecursion IsQueueShape) (AllByRecursion-first IsQueueShape)
     (each_again queue_of IsQueue IsQueueShape queue.queue_again) 32 (codes "queues") d o.queues (record {

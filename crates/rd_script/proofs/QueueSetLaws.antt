@@ -12,10 +12,11 @@ use Rattle.std.proofs.lemmas.Map.Keys.{IsDistinct-push}
 use Rattle.std.proofs.lemmas.Map.Steps.{length-le_from_distinct_below}
 use Rattle.serde_json.specs.Data.{Data, null, boolean, number, unsigned, string, array, object, Items, no_items, item}
 use Rattle.serde_json.specs.Find.{get, as_array, as_str}
-use Rattle.rd_app.specs.Objects.{IsQueueSetShape, NamedObjects, members_of}
+use Rattle.rd_app.specs.Objects.{IsQueueSetShape, members_of}
+use Rattle.rd_script.specs.Named.{NamedObjects, shapes_of}
 use Rattle.rd_script.specs.Values.{is_object_with, object_with, field, number_in, new_name}
 use Rattle.rd_script.specs.Objects.{IsMember, AreMembers, SaysQueueSet, queue_set_keys, member_of, members_after, queue_set_of}
-use Rattle.rd_app.specs.Named.{Named}
+use Rattle.rd_script.specs.Named.{Named}
 use Rattle.rd_app.specs.QueueSetShapeView.{QueueSetShapeView}
 use Rattle.rd_script.specs.declared.error.AppError.TheVariants as fault
 use Rattle.rd_script.specs.Spelling.{index_of}
@@ -249,18 +250,18 @@ queue_set_again queues before d name queue_set h new all =
 -- ---- the sets among objects
 
 pub queue_sets_in_limits : (o : NamedObjects) (queues : ℕ) (queue_sets : List QueueSetShapeView) → length o.queues.things ≡ queues → AllByRecursion (IsQueueSetOf queues) queue_sets
-    → AllByRecursion (IsQueueSetShape o) queue_sets
+    → AllByRecursion (IsQueueSetShape (shapes_of o)) queue_sets
 queue_sets_in_limits o queues [] same all = tt
 queue_sets_in_limits o queues (queue_set ∷ queue_sets) same all =
     let there = subst (λ (n : ℕ). AllByRecursion (λ queue. queue < n) queue_set.members) (sym same) all.0.members in
-    let shape : IsQueueSetShape o queue_set = record {
+    let shape : IsQueueSetShape (shapes_of o) queue_set = record {
       some = omega (arith, all.0.some);
       few = all.0.few;
       members = All-from_recursion (λ queue. queue < length o.queues.things) queue_set.members there;
     } in
     (shape, queue_sets_in_limits o queues queue_sets same all.1)
 
-pub queue_sets_of_limits : (o : NamedObjects) (queues : ℕ) (queue_sets : List QueueSetShapeView) → length o.queues.things ≡ queues → AllByRecursion (IsQueueSetShape o) queue_sets
+pub queue_sets_of_limits : (o : NamedObjects) (queues : ℕ) (queue_sets : List QueueSetShapeView) → length o.queues.things ≡ queues → AllByRecursion (IsQueueSetShape (shapes_of o)) queue_sets
     → AllByRecursion (IsQueueSetOf queues) queue_sets
 queue_sets_of_limits o queues [] same all = tt
 queue_sets_of_limits o queues (queue_set ∷ queue_sets) same all =

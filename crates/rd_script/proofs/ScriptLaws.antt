@@ -5,7 +5,8 @@ use Rattle.std.proofs.Common.{subst, append_assoc, arith}
 use Rattle.rd_app.specs.declared.instr.Instr.{Instr}
 use Rattle.rd_app.specs.declared.instr.Instr.TheVariants.{Local}
 use Rattle.rd_app.specs.declared.instr.LocalInstr.TheVariants as local
-use Rattle.rd_app.specs.Application.{Application, IsWithin, IsScript, is_final}
+use Rattle.rd_app.specs.Application.{IsWithin, IsScript, is_final}
+use Rattle.rd_script.specs.Named.{NamedApplication, runs_of}
 use Rattle.rd_script.specs.Scope.{Scope, scope_of}
 use Rattle.rd_script.proofs.KeywordLaws.{AreThere}
 use Rattle.rd_script.specs.File.{TaskDraft, instr_of_value, instrs_after, ends, instrs_of, scripts_after}
@@ -64,8 +65,8 @@ length_values scope len no_items (i ∷ code) h = absurd h
 length_values scope len (item d ds) [] h = absurd h
 length_values scope len (item d ds) (i ∷ code) h = ap suc (length_values scope len ds code h.1)
 
-within_values : (app : Application) (len : ℕ) (ds : Items) (code : List Instr) → AreThere app
-    → AreInstrs (scope_of app) len ds code → AllByRecursion (IsWithin app len) code
+within_values : (app : NamedApplication) (len : ℕ) (ds : Items) (code : List Instr) → AreThere app
+    → AreInstrs (scope_of app) len ds code → AllByRecursion (IsWithin (runs_of app) len) code
 within_values app len no_items [] sizes h = tt
 within_values app len no_items (i ∷ code) sizes h = absurd h
 within_values app len (item d ds) [] sizes h = absurd h
@@ -119,8 +120,8 @@ last_final [] k e = refl
 last_final (i ∷ code) zero e = e
 last_final (i ∷ code) (suc k) e = last_final code k e
 
-pub is_script : (app : Application) (values : Items) (script : TaskScript) → AreThere app → script.priority ≤ 31
-    → 1 ≤ items_len values → items_len values ≤ 256 → IsCode (scope_of app) values script.code → IsScript app script
+pub is_script : (app : NamedApplication) (values : Items) (script : TaskScript) → AreThere app → script.priority ≤ 31
+    → 1 ≤ items_len values → items_len values ≤ 256 → IsCode (scope_of app) values script.code → IsScript (runs_of app) script
 is_script app values script sizes low some few h =
     let len = length_values (scope_of app) (items_len values) values script.code h.0 in
     let within = within_values app (items_len values) values script.code sizes h.0 in
@@ -128,7 +129,7 @@ is_script app values script sizes low some few h =
       priority = low;
       some = omega arith;
       few = omega arith;
-      within = All-from_recursion (IsWithin app (length script.code)) script.code
-          (subst (λ (n : ℕ). AllByRecursion (IsWithin app n) script.code) (sym len) within);
+      within = All-from_recursion (IsWithin (runs_of app) (length script.code)) script.code
+          (subst (λ (n : ℕ). AllByRecursion (IsWithin (runs_of app) n) script.code) (sym len) within);
       ends = last_final script.code (length script.code - 1) h.1;
     }

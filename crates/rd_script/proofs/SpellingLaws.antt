@@ -15,8 +15,10 @@ use Rattle.rd_app.specs.declared.instr.QueueCall.{QueueCall}
 use Rattle.rd_app.specs.declared.instr.QueueCall.TheVariants as call
 use Rattle.rd_app.specs.declared.instr.Operand as operands
 use Rattle.rd_app.specs.declared.instr.Operand.TheVariants as operand
-use Rattle.rd_app.specs.Application.{Application, IsOperand, IsCallFor, IsWithin, max_delay, queue_call_of}
-use Rattle.rd_app.specs.Objects.{NamedObjects, names_in, shape_at}
+use Rattle.rd_app.specs.Application.{IsOperand, IsCallFor, IsWithin, max_delay, queue_call_of}
+use Rattle.rd_script.specs.Named.{NamedApplication, runs_of}
+use Rattle.rd_app.specs.Objects.{shape_at}
+use Rattle.rd_script.specs.Named.{NamedObjects, names_in, shapes_of}
 use Rattle.rd_script.specs.Scope.{Scope, scope_of}
 use Rattle.rd_script.specs.declared.error.AppError.TheVariants as fault
 use Rattle.rd_script.specs.declared.keyword.Parameter.{Parameter}
@@ -57,10 +59,10 @@ named_ok names word name number is found =
 for_queue_takes : (objects : NamedObjects) (i : Instr) → is_for_queue objects i ≡ true → IsForQueue objects i
 for_queue_takes objects i = by_call (queue_call_of i)
   where
-    by_call : (o : Option (ℕ × QueueCall)) → option_map_or (λ of. is_call_for (shape_at objects of.0) of.1) o true ≡ true
-        → IfSome o (λ of. IsCallFor (shape_at objects of.0) of.1)
+    by_call : (o : Option (ℕ × QueueCall)) → option_map_or (λ of. is_call_for (shape_at (shapes_of objects) of.0) of.1) o true ≡ true
+        → IfSome o (λ of. IsCallFor (shape_at (shapes_of objects) of.0) of.1)
     by_call None e = tt
-    by_call (Some of) e = call_takes (shape_at objects of.0) of.1 e
+    by_call (Some of) e = call_takes (shape_at (shapes_of objects) of.0) of.1 e
 
 -- where no word is left, none is in the form of an operand that is
 pub no_words : (scope : Scope) (len : ℕ) (parameters : List Parameter) (index : ℕ) → index < length parameters → are_formed scope len (drop index parameters) [] ≡ false
@@ -130,10 +132,10 @@ index_again names name number is = ap (λ o. ok_or o fault.Name) is
 for_queue_again : (objects : NamedObjects) (i : Instr) → IsForQueue objects i → is_for_queue objects i ≡ true
 for_queue_again objects i = by_call (queue_call_of i)
   where
-    by_call : (o : Option (ℕ × QueueCall)) → IfSome o (λ of. IsCallFor (shape_at objects of.0) of.1)
-        → option_map_or (λ of. is_call_for (shape_at objects of.0) of.1) o true ≡ true
+    by_call : (o : Option (ℕ × QueueCall)) → IfSome o (λ of. IsCallFor (shape_at (shapes_of objects) of.0) of.1)
+        → option_map_or (λ of. is_call_for (shape_at (shapes_of objects) of.0) of.1) o true ≡ true
     by_call None h = refl
-    by_call (Some of) h = call_again (shape_at objects of.0) of.1 h
+    by_call (Some of) h = call_again (shape_at (shapes_of objects) of.0) of.1 h
 
 -- what names a thing is a name
 name_formed : (names : List (List ℕ)) (word : List ℕ) (number : ℕ) → index_named names word ≡ Some number → is_name word ≡ true
@@ -287,7 +289,7 @@ time_there word wait =
       | false ↦ operand_there word wait
     ]
 
-value_there : (app : Application) (len : ℕ) (parameter : Parameter) (word : List ℕ) (value : Value parameter)
+value_there : (app : NamedApplication) (len : ℕ) (parameter : Parameter) (word : List ℕ) (value : Value parameter)
     → value_of (scope_of app) len parameter word ≡ Some value → IsValue app len parameter value
 value_there app len Register word value e = register_small word value e
 value_there app len Number word value e = tt
@@ -303,17 +305,17 @@ value_there app len WaitFor word value e = tt
 value_there app len OnMet word value e = tt
 value_there app len (Name kind) word value e = index_there (names_in app.objects app.tasks.names kind) word value e
 
-operands_within : (app : Application) (len : ℕ) (parameters : List Parameter) (make : Makes parameters) (words : List (List ℕ)) (i : Instr)
-    → MakesWithin app len parameters make → AreOperands (scope_of app) len parameters make words i → IsForQueue app.objects i → IsWithin app len i
-operands_within app len [] make words i within h fits = subst (λ i. IsForQueue app.objects i → IsWithin app len i) h.1 within fits
+operands_within : (app : NamedApplication) (len : ℕ) (parameters : List Parameter) (make : Makes parameters) (words : List (List ℕ)) (i : Instr)
+    → MakesWithin app len parameters make → AreOperands (scope_of app) len parameters make words i → IsForQueue app.objects i → IsWithin (runs_of app) len i
+operands_within app len [] make words i within h fits = subst (λ i. IsForQueue app.objects i → IsWithin (runs_of app) len i) h.1 within fits
 operands_within app len (parameter ∷ others) make words i within h fits =
     let there = value_there app len parameter h.0 h.2 h.4 in
     operands_within app len others (make h.2) h.1 i (within h.2 there) h.5 fits
 
-spelled_within : (app : Application) (len : ℕ) (of : Row) (words : List (List ℕ)) (i : Instr)
-    → RowWithin app len of → SpellsRow (scope_of app) len of words i → IsForQueue app.objects i → IsWithin app len i
+spelled_within : (app : NamedApplication) (len : ℕ) (of : Row) (words : List (List ℕ)) (i : Instr)
+    → RowWithin app len of → SpellsRow (scope_of app) len of words i → IsForQueue app.objects i → IsWithin (runs_of app) len i
 spelled_within app len (Written text operands make) words i within h fits = operands_within app len operands make h.0 i within h.2 fits
 
-pub spells_within : (app : Application) (len : ℕ) (words : List (List ℕ)) (i : Instr) → AreThere app
-    → Spells (scope_of app) len words i → IsWithin app len i
+pub spells_within : (app : NamedApplication) (len : ℕ) (words : List (List ℕ)) (i : Instr) → AreThere app
+    → Spells (scope_of app) len words i → IsWithin (runs_of app) len i
 spells_within app len words i sizes h = spelled_within app len (row_of h.0) words i (row_within app len sizes h.0) h.1 h.2

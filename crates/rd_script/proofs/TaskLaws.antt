@@ -5,7 +5,8 @@ use Rattle.serde_json.specs.Events.{items_len}
 use Rattle.serde_json.specs.Find.{get}
 use Rattle.std.specs.List.{AllByRecursion}
 use Rattle.rd_app.specs.declared.instr.Instr.{Instr}
-use Rattle.rd_app.specs.Application.{Application, IsScript}
+use Rattle.rd_app.specs.Application.{IsScript}
+use Rattle.rd_script.specs.Named.{NamedApplication, runs_of}
 use Rattle.rd_script.specs.Scope.{Scope, scope_of}
 use Rattle.rd_script.proofs.KeywordLaws.{AreThere}
 use Rattle.rd_script.specs.Values.{SayEach, is_object_with, object_with, field, number_in, array_in, new_name}
@@ -89,8 +90,8 @@ tasks_said scope (item d ds) (n ∷ names) (draft ∷ drafts) (s ∷ scripts) a 
       ap suc rest.1,
     )
 
-pub scripts_in_limits : (app : Application) (drafts : List TaskDraft) (scripts : List TaskScript) → AreThere app
-    → AllByRecursion IsDraftInLimits drafts → AreScripts (scope_of app) drafts scripts → AllByRecursion (IsScript app) scripts
+pub scripts_in_limits : (app : NamedApplication) (drafts : List TaskDraft) (scripts : List TaskScript) → AreThere app
+    → AllByRecursion IsDraftInLimits drafts → AreScripts (scope_of app) drafts scripts → AllByRecursion (IsScript (runs_of app)) scripts
 scripts_in_limits app [] [] sizes a b = tt
 scripts_in_limits app [] (s ∷ scripts) sizes a b = absurd b
 scripts_in_limits app (draft ∷ drafts) [] sizes a b = absurd b
@@ -131,8 +132,8 @@ texts_said scope len (item d ds) [] h = absurd h
 texts_said scope len (item d ds) (i ∷ code) h = rw h.0.1 (texts_said scope len ds code h.1)
 
 -- tasks are drafts and their scripts
-pub tasks_split : (app : Application) (scope : Scope) (ds : Items) (names : List (List ℕ)) (scripts : List TaskScript)
-    → AreTasks scope ds (record { names = names; things = scripts }) → AllByRecursion (IsScript app) scripts
+pub tasks_split : (app : NamedApplication) (scope : Scope) (ds : Items) (names : List (List ℕ)) (scripts : List TaskScript)
+    → AreTasks scope ds (record { names = names; things = scripts }) → AllByRecursion (IsScript (runs_of app)) scripts
     → (drafts : List TaskDraft) × AreDrafts ds names drafts × AllByRecursion IsReadable drafts × AreScripts scope drafts scripts
 tasks_split app scope no_items [] [] h limits = ([], tt, tt, tt)
 tasks_split app scope no_items [] (s ∷ scripts) h limits = absurd h

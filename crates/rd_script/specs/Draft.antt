@@ -2,7 +2,7 @@
 use Rattle.rd_script.specs.declared.scope.Scope as declared_scope
 use Rattle.rd_script.specs.Scope.{Scope}
 use Rattle.std.specs.Prelude.{ℕ, map}
-use Rattle.rd_app.specs.Named.{Named}
+use Rattle.rd_script.specs.Named.{Named}
 use Rattle.serde_json.specs.View.{items_view}
 use Rattle.rd_script.specs.declared.file.AppDraft.{AppDraft}
 use Rattle.rd_script.specs.declared.file.TaskDraft.{TaskDraft}

@@ -12,11 +12,10 @@ use Rattle.rd_notify.specs.declared.entries.TheConstants.{MAX_ENTRIES}
 use Rattle.rd_app.specs.declared.app.TheConstants.{MAX_CODE, MAX_CORES, MAX_PRIORITY, MAX_TASKS}
 use Rattle.rd_app.specs.declared.instr.Instr.{Instr}
 use Rattle.rd_app.specs.Application.{Application, is_final}
-use Rattle.rd_app.specs.Named.{Named}
-use Rattle.rd_app.specs.Objects.{NamedObjects}
 use Rattle.rd_app.specs.TaskScript.{TaskScript}
 use Rattle.rd_script.specs.declared.error.AppError.{AppError}
 use Rattle.rd_script.specs.declared.error.AppError.TheVariants as fault
+use Rattle.rd_script.specs.Named.{Named, NamedApplication, NamedObjects, runs_of}
 use Rattle.rd_script.specs.Objects.{file_keys, objects_of}
 use Rattle.rd_script.specs.Scope.{Scope}
 use Rattle.rd_script.specs.Spelling.{◌>>=◌, instr_of}
@@ -131,7 +130,7 @@ scope_of_draft draft =
     record { objects = draft.objects; tasks = draft.tasks.names; entries = draft.entries }
 
 -- the application of a draft
-abbrev pub with_scripts : AppDraft → Result Application AppError
+abbrev pub with_scripts : AppDraft → Result NamedApplication AppError
 with_scripts draft = do
   scripts ← scripts_after (scope_of_draft draft) [] draft.tasks.things
   Ok (record {
@@ -142,15 +141,19 @@ with_scripts draft = do
     tasks = record { names = draft.tasks.names; things = scripts };
   })
 
-abbrev pub app_of : Data → Result Application AppError
+-- what runs of it
+abbrev pub program_of : AppDraft → Result Application AppError
+program_of draft = with_scripts draft >>= λ app. Ok (runs_of app)
+
+abbrev pub app_of : Data → Result NamedApplication AppError
 app_of d = draft_of d >>= with_scripts
 
 -- the application of a text, or the first fault
-abbrev pub app_of_text : List ℕ → Result Application AppError
+abbrev pub app_of_text : List ℕ → Result NamedApplication AppError
 app_of_text text = ok_or (read text) fault.NotJson >>= app_of
 
 -- the application of a file's bytes, or the first fault
-abbrev pub app_of_bytes : List ℕ → Result Application AppError
+abbrev pub app_of_bytes : List ℕ → Result NamedApplication AppError
 app_of_bytes bytes = if is_utf8 bytes then app_of_text bytes else Err fault.NotJson
 
 -- ---- what the code gives

@@ -2,6 +2,7 @@
 pub mod Keywords
 pub mod Scope
 pub mod Spelling
+pub mod Named
 pub mod Values
 pub mod Objects
 pub mod File

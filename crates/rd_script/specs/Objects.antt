@@ -16,13 +16,13 @@ use Rattle.rd_app.specs.declared.objects.QueueShape.{QueueShape}
 use Rattle.rd_app.specs.declared.objects.StreamShape.{StreamShape}
 use Rattle.rd_app.specs.declared.objects.TheConstants.{MAX_QUEUES, MAX_QUEUE_SETS, MAX_STREAMS}
 use Rattle.rd_app.specs.declared.objects.TheConstants.{MAX_MESSAGE_BUFFERS, MAX_GROUPS}
-use Rattle.rd_app.specs.Named.{Named}
-use Rattle.rd_app.specs.Objects.{NamedObjects, members_of}
+use Rattle.rd_app.specs.Objects.{members_of}
 use Rattle.rd_app.specs.QueueSetShapeView.{QueueSetShapeView}
 use Rattle.rd_script.specs.declared.error.AppError.{AppError}
 use Rattle.rd_script.specs.declared.error.AppError.TheVariants as fault
 use Rattle.rd_script.specs.declared.objects.NamedArray.{NamedArray}
 use Rattle.rd_script.specs.declared.objects.ObjectDrafts.{ObjectDrafts}
+use Rattle.rd_script.specs.Named.{Named, NamedObjects}
 use Rattle.rd_script.specs.Spelling.{◌>>=◌, index_named, index_of}
 use Rattle.rd_script.specs.Values.{SaysNamed, field, is_object_with}
 use Rattle.rd_script.specs.Values.{named_after, named_at, new_name, number_in, object_with}

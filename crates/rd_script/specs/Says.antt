@@ -5,10 +5,10 @@ use Rattle.serde_json.specs.Data.{Data, number, unsigned, string, array, Items, 
 use Rattle.serde_json.specs.Events.{items_len}
 use Rattle.serde_json.specs.Find.{get}
 use Rattle.rd_app.specs.declared.instr.Instr.{Instr}
-use Rattle.rd_app.specs.Application.{Application}
-use Rattle.rd_app.specs.Named.{Named}
 use Rattle.rd_app.specs.TaskScript.{TaskScript}
 use Rattle.rd_script.specs.File.{ends, task_keys}
+use Rattle.rd_names.specs.Apps.{AppView}
+use Rattle.rd_script.specs.Named.{Named, NamedApplication, together}
 use Rattle.rd_script.specs.Objects.{SaysObjects, file_keys}
 use Rattle.rd_script.specs.Scope.{Scope, scope_of}
 use Rattle.rd_script.specs.Spelling.{Spells}
@@ -47,7 +47,7 @@ abbrev pub AreTasks : Scope → Items → Named TaskScript → Type 0
 AreTasks scope ds tasks =
     SayEachNamed (λ d name task. (values : Items) × IsTask scope d name task values) ds tasks
 
-pub record Says (d : Data) (app : Application) (task_items : Items) : Type 0 where
+pub record Says (d : Data) (app : NamedApplication) (task_items : Items) : Type 0 where
   pub keys : is_object_with file_keys d ≡ true
   pub profile_at : get (codes "profile") d ≡ Some (number (unsigned 1))
   pub cores_at : get (codes "cores") d ≡ Some (number (unsigned app.cores))
@@ -58,10 +58,10 @@ pub record Says (d : Data) (app : Application) (task_items : Items) : Type 0 whe
   pub tasks : AreTasks (scope_of app) task_items app.tasks
 
 -- the bytes are JSON whose value says the application
-abbrev pub FileSays : List ℕ → Application → Type 0
+abbrev pub FileSays : List ℕ → AppView → Type 0
 FileSays bytes app =
     (d : Data)
     × IsUtf8 bytes
     × (read bytes ≡ Some d)
     × (task_items : Items)
-    × Says d app task_items
+    × Says d (together app) task_items

@@ -24,7 +24,7 @@ use Rattle.rd_app.specs.declared.instr.Instr.{Instr}
 use Rattle.rd_app.specs.declared.instr.QueueCall.{QueueCall}
 use Rattle.rd_app.specs.declared.instr.QueueCall.TheVariants as call
 use Rattle.rd_app.specs.Application.{max_delay, queue_call_of, IsCallFor}
-use Rattle.rd_app.specs.Objects.{NamedObjects, names_in, shape_at}
+use Rattle.rd_app.specs.Objects.{shape_at}
 use Rattle.rd_script.specs.declared.error.AppError.{AppError}
 use Rattle.rd_script.specs.declared.error.AppError.TheVariants as fault
 use Rattle.rd_script.specs.declared.keyword.Parameter.{Parameter}
@@ -33,6 +33,7 @@ use Rattle.rd_script.specs.declared.keyword.Parameter.TheVariants.{Data, Time, O
 use Rattle.rd_script.specs.declared.keyword.Parameter.TheVariants.{Room, Action, OnExit, WaitFor}
 use Rattle.rd_script.specs.declared.keyword.Parameter.TheVariants.{OnMet, Name}
 use Rattle.rd_script.specs.declared.keyword.Keyword.{Keyword}
+use Rattle.rd_script.specs.Named.{NamedObjects, names_in, shapes_of}
 use Rattle.rd_script.specs.Scope.{Scope}
 use Rattle.rd_script.specs.Keywords.{Makes, Row, Value, keyword_of, operands_of, row_of, Written}
 
@@ -204,7 +205,7 @@ is_call_for shape (call.RemoveFromSet queue_set) = true
 -- the same of an instruction, over these objects: any but a call of a queue is
 abbrev pub is_for_queue : NamedObjects → Instr → Bool
 is_for_queue objects instr =
-    option_map_or (λ of. is_call_for (shape_at objects of.0) of.1) (queue_call_of instr) true
+    option_map_or (λ of. is_call_for (shape_at (shapes_of objects) of.0) of.1) (queue_call_of instr) true
 
 -- the instruction that the words make, and else the fault of words that have the forms asked for
 abbrev pub instr_named : Row → Reading → Result Instr AppError
@@ -246,7 +247,7 @@ SpellsRow scope len (Written text operands make) words instr =
 -- A call of a queue is one for that queue: only a queue with room for one item is overwritten.
 abbrev pub IsForQueue : NamedObjects → Instr → Type 0
 IsForQueue objects instr =
-    IfSome (queue_call_of instr) (λ of. IsCallFor (shape_at objects of.0) of.1)
+    IfSome (queue_call_of instr) (λ of. IsCallFor (shape_at (shapes_of objects) of.0) of.1)
 
 -- The words are a keyword and its operands: in that scope, in a script of that length.
 abbrev pub Spells : Scope → ℕ → List (List ℕ) → Instr → Type 0

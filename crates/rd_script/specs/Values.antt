@@ -10,7 +10,7 @@ use Rattle.serde_json.specs.Data.{Data, number, unsigned, array, Items, no_items
 use Rattle.serde_json.specs.Data.{no_members, member}
 use Rattle.serde_json.specs.Events.{items_len}
 use Rattle.serde_json.specs.Find.{get, as_number, as_u64, as_str, as_array, as_object}
-use Rattle.rd_app.specs.Named.{Named}
+use Rattle.rd_script.specs.Named.{Named}
 use Rattle.rd_script.specs.declared.error.AppError.{AppError}
 use Rattle.rd_script.specs.declared.error.AppError.TheVariants as fault
 use Rattle.rd_script.specs.Spelling.{◌>>=◌}

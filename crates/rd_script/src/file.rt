@@ -4,13 +4,15 @@
 ghost use Rattle.std.specs.Prelude.{◌≡◌, ◌≤◌, ◌<◌, [], length, map};
 ghost use Rattle.std.specs.Prelude.{Ok, IfOk, IsOk, IsOkAnd, IsUtf8};
 ghost use Rattle.serde_json.specs.View.{view, items_view};
-ghost use Rattle.rd_app.specs.Application.{Application, IsApplication};
+ghost use Rattle.rd_app.specs.Application.{IsApplication};
+ghost use Rattle.rd_names.specs.Apps.{AppView, IsApp};
 ghost use Rattle.rd_script.specs.Draft.{app_draft_view, task_draft_view, task_drafts_view};
 ghost use Rattle.rd_script.specs.File.{GivesFaultFirst, GivesOrNoMemory, checked};
 ghost use Rattle.rd_script.specs.File.{are_texts, task_of, tasks_after};
 ghost use Rattle.rd_script.specs.File.{ends_script, instr_of_value, instrs_of, scripts_after};
-ghost use Rattle.rd_script.specs.File.{draft_of, scope_of_draft, with_scripts};
+ghost use Rattle.rd_script.specs.File.{draft_of, program_of, scope_of_draft, with_scripts};
 ghost use Rattle.rd_script.specs.File.{app_of, app_of_text, app_of_bytes};
+ghost use Rattle.rd_script.specs.Named.{apart, runs_of, together};
 ghost use Rattle.rd_script.specs.Says.{FileSays};
 ghost use Rattle.rd_script.specs.Draft.{scope_view};
 ghost use Rattle.rd_script.specs.Values.{Gives, nothing_named};
@@ -22,10 +24,11 @@ use crate::scope::Scope;
 use crate::spelling::read_instr;
 use crate::values::{array, field, new_name, number, number_or, object_with};
 use arrayvec::ArrayVec;
-use rd_app::app::{App, MAX_CODE, MAX_CORES, MAX_PRIORITY, MAX_TASKS, Parts, Script};
+use rd_app::app::{MAX_CODE, MAX_CORES, MAX_PRIORITY, MAX_TASKS, Parts, Program, Script};
 use rd_app::both::both;
 use rd_app::instr::Instr;
-use rd_app::objects::Named;
+use rd_names::app::App;
+use rd_names::names::Names;
 use rd_notify::entries::MAX_ENTRIES;
 use serde_json::Value;
 use std::alloc::{AllocError, Global};
@@ -197,15 +200,16 @@ fn keep_scripts(
     Ok(scripts)
 }
 
-// The application of a draft without a fault.
-fn keep(alloc: Global, draft: &AppDraft<'_>) -> Result<App, AllocError>
-    requires { IsOkAnd (with_scripts (app_draft_view draft.now)) IsApplication }
-    ensures { IfOk result (λ app. with_scripts (app_draft_view draft.now) ≡ Ok app) }
+// What runs of a draft without a fault.
+fn keep_program(alloc: Global, draft: &AppDraft<'_>) -> Result<Program, AllocError>
+    requires { IsOkAnd (with_scripts (app_draft_view draft.now))
+        (λ app. IsApplication (runs_of app)) }
+    ensures { IfOk result (λ program.
+        program_of (app_draft_view draft.now) ≡ Ok program) }
 {
-    let tasks = &draft.tasks;
-    let scripts = keep_scripts(alloc, tasks.things.as_slice(), draft.scope())?;
-    let tasks = Named::new(alloc, tasks.names.as_slice(), scripts);
-    let (objects, tasks) = both(keep_objects(alloc, &draft.objects), tasks)?;
+    let tasks = draft.tasks.things.as_slice();
+    let tasks = keep_scripts(alloc, tasks, draft.scope())?;
+    let objects = keep_objects(alloc, &draft.objects)?;
     let parts = Parts {
         cores: draft.cores,
         entries: draft.entries,
@@ -213,12 +217,24 @@ fn keep(alloc: Global, draft: &AppDraft<'_>) -> Result<App, AllocError>
         objects,
         tasks,
     };
-    App::new(alloc, parts)
+    Program::new(alloc, parts)
+}
+
+// The application of a draft without a fault.
+fn keep(alloc: Global, draft: &AppDraft<'_>) -> Result<App, AllocError>
+    requires { IsOkAnd (with_scripts (app_draft_view draft.now)) (λ app. IsApp (apart app)) }
+    ensures { IfOk result
+        (λ app. with_scripts (app_draft_view draft.now) ≡ Ok (together app)) }
+{
+    let lists = draft.objects.lists(draft.tasks.names.as_slice());
+    let names = Names::new(alloc, lists);
+    let (program, names) = both(keep_program(alloc, draft), names)?;
+    Ok(App::new(program, names).unwrap())
 }
 
 // Finds every fault before anything is kept.
 fn read_file(alloc: Global, file: &Value) -> Result<App, AppError>
-    ensures { GivesFaultFirst (λ app. app) result (app_of (view file.now)) }
+    ensures { GivesFaultFirst together result (app_of (view file.now)) }
 {
     let draft = read_draft(file)?;
     check_scripts(draft.tasks.things.as_slice(), draft.scope())?;
@@ -226,7 +242,7 @@ fn read_file(alloc: Global, file: &Value) -> Result<App, AppError>
 }
 
 fn read_text(alloc: Global, text: &str) -> Result<App, AppError>
-    ensures exact { GivesOrNoMemory (λ app. app) result (app_of_text text.now) }
+    ensures exact { GivesOrNoMemory together result (app_of_text text.now) }
     ensures memory { result ≡ Err AppError.Memory → 0 < length text.now }
 {
     match Value::from_str(alloc, text) {
@@ -241,7 +257,7 @@ fn read_text(alloc: Global, text: &str) -> Result<App, AppError>
 
 // Bytes that aren't UTF-8 are refused before anything is kept.
 fn read_bytes(alloc: Global, bytes: &[u8]) -> Result<App, AppError>
-    ensures exact { GivesOrNoMemory (λ app. app) result (app_of_bytes bytes.now) }
+    ensures exact { GivesOrNoMemory together result (app_of_bytes bytes.now) }
     ensures memory { result ≡ Err AppError.Memory → 0 < length bytes.now }
     ensures memory_text { result ≡ Err AppError.Memory → IsUtf8 bytes.now }
 {
@@ -256,12 +272,12 @@ fn read_bytes(alloc: Global, bytes: &[u8]) -> Result<App, AppError>
 pub fn read_app(alloc: Global, text: &[u8]) -> Result<App, AppError>
     // What is read is what the file says, within the limits.
     ensures accepted { IfOk result (FileSays text.now) }
-    ensures limits { IfOk result IsApplication }
+    ensures limits { IfOk result IsApp }
     // What the file says is read, if it is within the limits.
-    ensures only { (app : Application) → FileSays text.now app → IsApplication app
+    ensures only { (app : AppView) → FileSays text.now app → IsApp app
         → GivesOrNoMemory (λ app. app) result (Ok app) }
     // Which fault it is.
-    ensures exact { GivesOrNoMemory (λ app. app) result (app_of_bytes text.now) }
+    ensures exact { GivesOrNoMemory together result (app_of_bytes text.now) }
     // Memory runs out only where there is text to read as JSON.
     ensures memory { result ≡ Err AppError.Memory → 0 < length text.now }
     ensures memory_text { result ≡ Err AppError.Memory → IsUtf8 text.now }

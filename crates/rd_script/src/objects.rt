@@ -1,18 +1,18 @@
 //! The objects of a file, which its instructions name. A kind has its array, read value by value,
 //! and a row or a field in what is said of all kinds.
 
-ghost use Rattle.std.specs.Prelude.{◌≡◌, ◌≤◌, [], ◌++◌, true, length, nat_eq, IfOk};
+ghost use Rattle.std.specs.Prelude.{◌≡◌, ◌≤◌, [], ◌++◌, length, nat_eq, IfOk};
 ghost use Rattle.std.specs.List.{list_any};
 ghost use Rattle.serde_json.specs.View.{view, items_view};
-ghost use Rattle.rd_app.specs.Named.{named_view};
-ghost use Rattle.rd_app.specs.Objects.{members_of, objects_view, AreObjects};
+ghost use Rattle.rd_app.specs.Objects.{members_of, objects_view};
+ghost use Rattle.rd_names.specs.Names.{lists_view};
+ghost use Rattle.rd_script.specs.Named.{names_with, shapes_of};
 ghost use Rattle.rd_script.specs.Objects.{array_view, drafts_view, file_keys, objects_of};
 ghost use Rattle.rd_script.specs.Objects.{queue_of, queues_after};
 ghost use Rattle.rd_script.specs.Objects.{member_of, members_after, queue_set_of, queue_sets_after};
 ghost use Rattle.rd_script.specs.Objects.{message_of, messages_after, stream_of, streams_after};
 ghost use Rattle.rd_script.specs.Objects.{group_of, groups_after};
 ghost use Rattle.rd_script.specs.Values.{Gives, nothing_named};
-ghost use Rattle.rd_text.specs.Names.{are_distinct};
 ghost use Rattle.rd_text.specs.Words.{texts};
 
 use crate::error::AppError;
@@ -22,8 +22,9 @@ use arrayvec::ArrayVec;
 use rd_app::both::both;
 use rd_app::objects::{
     GroupShape, MAX_GROUPS, MAX_MESSAGE_BUFFERS, MAX_QUEUE_SETS, MAX_QUEUES, MAX_STREAMS,
-    MessageShape, Named, NamedObjects, QueueSetShape, QueueShape, StreamShape,
+    MessageShape, ObjectShapes, QueueSetShape, QueueShape, StreamShape,
 };
+use rd_names::names::NameLists;
 use rd_queue::item::MAX_ITEM_SIZE;
 use rd_queue::queue::MAX_ITEMS;
 use rd_queue::queue_set::MAX_HANDLES;
@@ -321,37 +322,39 @@ fn keep_shapes(alloc: Global, drafts: &[QueueSetDraft]) -> Result<Vec<QueueSetSh
     Ok(queue_sets)
 }
 
-// The queue sets of drafts.
-fn keep_queue_sets(
-    alloc: Global,
-    drafts: &NamedArray<'_, QueueSetDraft, MAX_QUEUE_SETS>,
-) -> Result<Named<QueueSetShape>, AllocError>
-    requires { are_distinct (texts drafts.now.names.items) ≡ true }
-    ensures { IfOk result (λ queue_sets. named_view queue_sets ≡ array_view drafts.now) }
-{
-    let shapes = keep_shapes(alloc, drafts.things.as_slice())?;
-    Named::new(alloc, drafts.names.as_slice(), shapes)
-}
-
 impl<T: Clone + Drop, const N: usize> NamedArray<'_, T, N> {
     // The same things, in memory of their own.
-    fn keep(&self, alloc: Global) -> Result<Named<T>, AllocError>
-        requires { are_distinct (texts self.now.names.items) ≡ true }
-        ensures { IfOk result (λ named.
-            ((x y : T) → T.is_clone x y → y ≡ x) → named_view named ≡ array_view self.now) }
+    fn keep(&self, alloc: Global) -> Result<Vec<T>, AllocError>
+        ensures { IfOk result (λ things.
+            ((x y : T) → T.is_clone x y → y ≡ x) → things.items ≡ self.now.things.items) }
     {
-        let things = self.things.as_slice().to_vec(alloc)?;
-        Named::new(alloc, self.names.as_slice(), things)
+        self.things.as_slice().to_vec(alloc)
     }
 }
 
-/// The objects of drafts, which are within the limits.
+impl ObjectDrafts<'_> {
+    /// The names of the objects, with those of the tasks.
+    pub(crate) fn lists<'b>(&'b self, tasks: &'b [&'b str]) -> NameLists<'b>
+        ensures { lists_view result ≡ names_with (drafts_view self.now) (texts tasks.now) }
+    {
+        NameLists {
+            queues: self.queues.names.as_slice(),
+            queue_sets: self.queue_sets.names.as_slice(),
+            streams: self.streams.names.as_slice(),
+            messages: self.messages.names.as_slice(),
+            groups: self.groups.names.as_slice(),
+            tasks,
+        }
+    }
+}
+
+/// The shapes of the objects of drafts.
 pub(crate) fn keep_objects(
     alloc: Global,
     drafts: &ObjectDrafts<'_>,
-) -> Result<NamedObjects, AllocError>
-    requires { AreObjects (drafts_view drafts.now) }
-    ensures { IfOk result (λ objects. objects_view objects ≡ drafts_view drafts.now) }
+) -> Result<ObjectShapes, AllocError>
+    ensures { IfOk result (λ objects.
+        objects_view objects ≡ shapes_of (drafts_view drafts.now)) }
 {
     let ObjectDrafts {
         queues,
@@ -360,14 +363,15 @@ pub(crate) fn keep_objects(
         messages,
         groups,
     } = drafts;
+    let queue_sets = keep_shapes(alloc, queue_sets.things.as_slice());
     let ((queues, queue_sets), (streams, (messages, groups))) = both(
-        both(queues.keep(alloc), keep_queue_sets(alloc, queue_sets)),
+        both(queues.keep(alloc), queue_sets),
         both(
             streams.keep(alloc),
             both(messages.keep(alloc), groups.keep(alloc)),
         ),
     )?;
-    Ok(NamedObjects {
+    Ok(ObjectShapes {
         queues,
         queue_sets,
         streams,

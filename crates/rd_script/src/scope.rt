@@ -1,7 +1,7 @@
 //! What the instructions of a file can name.
 
 ghost use Rattle.std.specs.Prelude.{◌≡◌};
-ghost use Rattle.rd_app.specs.Objects.{names_in};
+ghost use Rattle.rd_script.specs.Named.{names_in};
 ghost use Rattle.rd_script.specs.Objects.{drafts_view};
 ghost use Rattle.rd_text.specs.Words.{texts};
 

@@ -8,7 +8,7 @@ use Rattle.std.specs.Io.Take.{take_inner, take_limit, take_remaining}
 use Rattle.std.specs.declared.io.Error.{Error}
 use Rattle.std.specs.declared.io.ErrorKind.{ErrorKind}
 use Rattle.std.specs.declared.io.Take.{Take}
-use Rattle.rd_app.specs.Application.{Application, IsApplication}
+use Rattle.rd_names.specs.Apps.{AppView, IsApp}
 use Rattle.rd_script.specs.Says.{FileSays}
 use Rattle.rd_start.specs.declared.fault.Fault.{Fault}
 use Rattle.rd_start.specs.declared.fault.Fault.TheVariants.{BadCommandLine, CannotRead, App, NoMemory}
@@ -52,10 +52,10 @@ all_of_few (Some all) (Ok n) bytes up_to ok few =
 all_of_few (Some all) (Err e) bytes up_to ok few = absurd cc
 
 -- The application of what was read, or why there is none.
-pub said : (known : Option (List ℕ)) (read : Result ℕ Error) (bytes : List ℕ) (result : Result Application Fault)
+pub said : (known : Option (List ℕ)) (read : Result ℕ Error) (bytes : List ℕ) (result : Result AppView Fault)
     → ReadsUpTo known read bytes
     → IfErr read (λ error. IsErrAnd result (IsFaultOfKind (error_kind error)))
-    → IfOk result (λ _. IsFile bytes) → IfOk result (FileSays bytes) → IfOk result IsApplication
+    → IfOk result (λ _. IsFile bytes) → IfOk result (FileSays bytes) → IfOk result IsApp
     → IfOk result (IsSaidBy known)
 said known (Ok n) bytes (Ok app) up_to failed short says limits =
     (bytes, all_of_few {E = Error} known (Ok n) bytes up_to refl short, short, says, limits)
@@ -63,11 +63,11 @@ said known (Err e) bytes (Ok app) up_to failed short says limits = absurd failed
 said known read bytes (Err fault) up_to failed short says limits = short
 
 -- A file that is too long says nothing.
-unread_is : (known : Option (List ℕ)) (fault : Fault) (result : Result Application Fault) → result ≡ Err fault
+unread_is : (known : Option (List ℕ)) (fault : Fault) (result : Result AppView Fault) → result ≡ Err fault
     → result ≡ Err CannotRead → IsFaultOf known fault
 unread_is known fault result refused unread = let same : CannotRead ≡ fault = cc in subst (λ (f : Fault). IsFaultOf known f) same tt
 
-pub not_said : (known : Option (List ℕ)) (read : Result ℕ Error) (bytes : List ℕ) (result : Result Application Fault)
+pub not_said : (known : Option (List ℕ)) (read : Result ℕ Error) (bytes : List ℕ) (result : Result AppView Fault)
     → ReadsUpTo known read bytes
     → IfErr read (λ error. IsErrAnd result (IsFaultOfKind (error_kind error)))
     → (IsOk read → 1048576 < length bytes → result ≡ Err CannotRead)
@@ -81,11 +81,11 @@ not_said known (Ok n) bytes (Err fault) up_to failed long refused = elim (cases_
 ]
 
 -- What is said by a file's bytes is said by some.
-of_a_file : (known : Option (List ℕ)) (result : Result Application Fault) → IfOk result (IsSaidBy known) → IfOk result IsOfAFile
+of_a_file : (known : Option (List ℕ)) (result : Result AppView Fault) → IfOk result (IsSaidBy known) → IfOk result IsOfAFile
 of_a_file known (Ok app) h = (h.0, h.2, h.3, h.4)
 of_a_file known (Err fault) h = h
 
-pub opened_app : {R : Type 0} (remaining : R → Option (List ℕ)) (opened : Result R Error) (result : Result Application Fault)
+pub opened_app : {R : Type 0} (remaining : R → Option (List ℕ)) (opened : Result R Error) (result : Result AppView Fault)
     → IfErr opened (λ error. IsErrAnd result (IsFaultOfKind (error_kind error)))
     → IfOk opened (λ reader. IfOk result (IsSaidBy (remaining reader))) → IfOk result IsOfAFile
 opened_app remaining (Ok reader) result failed h = of_a_file (remaining reader) result h
@@ -111,7 +111,7 @@ of_a_refused_file known CannotRead h = tt
 of_a_refused_file known (App error) h = (h.0, h.2, h.3)
 of_a_refused_file known NoMemory h = tt
 
-pub opened_fault : {R : Type 0} (remaining : R → Option (List ℕ)) (opened : Result R Error) (result : Result Application Fault)
+pub opened_fault : {R : Type 0} (remaining : R → Option (List ℕ)) (opened : Result R Error) (result : Result AppView Fault)
     → IfErr opened (λ error. IsErrAnd result (IsFaultOfKind (error_kind error)))
     → IfOk opened (λ reader. IfErr result (IsFaultOf (remaining reader))) → IfErr result (λ fault. fault ≢ BadCommandLine)
 opened_fault remaining opened (Ok app) failed h = tt
@@ -119,7 +119,7 @@ opened_fault remaining opened (Err fault) failed h =
     let why = not_opened remaining opened fault failed h in
     not_bad_command_line why.0 fault why.1
 
-pub opened_refused : {R : Type 0} (remaining : R → Option (List ℕ)) (opened : Result R Error) (result : Result Application Fault)
+pub opened_refused : {R : Type 0} (remaining : R → Option (List ℕ)) (opened : Result R Error) (result : Result AppView Fault)
     → IfErr opened (λ error. IsErrAnd result (IsFaultOfKind (error_kind error)))
     → IfOk opened (λ reader. IfErr result (IsFaultOf (remaining reader))) → IfErr result IsOfARefusedFile
 opened_refused remaining opened (Ok app) failed h = tt

@@ -12,7 +12,7 @@ use Rattle.clap.specs.declared.builder.value_parser.ValueParser.TheVariants.{Uns
 use Rattle.clap.specs.declared.error.kind.ErrorKind.TheVariants as kind
 use Rattle.clap.specs.declared.error.kind.ErrorKind.{ErrorKind as Refusal}
 use Rattle.rd_script.specs.declared.error.AppError.TheVariants as fault
-use Rattle.rd_app.specs.Application.{Application, IsApplication}
+use Rattle.rd_names.specs.Apps.{AppView, IsApp}
 use Rattle.rd_script.specs.File.{app_of_bytes}
 use Rattle.rd_script.specs.Says.{FileSays}
 use Rattle.rd_start.specs.declared.fault.Fault.{Fault}
@@ -240,17 +240,17 @@ abbrev pub IsFile : List ℕ → Type 0
 IsFile bytes = length bytes ≤ 1048576
 
 -- It is the application that a file says.
-abbrev pub IsOfAFile : Application → Type 0
-IsOfAFile app = (bytes : List ℕ) × IsFile bytes × FileSays bytes app × IsApplication app
+abbrev pub IsOfAFile : AppView → Type 0
+IsOfAFile app = (bytes : List ℕ) × IsFile bytes × FileSays bytes app × IsApp app
 
 -- These are the bytes that a reader has up to its end, where those are known.
 abbrev pub AreAllOf : Option (List ℕ) → List ℕ → Type 0
 AreAllOf known bytes = IfSome known (λ all. bytes ≡ all)
 
 -- It is the application that a reader's bytes say.
-abbrev pub IsSaidBy : Option (List ℕ) → Application → Type 0
+abbrev pub IsSaidBy : Option (List ℕ) → AppView → Type 0
 IsSaidBy known app =
-    (bytes : List ℕ) × AreAllOf known bytes × IsFile bytes × FileSays bytes app × IsApplication app
+    (bytes : List ℕ) × AreAllOf known bytes × IsFile bytes × FileSays bytes app × IsApp app
 
 -- The fault of a file that can't be opened or read, by the kind of what was met.
 pub record IsFaultOfKind (kind : ErrorKind) (fault : Fault) : Type 0 where

@@ -3,8 +3,7 @@
 ghost use Rattle.std.specs.Prelude.{◌≡◌, ◌≢◌, ◌<◌, length, IsNone, IsSome, IfSome};
 ghost use Rattle.std.specs.Prelude.{IfErr, IfOk, IsErr, IsErrAnd, IsOk};
 ghost use Rattle.std.specs.IoError.{error_kind};
-ghost use Rattle.rd_app.specs.Builtin.{builtin};
-ghost use Rattle.rd_app.specs.Application.{IsApplication};
+ghost use Rattle.rd_names.specs.Apps.{IsApp, builtin_app};
 ghost use Rattle.rd_script.specs.Says.{FileSays};
 ghost use Rattle.rd_start.specs.Requests.{IsFile, IsOfAFile, IsFaultOf, IsFaultOfKind};
 ghost use Rattle.rd_start.specs.Requests.{IsOfARefusedFile, IsRefusalOf, IsSaidBy};
@@ -12,7 +11,7 @@ ghost use Rattle.rd_start.specs.declared.fault.Fault.TheVariants.{BadCommandLine
 ghost use Rattle.rd_start.specs.declared.fault.Fault.TheVariants.{NoMemory};
 
 use crate::fault::Fault;
-use rd_app::app::App;
+use rd_names::app::App;
 use rd_script::file::read_app;
 use std::alloc::{AllocGlobal, Global};
 use std::io::Read;
@@ -25,7 +24,7 @@ pub const MAX_FILE: usize = 1_048_576;
 // The application that a file's bytes say.
 fn app_of(alloc: Global, bytes: &[u8]) -> Result<App, Fault>
     ensures app { IfOk result (FileSays bytes.now) }
-    ensures limits { IfOk result IsApplication }
+    ensures limits { IfOk result IsApp }
     ensures fault { IfErr result (IsRefusalOf bytes.now) }
 {
     match read_app(alloc, bytes) {
@@ -42,7 +41,7 @@ pub fn app_of_read(alloc: Global, read: io::Result<usize>, bytes: &[u8]) -> Resu
     ensures long { IsOk read → 1048576 < length bytes.now → result ≡ Err CannotRead }
     ensures short { IfOk result (λ _. IsFile bytes.now) }
     ensures app { IfOk result (FileSays bytes.now) }
-    ensures limits { IfOk result IsApplication }
+    ensures limits { IfOk result IsApp }
     ensures fault { IsOk read → IsFile bytes.now → IfErr result (IsRefusalOf bytes.now) }
 {
     read?;
@@ -84,7 +83,7 @@ pub fn app_of_opened<R: Read + Drop>(alloc: Global, opened: io::Result<R>) -> Re
 /// where it is refused, `NoMemory` where there is none.
 pub fn load<H: Files + AllocGlobal>(handle: &H, path: Option<&str>) -> Result<App, Fault>
     // With no path, the built-in application, but for want of memory.
-    ensures builtin { IsNone path.entry → IfOk result (λ app. app ≡ builtin) }
+    ensures builtin { IsNone path.entry → IfOk result (λ app. app ≡ builtin_app) }
     ensures no_file { IsNone path.entry → IfErr result (λ fault. fault ≡ NoMemory) }
     // With a path, what a file says, or why it is refused.
     ensures app { IsSome path.entry → IfOk result IsOfAFile }

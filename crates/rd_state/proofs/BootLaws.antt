@@ -77,7 +77,7 @@ HoldersFitCall-fresh app task = record {
 pub IsValid-boot : (app : Application) (s : Snapshot) → IsApplication app → IsSized s → s ≡ boot_of app → IsValid app s
 IsValid-boot app s limits sized e =
     let priorities = priorities_of app in
-    let n = length app.tasks.things in
+    let n = length app.tasks in
     let before = before_scheduling app in
     let cores : length before.cores ≡ app.cores = length-replicate app.cores None in
     let kept : SeatsKept priorities (seating_of before) (seating_of (boot_of app)) =
@@ -91,8 +91,8 @@ IsValid-boot app s limits sized e =
         cores = kept.cores ∙ cores;
         tasks = tasks;
         pcs = λ task h.
-            let script : IsScript app (get_or app.tasks.things task (record { priority = 0; code = [] })) =
-            All-get_or (IsScript app) app.tasks.things task (record { priority = 0; code = [] }) (omega (arith, h, tasks)) limits.tasks in
+            let script : IsScript app (get_or app.tasks task (record { priority = 0; code = [] })) =
+            All-get_or (IsScript app) app.tasks task (record { priority = 0; code = [] }) (omega (arith, h, tasks)) limits.tasks in
             omega (arith, ap (λ (t : TaskSnapshot). t.pc) (there task h), script.some);
         entries = All-replicate (λ (task : TaskSnapshot). length task.entries ≡ app.entries) n (fresh_task app.entries) (length-replicate app.entries idle_entry);
         objects = AreShaped-new app;
@@ -126,5 +126,5 @@ IsSettled-boot app s limits e =
     let cores : length (before_scheduling app).cores ≡ app.cores = length-replicate app.cores None in
     let settled_now =
     (scheduling_settles priorities (before_scheduling app) (omega (arith, cores, limits.some_cores)) (IsInOrder-all_joined priorities (length
-    app.tasks.things))).settled_now in
+    app.tasks))).settled_now in
     subst (IsSettled priorities) (sym e) settled_now

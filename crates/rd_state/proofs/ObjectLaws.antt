@@ -34,7 +34,7 @@ use Rattle.rd_state.specs.Objects.{ObjectChange}
 use Rattle.rd_state.specs.Objects.{Queue, QueueSet, Stream, Message, Group}
 use Rattle.rd_state.specs.Objects.{ObjectsSnapshot, no_group, no_message_buffer, no_queue, no_queue_set, no_stream, numbers_in, group_in, message_in, queue_in, queue_set_in, stream_in}
 use Rattle.rd_state.specs.Objects.{IsGroupFor, IsMessageBufferFor, IsStreamFor, new_message_buffer, new_stream, size_of_message_buffer, size_of_stream, trigger_taken}
-use Rattle.rd_state.specs.Objects.{AreShaped, AreSizedObjects, Shapes, shapes_in, shapes_named, IsQueueFor, IsQueueSetFor, first_queues, new_objects, new_queue, new_queue_set, capacity_of, shape_of}
+use Rattle.rd_state.specs.Objects.{AreShaped, AreSizedObjects, Shapes, shapes_in, shapes_asked, IsQueueFor, IsQueueSetFor, first_queues, new_objects, new_queue, new_queue_set, capacity_of, shape_of}
 use Rattle.rd_state.specs.Objects.{object_applied, object_inverse_of, ObjectFits}
 
 -- Each object has its sizes.
@@ -212,18 +212,18 @@ object_numbers o (Group number change) = ap (λ (count : ℕ). record (numbers_i
 no_shape : QueueSetShapeView
 no_shape = record { capacity = 0; members = [] }
 
-queue_set_at_boot-there : (app : Application) (queue : ℕ) → IfSome (queue_set_at_boot app.objects queue) (λ queue_set. queue_set < length app.objects.queue_sets.things)
+queue_set_at_boot-there : (app : Application) (queue : ℕ) → IfSome (queue_set_at_boot app.objects queue) (λ queue_set. queue_set < length app.objects.queue_sets)
 queue_set_at_boot-there app queue = by_case (queue_set_at_boot app.objects queue) refl
   where
-    by_case : (o : Option ℕ) → queue_set_at_boot app.objects queue ≡ o → IfSome o (λ queue_set. queue_set < length app.objects.queue_sets.things)
+    by_case : (o : Option ℕ) → queue_set_at_boot app.objects queue ≡ o → IfSome o (λ queue_set. queue_set < length app.objects.queue_sets)
     by_case None e = tt
-    by_case (Some queue_set) e = (position-Some (λ (s : QueueSetShapeView). list_any (nat_eq queue) s.members) app.objects.queue_sets.things queue_set no_shape e).0
+    by_case (Some queue_set) e = (position-Some (λ (s : QueueSetShapeView). list_any (nat_eq queue) s.members) app.objects.queue_sets queue_set no_shape e).0
 
 -- Nobody waits at a new queue, and it has no items.
-IsQueueFor-new_queue : (app : Application) (queue task_count queue_set_count : ℕ) → IsApplication app → queue < length app.objects.queues.things
-    → task_count ≡ length app.tasks.things → queue_set_count ≡ length app.objects.queue_sets.things → IsQueueFor task_count queue_set_count (new_queue app queue)
+IsQueueFor-new_queue : (app : Application) (queue task_count queue_set_count : ℕ) → IsApplication app → queue < length app.objects.queues
+    → task_count ≡ length app.tasks → queue_set_count ≡ length app.objects.queue_sets → IsQueueFor task_count queue_set_count (new_queue app queue)
 IsQueueFor-new_queue app queue task_count queue_set_count limits there same_task_count same_queue_set_count =
-    let shape : IsQueueShape (shape_at app.objects queue) = All-get_or IsQueueShape app.objects.queues.things queue _ there limits.objects.queues in (
+    let shape : IsQueueShape (shape_at app.objects queue) = All-get_or IsQueueShape app.objects.queues queue _ there limits.objects.queues in (
       record {
         room = omega arith;
         items = All-nil (λ (item : List ℕ). length item ≡ (shape_at app.objects queue).item_size);
@@ -231,16 +231,16 @@ IsQueueFor-new_queue app queue task_count queue_set_count limits there same_task
         few = shape.1;
         some_bytes = shape.2;
         small = shape.3;
-        receiving = (All-nil (λ task. task < length app.tasks.things), omega arith);
-        sending = (All-nil (λ task. task < length app.tasks.things), omega arith);
+        receiving = (All-nil (λ task. task < length app.tasks), omega arith);
+        sending = (All-nil (λ task. task < length app.tasks), omega arith);
         queue_set = queue_set_at_boot-there app queue;
       },
       sym same_task_count,
       sym same_queue_set_count,
     )
 
-IsQueueFor-first_queues : (app : Application) (n task_count queue_set_count : ℕ) → IsApplication app → n ≤ length app.objects.queues.things → task_count ≡ length app.tasks.things
-    → queue_set_count ≡ length app.objects.queue_sets.things → All (IsQueueFor task_count queue_set_count) (first_queues app n)
+IsQueueFor-first_queues : (app : Application) (n task_count queue_set_count : ℕ) → IsApplication app → n ≤ length app.objects.queues → task_count ≡ length app.tasks
+    → queue_set_count ≡ length app.objects.queue_sets → All (IsQueueFor task_count queue_set_count) (first_queues app n)
 IsQueueFor-first_queues app zero task_count queue_set_count limits few same_task_count same_queue_set_count = All-nil (IsQueueFor task_count queue_set_count)
 IsQueueFor-first_queues app (suc n) task_count queue_set_count limits few same_task_count same_queue_set_count =
     All-push (IsQueueFor task_count queue_set_count) (first_queues app n) (new_queue app n)
@@ -308,45 +308,45 @@ IsGroupFor-empty n task_count same few = (
 )
 
 -- the objects of a new state, at which so many tasks can wait
-pub AreSizedObjects-new : (app : Application) (task_count : ℕ) → IsApplication app → task_count ≡ length app.tasks.things
+pub AreSizedObjects-new : (app : Application) (task_count : ℕ) → IsApplication app → task_count ≡ length app.tasks
     → AreSizedObjects task_count (new_objects app)
 AreSizedObjects-new app task_count limits same =
-    let n = length app.objects.queues.things in
-    let made = new_queue_set (length app.tasks.things) n in
+    let n = length app.objects.queues in
+    let made = new_queue_set (length app.tasks) n in
     let IsMade : QueueSetSnapshot → Type 0 = IsQueueSetFor task_count n in
-    let queue_sets : All IsMade (map made app.objects.queue_sets.things) =
-    All-map IsMade made app.objects.queue_sets.things
-    (All-weaker (IsQueueSetShape app.objects) (λ q. IsMade (made q)) (λ q h. IsQueueSetFor-new_queue_set app (length app.tasks.things) n task_count q (sym same) h)
-    app.objects.queue_sets.things limits.objects.queue_sets) in
-    let stream = new_stream (length app.tasks.things) in
-    let message = new_message_buffer (length app.tasks.things) in
-    let group = empty_group (length app.tasks.things) in
+    let queue_sets : All IsMade (map made app.objects.queue_sets) =
+    All-map IsMade made app.objects.queue_sets
+    (All-weaker (IsQueueSetShape app.objects) (λ q. IsMade (made q)) (λ q h. IsQueueSetFor-new_queue_set app (length app.tasks) n task_count q (sym same) h)
+    app.objects.queue_sets limits.objects.queue_sets) in
+    let stream = new_stream (length app.tasks) in
+    let message = new_message_buffer (length app.tasks) in
+    let group = empty_group (length app.tasks) in
     record {
-      queues = IsQueueFor-first_queues app n task_count (length (map made app.objects.queue_sets.things)) limits (omega arith) same (length-map app.objects.queue_sets.things made);
+      queues = IsQueueFor-first_queues app n task_count (length (map made app.objects.queue_sets)) limits (omega arith) same (length-map app.objects.queue_sets made);
       few_queues = omega (arith, length-first_queues app n, limits.objects.few_queues);
-      queue_sets = subst (λ q. All (IsQueueSetFor task_count q) (map made app.objects.queue_sets.things)) (sym (length-first_queues app n)) queue_sets;
-      few_queue_sets = omega (arith, length-map app.objects.queue_sets.things made, limits.objects.few_queue_sets);
-      streams = All-map (IsStreamFor task_count) stream app.objects.streams.things
-          (All-weaker IsStreamShape (λ b. IsStreamFor task_count (stream b)) (λ b h. IsStreamFor-new_stream (length app.tasks.things) task_count b (sym same) h)
-          app.objects.streams.things limits.objects.streams);
-      few_streams = omega (arith, length-map app.objects.streams.things stream, limits.objects.few_streams);
-      messages = All-map (IsMessageBufferFor task_count) message app.objects.messages.things
+      queue_sets = subst (λ q. All (IsQueueSetFor task_count q) (map made app.objects.queue_sets)) (sym (length-first_queues app n)) queue_sets;
+      few_queue_sets = omega (arith, length-map app.objects.queue_sets made, limits.objects.few_queue_sets);
+      streams = All-map (IsStreamFor task_count) stream app.objects.streams
+          (All-weaker IsStreamShape (λ b. IsStreamFor task_count (stream b)) (λ b h. IsStreamFor-new_stream (length app.tasks) task_count b (sym same) h)
+          app.objects.streams limits.objects.streams);
+      few_streams = omega (arith, length-map app.objects.streams stream, limits.objects.few_streams);
+      messages = All-map (IsMessageBufferFor task_count) message app.objects.messages
           (All-weaker IsMessageShape (λ b. IsMessageBufferFor task_count (message b))
-          (λ b h. IsMessageBufferFor-new (length app.tasks.things) task_count b (sym same) h) app.objects.messages.things limits.objects.messages);
-      few_messages = omega (arith, length-map app.objects.messages.things message, limits.objects.few_messages);
-      groups = All-replicate (IsGroupFor task_count) (length app.objects.groups.things) group
-          (IsGroupFor-empty (length app.tasks.things) task_count (sym same) limits.few_tasks);
-      few_groups = omega (arith, length-replicate (length app.objects.groups.things) group, limits.objects.few_groups);
+          (λ b h. IsMessageBufferFor-new (length app.tasks) task_count b (sym same) h) app.objects.messages limits.objects.messages);
+      few_messages = omega (arith, length-map app.objects.messages message, limits.objects.few_messages);
+      groups = All-replicate (IsGroupFor task_count) (length app.objects.groups) group
+          (IsGroupFor-empty (length app.tasks) task_count (sym same) limits.few_tasks);
+      few_groups = omega (arith, length-replicate (length app.objects.groups) group, limits.objects.few_groups);
     }
 
 -- the shapes of the queues so far
-shape_of-first_queues : (app : Application) (n : ℕ) → n ≤ length app.objects.queues.things → map shape_of (first_queues app n) ≡ take n app.objects.queues.things
+shape_of-first_queues : (app : Application) (n : ℕ) → n ≤ length app.objects.queues → map shape_of (first_queues app n) ≡ take n app.objects.queues
 shape_of-first_queues app zero few = refl
 shape_of-first_queues app (suc n) few =
     map-append shape_of (first_queues app n) (new_queue app n ∷ [])
     ∙ ap (λ before. before ++ shape_at app.objects n ∷ []) (shape_of-first_queues app n (omega (arith, few)))
-    ∙ sym (take_more app.objects.queues.things n (record { capacity = 0; item_size = 0 }) (omega (arith, few)))
-    ∙ ap (λ k. take k app.objects.queues.things) (let one_more : n + 1 ≡ suc n = omega arith in one_more)
+    ∙ sym (take_more app.objects.queues n (record { capacity = 0; item_size = 0 }) (omega (arith, few)))
+    ∙ ap (λ k. take k app.objects.queues) (let one_more : n + 1 ≡ suc n = omega arith in one_more)
 
 capacity_of-new_queue_sets : (task_count queue_count : ℕ) (shapes : List QueueSetShapeView)
     → map capacity_of (map (new_queue_set task_count queue_count) shapes) ≡ map (λ (shape : QueueSetShapeView). shape.capacity) shapes
@@ -364,38 +364,38 @@ size-new_message_buffers task_count [] = refl
 size-new_message_buffers task_count (shape ∷ shapes) = ap (λ rest. shape.capacity ∷ rest) (size-new_message_buffers task_count shapes)
 
 -- There are as many as the application names.
-pub queue_count_shaped : (app : Application) (o : ObjectsSnapshot) → AreShaped app o → length o.queues ≡ length app.objects.queues.things
+pub queue_count_shaped : (app : Application) (o : ObjectsSnapshot) → AreShaped app o → length o.queues ≡ length app.objects.queues
 queue_count_shaped app o shaped = sym (length-map o.queues shape_of) ∙ ap (λ (shapes : Shapes). length shapes.queues) shaped
 
-pub queue_set_count_shaped : (app : Application) (o : ObjectsSnapshot) → AreShaped app o → length o.queue_sets ≡ length app.objects.queue_sets.things
+pub queue_set_count_shaped : (app : Application) (o : ObjectsSnapshot) → AreShaped app o → length o.queue_sets ≡ length app.objects.queue_sets
 queue_set_count_shaped app o shaped =
     sym (length-map o.queue_sets capacity_of) ∙ ap (λ (shapes : Shapes). length shapes.queue_sets) shaped
-    ∙ length-map app.objects.queue_sets.things (λ (queue_set : QueueSetShapeView). queue_set.capacity)
+    ∙ length-map app.objects.queue_sets (λ (queue_set : QueueSetShapeView). queue_set.capacity)
 
-pub stream_count_shaped : (app : Application) (o : ObjectsSnapshot) → AreShaped app o → length o.streams ≡ length app.objects.streams.things
+pub stream_count_shaped : (app : Application) (o : ObjectsSnapshot) → AreShaped app o → length o.streams ≡ length app.objects.streams
 stream_count_shaped app o shaped =
     sym (length-map o.streams size_of_stream) ∙ ap (λ (shapes : Shapes). length shapes.streams) shaped
-    ∙ length-map app.objects.streams.things (λ (stream : StreamShape). stream.capacity)
+    ∙ length-map app.objects.streams (λ (stream : StreamShape). stream.capacity)
 
-pub message_count_shaped : (app : Application) (o : ObjectsSnapshot) → AreShaped app o → length o.messages ≡ length app.objects.messages.things
+pub message_count_shaped : (app : Application) (o : ObjectsSnapshot) → AreShaped app o → length o.messages ≡ length app.objects.messages
 message_count_shaped app o shaped =
     sym (length-map o.messages size_of_message_buffer) ∙ ap (λ (shapes : Shapes). length shapes.messages) shaped
-    ∙ length-map app.objects.messages.things (λ (message : MessageShape). message.capacity)
+    ∙ length-map app.objects.messages (λ (message : MessageShape). message.capacity)
 
-pub group_count_shaped : (app : Application) (o : ObjectsSnapshot) → AreShaped app o → length o.groups ≡ length app.objects.groups.things
+pub group_count_shaped : (app : Application) (o : ObjectsSnapshot) → AreShaped app o → length o.groups ≡ length app.objects.groups
 group_count_shaped app o shaped = ap (λ (shapes : Shapes). shapes.groups) shaped
 
 -- The objects of boot have the sizes that the application gives them.
 pub AreShaped-new : (app : Application) → AreShaped app (new_objects app)
 AreShaped-new app =
     let made = shapes_in (new_objects app) in
-    let asked = shapes_named app.objects in
+    let asked = shapes_asked app.objects in
     let queues = shape_of-first_queues app (length asked.queues) (omega arith) ∙ take_all (length asked.queues) asked.queues (omega arith) in
-    let queue_sets = capacity_of-new_queue_sets (length app.tasks.things) (length asked.queues) app.objects.queue_sets.things in
-    let streams = size-new_streams (length app.tasks.things) app.objects.streams.things in
-    let messages = size-new_message_buffers (length app.tasks.things) app.objects.messages.things in
+    let queue_sets = capacity_of-new_queue_sets (length app.tasks) (length asked.queues) app.objects.queue_sets in
+    let streams = size-new_streams (length app.tasks) app.objects.streams in
+    let messages = size-new_message_buffers (length app.tasks) app.objects.messages in
     ap (λ (qs : List QueueShape). record made { queues = qs }) queues
     ∙ ap (λ (rooms : List ℕ). record made { queues = asked.queues; queue_sets = rooms }) queue_sets
     ∙ ap (λ (sizes : List ℕ). record asked { streams = sizes; messages = made.messages; groups = made.groups }) streams
     ∙ ap (λ (sizes : List ℕ). record asked { messages = sizes; groups = made.groups }) messages
-    ∙ ap (λ (count : ℕ). record asked { groups = count }) (length-replicate (length app.objects.groups.things) (empty_group (length app.tasks.things)))
+    ∙ ap (λ (count : ℕ). record asked { groups = count }) (length-replicate (length app.objects.groups) (empty_group (length app.tasks)))

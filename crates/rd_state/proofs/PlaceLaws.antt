@@ -80,9 +80,9 @@ nobody_at_group task_count (suc n) zero = refl
 nobody_at_group task_count (suc n) (suc group) = nobody_at_group task_count n group
 
 pub waiting_at-before_scheduling : (app : Application) (place : Listed) → waiting_at (before_scheduling app) place ≡ []
-waiting_at-before_scheduling app (Queue queue list) = nobody_waits_at app list queue (length app.objects.queues.things)
-waiting_at-before_scheduling app (QueueSet queue_set) = nobody_selects (length app.tasks.things) (length app.objects.queues.things) app.objects.queue_sets.things queue_set
-waiting_at-before_scheduling app (Group group) = nobody_at_group (length app.tasks.things) (length app.objects.groups.things) group
+waiting_at-before_scheduling app (Queue queue list) = nobody_waits_at app list queue (length app.objects.queues)
+waiting_at-before_scheduling app (QueueSet queue_set) = nobody_selects (length app.tasks) (length app.objects.queues) app.objects.queue_sets queue_set
+waiting_at-before_scheduling app (Group group) = nobody_at_group (length app.tasks) (length app.objects.groups) group
 
 -- Nobody is named by the places of a new buffer, whichever side.
 nobody_named : (side : Side) (task_count : ℕ) → holder_of side (no_holders task_count) ≡ None
@@ -102,5 +102,5 @@ nobody_at_message_buffer side task_count (shape ∷ shapes) zero = nobody_named 
 nobody_at_message_buffer side task_count (shape ∷ shapes) (suc message) = nobody_at_message_buffer side task_count shapes message
 
 pub holder_at-before_scheduling : (app : Application) (held : Held) → holder_at (before_scheduling app) held ≡ None
-holder_at-before_scheduling app (Stream stream side) = nobody_at_stream side (length app.tasks.things) app.objects.streams.things stream
-holder_at-before_scheduling app (Message message side) = nobody_at_message_buffer side (length app.tasks.things) app.objects.messages.things message
+holder_at-before_scheduling app (Stream stream side) = nobody_at_stream side (length app.tasks) app.objects.streams stream
+holder_at-before_scheduling app (Message message side) = nobody_at_message_buffer side (length app.tasks) app.objects.messages message

@@ -180,7 +180,7 @@ IsSizedTask-fresh entries few = record {
 -- a new state
 pub HasSizes-new : (app : Application) (s : Inside) (n : ℕ) → IsApplication app → s.tick ≡ app.tick → s.turn ≡ 0 → s.cores.items ≡ replicate app.cores None
     → s.ready ≡ record { tasks = all_joined (priorities_of app) n; capacity = n } → s.tasks.items ≡ replicate n (fresh_task app.entries)
-    → n ≡ length app.tasks.things → s.objects ≡ new_objects app → HasSizes s
+    → n ≡ length app.tasks → s.objects ≡ new_objects app → HasSizes s
 HasSizes-new app s n limits tick turn cores ready tasks scripts objects =
     let count : length s.tasks.items ≡ n = omega (arith, ap length tasks, length-replicate n (fresh_task app.entries)) in
     let listed : s.ready.tasks ≡ all_joined (priorities_of app) n = ap (λ (l : TaskList). l.tasks) ready in

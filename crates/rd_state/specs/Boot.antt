@@ -30,8 +30,8 @@ before_scheduling app = record {
   tick = app.tick;
   turn = 0;
   cores = replicate app.cores None;
-  ready = all_joined (priorities_of app) (length app.tasks.things);
-  tasks = replicate (length app.tasks.things) (fresh_task app.entries);
+  ready = all_joined (priorities_of app) (length app.tasks);
+  tasks = replicate (length app.tasks) (fresh_task app.entries);
   objects = new_objects app;
 }
 

@@ -36,7 +36,7 @@ use Rattle.rd_app.specs.declared.objects.MessageShape.{MessageShape}
 use Rattle.rd_app.specs.declared.objects.QueueShape.{QueueShape}
 use Rattle.rd_app.specs.declared.objects.StreamShape.{StreamShape}
 use Rattle.rd_app.specs.Application.{Application}
-use Rattle.rd_app.specs.Objects.{NamedObjects, queue_set_at_boot, shape_at}
+use Rattle.rd_app.specs.Objects.{ObjectShapes, queue_set_at_boot, shape_at}
 use Rattle.rd_app.specs.QueueSetShapeView.{QueueSetShapeView}
 use Rattle.rd_state.specs.declared.objects.ObjectChange as declared
 use Rattle.rd_state.specs.declared.objects.ObjectChange.TheVariants as borrowed
@@ -63,16 +63,6 @@ numbers_in o = record {
   stream_count = length o.streams;
   message_count = length o.messages;
   group_count = length o.groups;
-}
-
--- how many objects of each kind an application names
-abbrev pub numbers_named : NamedObjects → Numbers
-numbers_named o = record {
-  queue_count = length o.queues.names;
-  queue_set_count = length o.queue_sets.names;
-  stream_count = length o.streams.names;
-  message_count = length o.messages.names;
-  group_count = length o.groups.names;
 }
 
 abbrev pub no_objects : ObjectsSnapshot
@@ -207,25 +197,25 @@ shapes_in o = record {
 }
 
 -- those that an application asks for
-abbrev pub shapes_named : NamedObjects → Shapes
-shapes_named o = record {
-  queues = o.queues.things;
-  queue_sets = map (λ queue_set. queue_set.capacity) o.queue_sets.things;
-  streams = map (λ stream. stream.capacity) o.streams.things;
-  messages = map (λ message. message.capacity) o.messages.things;
-  groups = length o.groups.things;
+abbrev pub shapes_asked : ObjectShapes → Shapes
+shapes_asked o = record {
+  queues = o.queues;
+  queue_sets = map (λ queue_set. queue_set.capacity) o.queue_sets;
+  streams = map (λ stream. stream.capacity) o.streams;
+  messages = map (λ message. message.capacity) o.messages;
+  groups = length o.groups;
 }
 
 -- The objects have the sizes that the application gives them.
 abbrev pub AreShaped : Application → ObjectsSnapshot → Type 0
-AreShaped app o = shapes_in o ≡ shapes_named app.objects
+AreShaped app o = shapes_in o ≡ shapes_asked app.objects
 
 -- a queue with nothing in it, at which every task can wait, in the set that has it as a member
 abbrev pub new_queue : Application → ℕ → QueueSnapshot
 new_queue app queue =
     as_member_of
     (empty_queue (shape_at app.objects queue).capacity (shape_at app.objects queue).item_size
-    (length app.tasks.things) (length app.objects.queue_sets.things))
+    (length app.tasks) (length app.objects.queue_sets))
     (queue_set_at_boot app.objects queue)
 
 -- the first n queues
@@ -264,13 +254,13 @@ IsMessageBufferSize shape = shape.capacity ≤ MAX_MESSAGE_BUFFER_SIZE
 -- the objects at boot
 abbrev pub new_objects : Application → ObjectsSnapshot
 new_objects app = record {
-  queues = first_queues app (length app.objects.queues.things);
+  queues = first_queues app (length app.objects.queues);
   queue_sets =
-      map (new_queue_set (length app.tasks.things) (length app.objects.queues.things))
-      app.objects.queue_sets.things;
-  streams = map (new_stream (length app.tasks.things)) app.objects.streams.things;
-  messages = map (new_message_buffer (length app.tasks.things)) app.objects.messages.things;
-  groups = replicate (length app.objects.groups.things) (empty_group (length app.tasks.things));
+      map (new_queue_set (length app.tasks) (length app.objects.queues))
+      app.objects.queue_sets;
+  streams = map (new_stream (length app.tasks)) app.objects.streams;
+  messages = map (new_message_buffer (length app.tasks)) app.objects.messages;
+  groups = replicate (length app.objects.groups) (empty_group (length app.tasks));
 }
 
 -- a primitive change of an object, whichever kind it is of; objects go by number

@@ -34,7 +34,7 @@ use Rattle.rd_state.specs.Waiting.{waiting_at}
 pub record InLimits (app : Application) (s : Snapshot) : Type 0 where
   pub sized : IsSized s
   pub cores : length s.cores ≡ app.cores
-  pub tasks : length s.tasks ≡ length app.tasks.things
+  pub tasks : length s.tasks ≡ length app.tasks
   pub pcs : (task : ℕ) → task < length s.tasks → (task_at s task).pc < length (code_of app task)
   pub entries : All (λ task. length task.entries ≡ app.entries) s.tasks
   pub objects : AreShaped app s.objects

@@ -12,7 +12,7 @@ use crate::editing::Editing;
 use crate::state::State;
 use crate::task::Task;
 use crate::undo::Undo;
-use rd_app::app::App;
+use rd_app::app::Program;
 use rd_bytes::no_memory::NoMemory;
 use rd_wait::prio_list::PrioList;
 use std::alloc::Global;
@@ -47,7 +47,7 @@ pub(crate) fn all_ready(alloc: Global, priorities: &[u8]) -> Result<PrioList, No
 impl State {
     /// The state at boot: every task ready at its first instruction, every object empty, and then
     /// scheduled (`vTaskStartScheduler`). All memory that the state needs is taken here.
-    pub fn boot(alloc: Global, app: &App) -> Result<State, NoMemory>
+    pub fn boot(alloc: Global, app: &Program) -> Result<State, NoMemory>
         ensures state { IfOk result (λ state. state ≡ boot_of app.now) }
         ensures valid { IfOk result (λ state. IsValid app.now state) }
         ensures settled { IfOk result (IsSettled (priorities_of app.now)) }

@@ -26,7 +26,7 @@ ghost use Rattle.rd_state.specs.Transfers.{bytes_at, sunk, HasSink, HasSource};
 
 use crate::transfer::{Sink, Source};
 use crate::whole::{Whole, all_same, copy_all};
-use rd_app::app::App;
+use rd_app::app::Program;
 use rd_app::both::both;
 use rd_app::objects::{MessageShape, QueueSetShape, StreamShape};
 use rd_bytes::no_memory::NoMemory;
@@ -176,8 +176,8 @@ impl Whole for Group {
 }
 
 // An empty queue of an application, in its set.
-fn new_queue(alloc: Global, app: &App, queue: usize) -> Result<Queue, NoMemory>
-    requires { queue < length app.now.objects.queues.things }
+fn new_queue(alloc: Global, app: &Program, queue: usize) -> Result<Queue, NoMemory>
+    requires { queue < length app.now.objects.queues }
     ensures { IfOk result (λ made. made ≡ new_queue app.now queue) }
 {
     app.limits();
@@ -198,9 +198,9 @@ fn new_queue(alloc: Global, app: &App, queue: usize) -> Result<Queue, NoMemory>
 }
 
 // The empty queues of an application.
-fn new_queues(alloc: Global, app: &App) -> Result<Vec<Queue>, NoMemory>
+fn new_queues(alloc: Global, app: &Program) -> Result<Vec<Queue>, NoMemory>
     ensures { IfOk result (λ queues.
-        queues.items ≡ first_queues app.now (length app.now.objects.queues.things)) }
+        queues.items ≡ first_queues app.now (length app.now.objects.queues)) }
 {
     let mut queues = Vec::with_capacity(alloc, app.objects().queues().len())?;
     for number in 0..app.objects().queues().len() {
@@ -298,7 +298,7 @@ impl Objects {
     }
 
     /// The objects of an application at boot, all empty.
-    pub(crate) fn new(alloc: Global, app: &App) -> Result<Objects, NoMemory>
+    pub(crate) fn new(alloc: Global, app: &Program) -> Result<Objects, NoMemory>
         ensures { IfOk result (λ objects. objects ≡ new_objects app.now) }
     {
         app.limits();

@@ -24,7 +24,7 @@ use crate::task::Task;
 use crate::task_change::TaskChange;
 use crate::transfer::{Sink, Source, Transfer};
 use crate::whole::{all_same, copy_all};
-use rd_app::app::App;
+use rd_app::app::Program;
 use rd_app::both::both;
 use rd_bytes::no_memory::NoMemory;
 use rd_group::group::Group;
@@ -96,7 +96,7 @@ impl State {
     }
 
     // The state before anything is scheduled.
-    pub(crate) fn before_scheduling(alloc: Global, app: &App) -> Result<State, NoMemory>
+    pub(crate) fn before_scheduling(alloc: Global, app: &Program) -> Result<State, NoMemory>
         ensures { IfOk result (λ state. state ≡ before_scheduling app.now) }
     {
         app.limits();

@@ -22,7 +22,7 @@ ghost use Rattle.rd_stream_calls.specs.MessageCalls.{with_message_read, with_mes
 ghost use Rattle.rd_stream_calls.specs.MessageCalls.{MessageCallChangesNothing};
 ghost use Rattle.rd_stream_calls.specs.StreamCalls.{is_held, piece_cost};
 
-use rd_app::app::App;
+use rd_app::app::Program;
 use rd_app::instr::{MessageCall, Operand};
 use rd_bytes::no_memory::NoMemory;
 use rd_kernel::holding::{come_back, complete, wait_held};
@@ -84,7 +84,7 @@ fn take_message(editing: &mut Editing, task: usize, message: usize) -> Result<()
 // Takes the first message, if it is no longer than the task's room, and completes the writer's
 // wait.
 fn take_fitting(
-    app: &App,
+    app: &Program,
     editing: &mut Editing,
     task: usize,
     message: usize,
@@ -113,7 +113,7 @@ fn take_fitting(
 
 // Reads from a buffer, once the call has begun.
 fn read_on(
-    app: &App,
+    app: &Program,
     editing: &mut Editing,
     task: usize,
     message: usize,
@@ -142,7 +142,7 @@ fn read_on(
 
 // Reads a message as the task's data, or waits for one (`xMessageBufferReceive`).
 fn read(
-    app: &App,
+    app: &Program,
     editing: &mut Editing,
     task: usize,
     message: usize,
@@ -169,7 +169,7 @@ fn read(
 
 // Puts the task's data at the back of a buffer, as one message, and completes the reader's wait.
 fn put_message(
-    app: &App,
+    app: &Program,
     editing: &mut Editing,
     task: usize,
     message: usize,
@@ -192,7 +192,7 @@ fn put_message(
 
 // Writes a message that the buffer can hold, or waits for space.
 fn write_fitting(
-    app: &App,
+    app: &Program,
     editing: &mut Editing,
     task: usize,
     message: usize,
@@ -222,7 +222,7 @@ fn write_fitting(
 
 // Writes to a buffer, once the call has begun.
 fn write_on(
-    app: &App,
+    app: &Program,
     editing: &mut Editing,
     task: usize,
     message: usize,
@@ -251,7 +251,7 @@ fn write_on(
 
 // Writes the task's data to a buffer as one message, or waits for space (`xMessageBufferSend`).
 fn write(
-    app: &App,
+    app: &Program,
     editing: &mut Editing,
     task: usize,
     message: usize,
@@ -295,7 +295,7 @@ fn reset(editing: &mut Editing, message: usize) -> Result<Outcome, NoMemory>
 
 /// Does a call of a message buffer. One that changes nothing takes no memory.
 pub fn call_message(
-    app: &App,
+    app: &Program,
     editing: &mut Editing,
     task: usize,
     message: usize,

@@ -21,7 +21,7 @@ ghost use Rattle.rd_stream_calls.specs.StreamCalls.{stream_write_cost, stream_wr
 ghost use Rattle.rd_stream_calls.specs.StreamCalls.{with_bytes_read, with_bytes_written};
 ghost use Rattle.rd_stream_calls.specs.StreamCalls.{StreamCallChangesNothing};
 
-use rd_app::app::App;
+use rd_app::app::Program;
 use rd_app::instr::{Operand, StreamCall};
 use rd_bytes::no_memory::NoMemory;
 use rd_kernel::holding::{come_back, complete, wait_held};
@@ -84,7 +84,7 @@ fn take_bytes(
 
 // Reads so many bytes of a buffer, and completes the writer's wait if it reads any.
 fn read_bytes(
-    app: &App,
+    app: &Program,
     editing: &mut Editing,
     task: usize,
     stream: usize,
@@ -112,7 +112,7 @@ fn read_bytes(
 
 // Reads from a buffer, once the call has begun.
 fn read_on(
-    app: &App,
+    app: &Program,
     editing: &mut Editing,
     task: usize,
     stream: usize,
@@ -141,7 +141,7 @@ fn read_on(
 
 // Reads from a buffer as the task's data, or waits for bytes (`xStreamBufferReceive`).
 fn read(
-    app: &App,
+    app: &Program,
     editing: &mut Editing,
     task: usize,
     stream: usize,
@@ -189,7 +189,7 @@ fn put_bytes(
 // Writes so many bytes of the task's data, and completes the reader's wait if it writes any and the
 // trigger level is reached.
 fn write_bytes(
-    app: &App,
+    app: &Program,
     editing: &mut Editing,
     task: usize,
     stream: usize,
@@ -232,7 +232,7 @@ fn lacks_space(editing: &Editing, task: usize, stream: usize) -> bool
 
 // Writes to a buffer, once the call has begun.
 fn write_on(
-    app: &App,
+    app: &Program,
     editing: &mut Editing,
     task: usize,
     stream: usize,
@@ -263,7 +263,7 @@ fn write_on(
 
 // Writes the task's data to a buffer, or waits for space (`xStreamBufferSend`).
 fn write(
-    app: &App,
+    app: &Program,
     editing: &mut Editing,
     task: usize,
     stream: usize,
@@ -327,7 +327,7 @@ fn set_trigger(editing: &mut Editing, stream: usize, trigger: u32) -> Result<Out
 
 /// Does a call of a stream buffer. One that changes nothing takes no memory.
 pub fn call_stream(
-    app: &App,
+    app: &Program,
     editing: &mut Editing,
     task: usize,
     stream: usize,

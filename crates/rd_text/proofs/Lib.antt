@@ -2,5 +2,4 @@
 pub mod WordLemmas
 pub mod NameLemmas
 pub mod NameLaws
-pub mod ListLemmas
 pub mod Offered

@@ -3,5 +3,4 @@
 #![tactic(auto)]
 
 pub mod kind;
-pub mod names;
 pub mod words;

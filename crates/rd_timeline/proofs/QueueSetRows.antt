@@ -1,5 +1,5 @@
 -- The definitions computed on a queue in a set, with nothing of the code between.
-use Rattle.std.specs.Prelude.{ℕ, ◌≡◌, codes, List, [], ◌∷◌, Some, None, Ok, refl}
+use Rattle.std.specs.Prelude.{ℕ, ◌≡◌, List, [], ◌∷◌, Some, None, Ok, refl}
 use Rattle.rd_notify.specs.Entries.{idle_entry}
 use Rattle.rd_queue.specs.declared.end.End.TheVariants.{Back}
 use Rattle.rd_queue.specs.QueueSnapshot.{QueueSnapshot}
@@ -25,10 +25,10 @@ use Rattle.rd_timeline.specs.History.{state_after}
 abbrev over_a_queue_set : ℕ → List Instr → Application
 over_a_queue_set capacity code = record builtin {
   objects = record (builtin.objects) {
-    queues = record { names = codes "q0" ∷ []; things = record { capacity = capacity; item_size = 1 } ∷ [] };
-    queue_sets = record { names = codes "s0" ∷ []; things = record { capacity = 1; members = 0 ∷ [] } ∷ [] };
+    queues = record { capacity = capacity; item_size = 1 } ∷ [];
+    queue_sets = record { capacity = 1; members = 0 ∷ [] } ∷ [];
   };
-  tasks = record { names = codes "t0" ∷ []; things = record { priority = 1; code = code } ∷ [] };
+  tasks = record { priority = 1; code = code } ∷ [];
 }
 
 abbrev task_of : ℕ → ℕ → List ℕ → Phase → TaskSnapshot

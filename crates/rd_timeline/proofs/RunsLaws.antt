@@ -1,7 +1,7 @@
 -- What each request leaves of the moves.
 use Rattle.std.proofs.Common.{◌≡◌, ◌≢◌, ◌∙◌, ℕ, zero, suc, ◌+◌, ◌-◌, ◌<◌, List, [], ◌∷◌, ◌++◌, inl, inr, true, false, cond, length, take, drop, refl, ap, subst, sym, arith}
 use Rattle.std.specs.Prelude.{◌&&◌, Bool, not, nat_eq, nat_lt, is_ok, IsTrue, Option, None, Some, Result, Ok, Err, IfErr, IfOk, IsErr, IsErrOf, IsOk, OnErr, OnOk, ◌↔◌, unwrap_or}
-use Rattle.std.proofs.lemmas.Bool.{false≢true, le-leb, lt-leb, ltb-true, ne_eqb}
+use Rattle.std.proofs.lemmas.Bool.{eq-eqb, false≢true, le-leb, lt-leb, ltb-true, ne_eqb}
 use Rattle.rd_app.specs.Application.{Application}
 use Rattle.rd_bytes.specs.declared.no_memory.NoMemory.{NoMemory as NoMemoryError}
 use Rattle.rd_refusal.specs.declared.refusal.Refusal.{Refusal}
@@ -12,15 +12,74 @@ use Rattle.rd_calls.specs.declared.moves.Move.{Move}
 use Rattle.rd_calls.specs.Step.{policy_of, step}
 use Rattle.rd_condition.specs.declared.condition.Condition.{Condition}
 use Rattle.rd_timeline.specs.declared.running.Found.{Found}
-use Rattle.rd_timeline.specs.declared.runs.Request.TheVariants.{Redo, BackUntil}
+use Rattle.rd_timeline.specs.declared.runs.Request.TheVariants.{Go, Redo, BackUntil}
 use Rattle.rd_timeline.specs.Backward.{GoesBackTo, HasRedone, last_met, place_met}
-use Rattle.rd_timeline.specs.Course.{Course}
+use Rattle.rd_timeline.specs.Course.{Course, GoesOn, IsFull, IsWhyNot}
 use Rattle.rd_timeline.specs.History.{state_after}
 use Rattle.rd_timeline.specs.Policy.{EndsRun, IsWhyNoRun, Run, Going, Met, Refused, allowed, ended, moves_by_policy, ran, run_from, run_on, looked_for, meets, state_or}
 use Rattle.rd_timeline.specs.Runs.{Moves, answered, back_at, can_make, laid_on, left_by, moves_of, run_of, state_of}
 use Rattle.rd_timeline.proofs.CauseLaws.{never_no_memory}
 use Rattle.rd_timeline.proofs.HistoryLaws.{state_after-push}
 use Rattle.rd_timeline.proofs.PolicyLaws.{ran_on}
+
+-- ---- one move
+
+-- there was room for a move that was made
+pub with_room : (P : Type 0) (old : Course) (r : Result ℕ Refusal) → (IsErrOf r MovesFull ↔ IsFull old) → OnOk r P
+    → IfOk r (λ at. (length old.done ≢ old.limit) × P)
+with_room P old (Ok at) full goes = (λ is. let none : Ok at ≡ Err MovesFull = full.1 is in absurd (false≢true (sym (ap is_ok none))), goes)
+with_room P old (Err refusal) full goes = tt
+
+can_make_is : (old : Course) (move : Move) (b : Bool) → state_after old.app old.done ≡ Ok old.target → length old.done ≢ old.limit
+    → is_ok (step old.app old.target move) ≡ b → can_make old.app old.limit (moves_of old) move ≡ b
+can_make_is old move b leads room is =
+    ap (λ b. not b && is_ok (state_after old.app (old.done ++ move ∷ []))) (ne_eqb (length old.done) old.limit room)
+    ∙ ap is_ok (state_after-push old.app old.done move old.target leads) ∙ is
+
+-- where it was made
+pub go_leaves : (old new : Course) (move : Move) → state_after old.app old.done ≡ Ok old.target → length old.done ≢ old.limit → GoesOn old move new
+    → moves_of new ≡ answered old.app old.limit (moves_of old) (Go move)
+go_leaves old new move leads room goes =
+    ap (λ (ms : List Move). record { done = ms; undone = new.undone }) goes.done
+    ∙ ap (λ (us : List Move). record { done = old.done ++ move ∷ []; undone = us }) goes.undone
+    ∙ sym (ap (λ b. cond b (record { done = old.done ++ move ∷ []; undone = [] }) (moves_of old))
+    (can_make_is old move true leads room (ap is_ok goes.step)))
+
+-- where it was refused, but for want of memory
+pub go_refused : (old : Course) (move : Move) (refusal : Refusal) → state_after old.app old.done ≡ Ok old.target → refusal ≢ NoMemory
+    → IsWhyNot old move refusal → moves_of old ≡ answered old.app old.limit (moves_of old) (Go move)
+go_refused old move refusal leads other why = elim why [
+  | inl full ↦
+      let is : nat_eq (length old.done) old.limit ≡ true = eq-eqb (length old.done) old.limit full.0 in
+      sym (ap (λ b. cond (not b && is_ok (state_after old.app (old.done ++ move ∷ []))) (record { done = old.done ++ move ∷ []; undone = [] }) (moves_of old)) is)
+  | inr others ↦ elim others [
+    | inl by_rules ↦ sym (ap (λ b. cond b (record { done = old.done ++ move ∷ []; undone = [] }) (moves_of old))
+        (can_make_is old move false leads by_rules.0 (ap is_ok by_rules.1)))
+    | inr lacks ↦ absurd (other lacks.1)
+  ]
+]
+
+-- where there was no memory, it could be made
+pub go_needs_memory : (old : Course) (move : Move) → state_after old.app old.done ≡ Ok old.target → IsWhyNot old move NoMemory
+    → IsTrue (can_make old.app old.limit (moves_of old) move)
+go_needs_memory old move leads why = elim why [
+  | inl full ↦ absurd cc
+  | inr others ↦ elim others [
+    | inl by_rules ↦ absurd (never_no_memory old.app old.target move by_rules.1)
+    | inr lacks ↦ can_make_is old move true leads lacks.0.0 lacks.0.1
+  ]
+]
+
+-- what stays whether a move is made or refused
+pub stays : {T X : Type 0} (part : Course → X) (old new : Course) (r : Result T Refusal) → OnOk r (part new ≡ part old) → OnErr r (new ≡ old)
+    → part new ≡ part old
+stays part old new (Ok x) made same = made
+stays part old new (Err refusal) made same = ap part same
+
+pub still_leads : {T : Type 0} (old new : Course) (r : Result T Refusal) → OnOk r (state_after new.app new.done ≡ Ok new.target) → OnErr r (new ≡ old)
+    → state_after old.app old.done ≡ Ok old.target → state_after new.app new.done ≡ Ok new.target
+still_leads old new (Ok x) made same leads = made
+still_leads old new (Err refusal) made same leads = subst (λ (course : Course). state_after course.app course.done ≡ Ok course.target) (sym same) leads
 
 -- ---- redo
 

@@ -1,5 +1,5 @@
 -- The definitions computed on applications whose tasks wait.
-use Rattle.std.specs.Prelude.{ℕ, ◌≡◌, codes, List, [], ◌∷◌, Option, Some, None, Ok, refl}
+use Rattle.std.specs.Prelude.{ℕ, ◌≡◌, List, [], ◌∷◌, Option, Some, None, Ok, refl}
 use Rattle.rd_notify.specs.Entries.{idle_entry}
 use Rattle.rd_queue.specs.QueueSnapshot.{QueueSnapshot}
 use Rattle.rd_app.specs.declared.instr.Instr.{Instr}
@@ -25,10 +25,8 @@ use Rattle.rd_timeline.specs.History.{state_after}
 abbrev over_a_queue : ℕ → List TaskScript → Application
 over_a_queue cores scripts = record builtin {
   cores = cores;
-  objects = record (builtin.objects) {
-    queues = record { names = codes "q0" ∷ []; things = record { capacity = 1; item_size = 1 } ∷ [] };
-  };
-  tasks = record { names = codes "t0" ∷ codes "t1" ∷ codes "t2" ∷ []; things = scripts };
+  objects = record (builtin.objects) { queues = record { capacity = 1; item_size = 1 } ∷ [] };
+  tasks = scripts;
 }
 
 abbrev receives : ℕ → Instr

@@ -13,7 +13,7 @@ ghost use Rattle.rd_timeline.specs.LogView.{bytes_of, memory_of, RecordsMove};
 
 use crate::edits::Edits;
 use crate::trail::Trail;
-use rd_app::app::App;
+use rd_app::app::Program;
 use rd_bytes::no_memory::NoMemory;
 use rd_calls::moves::Move;
 use rd_edits::edit::Edit;
@@ -182,7 +182,7 @@ impl Journal {
     /// Makes a move: it is laid on the moves done, with its record, and the moves undone are
     /// forgotten. It takes no memory. A refusal is one of the kernel's rules, and leaves the
     /// target, the moves and their records as they were.
-    pub fn play(&mut self, app: &App, action: &Move) -> Result<(), Refusal>
+    pub fn play(&mut self, app: &Program, action: &Move) -> Result<(), Refusal>
         requires valid { IsValid app.now self.old.target }
         requires named { IsMoveOf app.now action.now }
         requires capacity { length self.old.done < self.old.capacity }
@@ -227,7 +227,7 @@ impl Journal {
 
     /// Makes the move again that is to be redone next. It takes no memory. A refusal is one of the
     /// kernel's rules, and leaves the target, the moves and their records as they were.
-    pub fn replay(&mut self, app: &App) -> Result<(), Refusal>
+    pub fn replay(&mut self, app: &Program) -> Result<(), Refusal>
         requires some { 0 < length self.old.undone }
         requires valid { IsValid app.now self.old.target }
         requires named { IsMoveOf app.now (next_undone self.old) }

@@ -55,10 +55,7 @@ impl Timeline {
     {
         self.keeps();
         match request {
-            Request::Go { action } => match self.go(action.copy()) {
-                Err(Refusal::NoMemory) => Err(NoMemory),
-                Ok(_) | Err(_) => Ok(()),
-            },
+            Request::Go { action } => unless_no_memory(self.go(action.copy())),
             Request::Back { count } => {
                 let _ = self.back(*count);
                 Ok(())

@@ -19,7 +19,7 @@ ghost use Rattle.rd_timeline.specs.Starts.{CanCancel, IsCancelled, IsStartOf};
 
 use crate::journal::{Aside, Journal};
 use crate::log::Log;
-use rd_app::app::App;
+use rd_app::app::Program;
 use rd_bytes::no_memory::NoMemory;
 use rd_calls::moves::Move;
 use rd_calls::play::why_not;
@@ -31,7 +31,7 @@ use std::marker::Model;
 
 /// The target with the moves that led to it. It can't be dropped: it ends in `close`.
 pub struct Timeline {
-    app: App,
+    app: Program,
     limit: usize,
     journal: Journal,
     // How many moves were done at the most so far, how many edits were among those done at the
@@ -67,7 +67,7 @@ pub(crate) struct Start {
 
 impl Timeline {
     /// A timeline at boot, for at most `limit` moves. A refusal drops the application.
-    pub fn new(alloc: Global, app: App, limit: usize) -> Result<Timeline, NoMemory>
+    pub fn new(alloc: Global, app: Program, limit: usize) -> Result<Timeline, NoMemory>
         ensures { IfOk result (λ timeline. timeline ≡ record {
           app = app;
           limit = limit;
@@ -104,7 +104,7 @@ impl Timeline {
     }
 
     /// The application.
-    pub fn app(&self) -> &App
+    pub fn app(&self) -> &Program
         ensures { result.now ≡ self.now.app }
     {
         &self.app

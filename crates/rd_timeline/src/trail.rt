@@ -8,7 +8,7 @@ ghost use Rattle.rd_state.specs.Valid.{IsValid};
 ghost use Rattle.rd_timeline.specs.LogView.{bytes_of, memory_of, RecordsMove};
 ghost use Rattle.rd_timeline.specs.History.{rewound, CanRewind};
 
-use rd_app::app::App;
+use rd_app::app::Program;
 use rd_bytes::no_memory::NoMemory;
 use rd_calls::moves::Move;
 use rd_calls::play::{MAX_RECORD_BYTES, play_on};
@@ -97,7 +97,7 @@ impl Trail {
 
     /// Makes a move, and its record is the last one then. It takes no memory. A refusal is one of
     /// the kernel's rules, and leaves the target and the records as they were.
-    pub fn play(&mut self, app: &App, action: &Move) -> Result<(), Refusal>
+    pub fn play(&mut self, app: &Program, action: &Move) -> Result<(), Refusal>
         requires valid { IsValid app.now self.old.target }
         requires named { IsMoveOf app.now action.now }
         requires capacity { length self.old.records < self.old.capacity }

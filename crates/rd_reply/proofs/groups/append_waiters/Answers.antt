@@ -18,10 +18,10 @@ loop-index-preserved c =
     let both : zip tasks wishes ≡ zip c.args.group.now.waiting c.args.group.now.wishes =
     search rules in
     let named = λ (waiter : ℕ × Wish). Appends c.append_comma.new.page c.append_waiter.new.page
-    (waiter_text c.args.app.now waiter) in
+    (waiter_text c.args.names.now waiter) in
     let member = get_or-zip tasks wishes index (0, no_wish) (omega (arith, same_length))
     (omega arith) in
-    one_more (waiter_text c.args.app.now) (zip c.args.group.now.waiting c.args.group.now.wishes)
+    one_more (waiter_text c.args.names.now) (zip c.args.group.now.waiting c.args.group.now.wishes)
     index (0, no_wish) _ _ _ _
     (omega (arith, same_length, length-zip tasks wishes, ap length both))
     c.loop-index.invariant c.append_comma.ensures
@@ -38,7 +38,7 @@ returns c =
     search rules in
     let length_is : length (zip tasks wishes) ≡ length tasks =
     omega (arith, same_length, length-zip tasks wishes) in
-    all_joined (waiter_text c.args.app.now) (zip c.args.group.now.waiting c.args.group.now.wishes)
+    all_joined (waiter_text c.args.names.now) (zip c.args.group.now.waiting c.args.group.now.wishes)
     c.loop-index.index _ _
     (grind (arith, length_is, ap length both, c.if-is_empty.false, c.is_empty.ensures))
     (omega (arith, same_length, length_is, ap length both)) c.loop-index.invariant

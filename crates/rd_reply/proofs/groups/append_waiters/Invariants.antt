@@ -7,5 +7,5 @@ use Rattle.rd_reply.proofs.groups.append_waiters.Given as goal
 
 abbrev pub invariant-loop-index : goal.invariant-loop-index
 invariant-loop-index l =
-    Appends l.fn.page l.page (separated (waiter_text l.app)
+    Appends l.fn.page l.page (separated (waiter_text l.names)
     (take l.index (zip l.group.waiting l.group.wishes)))

@@ -7,7 +7,7 @@ use Rattle.rd_reply.proofs.reply.append_handle_names.Goals as goal
 
 pub loop-index-preserved : goal.loop-index-preserved
 loop-index-preserved c =
-    let names = c.args.app.now.objects.queues.names in
+    let names = c.args.names.now.queues in
     let name = λ (queue : ℕ). Appends c.append_comma.new.page c.append_name.new.page
     (name_at names queue) in
     one_more (name_at names) c.args.queue_set.now.handles c.loop-index.index 0

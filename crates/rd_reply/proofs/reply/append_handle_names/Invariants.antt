@@ -7,5 +7,5 @@ use Rattle.rd_reply.proofs.reply.append_handle_names.Given as goal
 
 abbrev pub invariant-loop-index : goal.invariant-loop-index
 invariant-loop-index l =
-    Appends l.fn.page l.page (separated (name_at l.app.objects.queues.names)
+    Appends l.fn.page l.page (separated (name_at l.names.queues)
     (take l.index l.queue_set.handles))

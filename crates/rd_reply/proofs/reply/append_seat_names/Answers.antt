@@ -6,6 +6,6 @@ use Rattle.rd_reply.proofs.reply.append_seat_names.Goals as goal
 
 pub loop-index-preserved : goal.loop-index-preserved
 loop-index-preserved c =
-    one_more (name_or_dash c.args.app.now.tasks.names) c.args.cores.now c.loop-index.index None
+    one_more (name_or_dash c.args.names.now.tasks) c.args.cores.now c.loop-index.index None
     _ _ _ _ (omega arith) c.loop-index.invariant c.append_comma.ensures
     c.append_name_or_dash.ensures

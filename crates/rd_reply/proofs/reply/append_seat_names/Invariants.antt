@@ -7,4 +7,4 @@ use Rattle.rd_reply.proofs.reply.append_seat_names.Given as goal
 
 abbrev pub invariant-loop-index : goal.invariant-loop-index
 invariant-loop-index l =
-    Appends l.fn.page l.page (separated (name_or_dash l.app.tasks.names) (take l.index l.cores))
+    Appends l.fn.page l.page (separated (name_or_dash l.names.tasks) (take l.index l.cores))

@@ -6,5 +6,5 @@ use Rattle.rd_reply.proofs.reply.append_task_names.Goals as goal
 
 pub loop-index-preserved : goal.loop-index-preserved
 loop-index-preserved c =
-    one_more (name_at c.args.app.now.tasks.names) c.args.tasks.now c.loop-index.index 0
+    one_more (name_at c.args.names.now.tasks) c.args.tasks.now c.loop-index.index 0
     _ _ _ _ (omega arith) c.loop-index.invariant c.append_comma.ensures c.append_name.ensures

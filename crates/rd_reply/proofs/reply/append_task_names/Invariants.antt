@@ -7,4 +7,4 @@ use Rattle.rd_reply.proofs.reply.append_task_names.Given as goal
 
 abbrev pub invariant-loop-index : goal.invariant-loop-index
 invariant-loop-index l =
-    Appends l.fn.page l.page (separated (name_at l.app.tasks.names) (take l.index l.tasks))
+    Appends l.fn.page l.page (separated (name_at l.names.tasks) (take l.index l.tasks))

@@ -1,17 +1,31 @@
--- The goal of keep that the check left open.
-use Rattle.std.proofs.Common.{rules}
-use Rattle.std.proofs.lemmas.Result.{IfOk-weaker}
+-- The goals of keep that the check left open.
+use Rattle.std.proofs.Common.{◌∙◌, List, Bor, ℕ, Ok, ap, sym}
+use Rattle.rd_names.specs.Apps.{AppView}
+use Rattle.rd_names.specs.Names.{lists_view}
 use Rattle.rd_script.specs.Draft.{app_draft_view}
-use Rattle.rd_script.proofs.AppLaws.{draft_is_kept}
+use Rattle.rd_script.specs.Named.{names_with, together}
+use Rattle.rd_script.specs.Objects.{drafts_view}
+use Rattle.rd_script.proofs.AppLaws.{kept_by, there_is}
+use Rattle.rd_text.specs.Words.{texts}
 use Rattle.rd_script.proofs.file.keep.Goals as goal
+
+pub unwrap-requires : goal.unwrap-requires
+unwrap-requires c =
+    let draft = c.args.draft.now in
+    let made = c.in_ok-program.ensures.ok in
+    let lists = c.lists-lists.ensures
+    ∙ ap (λ (tasks : List (Bor (List ℕ))). names_with (drafts_view draft.objects) (texts tasks)) c.as_slice.ensures.value in
+    let kept = kept_by (app_draft_view draft) c.in_ok-program.program c.in_ok-program.names (lists_view c.lists-lists.result)
+    (rw made.0 at c.keep_program.ensures) c.requires (rw made.1 at c.new-names.ensures) lists in
+    there_is c.new.result c.in_ok-program.program c.in_ok-program.names kept.paired c.new.ensures
 
 pub returns : goal.returns
 returns c =
-    let made = c.in_ok-objects.ensures.ok in
-    let objects = rw made.0 at c.keep_objects.ensures in
-    let tasks = rw made.1 at c.new-tasks.ensures in
-    let read = rw (c.as_slice.ensures.value, c.scope.ensures) at c.in_ok-scripts.ensures in
-    IfOk-weaker c.new.result _ _
-    (λ app is.
-    draft_is_kept (app_draft_view c.args.draft.now) c.in_ok-scripts.scripts.items app read (search (rules, is, objects, tasks)))
-    c.new.ensures
+    let draft = c.args.draft.now in
+    let made = c.in_ok-program.ensures.ok in
+    let lists = c.lists-lists.ensures
+    ∙ ap (λ (tasks : List (Bor (List ℕ))). names_with (drafts_view draft.objects) (texts tasks)) c.as_slice.ensures.value in
+    let kept = kept_by (app_draft_view draft) c.in_ok-program.program c.in_ok-program.names (lists_view c.lists-lists.result)
+    (rw made.0 at c.keep_program.ensures) c.requires (rw made.1 at c.new-names.ensures) lists in
+    let same = rw c.unwrap.ensures at c.new.ensures in
+    kept.is ∙ ap (λ (app : AppView). Ok (together app)) (sym same)

@@ -13,6 +13,6 @@ pub returns : goal.returns
 returns c =
     let m = c.self.inside in
     let target : target_of (debugger_of m) ≡ m.timeline.target = ap (state_or (boot_of m.timeline.app)) c.keeps.ensures.leads in
-    subst (λ (d : Debugger). c.shown.result ≡ Shown (line_of (cores_text d.app (target_of d)))) c.self.view_is
+    subst (λ (d : Debugger). c.shown.result ≡ Shown (line_of (cores_text d.app.names (target_of d)))) c.self.view_is
     (c.shown.ensures ∙ ap Shown c.in_ok-show_all_cores.ensures
-    ∙ ap (λ (s : Snapshot). Shown (line_of (cores_text m.timeline.app s))) (sym target))
+    ∙ ap (λ (s : Snapshot). Shown (line_of (cores_text m.names s))) (sym target))

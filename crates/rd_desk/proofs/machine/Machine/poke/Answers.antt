@@ -13,15 +13,15 @@ pub returns-clause-after : goal.returns-clause-after
 returns-clause-after c =
     let m = c.self.inside in
     let after = c.go.new.timeline in
-    let made = after_obeyed m.timeline after m.wheel m.sessions (Go (move.Edit c.edit.result)) c.in_ok-told.told c.in_ok-told.ensures.ok in
-    subst (λ (d : Debugger). debugger_with after m.wheel m.sessions ≡ after_request d (Go (move.Edit c.args.edit.now))) c.self.view_is
-    (subst (λ (e : Edit). debugger_with after m.wheel m.sessions ≡ after_request (debugger_with m.timeline m.wheel m.sessions) (Go (move.Edit e)))
+    let made = after_obeyed m.timeline after m.names m.wheel m.sessions (Go (move.Edit c.edit.result)) c.in_ok-told.told c.in_ok-told.ensures.ok in
+    subst (λ (d : Debugger). debugger_with after m.names m.wheel m.sessions ≡ after_request d (Go (move.Edit c.args.edit.now))) c.self.view_is
+    (subst (λ (e : Edit). debugger_with after m.names m.wheel m.sessions ≡ after_request (debugger_with m.timeline m.names m.wheel m.sessions) (Go (move.Edit e)))
     c.edit.ensures made)
 
 pub returns-clause-reply : goal.returns-clause-reply
 returns-clause-reply c =
     let m = c.self.inside in
-    let told = reply_obeyed m.timeline c.go.new.timeline m.wheel m.sessions (Go (move.Edit c.edit.result)) c.in_ok-told.told c.in_ok-told.ensures.ok in
+    let told = reply_obeyed m.timeline c.go.new.timeline m.names m.wheel m.sessions (Go (move.Edit c.edit.result)) c.in_ok-told.told c.in_ok-told.ensures.ok in
     subst (λ (d : Debugger). Told c.in_ok-told.told ≡ reply_to_request d (Go (move.Edit c.args.edit.now))) c.self.view_is
-    (subst (λ (e : Edit). Told c.in_ok-told.told ≡ reply_to_request (debugger_with m.timeline m.wheel m.sessions) (Go (move.Edit e))) c.edit.ensures
+    (subst (λ (e : Edit). Told c.in_ok-told.told ≡ reply_to_request (debugger_with m.timeline m.names m.wheel m.sessions) (Go (move.Edit e))) c.edit.ensures
     told)

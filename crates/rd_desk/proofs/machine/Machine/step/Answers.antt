@@ -11,11 +11,11 @@ use Rattle.rd_desk.proofs.machine.Machine.step.Goals as goal
 pub returns-clause-after : goal.returns-clause-after
 returns-clause-after c =
     let m = c.self.inside in
-    subst (λ (d : Debugger). debugger_with c.go.new.timeline m.wheel m.sessions ≡ after_request d (Go (Core c.args.core))) c.self.view_is
-    (after_obeyed m.timeline c.go.new.timeline m.wheel m.sessions (Go (Core c.args.core)) c.in_ok-told.told c.in_ok-told.ensures.ok)
+    subst (λ (d : Debugger). debugger_with c.go.new.timeline m.names m.wheel m.sessions ≡ after_request d (Go (Core c.args.core))) c.self.view_is
+    (after_obeyed m.timeline c.go.new.timeline m.names m.wheel m.sessions (Go (Core c.args.core)) c.in_ok-told.told c.in_ok-told.ensures.ok)
 
 pub returns-clause-reply : goal.returns-clause-reply
 returns-clause-reply c =
     let m = c.self.inside in
     subst (λ (d : Debugger). Told c.in_ok-told.told ≡ reply_to_request d (Go (Core c.args.core))) c.self.view_is
-    (reply_obeyed m.timeline c.go.new.timeline m.wheel m.sessions (Go (Core c.args.core)) c.in_ok-told.told c.in_ok-told.ensures.ok)
+    (reply_obeyed m.timeline c.go.new.timeline m.names m.wheel m.sessions (Go (Core c.args.core)) c.in_ok-told.told c.in_ok-told.ensures.ok)

@@ -16,4 +16,4 @@ returns c =
     let target : target_of (debugger_of m) ≡ m.timeline.target = ap (state_or (boot_of m.timeline.app)) c.keeps.ensures.leads in
     rw (← c.self.view_is)
     (c.shown.ensures ∙ ap Shown c.in_ok-show_thing.ensures
-    ∙ ap (λ (s : Snapshot). Shown (line_of (view_text m.timeline.app s c.args.kind c.args.number))) (sym target))
+    ∙ ap (λ (s : Snapshot). Shown (line_of (view_text m.names s c.args.kind c.args.number))) (sym target))

@@ -17,4 +17,4 @@ invariant_of-result c =
     HasSizes-new app _ (length (priorities_of app)) c.limits.ensures c.tick.ensures refl (search rules)
     (rw c.priorities-priorities.ensures at ready)
     (rw (c.priorities-priorities.ensures, c.entries.ensures) at tasks)
-    (length-map app.tasks.things (λ (script : TaskScript). script.priority)) objects
+    (length-map app.tasks (λ (script : TaskScript). script.priority)) objects

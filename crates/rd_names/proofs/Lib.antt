@@ -1,0 +1,4 @@
+-- The lemmas of this crate.
+pub mod CountLaws
+pub mod SetLaws
+pub mod Offered

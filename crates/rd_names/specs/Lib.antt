@@ -1,0 +1,4 @@
+-- What the contracts of this crate cite.
+pub mod NameSets
+pub mod Names
+pub mod Apps

@@ -1,0 +1,7 @@
+//! What the things of an application are called, and the application itself: what runs, with the
+//! names of it.
+#![tactic(auto)]
+
+pub mod app;
+pub mod name_set;
+pub mod names;
