@@ -2,7 +2,7 @@
 import re
 from typing import Optional, Tuple
 
-from rdbg import wording
+from rdbg.checking import wording
 
 CLOSES = {"[": "]", "{": "}"}
 COMMA = "a comma too many: none stands before a closing bracket or another comma"

@@ -7,7 +7,7 @@ from typing import Iterator, List, Optional, Tuple
 
 from rdbg.application import Application, application
 from rdbg.failure import Failure
-from rdbg.faults import Fault, faults_of
+from rdbg.checking.faults import Fault, faults_of
 from rdbg.json_layout import json_of
 from rdbg.tree import Node, Object
 

@@ -2,8 +2,8 @@
 import unittest
 from typing import List
 
-from rdbg.faults import MOST_FAULTS, faults_of
-from rdbg.remarks import remarks_of
+from rdbg.checking.faults import MOST_FAULTS, faults_of
+from rdbg.checking.remarks import remarks_of
 from rdbg.source import source
 from rdbg.tree import Node, Place
 from tests.paths import EXAMPLES

@@ -3,10 +3,10 @@ import re
 import unittest
 from typing import Dict, List, Set
 
-from rdbg.freertos import BY_NAME, sentence
+from rdbg.checking.freertos import BY_NAME, sentence
 from rdbg.instructions import FORM_OF, FORMS, form_of, is_final
 from rdbg.operands import KINDS, NAMED, Scope
-from rdbg.reading import read
+from rdbg.checking.reading import read
 from rdbg.tree import Node, Place
 from tests.paths import DOCS
 

@@ -3,7 +3,7 @@ import unittest
 from typing import List
 
 from rdbg.source import source
-from rdbg.statements import statement
+from rdbg.checking.statements import statement
 from tests.test_check_faults import FILE, faults, of_code
 
 

@@ -4,7 +4,7 @@ import unittest
 from unittest import mock
 
 from rdbg import commands, instructions
-from rdbg.freertos import WRITTEN
+from rdbg.checking.freertos import WRITTEN
 from rdbg.shell import glossary
 from rdbg.shell.completion import candidates
 from rdbg.shell.gdb import HINTS

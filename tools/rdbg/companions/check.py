@@ -7,8 +7,8 @@ from typing import List, Sequence
 
 from rdbg.application import Application
 from rdbg.failure import Failure
-from rdbg.faults import MOST_FAULTS
-from rdbg.remarks import remarks_of
+from rdbg.checking.faults import MOST_FAULTS
+from rdbg.checking.remarks import remarks_of
 from rdbg.source import Source, load, source
 
 SUMMARY = "says of application files where they are wrong, and what would be right"

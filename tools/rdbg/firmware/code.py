@@ -8,7 +8,7 @@ from rdbg.firmware.operands import Operand, Operands, as_written, made
 from rdbg.firmware.tokens import Refusal, Stop, Token, shown, written
 from rdbg.instructions import FORM_OF
 from rdbg.tree import Node, Place, Places
-from rdbg.wording import quoted
+from rdbg.checking.wording import quoted
 
 # So many instructions of a script are read; fewer are too many already.
 MOST_READ = 1000

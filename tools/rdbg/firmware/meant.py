@@ -9,11 +9,11 @@ from typing import Dict, Optional, Sequence, Set, Tuple
 from rdbg.firmware.numbers import LONGEST, NAME, near_to
 from rdbg.firmware.objects import OBJECTS, SETTINGS, form_of
 from rdbg.firmware.tokens import Token, shown
-from rdbg.freertos import called, sentence
+from rdbg.checking.freertos import called, sentence
 from rdbg.instructions import FORM_OF
 from rdbg.near import nearest
-from rdbg.reading import NO_BRACES
-from rdbg.statements import statement
+from rdbg.checking.reading import NO_BRACES
+from rdbg.checking.statements import statement
 
 FIRST_WORDS = (*FORM_OF, *OBJECTS, *SETTINGS, "const")
 SEMAPHORE = "a queue stands for it (docs/FROM_C.md): queue NAME length 1 item 1"

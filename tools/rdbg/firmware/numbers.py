@@ -5,7 +5,7 @@ from typing import Dict, Iterable, List, Optional, Sequence
 from rdbg.firmware.tokens import Refusal, Token, shown
 from rdbg.near import nearest
 from rdbg.operands import Scope
-from rdbg.slips import slip
+from rdbg.checking.slips import slip
 from rdbg.tree import Place
 
 LARGEST = 0xFFFF_FFFF

@@ -6,7 +6,7 @@ from typing import Callable, Dict, List, Optional, Sequence
 from rdbg.firmware.numbers import FOREVER, LARGEST, NAME, NOTHING_NAMED, NUMBER, Numbers
 from rdbg.firmware.tokens import Refusal, Token, shown, written
 from rdbg.operands import NAMED, REGISTER
-from rdbg.slips import CONSTANTS, slip
+from rdbg.checking.slips import CONSTANTS, slip
 from rdbg.tree import Place
 
 BYTES = re.compile(r"(?:0[xX])?((?:[0-9a-fA-F]{2})+)")

@@ -1,13 +1,13 @@
 """An application in lines (`.fw`), as the tree of the JSON with the places of what is written.
 
 docs/FORMATS.md has the grammar. What it refuses is a fault of its own; what else can be wrong is
-found in the tree, as in that of a JSON (`rdbg.faults`).
+found in the tree, as in that of a JSON (`rdbg.checking.faults`).
 """
 import dataclasses
 import re
 from typing import Dict, List, Optional, Sequence, Set, Tuple
 
-from rdbg.faults import Fault, faults_of
+from rdbg.checking.faults import Fault, faults_of
 from rdbg.firmware import meant
 from rdbg.firmware.code import MOST_READ, Script
 from rdbg.firmware.numbers import Constants, Numbers

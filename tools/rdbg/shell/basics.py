@@ -2,7 +2,8 @@
 import textwrap
 from typing import TYPE_CHECKING, List, Sequence, Tuple
 
-from rdbg import commands, freertos, instructions
+from rdbg import commands, instructions
+from rdbg.checking import freertos
 from rdbg.shell import glossary
 from rdbg.shell.gdb import HINTS
 from rdbg.shell.target import Unable

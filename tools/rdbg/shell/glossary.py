@@ -2,7 +2,7 @@
 import re
 from typing import Dict, List
 
-from rdbg import freertos
+from rdbg.checking import freertos
 
 from rdbg.shell.views import REGISTERS
 

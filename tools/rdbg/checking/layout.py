@@ -4,7 +4,7 @@ import itertools
 from typing import Dict, List, Optional, Sequence, Tuple
 
 from rdbg.operands import NAMED, PATTERN_OF, Scope
-from rdbg.slips import CONSTANTS
+from rdbg.checking.slips import CONSTANTS
 
 # So many words at the most are too many for a look at which of them they are.
 FEW = 3

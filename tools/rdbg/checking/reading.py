@@ -3,15 +3,15 @@ import dataclasses
 import re
 from typing import Dict, Iterator, List, Optional, Sequence, Tuple
 
-from rdbg.freertos import sentence
+from rdbg.checking.freertos import sentence
 from rdbg.instructions import FORM_OF, InstructionForm, form_of
-from rdbg.layout import FEW, Layout
+from rdbg.checking.layout import FEW, Layout
 from rdbg.near import nearest
 from rdbg.operands import KIND_OF, NAMED, PATTERN_OF, Scope
-from rdbg.slips import slip
-from rdbg.statements import statement
+from rdbg.checking.slips import slip
+from rdbg.checking.statements import statement
 from rdbg.tree import Node, Place
-from rdbg.wording import shown, with_article
+from rdbg.checking.wording import shown, with_article
 
 Word = Tuple[str, Place]
 INSTR, NAME = "L5 Instr", "L4 Name"

@@ -2,7 +2,7 @@
 import re
 from typing import Dict, Match, Optional, Sequence, Tuple
 
-from rdbg.slips import as_number
+from rdbg.checking.slips import as_number
 
 A, B = "(?P<a>[rR][0-7])", "(?P<b>[rR][0-7])"
 N, L = r"(?P<n>-?[^\s=!<>&*]+)", "(?P<l>[A-Za-z0-9_]+)"

@@ -1,9 +1,9 @@
 """What rdbg accepts in a file, and who wrote it most likely didn't mean."""
 from typing import Dict, List
 
-from rdbg.faults import Fault
+from rdbg.checking.faults import Fault
 from rdbg.tree import Node, Object, Place
-from rdbg.wording import quoted
+from rdbg.checking.wording import quoted
 
 
 def remarks_of(root: Node) -> List[Fault]:

@@ -11,10 +11,10 @@ from typing import Dict, List, Optional, Set, Tuple
 from rdbg.instructions import form_of, is_final
 from rdbg.near import nearest
 from rdbg.operands import NAMED, Scope, is_name, to_text
-from rdbg.reading import NAME_RULE, read
+from rdbg.checking.reading import NAME_RULE, read
 from rdbg.shapes import FILE, NOT_THERE, OTHER_NAMES, Key, Shape
 from rdbg.tree import Node, Number, Object, Place, Value, kind_of, objects
-from rdbg.wording import quoted, shown
+from rdbg.checking.wording import quoted, shown
 
 SHAPE, LIMIT, NAME, INSTR = "L2 Shape", "L3 Limit", "L4 Name", "L5 Instr"
 OVERWRITE = "L6 OverwriteLength"

@@ -1,0 +1,1 @@
+"""What is wrong with an application file, and what would be right."""
