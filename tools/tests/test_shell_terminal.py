@@ -102,7 +102,7 @@ class HistoryFile(unittest.TestCase):
         places = {
             ("RDBG_HISTORY", "/a/b"): "/a/b",
             ("XDG_STATE_HOME", "/state"): "/state/rdbg/history",
-            ("HOME", "/home/ada"): "/home/ada/.local/state/rdbg/history",
+            ("HOME", "/ada"): "/ada/.local/state/rdbg/history",
         }
         for (name, value), path in places.items():
             with mock.patch.dict(os.environ, {name: value}, clear=True):
