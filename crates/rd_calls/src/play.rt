@@ -171,7 +171,7 @@ pub fn play(alloc: Global, state: &mut State, app: &Program, action: Move) -> Re
     ensures settled { OnOk result (LeavesSettled app.now state.old action state.new) }
 {
     let before = mem::replace(state, State::hollow(alloc));
-    let mut editing = Editing::new(before, Undo::new(alloc));
+    let mut editing = Editing::new(alloc, before);
     let made = play_on(&mut editing, app, &action);
     let undo = editing.end(state);
     match made {

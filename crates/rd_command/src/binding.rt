@@ -20,6 +20,7 @@ use crate::reader::Reader;
 use rd_condition::condition::{Amount, Condition};
 use rd_names::names::Names;
 use rd_text::kind::Kind;
+use thiserror::Error;
 
 /// How many watches a session has at the most. They are numbered from 0.
 pub const MAX_WATCHES: usize = 16;
@@ -70,7 +71,8 @@ pub enum Bound<'a> {
 }
 
 /// The application has no core, register, notification entry or name like this.
-#[derive(Drop)]
+#[derive(Debug, Drop, Error)]
+#[error("there is no such core, register, notification, object or task")]
 pub struct Unknown;
 
 // The condition that compares this amount, of the words after it.

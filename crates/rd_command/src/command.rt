@@ -13,6 +13,7 @@ use crate::form::are_operands;
 use crate::keyword::{Alone, KEYWORDS, Keyword, Longer, Verb};
 use rd_text::words::Words;
 use std::marker::Model;
+use thiserror::Error;
 
 /// A command of a session: its keyword, and the words of its operands, which have the forms that
 /// the keyword asks for. What they name is looked up by `bind`.
@@ -52,7 +53,8 @@ impl<'a> Model for Found<'a> {
 }
 
 /// The line is no command.
-#[derive(Drop)]
+#[derive(Debug, Drop, Error)]
+#[error("the line is no command")]
 pub struct Syntax;
 
 impl<'a> Command<'a> {

@@ -30,27 +30,34 @@ use rd_names::names::Names;
 use rd_state::state::State;
 use std::alloc::Global;
 use std::marker::Model;
+use thiserror::Error;
 
 /// Why a session couldn't enter. Nothing has changed.
-#[derive(Drop)]
+#[derive(Debug, Drop, Error)]
 pub enum EnterError {
     /// As many have entered as may.
+    #[error("as many sessions have entered as may")]
     Full,
     /// Fewer than two places of the history are free.
+    #[error("the history is full: {tally}")]
     HistoryFull { tally: Tally },
     /// A growth was refused.
+    #[error("there is no memory")]
     NoMemory,
 }
 
 /// Why a command wasn't served. Nothing has changed.
-#[derive(Drop)]
+#[derive(Debug, Drop, Error)]
 pub enum NotServed {
     /// No place of the history is free.
+    #[error("the history is full: {tally}")]
     HistoryFull { tally: Tally },
     /// A growth was refused.
+    #[error("there is no memory")]
     NoMemory,
     /// The session's own receipts aren't those of the history. A desk never says so: only a hall,
     /// whose sessions keep their receipts, can.
+    #[error("the session's receipts aren't those of the history")]
     Broken,
 }
 

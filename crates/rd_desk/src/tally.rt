@@ -2,11 +2,12 @@
 
 ghost use Rattle.std.specs.Prelude.{◌≡◌, ◌+◌, ◌<◌};
 
+use std::fmt;
 use std::marker::Model;
 
 /// How full a history is: fewer than two places of it are free. Entries and sessions that are
 /// present, of which each has a place for its departure, leave fewer than two of the limit.
-#[derive(Drop)]
+#[derive(Debug, Drop)]
 pub struct Tally {
     entries: usize,
     present: usize,
@@ -22,6 +23,16 @@ impl Model for Tally {
     ghost view = { λ t. record { entries = t.entries; present = t.present; limit = t.limit } };
 
     ghost invariant = { λ t. t.limit < t.entries + t.present + 2 };
+}
+
+impl fmt::Display for Tally {
+    fn fmt<W: fmt::Write>(&self, f: &mut fmt::Formatter<W>) -> fmt::Result {
+        let (entries, present, limit) = (self.entries, self.present, self.limit);
+        write!(
+            f,
+            "{entries} entries and {present} sessions of at most {limit}"
+        )
+    }
 }
 
 impl Tally {

@@ -6,12 +6,16 @@ ghost use Rattle.std.specs.Prelude.{IfOk, OnErr, OnOk};
 ghost use Rattle.std.specs.Io.KnownBytes.{Consumes, IsAtEnd, Keeps};
 ghost use Rattle.rd_ends.specs.Ends.{Says};
 
+use thiserror::Error;
+
 /// A read has failed.
-#[derive(Clone, Copy, PartialEq, Eq)]
+#[derive(Clone, Copy, Debug, PartialEq, Eq, Error)]
+#[error("a read has failed")]
 pub struct ReadFault;
 
 /// A write has failed.
-#[derive(Clone, Copy, PartialEq, Eq)]
+#[derive(Clone, Copy, Debug, PartialEq, Eq, Error)]
+#[error("a write has failed")]
 pub struct WriteFault;
 
 /// Where bytes come from.

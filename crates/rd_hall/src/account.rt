@@ -11,6 +11,7 @@ use crate::setup::Setup;
 use rd_desk::entry::{Event, Receipt};
 use rd_desk::history::History;
 use std::marker::Model;
+use thiserror::Error;
 
 // Whether each receipt is the entry at its place.
 fn are_entered(history: &History, receipts: &[Receipt]) -> bool
@@ -111,7 +112,8 @@ pub(crate) fn is_account<L: Setup>(history: &History, gones: &[Gone<L>]) -> bool
 }
 
 /// The receipts that were handed in aren't those of the history.
-#[derive(Clone, Copy, PartialEq, Eq)]
+#[derive(Clone, Copy, Debug, PartialEq, Eq, Error)]
+#[error("the receipts aren't those of the history")]
 pub struct Broken;
 
 /// A debugger that has ended: its history, and the sessions with their receipts.

@@ -99,11 +99,11 @@ impl Entry {
 /// The notification entries of one task, 1 to 4 of them, counted from 0
 /// (`configTASK_NOTIFICATION_ARRAY_ENTRIES`).
 #[derive(Drop)]
-pub struct Entries {
+pub struct Notes {
     entries: ArrayVec<Entry, MAX_ENTRIES>,
 }
 
-impl Model for Entries {
+impl Model for Notes {
     ghost use Rattle.std.specs.Prelude.{List};
     ghost use Rattle.rd_notify.specs.declared.entries.Entry.{Entry};
 
@@ -112,9 +112,9 @@ impl Model for Entries {
     ghost view = { λ n. n.entries.items };
 }
 
-impl Entries {
+impl Notes {
     /// `count` entries of value 0, all idle.
-    pub fn new(count: usize) -> Entries
+    pub fn new(count: usize) -> Notes
         requires { count ≤ MAX_ENTRIES }
         ensures { result ≡ replicate count idle_entry }
     {
@@ -125,22 +125,22 @@ impl Entries {
                 state: EntryState::Idle,
             });
         }
-        Entries { entries }
+        Notes { entries }
     }
 
     /// Equal entries.
-    pub fn copy(&self) -> Entries
+    pub fn copy(&self) -> Notes
         ensures { result ≡ self.now }
     {
         let mut entries = ArrayVec::new();
         entries
             .try_extend_from_slice(self.entries.as_slice())
             .unwrap();
-        Entries { entries }
+        Notes { entries }
     }
 
     /// Whether the other entries are equal, one by one.
-    pub fn same(&self, other: &Entries) -> bool
+    pub fn same(&self, other: &Notes) -> bool
         ensures { IsTrue result ↔ (self.now ≡ other.now) }
     {
         self.entries.as_slice() == other.entries.as_slice()
@@ -164,7 +164,7 @@ impl Entries {
     }
 
     /// Puts an entry in the place of the one at `index`.
-    pub fn set(&mut self, index: usize, entry: Entry)
+    pub fn set_entry(&mut self, index: usize, entry: Entry)
         requires { index < length self.old }
         ensures { self.new ≡ slice_set self.old index entry }
     {

@@ -7,7 +7,6 @@ use rd_app::app::Program;
 use rd_edits::edit::Edit;
 use rd_state::editing::Editing;
 use rd_state::state::State;
-use rd_state::undo::Undo;
 use std::test::Fail;
 
 // Register 0 of the first task becomes 7, and then what it was. Answers both values.
@@ -35,7 +34,7 @@ fn register_is_edited(rt: HostRuntime) -> Result<(), Fail> {
     let alloc = rt.alloc();
     let app = Program::builtin(alloc)?;
     let boot = State::boot(alloc, &app)?;
-    let mut editing = Editing::new(boot, Undo::new(alloc));
+    let mut editing = Editing::new(alloc, boot);
     let values = edits_and_goes_back(&app, &mut editing);
     editing.retire();
     assert_same(&rt, values, Some((7, 0)));

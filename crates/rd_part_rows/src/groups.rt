@@ -16,7 +16,6 @@ use rd_state::editing::Editing;
 use rd_state::objects::ObjectChange;
 use rd_state::phase::Listed;
 use rd_state::state::State;
-use rd_state::undo::Undo;
 use rd_timeline::timeline::Timeline;
 use std::alloc::Global;
 use std::process::Abort;
@@ -76,7 +75,7 @@ fn records_changes(rt: &impl Abort, alloc: Global, boot: &State) -> Result<(), F
     requires group { 0 < length boot.now.objects.groups }
     requires tasks { 1 < length boot.now.tasks }
 {
-    let mut editing = Editing::new(boot.copy(alloc)?, Undo::new(alloc));
+    let mut editing = Editing::new(alloc, boot.copy(alloc)?);
     let result = changes_a_group(rt, &mut editing);
     let mut state = State::hollow(alloc);
     let undo = editing.end(&mut state);
@@ -92,7 +91,7 @@ fn undoes_changes(rt: &impl Abort, alloc: Global, boot: &State) -> Result<(), Fa
     requires group { 0 < length boot.now.objects.groups }
     requires tasks { 1 < length boot.now.tasks }
 {
-    let mut editing = Editing::new(boot.copy(alloc)?, Undo::new(alloc));
+    let mut editing = Editing::new(alloc, boot.copy(alloc)?);
     let result = changes_a_group(rt, &mut editing);
     let differs = !editing.state().same(boot);
     let mut state = State::hollow(alloc);

@@ -7,12 +7,10 @@ use rd_app::app::Program;
 use rd_bytes::no_memory::NoMemory;
 use rd_packed::packed::Packed;
 use rd_state::change::Change;
-use rd_state::editing::Editing;
 use rd_state::state::State;
 use rd_state::task_change::TaskChange;
-use rd_state::undo::Undo;
+use rd_state::undo::{Undo, act};
 use std::alloc::Global;
-use std::mem;
 use std::process::Abort;
 use std::test::Fail;
 
@@ -20,11 +18,8 @@ use std::test::Fail;
 fn recorded(alloc: Global, state: &mut State, change: Change<'_>) -> Result<Undo, NoMemory>
     requires { Fits state.old (the_change change) }
 {
-    let now = mem::replace(state, State::hollow(alloc));
-    let mut editing = Editing::new(now, Undo::new(alloc));
-    let made = editing.change(change);
-    let undo = editing.end(state);
-    match made {
+    let mut undo = Undo::new(alloc);
+    match act(state, &mut undo, change) {
         Ok(()) => Ok(undo),
         Err(error) => {
             undo.retire();

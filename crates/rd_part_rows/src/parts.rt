@@ -15,7 +15,6 @@ use rd_state::change::Change;
 use rd_state::editing::Editing;
 use rd_state::phase::Listed;
 use rd_state::state::State;
-use rd_state::undo::Undo;
 use rd_timeline::log::Log;
 use rd_timeline::timeline::Timeline;
 use std::alloc::Global;
@@ -158,7 +157,7 @@ fn puts_to_wait(rt: &impl Abort, editing: &mut Editing) -> Result<(), Fail> {
 
 // The way back leaves the state from before.
 fn undoes_waiting(rt: &impl Abort, alloc: Global, boot: &State) -> Result<(), Fail> {
-    let mut editing = Editing::new(boot.copy(alloc)?, Undo::new(alloc));
+    let mut editing = Editing::new(alloc, boot.copy(alloc)?);
     let result = puts_to_wait(rt, &mut editing);
     let differs = !editing.state().same(boot);
     let mut state = State::hollow(alloc);

@@ -16,16 +16,19 @@ use rd_ring::ring::ByteRing;
 use rd_wait::prio_list::PrioList;
 use std::alloc::{AllocError, Global};
 use std::marker::Model;
+use thiserror::Error;
 
 /// How many items a queue has room for at the most.
 pub const MAX_ITEMS: usize = 64;
 
 /// The queue has no free slot.
-#[derive(Debug, Drop)]
+#[derive(Debug, Drop, Error)]
+#[error("the queue has no free slot")]
 pub struct Full;
 
 /// The queue has no item.
-#[derive(Debug, Drop)]
+#[derive(Debug, Drop, Error)]
+#[error("the queue has no item")]
 pub struct Empty;
 
 /// A queue with room for `capacity` items of `item_size` bytes each, the tasks that wait at it, and

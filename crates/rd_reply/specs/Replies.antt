@@ -9,6 +9,7 @@ use Rattle.rd_refusal.specs.declared.refusal.Refusal.TheVariants.{NothingUndone,
 use Rattle.rd_refusal.specs.declared.refusal.Refusal.TheVariants.{BadEdit, NoMemory, Syntax}
 use Rattle.rd_refusal.specs.declared.refusal.Refusal.TheVariants.{LineTooLong, HistoryFull}
 use Rattle.rd_refusal.specs.declared.refusal.Refusal.TheVariants.{WatchesFull, NoWatch, NotHolder}
+use Rattle.rd_refusal.specs.declared.refusal.Refusal.TheVariants.{Broken, Full}
 use Rattle.rd_refusal.specs.declared.refusal.Refusal.TheVariants as refusal
 use Rattle.rd_names.specs.Names.{NamesView}
 use Rattle.rd_group.specs.GroupSnapshot.{GroupSnapshot}
@@ -73,6 +74,8 @@ refusal_text LineTooLong = codes "LineTooLong"
 refusal_text WatchesFull = codes "WatchesFull"
 refusal_text NoWatch = codes "NoWatch"
 refusal_text NotHolder = codes "NotHolder"
+refusal_text Broken = codes "Broken"
+refusal_text Full = codes "Full"
 
 -- how many moves are done now
 abbrev pub done_text : ℕ → List ℕ

@@ -144,6 +144,8 @@ fn append_refusal_reserved(page: &mut Vec<u8>, refusal: Refusal)
         Refusal::WatchesFull => append_reserved(page, b"WatchesFull"),
         Refusal::NoWatch => append_reserved(page, b"NoWatch"),
         Refusal::NotHolder => append_reserved(page, b"NotHolder"),
+        Refusal::Broken => append_reserved(page, b"Broken"),
+        Refusal::Full => append_reserved(page, b"Full"),
     }
 }
 

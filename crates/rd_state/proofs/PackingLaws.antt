@@ -368,8 +368,12 @@ count-le (suc n) bytes are =
 
 -- ---- how many bytes they take
 
--- A change takes no more than 15 bytes and those that it carries.
-pub packed_short : (change : Change) → length (packed change) ≤ 15 + saved_bytes change
+-- A number is no less than one, and no more than another.
+abbrev pub IsWithin : ℕ → ℕ → ℕ → Type 0
+IsWithin low high n = (low - n) + (n - high) ≡ 0
+
+-- A change takes a byte at least, 15 at the most, and those that it carries.
+pub packed_short : (change : Change) → IsWithin (1 + saved_bytes change) (15 + saved_bytes change) (length (packed change))
 packed_short (SetTick tick) = omega arith
 packed_short (SetTurn turn) = omega arith
 packed_short (SetCore core task) = omega arith
@@ -428,6 +432,18 @@ weight_bounds_bytes (change ∷ later) =
       packed_short change,
       sum_by-cons cost_of change later,
       weight_bounds_bytes later,
+    )
+
+-- And no less than their weight.
+pub weight-le-bytes : (changes : List Change) → weight_of changes ≤ length (all_packed changes)
+weight-le-bytes [] = omega arith
+weight-le-bytes (change ∷ later) =
+    omega (
+      arith,
+      length-append (packed change) (all_packed later),
+      packed_short change,
+      sum_by-cons cost_of change later,
+      weight-le-bytes later,
     )
 
 pub length-weight-le : (changes : List Change) → length changes ≤ weight_of changes

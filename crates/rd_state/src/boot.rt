@@ -11,7 +11,6 @@ ghost use Rattle.rd_state.specs.Valid.{IsValid};
 use crate::editing::Editing;
 use crate::state::State;
 use crate::task::Task;
-use crate::undo::Undo;
 use rd_app::app::Program;
 use rd_bytes::no_memory::NoMemory;
 use rd_wait::prio_list::PrioList;
@@ -54,7 +53,7 @@ impl State {
     {
         let before = State::before_scheduling(alloc, app)?;
         app.limits();
-        let mut editing = Editing::new(before, Undo::new(alloc));
+        let mut editing = Editing::new(alloc, before);
         let settled = editing.settle(app.priorities());
         let mut state = State::hollow(alloc);
         editing.end(&mut state).retire();

@@ -1,6 +1,6 @@
 //! A list of changes, kept as bytes and undone from its end.
 
-ghost use Rattle.std.specs.Prelude.{◌≡◌, ◌<◌, ◌≤◌, ◌∷◌, ◌++◌, ◌^◌, [], length, take, drop};
+ghost use Rattle.std.specs.Prelude.{◌≡◌, ◌<◌, ◌≤◌, ◌∷◌, ◌++◌, [], length, take, drop};
 ghost use Rattle.std.specs.Prelude.{◌+◌, slice_index_or, IsOk, OnOk, OnErr};
 ghost use Rattle.rd_bytes.specs.declared.byte_stack.TheConstants.{INLINE_BYTES};
 ghost use Rattle.rd_state.specs.Change.{applied, inverse_of, no_change, the_change, weight_of};
@@ -19,9 +19,9 @@ use rd_bytes::no_memory::NoMemory;
 use std::alloc::Global;
 use std::marker::Model;
 
-/// A list of changes, as bytes one after the other. Up to 48 bytes take no memory elsewhere.
-#[derive(Drop)]
-pub struct ChangeList {
+/// A list of changes, as bytes one after the other. Up to 48 bytes take no memory elsewhere. It
+/// can't be dropped: what undoes a move ends in `retire`, which records alone call.
+pub(crate) struct ChangeList {
     bytes: ByteStack,
     count: usize,
 }
@@ -63,7 +63,7 @@ pub(crate) fn go_back(state: &mut State, bytes: &[u8], count: usize, len: usize)
 
 impl ChangeList {
     /// No changes. It takes no memory.
-    pub fn new(alloc: Global) -> ChangeList
+    pub(crate) fn new(alloc: Global) -> ChangeList
         ensures { result ≡ record { changes = []; capacity = INLINE_BYTES } }
     {
         ChangeList {
@@ -74,7 +74,7 @@ impl ChangeList {
 
     /// How many changes there are.
     #[inline(always)]
-    pub fn len(&self) -> usize
+    pub(crate) fn len(&self) -> usize
         ensures { result ≡ length self.now.changes }
     {
         self.count
@@ -82,7 +82,7 @@ impl ChangeList {
 
     /// The bytes of all changes, one after the other.
     #[inline(always)]
-    pub fn bytes(&self) -> &[u8]
+    pub(crate) fn bytes(&self) -> &[u8]
         ensures bytes { result.now ≡ all_packed self.now.changes }
         ensures changes { changes_in (length self.now.changes) result.now ≡ self.now.changes }
         ensures are { AreChanges (length self.now.changes) result.now }
@@ -94,7 +94,7 @@ impl ChangeList {
     }
 
     /// The change at `index`. It takes no memory.
-    pub fn get(&self, index: usize) -> Change<'_>
+    pub(crate) fn get(&self, index: usize) -> Change<'_>
         requires { index < length self.now.changes }
         ensures { the_change result ≡ slice_index_or self.now.changes index no_change }
     {
@@ -107,11 +107,13 @@ impl ChangeList {
         last_change(rest).change
     }
 
-    /// How much the changes take: their number and the bytes that they carry.
-    pub fn weight(&self) -> usize
-        requires { weight_of self.now.changes < 2 ^ 64 }
+    /// How much the changes take: their number and the bytes that they carry, which is no more than
+    /// the bytes that they are kept in.
+    pub(crate) fn weight(&self) -> usize
         ensures { result ≡ weight_of self.now.changes }
     {
+        // (each byte that a change carries is one of these)
+        let _len = self.bytes.len();
         let mut weight = 0;
         let mut rest = self.bytes.as_slice();
         let mut left = self.count;
@@ -127,7 +129,7 @@ impl ChangeList {
     /// Puts a change at the end. It takes no memory where there is room for its bytes. Where there
     /// is no memory for them, nothing has changed.
     #[inline(always)]
-    pub fn push(&mut self, change: Change<'_>) -> Result<(), NoMemory>
+    pub(crate) fn push(&mut self, change: Change<'_>) -> Result<(), NoMemory>
         requires { HasBytes (the_change change) }
         ensures ok { OnOk result
             (self.new.changes ≡ self.old.changes ++ the_change change.entry ∷ []) }
@@ -145,7 +147,7 @@ impl ChangeList {
     /// Makes room for `more` bytes of changes. Where there is no memory for it, nothing has
     /// changed.
     #[inline(always)]
-    pub fn reserve(&mut self, more: usize) -> Result<(), NoMemory>
+    pub(crate) fn reserve(&mut self, more: usize) -> Result<(), NoMemory>
         ensures changes { self.new.changes ≡ self.old.changes }
         ensures ok { OnOk result
             (length (all_packed self.new.changes) + more ≤ self.new.capacity) }
@@ -160,7 +162,7 @@ impl ChangeList {
     /// Makes a change, and puts the change that undoes it at the end. It takes no memory where
     /// there is room for its bytes. Where there is no memory for them, nothing has changed.
     #[inline(always)]
-    pub fn act(&mut self, state: &mut State, change: Change<'_>) -> Result<(), NoMemory>
+    pub(crate) fn act(&mut self, state: &mut State, change: Change<'_>) -> Result<(), NoMemory>
         requires { Fits state.old (the_change change) }
         ensures state { OnOk result (state.new ≡ applied state.old (the_change change.entry)) }
         ensures record { OnOk result (self.new.changes
@@ -180,7 +182,11 @@ impl ChangeList {
     /// Makes a transfer, and puts the change that undoes it at the end. It takes no memory where
     /// there is room for its bytes. Where there is no memory for them, nothing has changed.
     #[inline(always)]
-    pub fn act_transfer(&mut self, state: &mut State, transfer: Transfer) -> Result<(), NoMemory>
+    pub(crate) fn act_transfer(
+        &mut self,
+        state: &mut State,
+        transfer: Transfer,
+    ) -> Result<(), NoMemory>
         requires { CanTransfer state.old transfer }
         ensures state { OnOk result
             (state.new ≡ applied state.old (change_of state.old transfer)) }
@@ -201,7 +207,7 @@ impl ChangeList {
     /// Goes back by the changes after the first `len`, the last one first; they leave the list. It
     /// takes no memory, and keeps the memory that it has.
     #[inline(always)]
-    pub fn back_to(&mut self, state: &mut State, len: usize)
+    pub(crate) fn back_to(&mut self, state: &mut State, len: usize)
         requires within { len ≤ length self.old.changes }
         requires fits { CanUndo state.old (drop len self.old.changes) }
         ensures state { state.new ≡ undone state.old (drop len self.old.changes) }
@@ -211,5 +217,10 @@ impl ChangeList {
         let end = go_back(state, self.bytes.as_slice(), self.count, len);
         self.bytes.truncate(end);
         self.count = len;
+    }
+
+    /// Ends the list.
+    pub(crate) fn retire(self) {
+        let ChangeList { bytes: _, count: _ } = self;
     }
 }

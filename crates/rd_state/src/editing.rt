@@ -29,6 +29,7 @@ use rd_queue::change::QueueChange;
 use rd_queue::queue_set_change::QueueSetChange;
 use rd_stream::message_change::MessageChange;
 use rd_stream::stream_change::StreamChange;
+use std::alloc::Global;
 use std::marker::Model;
 
 /// A state that is changed move by move, with a record, to which each change adds what undoes it.
@@ -57,17 +58,15 @@ impl Model for Editing {
 }
 
 impl Editing {
-    /// A state, with a record to which the changes of moves will be added. The first move begins
-    /// here.
-    pub fn new(state: State, undo: Undo) -> Editing
-        ensures { result ≡ begun_at state undo result.room }
+    /// A state, with an empty record, to which the changes of moves will be added. The first move
+    /// begins here. It takes no memory.
+    pub fn new(alloc: Global, state: State) -> Editing
+        ensures { result ≡ begun_at state [] result.room }
     {
-        let Undo { changes } = undo;
-        let start = changes.len();
         Editing {
             state,
-            changes,
-            start,
+            changes: ChangeList::new(alloc),
+            start: 0,
         }
     }
 
@@ -318,8 +317,9 @@ impl Editing {
     pub fn retire(self) {
         let Editing {
             state: _,
-            changes: _,
+            changes,
             start: _,
         } = self;
+        changes.retire();
     }
 }

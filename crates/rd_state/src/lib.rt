@@ -3,8 +3,9 @@
 
 mod boot;
 pub mod change;
-pub mod change_list;
+mod change_list;
 pub mod editing;
+mod new_objects;
 pub mod objects;
 pub mod packing;
 pub mod phase;

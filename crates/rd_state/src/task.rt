@@ -9,7 +9,7 @@ ghost use Rattle.rd_state.specs.Boot.{fresh_task};
 use crate::phase::Phase;
 use rd_app::instr::REGISTERS;
 use rd_bytes::bytes::Bytes;
-use rd_notify::entries::{Entries, Entry};
+use rd_notify::entries::{Entry, Notes};
 use std::marker::Model;
 
 /// A task of the target.
@@ -18,7 +18,7 @@ pub struct Task {
     registers: [u32; REGISTERS],
     bytes: Bytes,
     phase: Phase,
-    entries: Entries,
+    entries: Notes,
 }
 
 // (Written out, so that a drop of one is a call: no proof elsewhere has to look into its parts.)
@@ -59,7 +59,7 @@ impl Task {
             registers: [0; REGISTERS],
             bytes: Bytes::new(),
             phase: Phase::Run,
-            entries: Entries::new(entries),
+            entries: Notes::new(entries),
         }
     }
 
@@ -126,7 +126,7 @@ impl Task {
     }
 
     /// The notification entries.
-    pub fn entries(&self) -> &Entries
+    pub fn entries(&self) -> &Notes
         ensures { result.now ≡ self.now.entries }
     {
         &self.entries
@@ -170,7 +170,7 @@ impl Task {
         ensures { self.new
             ≡ record self.old { entries = slice_set self.old.entries index entry } }
     {
-        self.entries.set(index, entry);
+        self.entries.set_entry(index, entry);
     }
 
     /// Puts the task into another phase.

@@ -1,13 +1,16 @@
 //! The record of one move, and the way back by it.
 
-ghost use Rattle.std.specs.Prelude.{◌≡◌, ◌<◌, ◌^◌, [], length, slice_index_or};
-ghost use Rattle.rd_state.specs.Change.{no_change, the_change, weight_of};
+ghost use Rattle.std.specs.Prelude.{◌≡◌, ◌<◌, ◌∷◌, ◌++◌, [], length, slice_index_or};
+ghost use Rattle.std.specs.Prelude.{OnErr, OnOk};
+ghost use Rattle.rd_state.specs.Change.{applied, inverse_of, no_change, the_change, weight_of};
+ghost use Rattle.rd_state.specs.Change.{Fits};
 ghost use Rattle.rd_state.specs.PackedChanges.{all_packed, changes_in, AreChanges};
 ghost use Rattle.rd_state.specs.Undoing.{undone, CanUndo, EachIsUndone};
 
 use crate::change::Change;
 use crate::change_list::{ChangeList, go_back};
 use crate::state::State;
+use rd_bytes::no_memory::NoMemory;
 use std::alloc::Global;
 use std::marker::Model;
 
@@ -39,7 +42,8 @@ impl Undo {
 
     /// Ends a record that nobody will go back by.
     pub fn retire(self) {
-        let Undo { changes: _ } = self;
+        let Undo { changes } = self;
+        changes.retire();
     }
 
     /// How many changes it has. It takes no memory.
@@ -68,7 +72,6 @@ impl Undo {
 
     /// How much it takes: the number of its changes and the bytes that they carry.
     pub fn weight(&self) -> usize
-        requires { weight_of self.now < 2 ^ 64 }
         ensures { result ≡ weight_of self.now }
     {
         self.changes.weight()
@@ -95,6 +98,19 @@ impl State {
     {
         go_back(self, bytes, count, 0);
     }
+}
+
+/// Makes a change, and puts the change that undoes it at the record's end. It takes no memory where
+/// there is room for its bytes. Where there is no memory for them, nothing has changed.
+pub fn act(state: &mut State, undo: &mut Undo, change: Change<'_>) -> Result<(), NoMemory>
+    requires { Fits state.old (the_change change) }
+    ensures state { OnOk result (state.new ≡ applied state.old (the_change change.entry)) }
+    ensures record { OnOk result
+        (undo.new ≡ undo.old ++ inverse_of state.old (the_change change.entry) ∷ []) }
+    ensures err { OnErr result (state.new ≡ state.old) }
+    ensures err_record { OnErr result (undo.new ≡ undo.old) }
+{
+    undo.changes.act(state, change)
 }
 
 /// Each change is undone by its inverse, to the last field of the state.

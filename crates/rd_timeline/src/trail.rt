@@ -15,7 +15,6 @@ use rd_calls::play::{MAX_RECORD_BYTES, play_on};
 use rd_refusal::refusal::Refusal;
 use rd_state::editing::Editing;
 use rd_state::state::State;
-use rd_state::undo::Undo;
 use std::alloc::Global;
 use std::marker::Model;
 
@@ -60,7 +59,7 @@ impl Trail {
         ensures records { result.records ≡ [] }
     {
         Trail {
-            editing: Editing::new(target, Undo::new(alloc)),
+            editing: Editing::new(alloc, target),
             counts: Vec::new(alloc),
         }
     }

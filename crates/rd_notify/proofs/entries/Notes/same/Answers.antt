@@ -4,7 +4,7 @@ use Rattle.std.specs.Bool.{Decides}
 use Rattle.std.proofs.lemmas.Slice.Eq.{slice_eq-Decides}
 use Rattle.rd_notify.specs.declared.entries.Entry.{Entry}
 use Rattle.rd_notify.specs.contracts.entries.EntryPartialEq.TheImpl as entry
-use Rattle.rd_notify.proofs.entries.Entries.same.Goals as goal
+use Rattle.rd_notify.proofs.entries.Notes.same.Goals as goal
 
 same_entry : (a b : Entry) → Decides (entry.eq-value.it a b) (a ≡ b)
 same_entry a b = search rules
