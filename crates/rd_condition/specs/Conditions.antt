@@ -77,6 +77,11 @@ HasAmount s (Value task index) =
     (task < length s.tasks) × (index < length (task_at s task).entries)
 HasAmount s Tick = Unit {0}
 
+-- The state has what a condition names.
+abbrev pub HasCondition : Snapshot → Condition → Type 0
+HasCondition s (Compares amount comparison bound) = HasAmount s amount
+HasCondition s (InPhase task name) = task < length s.tasks
+
 -- The condition names what the application has.
 abbrev pub IsAmountOf : Application → Amount → Type 0
 IsAmountOf app (Items queue) = queue < length app.objects.queues

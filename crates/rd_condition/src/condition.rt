@@ -3,10 +3,8 @@
 ghost use Rattle.std.specs.Prelude.{◌≡◌};
 ghost use Rattle.rd_condition.specs.Conditions.{amount_of, compares, has_ended, has_failed};
 ghost use Rattle.rd_condition.specs.Conditions.{holds, is_named};
-ghost use Rattle.rd_condition.specs.Conditions.{HasAmount, IsConditionOf};
-ghost use Rattle.rd_state.specs.Valid.{IsValid};
+ghost use Rattle.rd_condition.specs.Conditions.{HasAmount, HasCondition};
 
-use rd_app::app::Program;
 use rd_state::phase::Phase;
 use rd_state::state::State;
 
@@ -154,13 +152,12 @@ impl Amount {
 }
 
 impl Condition {
-    /// Whether the condition holds in this state. It names what the application has.
-    pub fn holds(self, app: &Program, state: &State) -> bool
-        requires valid { IsValid app.now state.now }
-        requires named { IsConditionOf app.now self }
+    /// Whether the condition holds in this state, which has what is named: as each valid state of an
+    /// application does that has it.
+    pub fn holds(self, state: &State) -> bool
+        requires { HasCondition state.now self }
         ensures { result ≡ holds state.now self }
     {
-        let _ = app;
         match self {
             Condition::Compares {
                 amount,

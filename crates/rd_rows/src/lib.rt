@@ -38,6 +38,12 @@ mod queue_sets;
 #[cfg(test)]
 mod queues;
 #[cfg(test)]
+mod refused_buffers;
+#[cfg(test)]
+mod refused_files;
+#[cfg(test)]
+mod refused_groups;
+#[cfg(test)]
 mod rows;
 #[cfg(test)]
 mod runs;

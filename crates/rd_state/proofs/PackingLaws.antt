@@ -22,7 +22,7 @@ use Rattle.rd_queue.specs.PackedQueueSetChanges.{last_queue_set_change, queue_se
 use Rattle.rd_stream.proofs.Offered.{message_change_is_read_back, message_inverse_has_bytes, stream_change_is_read_back, stream_inverse_has_bytes}
 use Rattle.rd_stream.specs.MessageChanges.{MessageChange}
 use Rattle.rd_stream.specs.MessageChanges as of_message
-use Rattle.rd_stream.specs.PackedMessageChanges.{last_message_buffer, last_message_change, message_change_length, message_fields, MessageChangeIsAtEnd}
+use Rattle.rd_stream.specs.PackedMessageChanges.{last_message_change, message_change_length, message_fields, MessageChangeIsAtEnd}
 use Rattle.rd_stream.specs.PackedStreamChanges.{last_stream_change, stream_change_length, stream_fields, StreamChangeIsAtEnd}
 use Rattle.rd_stream.specs.StreamChanges.{StreamChange}
 use Rattle.rd_stream.specs.StreamChanges as of_stream

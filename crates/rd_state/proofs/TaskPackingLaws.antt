@@ -14,7 +14,6 @@ use Rattle.rd_notify.specs.declared.entries.EntryState.TheVariants.{Idle, Waitin
 use Rattle.rd_state.specs.PackedTaskChanges.{byte_of_entry_state, entry_state_of_byte}
 use Rattle.rd_state.specs.declared.phase.Cause.{Cause}
 use Rattle.rd_state.specs.declared.phase.Cause.TheVariants.{SetFull, TwoReaders, TwoWriters, EmptyData, BadBits}
-use Rattle.rd_state.specs.declared.phase.Held.{Held}
 use Rattle.rd_state.specs.declared.phase.Held.TheVariants.{Stream, Message}
 use Rattle.rd_stream.specs.declared.side.Side.TheVariants.{Reader, Writer}
 use Rattle.rd_state.specs.PackedTaskChanges.{cause_of_number, number_of_cause}

@@ -20,8 +20,8 @@ use std::alloc::Global;
 use std::marker::Model;
 
 /// A list of changes, as bytes one after the other. Up to 48 bytes take no memory elsewhere. It
-/// can't be dropped: what undoes a move ends in `retire`, which records alone call.
-pub(crate) struct ChangeList {
+/// can't be dropped outside of this crate, where records alone end it.
+pub struct ChangeList {
     bytes: ByteStack,
     count: usize,
 }
@@ -63,7 +63,7 @@ pub(crate) fn go_back(state: &mut State, bytes: &[u8], count: usize, len: usize)
 
 impl ChangeList {
     /// No changes. It takes no memory.
-    pub(crate) fn new(alloc: Global) -> ChangeList
+    pub fn new(alloc: Global) -> ChangeList
         ensures { result ≡ record { changes = []; capacity = INLINE_BYTES } }
     {
         ChangeList {
@@ -74,7 +74,7 @@ impl ChangeList {
 
     /// How many changes there are.
     #[inline(always)]
-    pub(crate) fn len(&self) -> usize
+    pub fn len(&self) -> usize
         ensures { result ≡ length self.now.changes }
     {
         self.count
@@ -82,7 +82,7 @@ impl ChangeList {
 
     /// The bytes of all changes, one after the other.
     #[inline(always)]
-    pub(crate) fn bytes(&self) -> &[u8]
+    pub fn bytes(&self) -> &[u8]
         ensures bytes { result.now ≡ all_packed self.now.changes }
         ensures changes { changes_in (length self.now.changes) result.now ≡ self.now.changes }
         ensures are { AreChanges (length self.now.changes) result.now }
@@ -94,7 +94,7 @@ impl ChangeList {
     }
 
     /// The change at `index`. It takes no memory.
-    pub(crate) fn get(&self, index: usize) -> Change<'_>
+    pub fn get(&self, index: usize) -> Change<'_>
         requires { index < length self.now.changes }
         ensures { the_change result ≡ slice_index_or self.now.changes index no_change }
     {
@@ -109,7 +109,7 @@ impl ChangeList {
 
     /// How much the changes take: their number and the bytes that they carry, which is no more than
     /// the bytes that they are kept in.
-    pub(crate) fn weight(&self) -> usize
+    pub fn weight(&self) -> usize
         ensures { result ≡ weight_of self.now.changes }
     {
         // (each byte that a change carries is one of these)
@@ -129,7 +129,7 @@ impl ChangeList {
     /// Puts a change at the end. It takes no memory where there is room for its bytes. Where there
     /// is no memory for them, nothing has changed.
     #[inline(always)]
-    pub(crate) fn push(&mut self, change: Change<'_>) -> Result<(), NoMemory>
+    pub fn push(&mut self, change: Change<'_>) -> Result<(), NoMemory>
         requires { HasBytes (the_change change) }
         ensures ok { OnOk result
             (self.new.changes ≡ self.old.changes ++ the_change change.entry ∷ []) }
@@ -147,7 +147,7 @@ impl ChangeList {
     /// Makes room for `more` bytes of changes. Where there is no memory for it, nothing has
     /// changed.
     #[inline(always)]
-    pub(crate) fn reserve(&mut self, more: usize) -> Result<(), NoMemory>
+    pub fn reserve(&mut self, more: usize) -> Result<(), NoMemory>
         ensures changes { self.new.changes ≡ self.old.changes }
         ensures ok { OnOk result
             (length (all_packed self.new.changes) + more ≤ self.new.capacity) }
@@ -162,7 +162,7 @@ impl ChangeList {
     /// Makes a change, and puts the change that undoes it at the end. It takes no memory where
     /// there is room for its bytes. Where there is no memory for them, nothing has changed.
     #[inline(always)]
-    pub(crate) fn act(&mut self, state: &mut State, change: Change<'_>) -> Result<(), NoMemory>
+    pub fn act(&mut self, state: &mut State, change: Change<'_>) -> Result<(), NoMemory>
         requires { Fits state.old (the_change change) }
         ensures state { OnOk result (state.new ≡ applied state.old (the_change change.entry)) }
         ensures record { OnOk result (self.new.changes
@@ -182,11 +182,7 @@ impl ChangeList {
     /// Makes a transfer, and puts the change that undoes it at the end. It takes no memory where
     /// there is room for its bytes. Where there is no memory for them, nothing has changed.
     #[inline(always)]
-    pub(crate) fn act_transfer(
-        &mut self,
-        state: &mut State,
-        transfer: Transfer,
-    ) -> Result<(), NoMemory>
+    pub fn act_transfer(&mut self, state: &mut State, transfer: Transfer) -> Result<(), NoMemory>
         requires { CanTransfer state.old transfer }
         ensures state { OnOk result
             (state.new ≡ applied state.old (change_of state.old transfer)) }
@@ -207,7 +203,7 @@ impl ChangeList {
     /// Goes back by the changes after the first `len`, the last one first; they leave the list. It
     /// takes no memory, and keeps the memory that it has.
     #[inline(always)]
-    pub(crate) fn back_to(&mut self, state: &mut State, len: usize)
+    pub fn back_to(&mut self, state: &mut State, len: usize)
         requires within { len ≤ length self.old.changes }
         requires fits { CanUndo state.old (drop len self.old.changes) }
         ensures state { state.new ≡ undone state.old (drop len self.old.changes) }

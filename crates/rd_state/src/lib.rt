@@ -3,7 +3,7 @@
 
 mod boot;
 pub mod change;
-mod change_list;
+pub mod change_list;
 pub mod editing;
 mod new_objects;
 pub mod objects;

@@ -33,7 +33,7 @@ impl Timeline {
     {
         self.keeps();
         match goal {
-            Some(condition) => condition.holds(self.app(), self.target()),
+            Some(condition) => condition.holds(self.target()),
             None => false,
         }
     }
