@@ -33,7 +33,8 @@ view_text names s kind.Message message =
 view_text names s kind.Group group =
     group_text names (name_in names kind.Group group) (group_at s group)
 view_text names s kind.Task task =
-    task_text names (name_in names kind.Task task) (position (is_task task) s.cores) (task_at s task)
+    task_text names (name_in names kind.Task task) (position (is_task task) s.cores)
+    (task_at s task)
 
 -- a view of the target: of the thing of a kind with that number, or of the cores
 pub data View : Type 0 where
