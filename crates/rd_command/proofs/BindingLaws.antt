@@ -1,5 +1,5 @@
 -- What a command is bound to is in the application.
-use Rattle.std.proofs.Common.{◌≡◌, ◌∙◌, ℕ, ◌<◌, ◌≤◌, ◌&&◌, true, cond, List, [], ◌∷◌, length, nat_eq, nat_le, nat_lt, Some, None, position, option_map, slice_get, refl, sym, ap, subst, arith}
+use Rattle.std.proofs.Common.{◌≡◌, ◌∙◌, ℕ, ◌<◌, cond, List, [], ◌∷◌, length, nat_eq, nat_lt, Some, None, position, option_map, slice_get, refl, sym, ap, subst, arith}
 use Rattle.std.specs.Prelude.{IfOk, Result, Ok, Err}
 use Rattle.std.specs.Result.{result_ok}
 use Rattle.std.specs.Str.{bytes_eq}
@@ -7,7 +7,6 @@ use Rattle.std.proofs.lemmas.Bool.Decides.{nat_tests}
 use Rattle.std.proofs.lemmas.List.Quantifiers.{position-Some}
 use Rattle.rd_text.specs.declared.kind.Kind.{Kind}
 use Rattle.rd_text.specs.Words.{name_of, number_of}
-use Rattle.rd_text.proofs.Offered.{and_left, and_right}
 use Rattle.rd_names.specs.Apps.{AppView, AreAsMany}
 use Rattle.rd_names.specs.Names.{names_of}
 use Rattle.rd_condition.specs.declared.condition.Condition.{Condition}
@@ -24,16 +23,16 @@ use Rattle.rd_command.specs.declared.keyword.Keyword.TheVariants.{Step, Tick, Ba
 use Rattle.rd_command.specs.declared.keyword.Parameter.{Parameter}
 use Rattle.rd_command.specs.declared.keyword.Parameter.TheVariants.{Core, Count, Register, Index, Number, Data, Operator, Phase, Name}
 use Rattle.rd_command.specs.declared.keyword.Parameter.TheVariants as parameter
-use Rattle.rd_command.specs.Bindings.{IsBoundOf, IsCount, IsWatch, Known, Reading, after_word, bound_made, bound_of, bound_with, condition_made, known_of, made_of, next_condition, next_keyword, next_value, number_below, number_named, value_of}
+use Rattle.rd_command.specs.Bindings.{IsBoundOf, IsWatch, Known, Reading, after_word, bound_made, bound_of, bound_with, condition_made, known_of, made_of, next_condition, next_keyword, next_value, number_below, number_named, value_of}
 use Rattle.rd_command.specs.Commands.{CommandView}
-use Rattle.rd_command.specs.Forms.{count_of, watch_number, watch_of}
+use Rattle.rd_command.specs.Forms.{watch_number, watch_of}
 use Rattle.rd_command.specs.Keywords.{ConditionRow, Makes, MakesBound, Operands, Plain, Row, Spelled, Value, WithCondition, Written, condition_keyword_of, condition_row, row_of}
 use Rattle.rd_command.proofs.Steps.{mapped, option_if, some_if, then_some}
 
 -- what an operand of that kind may stand for
 abbrev IsValue : Known → (parameter : Parameter) → Value parameter → Type 0
 IsValue known Core core = core < known.cores
-IsValue known Count count = IsCount count
+IsValue known Count count = Unit {0}
 IsValue known Register register = register < 8
 IsValue known Index index = index < known.entries
 IsValue known Number number = Unit {0}
@@ -50,16 +49,6 @@ below_small limit word number e =
     let below : n.0 < limit = grind (arith, nat_tests) in
     omega (arith, h.1)
 
-count_small : (word : List ℕ) (count : ℕ) → count_of word ≡ Some count → IsCount count
-count_small word count e =
-    let n = then_some (λ count. cond (nat_lt 0 count && nat_le count 1000000) (Some count) None) (number_of word) count e in
-    let h = some_if (nat_lt 0 n.0 && nat_le n.0 1000000) n.0 count n.2 in
-    let some : nat_lt 0 n.0 ≡ true = and_left (nat_lt 0 n.0) (nat_le n.0 1000000) h.0 in
-    let few : nat_le n.0 1000000 ≡ true = and_right (nat_lt 0 n.0) (nat_le n.0 1000000) h.0 in
-    let least : 0 < n.0 = grind (arith, nat_tests) in
-    let most : n.0 ≤ 1000000 = grind (arith, nat_tests) in
-    (omega (arith, h.1, least), omega (arith, h.1, most))
-
 watch_number_small : (digits : List ℕ) (watch : ℕ) → watch_number digits ≡ Some watch → IsWatch watch
 watch_number_small digits watch e = below_small 16 digits watch e
 
@@ -75,7 +64,7 @@ named_there known kind word number e =
 value_there : (known : Known) (parameter : Parameter) (word : List ℕ) (value : Value parameter) → value_of known parameter word ≡ Some value
     → IsValue known parameter value
 value_there known Core word value e = below_small known.cores word value e
-value_there known Count word value e = count_small word value e
+value_there known Count word value e = tt
 value_there known Register word value e = below_small 8 word value e
 value_there known Index word value e = below_small known.entries word value e
 value_there known Number word value e = tt
@@ -187,11 +176,11 @@ poke_good app there poked.Byte = λ stream named index _ value _. stream_there a
 row_good : (app : AppView) → AreThere app → (k : Keyword) → RowGood app (row_of k)
 row_good app there Step = λ core few. few
 row_good app there Tick = tt
-row_good app there Back = λ count is. is
-row_good app there Forward = λ count is. is
-row_good app there Redo = λ count is. is
-row_good app there Until = λ condition holds count is. (holds, is)
-row_good app there UntilWatch = λ watch few count is. (few, is)
+row_good app there Back = λ count _. tt
+row_good app there Forward = λ count _. tt
+row_good app there Redo = λ count _. tt
+row_good app there Until = λ condition holds count _. holds
+row_good app there UntilWatch = λ watch few count _. few
 row_good app there BackUntil = λ condition holds. holds
 row_good app there BackUntilWatch = λ watch few. few
 row_good app there (Poke k) = poke_good app there k

@@ -1,5 +1,5 @@
 -- What the words of a command name in an application.
-use Rattle.std.specs.Prelude.{ℕ, ◌≡◌, ◌<◌, ◌≤◌, ◌&&◌, Bool, true, nat_lt, if◌then◌else◌}
+use Rattle.std.specs.Prelude.{ℕ, ◌≡◌, ◌<◌, ◌&&◌, Bool, true, nat_lt, if◌then◌else◌}
 use Rattle.std.specs.Prelude.{List, [], ◌∷◌, ◌++◌, drop, length, position, slice_get}
 use Rattle.std.specs.Prelude.{Option, Some, None, is_some, option_and_then, option_map}
 use Rattle.std.specs.Prelude.{Result, Ok, Err}
@@ -37,23 +37,19 @@ use Rattle.rd_command.specs.Keywords.{parameters_of, row_of}
 
 -- ---- what a command is bound to
 
--- a number of moves
-abbrev pub IsCount : ℕ → Type 0
-IsCount count = (0 < count) × (count ≤ 1000000)
-
 -- the number that a watch may have
 abbrev pub IsWatch : ℕ → Type 0
 IsWatch watch = watch < MAX_WATCHES
 
--- The application has what the command names.
+-- The application has what the command names. (That a count is one says its type.)
 abbrev pub IsBoundOf : AppView → Bound → Type 0
 IsBoundOf app (bound.Step core) = core < app.runs.cores
 IsBoundOf app bound.Tick = Unit {0}
-IsBoundOf app (bound.Forward count) = IsCount count
-IsBoundOf app (bound.Redo count) = IsCount count
-IsBoundOf app (bound.Back count) = IsCount count
-IsBoundOf app (bound.Until condition count) = IsConditionOf app.runs condition × IsCount count
-IsBoundOf app (bound.UntilWatch watch count) = IsWatch watch × IsCount count
+IsBoundOf app (bound.Forward count) = Unit {0}
+IsBoundOf app (bound.Redo count) = Unit {0}
+IsBoundOf app (bound.Back count) = Unit {0}
+IsBoundOf app (bound.Until condition count) = IsConditionOf app.runs condition
+IsBoundOf app (bound.UntilWatch watch count) = IsWatch watch
 IsBoundOf app (bound.BackUntil condition) = IsConditionOf app.runs condition
 IsBoundOf app (bound.BackUntilWatch watch) = IsWatch watch
 IsBoundOf app (bound.Poke edit) = IsEditOf app.runs edit

@@ -1,5 +1,5 @@
 -- The forms of the words of a command, whatever they name.
-use Rattle.std.specs.Prelude.{ℕ, ◌&&◌, Bool, true, false, nat_eq, nat_lt, nat_le}
+use Rattle.std.specs.Prelude.{ℕ, Bool, true, false, nat_eq, nat_lt}
 use Rattle.std.specs.Prelude.{if◌then◌else◌, codes}
 use Rattle.std.specs.Prelude.{List, [], ◌∷◌, Option, Some, None, is_some, option_and_then}
 use Rattle.std.specs.Str.{bytes_eq}
@@ -12,15 +12,13 @@ use Rattle.rd_command.specs.declared.keyword.Parameter.{Parameter}
 use Rattle.rd_command.specs.declared.keyword.Parameter.TheVariants.{Core, Count, Register, Index}
 use Rattle.rd_command.specs.declared.keyword.Parameter.TheVariants.{Number, Data, Operator}
 use Rattle.rd_command.specs.declared.keyword.Parameter.TheVariants.{Phase, Watch, Name}
+use Rattle.rd_command.specs.Counts.{count_in}
 use Rattle.rd_command.specs.Keywords.{Operands, Plain, WithCondition}
 use Rattle.rd_command.specs.Keywords.{condition_keyword_of, condition_row, parameters_of}
 
--- a number of moves: 1 to 1,000,000
+-- a number of moves
 abbrev pub count_of : List ℕ → Option ℕ
-count_of word =
-    option_and_then
-    (λ count. if nat_lt 0 count && nat_le count 1000000 then Some count else None)
-    (number_of word)
+count_of word = option_and_then count_in (number_of word)
 
 -- how an amount is compared
 abbrev pub operator_of : List ℕ → Option Comparison

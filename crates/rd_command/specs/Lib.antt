@@ -1,6 +1,7 @@
 -- What the contracts of this crate cite.
 pub mod Bindings
 pub mod Commands
+pub mod Counts
 pub mod Forms
 pub mod Keywords
 pub mod Tables

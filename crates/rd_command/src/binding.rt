@@ -14,6 +14,7 @@ ghost use Rattle.rd_command.specs.Commands.{Spells};
 ghost use Rattle.rd_command.specs.Keywords.{amount_row, edit_row, row_of};
 
 use crate::command::Command;
+use crate::count::Count;
 use crate::keyword::{AmountKeyword, ConditionKeyword, EditKeyword, Keyword};
 use crate::poke::{Parts, Poke};
 use crate::reader::Reader;
@@ -26,8 +27,8 @@ use thiserror::Error;
 pub const MAX_WATCHES: usize = 16;
 
 /// A command whose names are numbers, and whose cores, registers and notification entries are
-/// there. A count is 1 to 1,000,000, the number of a watch in place of a condition 0 to 15. Whether
-/// the session has such a watch is not asked here.
+/// there. The number of a watch in place of a condition is 0 to 15. Whether the session has such a
+/// watch is not asked here.
 #[derive(Drop)]
 pub enum Bound<'a> {
     /// `step N`: the move of this core.
@@ -35,15 +36,15 @@ pub enum Bound<'a> {
     /// `tick`: a tick passes.
     Tick,
     /// `forward COUNT`: so many moves of the policy.
-    Forward { count: usize },
+    Forward { count: Count },
     /// `redo COUNT`: so many of the moves that were taken back are made again.
-    Redo { count: usize },
+    Redo { count: Count },
     /// `back COUNT`: so many of the last moves are taken back.
-    Back { count: usize },
+    Back { count: Count },
     /// `until COND COUNT`: moves of the policy until the condition holds, at most so many.
-    Until { condition: Condition, count: usize },
+    Until { condition: Condition, count: Count },
     /// `until wN COUNT`: the same until the condition of the session's watch holds.
-    UntilWatch { watch: usize, count: usize },
+    UntilWatch { watch: usize, count: Count },
     /// `back until COND`: back to the last place before this one where the condition held.
     BackUntil { condition: Condition },
     /// `back until wN`: the same of the condition of the session's watch.

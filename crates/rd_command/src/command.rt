@@ -3,8 +3,9 @@
 ghost use Rattle.std.specs.Prelude.{◌≡◌, Some, IfOk};
 ghost use Rattle.std.specs.Result.{result_ok};
 ghost use Rattle.rd_text.specs.Words.{words_of};
-ghost use Rattle.rd_command.specs.Commands.{CommandView, Spells, command_from, command_of};
-ghost use Rattle.rd_command.specs.Keywords.{needs_wheel};
+ghost use Rattle.rd_command.specs.Commands.{AreOperands, CommandView, Spells, command_from};
+ghost use Rattle.rd_command.specs.Commands.{command_of};
+ghost use Rattle.rd_command.specs.Keywords.{needs_wheel, operands_of, row_of};
 ghost use Rattle.rd_command.specs.Tables.{alone_view, longer_view, verb_view, verbs_view};
 ghost use Rattle.rd_command.specs.Tables.{command_alone, command_behind, command_by_verb};
 ghost use Rattle.rd_command.specs.Tables.{command_longer, command_with_second};
@@ -16,7 +17,8 @@ use std::marker::Model;
 use thiserror::Error;
 
 /// A command of a session: its keyword, and the words of its operands, which have the forms that
-/// the keyword asks for. What they name is looked up by `bind`.
+/// the keyword asks for: so the word of a count is a number of 1 to 1,000,000. What they name is
+/// looked up by `bind`, which also makes them numbers, the word of a count a `Count`.
 #[derive(Drop)]
 pub struct Command<'a> {
     line: &'a [u8],
@@ -74,6 +76,14 @@ impl<'a> Command<'a> {
         ensures { command_of (words_of result.now) ≡ Some self.now }
     {
         self.line
+    }
+
+    /// What holds of every command: the words of its operands have the forms that its keyword asks
+    /// for, that of a count the form of one.
+    pub fn keeps(&self)
+        ensures { AreOperands (operands_of (row_of self.now.keyword)) self.now.operands }
+    {
+        let _ = &self.line;
     }
 
     /// Whether the command is refused while another session has the wheel.

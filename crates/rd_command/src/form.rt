@@ -9,18 +9,16 @@ ghost use Rattle.rd_command.specs.Forms.{are_operands, is_all};
 ghost use Rattle.rd_command.specs.Tables.{operands_view};
 
 use crate::binding::MAX_WATCHES;
+use crate::count::Count;
 use crate::keyword::{Operands, Parameter, condition_keyword_of};
 use rd_condition::condition::{Comparison, PhaseName};
 use rd_text::words::{Words, bytes, is_name, number};
 
-/// How many moves a command makes or takes back at the most.
-pub(crate) const MAX_COUNT: u32 = 1_000_000;
-
 /// A number of moves: 1 to 1,000,000.
-pub(crate) fn count_of(word: &[u8]) -> Option<u32>
+pub(crate) fn count_of(word: &[u8]) -> Option<Count>
     ensures { result ≡ count_of word.now }
 {
-    number(word).filter(|count| (1..=MAX_COUNT).contains(count))
+    Count::new(number(word)?)
 }
 
 /// The number of a watch, 0 to 15, of a word that is `w` and that number.

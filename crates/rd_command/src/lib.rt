@@ -3,6 +3,7 @@
 
 pub mod binding;
 pub mod command;
+pub mod count;
 mod form;
 pub mod keyword;
 pub mod laws;

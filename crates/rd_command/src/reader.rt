@@ -7,6 +7,7 @@ ghost use Rattle.rd_command.specs.Bindings.{Takes, next_keyword, next_value};
 ghost use Rattle.rd_command.specs.Bindings.{made_known, number_below, number_named};
 
 use crate::binding::Unknown;
+use crate::count::Count;
 use crate::form::{count_of, operator_of, phase_of, watch_of};
 use crate::keyword::{ConditionKeyword, condition_keyword_of};
 use crate::poke::Digits;
@@ -50,7 +51,10 @@ impl<'r, 'a> Model for Reader<'r, 'a> {
 
     ghost Value = { Reading };
 
-    ghost view = { λ r. record { known = made_known r.names.now r.cores r.entries; words = r.words } };
+    ghost view = { λ r. record {
+      known = made_known r.names.now r.cores r.entries;
+      words = r.words;
+    } };
 }
 
 impl<'r, 'a> Reader<'r, 'a> {
@@ -93,11 +97,10 @@ impl<'r, 'a> Reader<'r, 'a> {
 
     /// The next word, as a number of moves.
     #[tactic(auto, unfolding(crate::specs::Bindings::next_value))]
-    pub(crate) fn count(&mut self) -> Result<usize, Unknown>
+    pub(crate) fn count(&mut self) -> Result<Count, Unknown>
         ensures { Takes (next_value parameter.Count self.old) result self.new }
     {
-        let count = count_of(self.words.next().ok_or(Unknown)?).ok_or(Unknown)?;
-        Ok(count as usize)
+        count_of(self.words.next().ok_or(Unknown)?).ok_or(Unknown)
     }
 
     /// The next word, as a register.

@@ -48,6 +48,8 @@ mod rows;
 #[cfg(test)]
 mod runs;
 #[cfg(test)]
+mod showing;
+#[cfg(test)]
 mod streams;
 #[cfg(test)]
 mod tasks;

@@ -1,0 +1,14 @@
+-- The goal of keeps that the check left open.
+use Rattle.std.proofs.Common.{subst}
+use Rattle.rd_text.specs.Words.{words_of}
+use Rattle.rd_command.specs.Commands.{AreOperands, CommandView}
+use Rattle.rd_command.specs.Keywords.{operands_of, row_of}
+use Rattle.rd_command.proofs.CommandLaws.{command_takes}
+use Rattle.rd_command.proofs.command.Command.keeps.Goals as goal
+
+pub returns : goal.returns
+returns c =
+    let m = c.self.inside in
+    let command : CommandView = record { keyword = m.keyword; operands = m.operands } in
+    subst (λ (command : CommandView). AreOperands (operands_of (row_of command.keyword)) command.operands) c.self.view_is
+    (command_takes (words_of m.line.now) command c.self.invariant).formed
