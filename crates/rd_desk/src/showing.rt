@@ -124,7 +124,7 @@ fn append_shown(
 {
     timeline.keeps();
     if let Some(condition) = watch {
-        let holds = condition.holds(timeline.app(), timeline.target());
+        let holds = condition.holds(timeline.target());
         shown.push(WatchShown { number, holds })?;
     }
     Ok(())
