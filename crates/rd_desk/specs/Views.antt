@@ -7,7 +7,7 @@ use Rattle.rd_text.specs.declared.kind.Kind.{Kind}
 use Rattle.rd_text.specs.declared.kind.Kind.TheVariants as kind
 use Rattle.rd_state.specs.Snapshot.{Snapshot, group_at, message_at, queue_at, queue_set_at}
 use Rattle.rd_state.specs.Snapshot.{stream_at, task_at}
-use Rattle.rd_reply.specs.declared.reply.WatchShown.{WatchShown}
+use Rattle.rd_reply.specs.declared.watches.WatchShown.{WatchShown}
 use Rattle.rd_reply.specs.Names.{name_at}
 use Rattle.rd_reply.specs.Replies.{group_text, is_task, message_text, queue_text, queue_set_text}
 use Rattle.rd_reply.specs.Replies.{stream_text, task_text}
