@@ -1,10 +1,12 @@
 //! Replies in a few words, and their lines.
 
-ghost use Rattle.std.specs.Prelude.{◌≡◌, ◌+◌, ◌*◌, ◌++◌, ◌≤◌, decimal, length, IsOk, OnErr, OnOk};
-ghost use Rattle.std.specs.Prelude.{vec_capacity, vec_len};
-ghost use Rattle.rd_reply.specs.Replies.{line_of, refusal_text, reply_text, done_text, end_text};
-ghost use Rattle.rd_reply.specs.Replies.{holder_text, moves_text, watch_text};
+ghost use Rattle.std.specs.Prelude.{◌≡◌, ◌+◌, ◌*◌, ◌++◌, ◌≤◌, decimal, length};
+ghost use Rattle.std.specs.Prelude.{IsOk, OnErr, OnOk, vec_capacity, vec_len};
+ghost use Rattle.arrayvec.specs.ArrayVec.{array_vec_len};
+ghost use Rattle.rd_reply.specs.Replies.{done_text, end_text, holder_text, line_of, moves_text};
+ghost use Rattle.rd_reply.specs.Replies.{refusal_text, reply_text, watch_text};
 
+use arrayvec::ArrayVec;
 use itoa::Buffer;
 use rd_refusal::refusal::Refusal;
 use std::alloc::AllocError;
@@ -44,147 +46,156 @@ pub enum Reply {
 /// digits, as 18446744073709551615 has, and its LF.
 pub const MAX_REPLY: usize = 55;
 
+/// The line of a reply, which lies in the value itself.
+pub type ReplyLine = ArrayVec<u8, MAX_REPLY>;
+
 // How many digits a `usize` has at the most.
 const MAX_DIGITS: usize = 20;
 
-// Appends a text that there is room for.
-fn append_reserved(page: &mut Vec<u8>, text: &[u8])
-    requires { vec_len page.old + length text.now ≤ vec_capacity page.old }
-    ensures text { page.new.items ≡ page.old.items ++ text.now }
-    ensures len { vec_len page.new ≡ vec_len page.old + length text.now }
-    ensures room { vec_capacity page.old ≤ vec_capacity page.new }
+// The functions below append to a line what their name says, which there is room for. (Inlined:
+// most texts are a few bytes that are known where it is called.)
+#[inline(always)]
+fn append_text(line: &mut ReplyLine, text: &[u8])
+    requires { array_vec_len line.old + length text.now ≤ MAX_REPLY }
+    ensures text { line.new.items ≡ line.old.items ++ text.now }
+    ensures len { array_vec_len line.new ≡ array_vec_len line.old + length text.now }
 {
-    page.extend_from_slice(text).unwrap();
+    line.try_extend_from_slice(text).unwrap();
 }
 
-fn append_number_reserved(page: &mut Vec<u8>, number: usize)
-    requires { vec_len page.old + MAX_DIGITS ≤ vec_capacity page.old }
-    ensures text { page.new.items ≡ page.old.items ++ decimal number }
-    ensures len { vec_len page.new ≤ vec_len page.old + MAX_DIGITS }
-    ensures room { vec_capacity page.old ≤ vec_capacity page.new }
+fn append_number(line: &mut ReplyLine, number: usize)
+    requires { array_vec_len line.old + MAX_DIGITS ≤ MAX_REPLY }
+    ensures text { line.new.items ≡ line.old.items ++ decimal number }
+    ensures len { array_vec_len line.new ≤ array_vec_len line.old + MAX_DIGITS }
 {
-    append_reserved(page, Buffer::new().format(number).as_bytes());
+    append_text(line, Buffer::new().format(number).as_bytes());
 }
 
 // The longest refusal is `TooFar ` with its number.
-fn append_refusal_reserved(page: &mut Vec<u8>, refusal: Refusal)
-    requires { vec_len page.old + 7 + MAX_DIGITS ≤ vec_capacity page.old }
-    ensures text { page.new.items ≡ page.old.items ++ refusal_text refusal }
-    ensures len { vec_len page.new ≤ vec_len page.old + 7 + MAX_DIGITS }
-    ensures room { vec_capacity page.old ≤ vec_capacity page.new }
+fn append_refusal(line: &mut ReplyLine, refusal: Refusal)
+    requires { array_vec_len line.old + 7 + MAX_DIGITS ≤ MAX_REPLY }
+    ensures text { line.new.items ≡ line.old.items ++ refusal_text refusal }
+    ensures len { array_vec_len line.new ≤ array_vec_len line.old + 7 + MAX_DIGITS }
 {
     match refusal {
-        Refusal::NoTask => append_reserved(page, b"NoTask"),
-        Refusal::TickLimit => append_reserved(page, b"TickLimit"),
+        Refusal::NoTask => append_text(line, b"NoTask"),
+        Refusal::TickLimit => append_text(line, b"TickLimit"),
         Refusal::TooFar { done } => {
-            append_reserved(page, b"TooFar ");
-            append_number_reserved(page, done);
+            append_text(line, b"TooFar ");
+            append_number(line, done);
         }
-        Refusal::NothingUndone => append_reserved(page, b"NothingUndone"),
-        Refusal::MovesFull => append_reserved(page, b"MovesFull"),
+        Refusal::NothingUndone => append_text(line, b"NothingUndone"),
+        Refusal::MovesFull => append_text(line, b"MovesFull"),
         Refusal::Held { holder } => {
-            append_reserved(page, b"Held ");
-            append_number_reserved(page, holder as usize);
+            append_text(line, b"Held ");
+            append_number(line, holder as usize);
         }
-        Refusal::NoSuch => append_reserved(page, b"NoSuch"),
-        Refusal::BadEdit => append_reserved(page, b"BadEdit"),
-        Refusal::HistoryFull => append_reserved(page, b"HistoryFull"),
-        Refusal::NoMemory => append_reserved(page, b"NoMemory"),
-        Refusal::Syntax => append_reserved(page, b"Syntax"),
-        Refusal::LineTooLong => append_reserved(page, b"LineTooLong"),
-        Refusal::WatchesFull => append_reserved(page, b"WatchesFull"),
-        Refusal::NoWatch => append_reserved(page, b"NoWatch"),
-        Refusal::NotHolder => append_reserved(page, b"NotHolder"),
-        Refusal::Broken => append_reserved(page, b"Broken"),
-        Refusal::Full => append_reserved(page, b"Full"),
+        Refusal::NoSuch => append_text(line, b"NoSuch"),
+        Refusal::BadEdit => append_text(line, b"BadEdit"),
+        Refusal::HistoryFull => append_text(line, b"HistoryFull"),
+        Refusal::NoMemory => append_text(line, b"NoMemory"),
+        Refusal::Syntax => append_text(line, b"Syntax"),
+        Refusal::LineTooLong => append_text(line, b"LineTooLong"),
+        Refusal::WatchesFull => append_text(line, b"WatchesFull"),
+        Refusal::NoWatch => append_text(line, b"NoWatch"),
+        Refusal::NotHolder => append_text(line, b"NotHolder"),
+        Refusal::Broken => append_text(line, b"Broken"),
+        Refusal::Full => append_text(line, b"Full"),
     }
 }
 
 // How many moves are done now.
-fn append_done_reserved(page: &mut Vec<u8>, at: usize)
-    requires { vec_len page.old + 6 + MAX_DIGITS ≤ vec_capacity page.old }
-    ensures text { page.new.items ≡ page.old.items ++ done_text at }
-    ensures len { vec_len page.new ≤ vec_len page.old + 6 + MAX_DIGITS }
-    ensures room { vec_capacity page.old ≤ vec_capacity page.new }
+fn append_done(line: &mut ReplyLine, at: usize)
+    requires { array_vec_len line.old + 6 + MAX_DIGITS ≤ MAX_REPLY }
+    ensures text { line.new.items ≡ line.old.items ++ done_text at }
+    ensures len { array_vec_len line.new ≤ array_vec_len line.old + 6 + MAX_DIGITS }
 {
-    append_reserved(page, b"ok at ");
-    append_number_reserved(page, at);
+    append_text(line, b"ok at ");
+    append_number(line, at);
 }
 
 // How a search ended. No word is longer than `limit`.
-fn append_end_reserved(page: &mut Vec<u8>, end: SearchEnd)
-    requires { vec_len page.old + 5 ≤ vec_capacity page.old }
-    ensures text { page.new.items ≡ page.old.items ++ end_text end }
-    ensures len { vec_len page.new ≤ vec_len page.old + 5 }
-    ensures room { vec_capacity page.old ≤ vec_capacity page.new }
+fn append_end(line: &mut ReplyLine, end: SearchEnd)
+    requires { array_vec_len line.old + 5 ≤ MAX_REPLY }
+    ensures text { line.new.items ≡ line.old.items ++ end_text end }
+    ensures len { array_vec_len line.new ≤ array_vec_len line.old + 5 }
 {
     match end {
-        SearchEnd::Met => append_reserved(page, b"met"),
-        SearchEnd::Limit => append_reserved(page, b"limit"),
-        SearchEnd::Start => append_reserved(page, b"start"),
+        SearchEnd::Met => append_text(line, b"met"),
+        SearchEnd::Limit => append_text(line, b"limit"),
+        SearchEnd::Start => append_text(line, b"start"),
     }
 }
 
 // How many moves are done and undone.
-fn append_moves_reserved(page: &mut Vec<u8>, done: usize, undone: usize)
-    requires { vec_len page.old + 14 + 2 * MAX_DIGITS ≤ vec_capacity page.old }
-    ensures text { page.new.items ≡ page.old.items ++ moves_text done undone }
-    ensures len { vec_len page.new ≤ vec_len page.old + 14 + 2 * MAX_DIGITS }
-    ensures room { vec_capacity page.old ≤ vec_capacity page.new }
+fn append_moves(line: &mut ReplyLine, done: usize, undone: usize)
+    requires { array_vec_len line.old + 14 + 2 * MAX_DIGITS ≤ MAX_REPLY }
+    ensures text { line.new.items ≡ line.old.items ++ moves_text done undone }
+    ensures len { array_vec_len line.new ≤ array_vec_len line.old + 14 + 2 * MAX_DIGITS }
 {
-    append_reserved(page, b"moves ");
-    append_number_reserved(page, done);
-    append_reserved(page, b" undone ");
-    append_number_reserved(page, undone);
+    append_text(line, b"moves ");
+    append_number(line, done);
+    append_text(line, b" undone ");
+    append_number(line, undone);
 }
 
 // Which session has the wheel; `-` for nobody.
-fn append_holder_reserved(page: &mut Vec<u8>, holder: Option<u32>)
-    requires { vec_len page.old + 6 + MAX_DIGITS ≤ vec_capacity page.old }
-    ensures text { page.new.items ≡ page.old.items ++ holder_text holder }
-    ensures len { vec_len page.new ≤ vec_len page.old + 6 + MAX_DIGITS }
-    ensures room { vec_capacity page.old ≤ vec_capacity page.new }
+fn append_holder(line: &mut ReplyLine, holder: Option<u32>)
+    requires { array_vec_len line.old + 6 + MAX_DIGITS ≤ MAX_REPLY }
+    ensures text { line.new.items ≡ line.old.items ++ holder_text holder }
+    ensures len { array_vec_len line.new ≤ array_vec_len line.old + 6 + MAX_DIGITS }
 {
-    append_reserved(page, b"wheel ");
+    append_text(line, b"wheel ");
     match holder {
-        Some(holder) => append_number_reserved(page, holder as usize),
-        None => append_reserved(page, b"-"),
+        Some(holder) => append_number(line, holder as usize),
+        None => append_text(line, b"-"),
     }
 }
 
 // Which watch it was.
-fn append_watch_reserved(page: &mut Vec<u8>, number: usize)
-    requires { vec_len page.old + 9 + MAX_DIGITS ≤ vec_capacity page.old }
-    ensures text { page.new.items ≡ page.old.items ++ watch_text number }
-    ensures len { vec_len page.new ≤ vec_len page.old + 9 + MAX_DIGITS }
-    ensures room { vec_capacity page.old ≤ vec_capacity page.new }
+fn append_watch(line: &mut ReplyLine, number: usize)
+    requires { array_vec_len line.old + 9 + MAX_DIGITS ≤ MAX_REPLY }
+    ensures text { line.new.items ≡ line.old.items ++ watch_text number }
+    ensures len { array_vec_len line.new ≤ array_vec_len line.old + 9 + MAX_DIGITS }
 {
-    append_reserved(page, b"ok watch ");
-    append_number_reserved(page, number);
+    append_text(line, b"ok watch ");
+    append_number(line, number);
+}
+
+impl Reply {
+    /// The line of the reply.
+    pub fn line(self) -> ReplyLine
+        ensures { result.items ≡ line_of (reply_text self) }
+    {
+        let mut line = ArrayVec::new();
+        match self {
+            Reply::Done { at } => append_done(&mut line, at),
+            Reply::Ended { at, end } => {
+                append_done(&mut line, at);
+                append_text(&mut line, b" ");
+                append_end(&mut line, end);
+            }
+            Reply::Moves { done, undone } => append_moves(&mut line, done, undone),
+            Reply::Wheel => append_text(&mut line, b"ok wheel"),
+            Reply::Holder { holder } => append_holder(&mut line, holder),
+            Reply::Watch { number } => append_watch(&mut line, number),
+            Reply::Refused { refusal } => {
+                append_text(&mut line, b"no ");
+                append_refusal(&mut line, refusal);
+            }
+        }
+        append_text(&mut line, b"\n");
+        line
+    }
 }
 
 /// Appends the line of a reply, which there is room for.
 pub fn append_reply_reserved(page: &mut Vec<u8>, reply: Reply)
     requires { vec_len page.old + MAX_REPLY ≤ vec_capacity page.old }
-    ensures { page.new.items ≡ page.old.items ++ line_of (reply_text reply) }
+    ensures text { page.new.items ≡ page.old.items ++ line_of (reply_text reply) }
+    ensures room { vec_capacity page.old ≤ vec_capacity page.new }
 {
-    match reply {
-        Reply::Done { at } => append_done_reserved(page, at),
-        Reply::Ended { at, end } => {
-            append_done_reserved(page, at);
-            append_reserved(page, b" ");
-            append_end_reserved(page, end);
-        }
-        Reply::Moves { done, undone } => append_moves_reserved(page, done, undone),
-        Reply::Wheel => append_reserved(page, b"ok wheel"),
-        Reply::Holder { holder } => append_holder_reserved(page, holder),
-        Reply::Watch { number } => append_watch_reserved(page, number),
-        Reply::Refused { refusal } => {
-            append_reserved(page, b"no ");
-            append_refusal_reserved(page, refusal);
-        }
-    }
-    append_reserved(page, b"\n");
+    page.extend_from_slice(reply.line().as_slice()).unwrap();
 }
 
 /// Appends the line of a reply. An `Err` says that there is no memory for it, and leaves the page
