@@ -10,7 +10,7 @@ use Rattle.rd_state.specs.Snapshot.{Snapshot, group_at, message_at, numbers_of, 
 use Rattle.rd_state.specs.Snapshot.{queue_set_at, stream_at, task_at}
 use Rattle.rd_command.specs.declared.binding.Bound.{Bound}
 use Rattle.rd_command.specs.declared.binding.Bound.TheVariants as bound
-use Rattle.rd_reply.specs.declared.reply.WatchShown.{WatchShown}
+use Rattle.rd_reply.specs.declared.watches.WatchShown.{WatchShown}
 use Rattle.rd_reply.specs.Names.{name_at, numbers_named}
 use Rattle.rd_reply.specs.Replies.{cores_text, group_text, is_task, message_text, queue_text}
 use Rattle.rd_reply.specs.Replies.{queue_set_text, stream_text, task_text}

@@ -16,9 +16,9 @@ use rd_condition::condition::Condition;
 use rd_names::names::Names;
 use rd_reply::buffers::{show_message, show_stream};
 use rd_reply::groups::show_group;
-use rd_reply::reply::{
-    WatchShown, core_of, show_cores, show_queue, show_queue_set, show_task, show_watches,
-};
+use rd_reply::queues::{show_queue, show_queue_set};
+use rd_reply::tasks::{core_of, show_cores, show_task};
+use rd_reply::watches::{WatchShown, show_watches};
 use rd_state::state::State;
 use rd_text::kind::Kind;
 use rd_timeline::timeline::Timeline;

@@ -48,7 +48,7 @@ use Rattle.rd_reply.specs.declared.reply.Reply.{Reply}
 use Rattle.rd_reply.specs.declared.reply.Reply.TheVariants as answer
 use Rattle.rd_reply.specs.declared.reply.SearchEnd.{SearchEnd}
 use Rattle.rd_reply.specs.declared.reply.SearchEnd.TheVariants.{Met, Limit, Start}
-use Rattle.rd_reply.specs.declared.reply.WatchShown.{WatchShown}
+use Rattle.rd_reply.specs.declared.watches.WatchShown.{WatchShown}
 
 -- a text and its LF
 abbrev pub line_of : List ℕ → List ℕ

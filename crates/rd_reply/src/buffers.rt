@@ -13,7 +13,7 @@ ghost use Rattle.rd_reply.specs.Replies.{message_contents_text, message_text};
 ghost use Rattle.rd_reply.specs.Replies.{stream_contents_text, stream_text};
 
 use crate::page::Page;
-use crate::reply::{
+use crate::parts::{
     Appended, append_comma, append_counts, append_name, append_name_or_dash, append_number,
 };
 use rd_names::names::Names;

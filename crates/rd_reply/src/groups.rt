@@ -9,7 +9,7 @@ ghost use Rattle.rd_reply.specs.Replies.{group_text, line_of, list_text};
 ghost use Rattle.rd_reply.specs.Replies.{on_met_name, wait_for_name, waiter_text, wish_text};
 
 use crate::page::Page;
-use crate::reply::{Appended, append_comma, append_name, append_number};
+use crate::parts::{Appended, append_comma, append_name, append_number};
 use rd_group::group::Group;
 use rd_group::wish::{OnMet, WaitFor, Wish};
 use rd_names::names::Names;

@@ -4,4 +4,8 @@
 pub mod buffers;
 pub mod groups;
 mod page;
+mod parts;
+pub mod queues;
 pub mod reply;
+pub mod tasks;
+pub mod watches;

@@ -8,14 +8,14 @@ use Rattle.rd_ends.specs.Ends.{Says}
 use Rattle.rd_ends.proofs.Offered.{Appends-append, Appends-none}
 use Rattle.rd_text.specs.Words.{words_of}
 use Rattle.rd_command.specs.Commands.{CommandView, command_of}
-use Rattle.rd_reply.specs.Replies.{line_of}
+use Rattle.rd_desk.specs.declared.desk.NotServed.{NotServed}
 use Rattle.rd_desk.specs.declared.entry.Event.{Event}
 use Rattle.rd_desk.specs.declared.entry.Event.TheVariants.{Ask}
 use Rattle.rd_desk.specs.declared.entry.Receipt.{Receipt}
 use Rattle.rd_hall.specs.SeatView.{SeatView}
 use Rattle.rd_hall.specs.Seats.{Gains}
 use Rattle.rd_session.specs.Lines.{Line, Whole, Long}
-use Rattle.rd_session.specs.Replies.{Answer, Served, Unserved, Syntax, TooLong, Why, reply_line, text, why_text}
+use Rattle.rd_session.specs.Replies.{Answer, Served, Unserved, Syntax, TooLong, refusal_line, refusal_of, reply_line, text}
 use Rattle.rd_session.specs.Answers.{AreAnswers, BreaksOff, Talks, receipt_in, receipts_in, texts, with_all}
 use Rattle.rd_session.specs.Gathering.{Answered, Breaks, Converses, Gathers, Loses, Tells}
 
@@ -116,10 +116,10 @@ answered_served line command seat after last old new before behind result is gai
 gained_nothing : (seat after : SeatView) → after ≡ seat → after ≡ with_all seat []
 gained_nothing seat after same = same ∙ ap (λ (rs : List Receipt). record seat { receipts = rs }) (sym (append-nil seat.receipts))
 
-pub answered_refused : {T E : Type 0} (line : List ℕ) (command : CommandView) (seat after : SeatView) (why : Why) (old new : Option (List ℕ)) (before behind : List ℕ) (result : Result T E)
-    → command_of (words_of line) ≡ Some command → after ≡ seat → Tells old new before behind result (line_of (why_text why)) → Answered (Whole line) seat after old new before behind result
-answered_refused line command seat after why old new before behind result is same tells = record {
-  answer = Unserved why;
+pub answered_refused : {T E : Type 0} (line : List ℕ) (command : CommandView) (seat after : SeatView) (error : NotServed) (old new : Option (List ℕ)) (before behind : List ℕ) (result : Result T E)
+    → command_of (words_of line) ≡ Some command → after ≡ seat → Tells old new before behind result (refusal_line (refusal_of error)) → Answered (Whole line) seat after old new before behind result
+answered_refused line command seat after error old new before behind result is same tells = record {
+  answer = Unserved error;
   to_line = subst (λ (o : Option CommandView). IsTrue (is_some (option_map Ask o))) (sym is) refl;
   gained = gained_nothing seat after same;
   told = tells;

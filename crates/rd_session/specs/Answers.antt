@@ -20,7 +20,7 @@ asked line = option_map Ask (command_of (words_of line))
 -- The answer is one to this line.
 abbrev pub IsAnswerTo : Line → Answer → Type 0
 IsAnswerTo (Whole line) (Served receipt) = asked line ≡ Some receipt.entry.event
-IsAnswerTo (Whole line) (Unserved why) = IsTrue (is_some (asked line))
+IsAnswerTo (Whole line) (Unserved error) = IsTrue (is_some (asked line))
 IsAnswerTo (Whole line) Syntax = asked line ≡ None
 IsAnswerTo (Whole line) TooLong = ⊥
 IsAnswerTo Long TooLong = Unit {0}
@@ -35,7 +35,7 @@ AreAnswers (line ∷ lines) (answer ∷ answers) = IsAnswerTo line answer × Are
 
 abbrev pub receipt_in : Answer → List Receipt
 receipt_in (Served receipt) = receipt ∷ []
-receipt_in (Unserved why) = []
+receipt_in (Unserved error) = []
 receipt_in Syntax = []
 receipt_in TooLong = []
 

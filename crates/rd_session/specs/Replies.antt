@@ -1,6 +1,9 @@
 -- How answers are spelled.
-use Rattle.std.specs.Prelude.{ℕ, codes, List, []}
+use Rattle.std.specs.Prelude.{ℕ, List, []}
+use Rattle.rd_refusal.specs.declared.refusal.Refusal.{Refusal}
+use Rattle.rd_refusal.specs.declared.refusal.Refusal.TheVariants as refusal
 use Rattle.rd_reply.specs.Replies.{line_of, reply_text}
+use Rattle.rd_reply.specs.declared.reply.Reply.TheVariants.{Refused}
 use Rattle.rd_desk.specs.declared.desk.NotServed.{NotServed}
 use Rattle.rd_desk.specs.declared.desk.NotServed.TheVariants as not_served
 use Rattle.rd_desk.specs.declared.entry.Receipt.{Receipt}
@@ -13,33 +16,27 @@ reply_line Done = []
 reply_line (Told told) = line_of (reply_text told)
 reply_line (Shown line) = line
 
--- Why a command wasn't served.
-pub data Why : Type 0 where
-  HistoryFull : Why
-  NoMemory : Why
-  Broken : Why
+-- the line of a refusal
+abbrev pub refusal_line : Refusal → List ℕ
+refusal_line refusal = line_of (reply_text (Refused refusal))
 
-abbrev pub why_of : NotServed → Why
-why_of (not_served.HistoryFull tally) = HistoryFull
-why_of not_served.NoMemory = NoMemory
-why_of not_served.Broken = Broken
-
-abbrev pub why_text : Why → List ℕ
-why_text HistoryFull = codes "no HistoryFull"
-why_text NoMemory = codes "no NoMemory"
-why_text Broken = codes "no Broken"
+-- the refusal that says why a command wasn't served
+abbrev pub refusal_of : NotServed → Refusal
+refusal_of (not_served.HistoryFull tally) = refusal.HistoryFull
+refusal_of not_served.NoMemory = refusal.NoMemory
+refusal_of not_served.Broken = refusal.Broken
 
 -- What is answered to a line: the receipt of what it asked for, why that wasn't served, that it is
 -- no command, or that it is too long.
 pub data Answer : Type 0 where
   Served : Receipt → Answer
-  Unserved : Why → Answer
+  Unserved : NotServed → Answer
   Syntax : Answer
   TooLong : Answer
 
 -- the text of an answer
 abbrev pub text : Answer → List ℕ
 text (Served receipt) = reply_line receipt.entry.reply
-text (Unserved why) = line_of (why_text why)
-text Syntax = line_of (codes "no Syntax")
-text TooLong = line_of (codes "no LineTooLong")
+text (Unserved error) = refusal_line (refusal_of error)
+text Syntax = refusal_line refusal.Syntax
+text TooLong = refusal_line refusal.LineTooLong

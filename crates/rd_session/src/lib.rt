@@ -5,4 +5,5 @@ pub mod buffers;
 pub mod gate;
 pub mod lines;
 mod pending;
+pub mod render;
 pub mod session;

@@ -1,13 +1,13 @@
 //! Answers that are yet to be written.
 
-ghost use Rattle.std.specs.Prelude.{◌≡◌, ◌↔◌, ◌+◌, ◌≤◌, [], length, true};
-ghost use Rattle.std.specs.Prelude.{IfOk, IsTrue, OnErr, OnOk};
+ghost use Rattle.std.specs.Prelude.{◌≡◌, ◌+◌, ◌≤◌, [], length, true, IfOk, OnErr, OnOk};
 ghost use Rattle.rd_reply.specs.Replies.{line_of, reply_text};
-ghost use Rattle.rd_session.specs.Replies.{reply_line};
+ghost use Rattle.rd_session.specs.Replies.{refusal_line, reply_line};
 ghost use Rattle.rd_session.specs.Gathering.{Tells};
 
 use rd_desk::reply::Reply;
 use rd_ends::ends::{Sink, WriteFault};
+use rd_refusal::refusal::Refusal;
 use rd_reply::reply::{MAX_REPLY, Reply as Short, append_reply_reserved};
 use std::alloc::{AllocError, Global};
 use std::marker::Model;
@@ -15,19 +15,23 @@ use std::marker::Model;
 // For how many bytes there is room.
 const ROOM: usize = 65_536;
 
-/// Answers that are yet to be written. After an `Err` of the sink they are of no use.
+/// Answers that are yet to be written, with room for a reply in a few words at the least. After an
+/// `Err` of the sink they are of no use.
 #[derive(Drop)]
 pub(crate) struct Pending {
     bytes: Vec<u8>,
 }
 
 impl Model for Pending {
-    ghost use Rattle.std.specs.Prelude.{vec_capacity};
+    ghost use Rattle.std.specs.Prelude.{◌≤◌, vec_capacity};
+    ghost use Rattle.rd_reply.specs.declared.reply.TheConstants.{MAX_REPLY};
     ghost use Rattle.rd_session.specs.BuffersView.{PendingView};
 
     ghost Value = { PendingView };
 
     ghost view = { λ p. record { bytes = p.bytes.items; capacity = vec_capacity p.bytes } };
+
+    ghost invariant = { λ p. MAX_REPLY ≤ vec_capacity p.bytes };
 }
 
 impl Pending {
@@ -49,16 +53,10 @@ impl Pending {
         self.bytes.clear();
     }
 
-    /// Whether a reply in a few words has room here.
-    pub(crate) fn takes_replies(&self) -> bool
-        ensures { IsTrue result ↔ (MAX_REPLY ≤ self.now.capacity) }
-    {
-        MAX_REPLY <= self.bytes.capacity()
-    }
-
     // For how many bytes more there is room.
     fn room(&self) -> usize
-        ensures { result + length self.now.bytes ≡ self.now.capacity }
+        ensures room { result + length self.now.bytes ≡ self.now.capacity }
+        ensures takes_replies { MAX_REPLY ≤ self.now.capacity }
     {
         self.bytes.capacity() - self.bytes.len()
     }
@@ -96,20 +94,8 @@ impl Pending {
         sink.write(line)
     }
 
-    /// Appends a line, and writes them all.
-    pub(crate) fn put_last<W: Sink>(&mut self, sink: &mut W, line: &[u8]) -> Result<(), WriteFault>
-        ensures told { Tells (W.contents sink.old) (W.contents sink.new)
-            self.old.bytes self.new.bytes result line.now }
-        ensures sent { OnOk result (self.new.bytes ≡ []) }
-        ensures failed { OnErr result (W.failed sink.new ≡ true) }
-    {
-        self.put(sink, line)?;
-        self.send(sink)
-    }
-
     // Makes room for a reply in a few words: where there is none those before it are written.
     fn make_room<W: Sink>(&mut self, sink: &mut W) -> Result<(), WriteFault>
-        requires { MAX_REPLY ≤ self.old.capacity }
         ensures told { Tells (W.contents sink.old) (W.contents sink.new)
             self.old.bytes self.new.bytes result [] }
         ensures room { OnOk result (length self.new.bytes + MAX_REPLY ≤ self.new.capacity) }
@@ -123,7 +109,6 @@ impl Pending {
 
     // Appends the line of a reply in a few words.
     fn put_short<W: Sink>(&mut self, sink: &mut W, told: Short) -> Result<(), WriteFault>
-        requires { MAX_REPLY ≤ self.old.capacity }
         ensures told { Tells (W.contents sink.old) (W.contents sink.new)
             self.old.bytes self.new.bytes result (line_of (reply_text told)) }
         ensures failed { OnErr result (W.failed sink.new ≡ true) }
@@ -139,7 +124,6 @@ impl Pending {
         sink: &mut W,
         reply: &Reply,
     ) -> Result<(), WriteFault>
-        requires { MAX_REPLY ≤ self.old.capacity }
         ensures told { Tells (W.contents sink.old) (W.contents sink.new)
             self.old.bytes self.new.bytes result (reply_line reply.now) }
         ensures failed { OnErr result (W.failed sink.new ≡ true) }
@@ -149,5 +133,33 @@ impl Pending {
             Reply::Told { told } => self.put_short(sink, *told),
             Reply::Shown { text } => self.put(sink, text.as_slice()),
         }
+    }
+
+    /// Appends the line of a refusal.
+    pub(crate) fn put_refusal<W: Sink>(
+        &mut self,
+        sink: &mut W,
+        refusal: Refusal,
+    ) -> Result<(), WriteFault>
+        ensures told { Tells (W.contents sink.old) (W.contents sink.new)
+            self.old.bytes self.new.bytes result (refusal_line refusal) }
+        ensures failed { OnErr result (W.failed sink.new ≡ true) }
+    {
+        self.put_short(sink, Short::Refused { refusal })
+    }
+
+    /// Appends the line of a refusal, and writes them all.
+    pub(crate) fn put_last<W: Sink>(
+        &mut self,
+        sink: &mut W,
+        refusal: Refusal,
+    ) -> Result<(), WriteFault>
+        ensures told { Tells (W.contents sink.old) (W.contents sink.new)
+            self.old.bytes self.new.bytes result (refusal_line refusal) }
+        ensures sent { OnOk result (self.new.bytes ≡ []) }
+        ensures failed { OnErr result (W.failed sink.new ≡ true) }
+    {
+        self.put_refusal(sink, refusal)?;
+        self.send(sink)
     }
 }

@@ -5,12 +5,11 @@ ghost use Rattle.std.specs.Prelude.{IfErr, OnErr, OnOk, true};
 ghost use Rattle.rd_text.specs.Words.{words_of};
 ghost use Rattle.rd_command.specs.Commands.{command_of};
 ghost use Rattle.rd_desk.specs.declared.entry.Event.TheVariants.{Leave};
-ghost use Rattle.rd_reply.specs.Replies.{line_of};
 ghost use Rattle.rd_hall.specs.SeatView.{SeatView};
 ghost use Rattle.rd_hall.specs.Seats.{Gained};
 ghost use Rattle.rd_session.specs.Lines.{Whole, Long, front_of, last_of, lines_from, rest_from};
 ghost use Rattle.rd_session.specs.declared.lines.Front.TheVariants.{Part};
-ghost use Rattle.rd_session.specs.Replies.{TooLong, why_of, why_text};
+ghost use Rattle.rd_session.specs.Replies.{TooLong, refusal_of};
 ghost use Rattle.rd_session.specs.Gathering.{Answered, Breaks, Converses, Stops};
 ghost use Rattle.rd_session.specs.Hearing.{AllMade, Heard};
 
@@ -24,6 +23,7 @@ use rd_ends::ends::{Sink, Source, WriteFault};
 use rd_hall::hall::Hall;
 use rd_hall::seat::{Gone, Seat};
 use rd_hall::setup::Setup;
+use rd_refusal::refusal::Refusal;
 use std::sync::Wait;
 
 /// How often a session reads at the most.
@@ -46,14 +46,14 @@ struct Host<'a, R: Wait, L: Setup, G: Gate> {
     gate: &'a G,
 }
 
-// The line that says why a command wasn't served.
-fn refusal_line(error: NotServed) -> &'static [u8]
-    ensures { result.now ≡ line_of (why_text (why_of error)) }
+// The refusal that says why a command wasn't served.
+fn refusal_of(error: &NotServed) -> Refusal
+    ensures { result ≡ refusal_of error.now }
 {
     match error {
-        NotServed::HistoryFull { tally: _ } => b"no HistoryFull\n",
-        NotServed::NoMemory => b"no NoMemory\n",
-        NotServed::Broken => b"no Broken\n",
+        NotServed::HistoryFull { .. } => Refusal::HistoryFull,
+        NotServed::NoMemory => Refusal::NoMemory,
+        NotServed::Broken => Refusal::Broken,
     }
 }
 
@@ -72,17 +72,13 @@ fn ask<L: Setup, W: Sink>(
         (W.contents sink.new) pending.old.bytes pending.new.bytes result.1 }
     ensures failed { OnErr result.1 (W.failed sink.new ≡ true) }
 {
-    // (there always is: no session begins with less)
-    if !pending.takes_replies() {
-        return (seat, pending.put(sink, b"no NoMemory\n"));
-    }
     let (seat, served) = hall.ask(rt, seat, command);
     match served {
         Ok(()) => {
             let told = pending.put_reply(sink, &seat.last().entry.reply);
             (seat, told)
         }
-        Err(error) => (seat, pending.put(sink, refusal_line(error))),
+        Err(error) => (seat, pending.put_refusal(sink, refusal_of(&error))),
     }
 }
 
@@ -101,7 +97,7 @@ fn answer<L: Setup, W: Sink>(
 {
     match parse_line(line) {
         Ok(command) => ask(rt, hall, seat, line, &command, pending, sink),
-        Err(_) => (seat, pending.put(sink, b"no Syntax\n")),
+        Err(_) => (seat, pending.put_refusal(sink, Refusal::Syntax)),
     }
 }
 
@@ -139,7 +135,7 @@ fn answer_long<L: Setup, W: Sink>(
 {
     *number = number.saturating_add(1);
     gate.before(seat.who(), *number);
-    let told = pending.put_last(sink, b"no LineTooLong\n");
+    let told = pending.put_last(sink, Refusal::LineTooLong);
     gate.after(seat.who(), *number);
     match told {
         Ok(()) => Ended::LineTooLong,

@@ -1,0 +1,10 @@
+-- The goals of append_waiting that the check left open.
+use Rattle.std.proofs.Common.{rules}
+use Rattle.rd_reply.proofs.PageLaws.{appends_as, appends_then}
+use Rattle.rd_reply.proofs.queues.append_waiting.Goals as goal
+
+pub returns : goal.returns
+returns c =
+    let all = appends_then (appends_then (appends_then c.append.ensures c.append_task_names.ensures)
+    c.append-2.ensures) c.append_task_names-2.ensures in
+    appends_as all (search rules)
