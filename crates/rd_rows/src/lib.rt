@@ -38,6 +38,8 @@ mod queue_sets;
 #[cfg(test)]
 mod queues;
 #[cfg(test)]
+mod rendering;
+#[cfg(test)]
 mod rows;
 #[cfg(test)]
 mod runs;
