@@ -1,19 +1,26 @@
 //! Sessions over connections, each on a thread of its own.
 
-ghost use Rattle.std.specs.Prelude.{◌≡◌, ◌+◌, ◌-◌, ◌^◌, ◌⊎◌, ◌∷◌, ◌++◌, [], IfOk, min};
+ghost use Rattle.std.specs.Prelude.{◌≡◌, ◌+◌, ◌-◌, ◌^◌, ◌⊎◌, ◌∷◌, ◌++◌, [], true};
+ghost use Rattle.std.specs.Prelude.{IfOk, OnErr, min};
+ghost use Rattle.rd_ends.specs.Ends.{Says};
+ghost use Rattle.rd_session.specs.Replies.{refusal_line};
 ghost use Rattle.rd_net.specs.Attending.{AttendedOver};
-ghost use Rattle.rd_net.specs.Refused.{refusal_line};
+ghost use Rattle.rd_net.specs.Refused.{refusal_of};
 
 use rd_desk::desk::EnterError;
+use rd_desk::reply::Reply;
+use rd_ends::ends::{Sink, WriteFault};
 use rd_ends::over::Over;
 use rd_hall::hall::Hall;
 use rd_hall::seat::{Gone, Pass};
 use rd_hall::setup::Setup;
+use rd_refusal::refusal::Refusal;
+use rd_reply::reply::Reply as Short;
 use rd_session::buffers::Buffers;
 use rd_session::gate::Gate;
+use rd_session::render::render;
 use rd_session::session::session;
 use std::alloc::Global;
-use std::io::Write;
 use std::net::{TcpListener, TcpStream};
 use std::sync::{Mutex, Wait};
 use std::thread;
@@ -101,7 +108,7 @@ fn serve_stream<L: Setup, R: Wait, G: Gate>(
     match converse(rt, alloc, &stream, hall, pass, gate) {
         Ok(gone) => served.lock(rt).keep(gone),
         Err(error) => {
-            let _ = (&stream).write_all(refusal_of(&error));
+            let _ = tell(&mut Over::new(&stream), &error);
             served.lock(rt).count_fault();
         }
     }
@@ -133,13 +140,24 @@ fn converse<L: Setup, R: Wait, G: Gate>(
     }
 }
 
-// What a connection is told that isn't let in.
-fn refusal_of(error: &EnterError) -> &'static [u8]
-    ensures { result.now ≡ refusal_line error.now }
+// The refusal that says why a session isn't let in.
+fn refusal_of(error: &EnterError) -> Refusal
+    ensures { result ≡ refusal_of error.now }
 {
     match error {
-        EnterError::Full => b"no Full\n",
-        EnterError::HistoryFull { .. } => b"no HistoryFull\n",
-        EnterError::NoMemory => b"no NoMemory\n",
+        EnterError::Full => Refusal::Full,
+        EnterError::HistoryFull { .. } => Refusal::HistoryFull,
+        EnterError::NoMemory => Refusal::NoMemory,
     }
+}
+
+// Tells a connection why it isn't let in.
+fn tell<W: Sink>(sink: &mut W, error: &EnterError) -> Result<(), WriteFault>
+    ensures says { Says (W.contents sink.old) (W.contents sink.new) result
+        (refusal_line (refusal_of error.now)) }
+    ensures failed { OnErr result (W.failed sink.new ≡ true) }
+{
+    let refusal = refusal_of(error);
+    let told = Short::Refused { refusal };
+    render(&Reply::Told { told }, sink)
 }

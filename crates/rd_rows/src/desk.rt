@@ -25,8 +25,8 @@ struct Asked {
     reply: &'static str,
 }
 
-// A desk over the built-in application, with a history of so many entries.
-fn open<H: AllocGlobal>(rt: &H, history: u32) -> Result<Desk, Fail> {
+/// A desk over the built-in application, with a history of so many entries.
+pub fn open<H: AllocGlobal>(rt: &H, history: u32) -> Result<Desk, Fail> {
     let app = App::builtin(rt.alloc())?;
     let limits = Limits {
         moves: 100,
@@ -41,8 +41,8 @@ fn assert_receipt(rt: &impl Abort, receipt: &Receipt, place: usize, who: u32) {
     assert_same(rt, receipt.entry.who, who);
 }
 
-// The next session enters, and has this number.
-fn assert_enters(rt: &impl Abort, desk: &mut Desk, who: u32) {
+/// The next session enters, and has this number.
+pub fn assert_enters(rt: &impl Abort, desk: &mut Desk, who: u32) {
     let place = desk.entries();
     match desk.enter() {
         Ok(receipt) => assert_receipt(rt, &receipt, place, who),
@@ -470,8 +470,8 @@ fn two_places(rt: HostRuntime) -> Result<(), Fail> {
     Ok(())
 }
 
-// A session is served, and gets its receipt.
-fn serve(rt: &impl Abort, desk: &mut Desk, who: u32, line: &str) -> Receipt {
+/// A session is served, and gets its receipt.
+pub fn serve(rt: &impl Abort, desk: &mut Desk, who: u32, line: &str) -> Receipt {
     let Ok(command) = parse_line(line.as_bytes()) else {
         panic!(rt; "{line} is no command");
     };

@@ -44,6 +44,8 @@ mod refused_files;
 #[cfg(test)]
 mod refused_groups;
 #[cfg(test)]
+mod rendering;
+#[cfg(test)]
 mod rows;
 #[cfg(test)]
 mod runs;

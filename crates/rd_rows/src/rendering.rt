@@ -1,0 +1,144 @@
+//! Replies that are written one by one.
+
+use crate::asserts::assert_same;
+use crate::desk::{assert_enters, open, serve};
+use rd_desk::desk::Desk;
+use rd_desk::reply::Reply;
+use rd_ends::over::Over;
+use rd_refusal::refusal::Refusal;
+use rd_reply::reply::Reply as Short;
+use rd_session::render::render;
+use std::alloc::AllocGlobal;
+use std::io;
+use std::io::{ErrorKind, Write};
+use std::process::Abort;
+use std::test::Fail;
+
+// Has room for so many bytes, and keeps what is written. It counts the writes, of which each fails
+// that finds no room.
+#[derive(Drop)]
+struct Narrow {
+    bytes: Vec<u8>,
+    room: usize,
+    writes: usize,
+}
+
+impl Write for Narrow {
+    fn write(&mut self, buffer: &[u8]) -> io::Result<usize> {
+        self.writes = self.writes.saturating_add(1);
+        let count = buffer.len().min(self.room);
+        if count == 0 {
+            return Err(io::Error::from(ErrorKind::BrokenPipe));
+        }
+        self.bytes.extend_from_slice(&buffer[..count])?;
+        self.room -= count;
+        Ok(count)
+    }
+
+    fn flush(&mut self) -> io::Result<()> {
+        Ok(())
+    }
+}
+
+// What is written where there is room for so many bytes, in how many writes, and whether the last
+// of them fails.
+#[derive(Clone, Copy)]
+struct Rendered {
+    room: usize,
+    text: &'static str,
+    writes: usize,
+    fails: bool,
+}
+
+// The reply is written so.
+fn assert_rendered<H: AllocGlobal + Abort>(rt: &H, reply: &Reply, wanted: Rendered) {
+    let mut sink = Over::new(Narrow {
+        bytes: Vec::new(rt.alloc()),
+        room: wanted.room,
+        writes: 0,
+    });
+    let written = render(reply, &mut sink);
+    assert_same(rt, written.is_err(), wanted.fails);
+    assert_same(rt, sink.failed, wanted.fails);
+    assert_same(rt, sink.inner.writes, wanted.writes);
+    assert_same(rt, sink.inner.bytes.as_slice(), wanted.text.as_bytes());
+}
+
+// The reply has this line. It is written at once, and a front of it where there is no room.
+fn assert_line<H: AllocGlobal + Abort>(
+    rt: &H,
+    reply: &Reply,
+    line: &'static str,
+    front: &'static str,
+) {
+    assert_rendered(
+        rt,
+        reply,
+        Rendered {
+            room: usize::MAX,
+            text: line,
+            writes: 1,
+            fails: false,
+        },
+    );
+    assert_rendered(
+        rt,
+        reply,
+        Rendered {
+            room: 0,
+            text: "",
+            writes: 1,
+            fails: true,
+        },
+    );
+    assert_rendered(
+        rt,
+        reply,
+        Rendered {
+            room: 1,
+            text: front,
+            writes: 2,
+            fails: true,
+        },
+    );
+}
+
+// Nothing is written to who enters or leaves.
+#[test]
+fn nothing(rt: HostRuntime) {
+    assert_rendered(
+        &rt,
+        &Reply::Done,
+        Rendered {
+            room: 0,
+            text: "",
+            writes: 0,
+            fails: false,
+        },
+    );
+}
+
+#[test]
+fn few_words(rt: HostRuntime) {
+    let told = Short::Done { at: 3 };
+    assert_line(&rt, &Reply::Told { told }, "ok at 3\n", "o");
+    let refusal = Refusal::TooFar { done: 0 };
+    let told = Short::Refused { refusal };
+    assert_line(&rt, &Reply::Told { told }, "no TooFar 0\n", "n");
+}
+
+// A session enters, and looks at the cores.
+fn look(rt: &(impl AllocGlobal + Abort), desk: &mut Desk) {
+    assert_enters(rt, desk, 1);
+    let receipt = serve(rt, desk, 1, "show cores");
+    let line = "cores t0 ready - tick 0 turn 0\n";
+    assert_line(rt, &receipt.entry.reply, line, "c");
+}
+
+#[test]
+fn view(rt: HostRuntime) -> Result<(), Fail> {
+    let mut desk = open(&rt, 100)?;
+    look(&rt, &mut desk);
+    desk.close();
+    Ok(())
+}
