@@ -152,8 +152,8 @@ impl Amount {
 }
 
 impl Condition {
-    /// Whether the condition holds in this state, which has what is named: as each valid state of an
-    /// application does that has it.
+    /// Whether the condition holds in this state, which has what is named. Each valid state of an
+    /// application that has it does.
     pub fn holds(self, state: &State) -> bool
         requires { HasCondition state.now self }
         ensures { result ≡ holds state.now self }

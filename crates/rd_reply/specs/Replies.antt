@@ -253,7 +253,8 @@ selecting_text names queue_set =
 -- a queue set of that name
 abbrev pub queue_set_text : NamesView → List ℕ → QueueSetSnapshot → List ℕ
 queue_set_text names name queue_set =
-    codes "set " ++ name ++ codes " " ++ handles_text names queue_set ++ selecting_text names queue_set
+    codes "set " ++ name ++ codes " " ++ handles_text names queue_set
+    ++ selecting_text names queue_set
 
 -- whom the reader's and the writer's place of a buffer name, by the tasks' names; `-` for nobody
 abbrev pub holders_text : NamesView → Option ℕ → Option ℕ → List ℕ

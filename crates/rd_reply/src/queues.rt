@@ -132,7 +132,8 @@ pub fn show_queue_set(
 // The line of a queue set.
 fn append_queue_set(page: &mut Page<'_>, names: &Names, name: &str, queue_set: &QueueSet)
     requires { QueueSetIsNamed names.now queue_set.now }
-    ensures { Appends page.old page.new (line_of (queue_set_text names.now name.now queue_set.now)) }
+    ensures { Appends page.old page.new
+        (line_of (queue_set_text names.now name.now queue_set.now)) }
 {
     page.append("set ");
     page.append(name);

@@ -205,7 +205,8 @@ is_call_for shape (call.RemoveFromSet queue_set) = true
 -- the same of an instruction, over these objects: any but a call of a queue is
 abbrev pub is_for_queue : NamedObjects → Instr → Bool
 is_for_queue objects instr =
-    option_map_or (λ of. is_call_for (shape_at (shapes_of objects) of.0) of.1) (queue_call_of instr) true
+    option_map_or (λ of. is_call_for (shape_at (shapes_of objects) of.0) of.1)
+    (queue_call_of instr) true
 
 -- the instruction that the words make, and else the fault of words that have the forms asked for
 abbrev pub instr_named : Row → Reading → Result Instr AppError
