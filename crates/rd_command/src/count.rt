@@ -2,6 +2,7 @@
 
 ghost use Rattle.std.specs.Prelude.{◌≡◌, ◌<◌, ◌≤◌};
 ghost use Rattle.rd_command.specs.Counts.{count_in};
+ghost use Rattle.rd_command.specs.declared.count.TheConstants.{MAX_COUNT};
 
 use std::marker::Model;
 
@@ -39,7 +40,7 @@ impl Count {
         }
     }
 
-    /// The number.
+    /// The number. It is within these limits.
     pub fn get(self) -> usize
         ensures number { result ≡ self }
         ensures some { 0 < result }
@@ -48,3 +49,8 @@ impl Count {
         self.number as usize
     }
 }
+
+/// How many moves a command makes or takes back at the most, as a number.
+pub fn limit_of_counts()
+    ensures { MAX_COUNT ≡ 1000000 }
+{}

@@ -6,6 +6,7 @@ pub mod HistoryLaws
 pub mod MachineLaws
 pub mod DeskLaws
 pub mod ViewLaws
+pub mod NameLaws
 pub mod Counting
 pub mod WheelLaws
 pub mod WatchLaws

@@ -9,6 +9,7 @@ use Rattle.rd_desk.specs.Debugger.{Debugger, target_of}
 use Rattle.rd_desk.specs.Legal.{IsLegal}
 use Rattle.rd_desk.specs.Serving.{MayAct, reply_of, served}
 use Rattle.rd_desk.specs.Sessions.{present_count}
+use Rattle.rd_desk.specs.Views.{AreNamesOf}
 
 -- the debugger, how many entries the history may have, and the history
 pub record DeskView : Type 0 where
@@ -21,12 +22,14 @@ abbrev pub used : DeskView → ℕ
 used d = length d.history + present_count d.debugger.sessions
 
 -- The history is one of the sequential debugger, and each session that is present has a place for
--- its departure. The moves done, and not undone, give the target from the start.
+-- its departure. The moves done, and not undone, give the target from the start, and there are as
+-- many names as things in it.
 pub record IsKept (d : DeskView) : Type 0 where
   pub legal : IsLegal d.history d.debugger
   pub within : used d ≤ d.most_entries
   pub joins : length d.debugger.sessions ≤ MAX_JOINS
   pub leads : state_after d.debugger.app.runs d.debugger.moves.done ≡ Ok (target_of d.debugger)
+  pub paired : AreNamesOf (target_of d.debugger) d.debugger.app.names
 
 -- the entry of an event
 abbrev pub entry_of : Debugger → ℕ → Event → Entry

@@ -131,7 +131,8 @@ reply_to_bound d who (bound.Watch condition) =
     reply_to_kept (position is_none (own_watches d who))
 reply_to_bound d who (bound.Unwatch number) =
     reply_to_dropped number (watch_at (own_watches d who) number)
-reply_to_bound d who (bound.Show kind number) = shown (view_text d.app.names (target_of d) kind number)
+reply_to_bound d who (bound.Show kind number) =
+    shown (view_text d.app.names (target_of d) kind number)
 reply_to_bound d who bound.ShowCores = shown (cores_text d.app.names (target_of d))
 reply_to_bound d who bound.ShowMoves =
     Told (Moves (length d.moves.done) (length d.moves.undone))

@@ -1,6 +1,6 @@
 //! What a request of the timeline leaves, and what is replied.
 
-ghost use Rattle.std.specs.Prelude.{◌≡◌, ◌≢◌, ◌↔◌, ◌<◌, IfErr, IfOk, IsErr, IsErrOf, OnErr, Ok};
+ghost use Rattle.std.specs.Prelude.{◌≡◌, ◌≢◌, ◌↔◌, IfErr, IfOk, IsErr, IsErrOf, OnErr, Ok};
 ghost use Rattle.rd_timeline.specs.declared.runs.Request.TheVariants as request;
 ghost use Rattle.rd_calls.specs.Step.{IsMoveOf};
 ghost use Rattle.rd_condition.specs.Conditions.{IsConditionOf};
@@ -8,6 +8,7 @@ ghost use Rattle.rd_desk.specs.Asking.{Obeys, ended_reply};
 
 use rd_bytes::no_memory::NoMemory;
 use rd_calls::moves::Move;
+use rd_command::count::Count;
 use rd_condition::condition::Condition;
 use rd_refusal::refusal::Refusal;
 use rd_reply::reply::{Reply, SearchEnd};
@@ -42,29 +43,28 @@ pub(crate) fn go(timeline: &mut Timeline, action: Move) -> Result<Reply, NoMemor
 }
 
 /// Takes the last moves back.
-pub(crate) fn back(timeline: &mut Timeline, count: usize) -> Result<Reply, NoMemory>
+pub(crate) fn back(timeline: &mut Timeline, count: Count) -> Result<Reply, NoMemory>
     ensures ok { IfOk result (Obeys timeline.old (request.Back count) timeline.new) }
     ensures err { OnErr result (timeline.new ≡ timeline.old) }
 {
-    told(timeline.back(count))
+    told(timeline.back(count.get()))
 }
 
-/// Makes so many moves by policy, one at the least.
-pub(crate) fn forward(timeline: &mut Timeline, count: usize) -> Result<Reply, NoMemory>
-    requires { 0 < count }
+/// Makes so many moves by policy.
+pub(crate) fn forward(timeline: &mut Timeline, count: Count) -> Result<Reply, NoMemory>
     ensures ok { IfOk result (Obeys timeline.old (request.Forward count) timeline.new) }
     ensures err { OnErr result (timeline.new ≡ timeline.old) }
 {
     timeline.keeps();
-    told(timeline.forward(count))
+    told(timeline.forward(count.get()))
 }
 
 /// Makes moves again that are undone.
-pub(crate) fn redo(timeline: &mut Timeline, count: usize) -> Result<Reply, NoMemory>
+pub(crate) fn redo(timeline: &mut Timeline, count: Count) -> Result<Reply, NoMemory>
     ensures ok { IfOk result (Obeys timeline.old (request.Redo count) timeline.new) }
     ensures err { OnErr result (timeline.new ≡ timeline.old) }
 {
-    told(timeline.redo(count))
+    told(timeline.redo(count.get()))
 }
 
 // What is replied where a run to a condition has ended, or was refused.
@@ -92,15 +92,14 @@ fn ended(made: Result<Found, Refusal>) -> Result<Reply, NoMemory>
 pub(crate) fn until(
     timeline: &mut Timeline,
     condition: Condition,
-    count: usize,
+    count: Count,
 ) -> Result<Reply, NoMemory>
-    requires some { 0 < count }
-    requires named { IsConditionOf timeline.old.app condition }
+    requires { IsConditionOf timeline.old.app condition }
     ensures ok { IfOk result (Obeys timeline.old (request.Until condition count) timeline.new) }
     ensures err { OnErr result (timeline.new ≡ timeline.old) }
 {
     timeline.keeps();
-    ended(timeline.until(condition, count))
+    ended(timeline.until(condition, count.get()))
 }
 
 /// Goes back to where a condition held, or to the start.

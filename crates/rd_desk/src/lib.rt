@@ -11,7 +11,7 @@ pub mod limits;
 pub mod machine;
 pub mod reply;
 pub mod sessions;
-mod showing;
+pub mod showing;
 pub mod tally;
 pub mod text;
 pub mod watches;

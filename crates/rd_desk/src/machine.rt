@@ -1,7 +1,7 @@
 //! The sequential debugger without its history: what each event makes of it, and what is replied.
 
 ghost use Rattle.std.specs.Prelude.{◌≡◌, ◌↔◌, ◌+◌, ◌<◌, length, slice_set};
-ghost use Rattle.std.specs.Prelude.{IfOk, IfSome, IsTrue, OnErr, Ok};
+ghost use Rattle.std.specs.Prelude.{IfOk, IfSome, IsSomeAnd, IsTrue, OnErr, Ok};
 ghost use Rattle.rd_calls.specs.declared.moves.Move.TheVariants as move;
 ghost use Rattle.std.specs.Result.{result_ok};
 ghost use Rattle.rd_command.specs.Bindings.{IsBoundOf, bound_of};
@@ -10,26 +10,27 @@ ghost use Rattle.rd_condition.specs.Conditions.{IsConditionOf};
 ghost use Rattle.rd_timeline.specs.History.{state_after};
 ghost use Rattle.rd_timeline.specs.declared.runs.Request.TheVariants as request;
 ghost use Rattle.rd_calls.specs.Step.{IsMoveOf};
-ghost use Rattle.rd_names.specs.Names.{names_of};
 ghost use Rattle.rd_reply.specs.declared.reply.Reply.TheVariants as short;
-ghost use Rattle.rd_reply.specs.Replies.{cores_text, watches_text};
+ghost use Rattle.rd_reply.specs.Replies.{watches_text};
 ghost use Rattle.rd_desk.specs.Debugger.{freed, is_holder, opening, other_holder, own_watches};
 ghost use Rattle.rd_desk.specs.Debugger.{target_of, watching};
 ghost use Rattle.rd_desk.specs.Serving.{after_request, entered, held_by, left, refused};
 ghost use Rattle.rd_desk.specs.Serving.{reply_to_request, shown, IsAnswered, IsDone};
 ghost use Rattle.rd_desk.specs.Sessions.{IsPresent, present_count};
-ghost use Rattle.rd_desk.specs.Views.{view_text, watches_shown};
+ghost use Rattle.rd_desk.specs.Views.{AreNamesOf, IsViewNamed, text_shown, view_asked};
+ghost use Rattle.rd_desk.specs.Views.{watches_shown};
 
 use crate::asking;
 use crate::reply::Reply;
 use crate::sessions::{MAX_JOINS, Sessions};
-use crate::showing::{show_all_cores, show_all_watches, show_thing};
+use crate::showing::{show, show_all_watches};
 use crate::text::Text;
 use rd_app::app::Program;
 use rd_bytes::no_memory::NoMemory;
 use rd_calls::moves::Move;
 use rd_command::binding::{Bound, Unknown};
 use rd_command::command::Command;
+use rd_command::count::Count;
 use rd_command::poke::Poke;
 use rd_condition::condition::Condition;
 use rd_names::app::App;
@@ -37,7 +38,6 @@ use rd_names::names::Names;
 use rd_refusal::refusal::Refusal;
 use rd_reply::reply::Reply as Short;
 use rd_state::state::State;
-use rd_text::kind::Kind;
 use rd_timeline::timeline::Timeline;
 use std::alloc::Global;
 use std::marker::Model;
@@ -129,9 +129,12 @@ impl Machine {
         })
     }
 
-    /// The moves done, and not undone, give the target from the start.
+    /// The moves done, and not undone, give the target from the start. There are as many names as
+    /// things in it.
     pub fn keeps(&self)
-        ensures { state_after self.now.app.runs self.now.moves.done ≡ Ok (target_of self.now) }
+        ensures leads { state_after self.now.app.runs self.now.moves.done
+            ≡ Ok (target_of self.now) }
+        ensures paired { AreNamesOf (target_of self.now) self.now.app.names }
     {
         self.timeline.keeps();
     }
@@ -243,7 +246,7 @@ impl Machine {
 
     // Takes the last moves back.
     #[inline(never)]
-    fn back(&mut self, count: usize) -> Result<Reply, NoMemory>
+    fn back(&mut self, count: Count) -> Result<Reply, NoMemory>
         ensures after { IfOk result (λ reply.
             self.new ≡ after_request self.old (request.Back count)) }
         ensures reply { IfOk result (λ reply.
@@ -256,8 +259,7 @@ impl Machine {
 
     // Makes so many moves by policy.
     #[inline(never)]
-    fn forward(&mut self, count: usize) -> Result<Reply, NoMemory>
-        requires { 0 < count }
+    fn forward(&mut self, count: Count) -> Result<Reply, NoMemory>
         ensures after { IfOk result (λ reply.
             self.new ≡ after_request self.old (request.Forward count)) }
         ensures reply { IfOk result (λ reply.
@@ -270,7 +272,7 @@ impl Machine {
 
     // Makes moves again that are undone.
     #[inline(never)]
-    fn redo(&mut self, count: usize) -> Result<Reply, NoMemory>
+    fn redo(&mut self, count: Count) -> Result<Reply, NoMemory>
         ensures after { IfOk result (λ reply.
             self.new ≡ after_request self.old (request.Redo count)) }
         ensures reply { IfOk result (λ reply.
@@ -283,9 +285,8 @@ impl Machine {
 
     // Makes moves by policy until a condition holds.
     #[inline(never)]
-    fn until(&mut self, condition: Condition, count: usize) -> Result<Reply, NoMemory>
-        requires some { 0 < count }
-        requires named { IsConditionOf self.old.app.runs condition }
+    fn until(&mut self, condition: Condition, count: Count) -> Result<Reply, NoMemory>
+        requires { IsConditionOf self.old.app.runs condition }
         ensures after { IfOk result (λ reply.
             self.new ≡ after_request self.old (request.Until condition count)) }
         ensures reply { IfOk result (λ reply.
@@ -308,9 +309,8 @@ impl Machine {
 
     // Makes moves until the condition of a watch holds.
     #[inline(never)]
-    fn until_watch(&mut self, who: u32, watch: usize, count: usize) -> Result<Reply, NoMemory>
-        requires there { IsPresent self.old.sessions who }
-        requires named { IsBoundOf self.old.app (bound.UntilWatch watch count) }
+    fn until_watch(&mut self, who: u32, watch: usize, count: Count) -> Result<Reply, NoMemory>
+        requires { IsPresent self.old.sessions who }
         ensures ok { IfOk result (IsDone self.old who (bound.UntilWatch watch count) self.new) }
         ensures err { OnErr result (self.new ≡ self.old) }
     {
@@ -408,25 +408,16 @@ impl Machine {
         })
     }
 
-    // The view of the thing of that kind and number.
+    // The view of the target that a command asks for.
     #[inline(never)]
-    fn thing(&self, kind: Kind, number: usize) -> Result<Reply, NoMemory>
-        requires { number < length (names_of kind self.now.app.names) }
-        ensures { IfOk result (λ reply. reply
-            ≡ shown (view_text self.now.app.names (target_of self.now) kind number)) }
+    fn view(&self, command: &Bound<'_>) -> Result<Reply, NoMemory>
+        requires { IsSomeAnd (view_asked command.now) (IsViewNamed self.now.app.names) }
+        ensures { IfOk result (λ reply. IfSome (view_asked command.now) (λ view.
+            reply ≡ shown (text_shown self.now.app.names (target_of self.now) view))) }
     {
-        self.timeline.keeps();
-        Ok(shown(show_thing(&self.timeline, &self.names, self.alloc, kind, number)?))
-    }
-
-    // The view of the cores.
-    #[inline(never)]
-    fn cores(&self) -> Result<Reply, NoMemory>
-        ensures { IfOk result (λ reply.
-            reply ≡ shown (cores_text self.now.app.names (target_of self.now))) }
-    {
-        self.timeline.keeps();
-        Ok(shown(show_all_cores(&self.timeline, &self.names, self.alloc)?))
+        self.keeps();
+        let line = show(self.alloc, self.target(), self.names(), command)?;
+        Ok(shown(Text::new(line)))
     }
 
     // The view of the session's watches.
@@ -463,8 +454,7 @@ impl Machine {
             Bound::GiveWheel => Ok(self.give_wheel(who)),
             Bound::Watch { condition } => Ok(self.watch(who, *condition)),
             Bound::Unwatch { number } => Ok(self.unwatch(who, *number)),
-            Bound::Show { kind, number } => self.thing(*kind, *number),
-            Bound::ShowCores => self.cores(),
+            Bound::Show { .. } | Bound::ShowCores => self.view(command),
             Bound::ShowMoves => Ok(self.moves()),
             Bound::ShowWheel => Ok(told(Short::Holder { holder: self.wheel })),
             Bound::ShowWatches => self.watches(who),

@@ -1,16 +1,17 @@
 //! The lines of views.
 
-ghost use Rattle.std.specs.Prelude.{◌≡◌, ◌++◌, ◌<◌, length, IfOk, IfSome, OnOk};
-ghost use Rattle.rd_names.specs.Apps.{AreAsMany};
+ghost use Rattle.std.specs.Prelude.{◌≡◌, ◌++◌, ◌<◌, length, IfOk, IfSome, IsSomeAnd, OnOk};
 ghost use Rattle.rd_names.specs.Names.{names_of};
-ghost use Rattle.rd_reply.specs.Replies.{cores_text, line_of, watches_text};
+ghost use Rattle.rd_reply.specs.Replies.{line_of, watches_text};
 ghost use Rattle.rd_desk.specs.Sessions.{AreWatchesOf};
 ghost use Rattle.rd_condition.specs.Conditions.{IsConditionOf};
-ghost use Rattle.rd_desk.specs.Views.{shown_at, view_text, watches_shown};
+ghost use Rattle.rd_desk.specs.Views.{AreNamesOf, IsViewNamed, shown_at, text_shown, view_asked};
+ghost use Rattle.rd_desk.specs.Views.{view_text, watches_shown};
 
 use crate::text::Text;
 use crate::watches::Watches;
 use rd_bytes::no_memory::NoMemory;
+use rd_command::binding::Bound;
 use rd_condition::condition::Condition;
 use rd_names::names::Names;
 use rd_reply::buffers::{show_message, show_stream};
@@ -18,6 +19,7 @@ use rd_reply::groups::show_group;
 use rd_reply::reply::{
     WatchShown, core_of, show_cores, show_queue, show_queue_set, show_task, show_watches,
 };
+use rd_state::state::State;
 use rd_text::kind::Kind;
 use rd_timeline::timeline::Timeline;
 use std::alloc::{AllocError, Global};
@@ -27,65 +29,86 @@ const ROOM: usize = 128;
 
 // Appends what is shown of the thing of that kind and number.
 fn append_thing(
-    timeline: &Timeline,
+    state: &State,
     names: &Names,
     line: &mut Vec<u8>,
     kind: Kind,
     number: usize,
 ) -> Result<(), AllocError>
-    requires paired { AreAsMany timeline.now.app names.now }
+    requires paired { AreNamesOf state.now names.now }
     requires named { number < length (names_of kind names.now) }
-    ensures { OnOk result (line.new.items ≡ line.old.items
-        ++ line_of (view_text names.now timeline.now.target kind number)) }
+    ensures { OnOk result (line.new.items
+        ≡ line.old.items ++ line_of (view_text names.now state.now kind number)) }
 {
-    let target = timeline.target();
     let name = names.name(kind, number);
-    timeline.keeps();
+    state.sizes();
     match kind {
-        Kind::Queue => show_queue(line, names, name, target.queue(number)),
-        Kind::QueueSet => show_queue_set(line, names, name, target.queue_set(number)),
-        Kind::Stream => show_stream(line, names, name, target.stream(number)),
-        Kind::Message => show_message(line, names, name, target.message(number)),
-        Kind::Group => show_group(line, names, name, target.group(number)),
+        Kind::Queue => show_queue(line, names, name, state.queue(number)),
+        Kind::QueueSet => show_queue_set(line, names, name, state.queue_set(number)),
+        Kind::Stream => show_stream(line, names, name, state.stream(number)),
+        Kind::Message => show_message(line, names, name, state.message(number)),
+        Kind::Group => show_group(line, names, name, state.group(number)),
         Kind::Task => {
-            let core = core_of(target.cores(), number);
-            show_task(line, names, name, core, target.task(number))
+            let core = core_of(state.cores(), number);
+            show_task(line, names, name, core, state.task(number))
         }
     }
 }
 
-/// The view of the thing of that kind and number. An `Err` says that there is no memory for it.
-pub(crate) fn show_thing(
-    timeline: &Timeline,
+// Appends the view that a command asks for.
+fn append_view(
+    state: &State,
     names: &Names,
-    alloc: Global,
-    kind: Kind,
-    number: usize,
-) -> Result<Text, NoMemory>
-    requires paired { AreAsMany timeline.now.app names.now }
-    requires named { number < length (names_of kind names.now) }
-    ensures { IfOk result (λ text.
-        text ≡ line_of (view_text names.now timeline.now.target kind number)) }
+    line: &mut Vec<u8>,
+    bound: &Bound<'_>,
+) -> Result<(), AllocError>
+    requires paired { AreNamesOf state.now names.now }
+    requires view { IsSomeAnd (view_asked bound.now) (IsViewNamed names.now) }
+    ensures { OnOk result (IfSome (view_asked bound.now) (λ view.
+        line.new.items ≡ line.old.items ++ line_of (text_shown names.now state.now view))) }
 {
-    let mut line = Vec::with_capacity(alloc, ROOM)?;
-    append_thing(timeline, names, &mut line, kind, number)?;
-    Ok(Text::new(line))
+    match bound {
+        Bound::Show { kind, number } => append_thing(state, names, line, *kind, *number),
+        Bound::ShowCores => {
+            state.sizes();
+            show_cores(line, names, state)
+        }
+        Bound::Step { .. }
+        | Bound::Tick
+        | Bound::Forward { .. }
+        | Bound::Redo { .. }
+        | Bound::Back { .. }
+        | Bound::Until { .. }
+        | Bound::UntilWatch { .. }
+        | Bound::BackUntil { .. }
+        | Bound::BackUntilWatch { .. }
+        | Bound::Poke { .. }
+        | Bound::TakeWheel
+        | Bound::GiveWheel
+        | Bound::Watch { .. }
+        | Bound::Unwatch { .. }
+        | Bound::ShowMoves
+        | Bound::ShowWheel
+        | Bound::ShowWatches => unreachable!(),
+    }
 }
 
-/// The view of the cores. An `Err` says that there is no memory for it.
-pub(crate) fn show_all_cores(
-    timeline: &Timeline,
-    names: &Names,
+/// The line of a view of the target, its LF included: of the thing that a command names, or of the
+/// cores. An `Err` says that there is no memory for it.
+pub fn show(
     alloc: Global,
-) -> Result<Text, NoMemory>
-    requires { AreAsMany timeline.now.app names.now }
-    ensures { IfOk result (λ text.
-        text ≡ line_of (cores_text names.now timeline.now.target)) }
+    state: &State,
+    names: &Names,
+    bound: &Bound<'_>,
+) -> Result<Vec<u8>, NoMemory>
+    requires paired { AreNamesOf state.now names.now }
+    requires view { IsSomeAnd (view_asked bound.now) (IsViewNamed names.now) }
+    ensures { IfOk result (λ line. IfSome (view_asked bound.now) (λ view.
+        line.items ≡ line_of (text_shown names.now state.now view))) }
 {
-    timeline.keeps();
     let mut line = Vec::with_capacity(alloc, ROOM)?;
-    show_cores(&mut line, names, timeline.target())?;
-    Ok(Text::new(line))
+    append_view(state, names, &mut line, bound)?;
+    Ok(line)
 }
 
 // Appends a watch with that number, if there is one, with whether its condition holds.

@@ -42,6 +42,8 @@ mod rows;
 #[cfg(test)]
 mod runs;
 #[cfg(test)]
+mod showing;
+#[cfg(test)]
 mod streams;
 #[cfg(test)]
 mod tasks;

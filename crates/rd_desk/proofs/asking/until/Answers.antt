@@ -1,6 +1,6 @@
 -- The goal of until that the check left open.
-use Rattle.std.proofs.Common.{◌≡◌, length}
-use Rattle.std.specs.Prelude.{Some}
+use Rattle.std.proofs.Common.{◌≡◌, length, subst}
+use Rattle.std.specs.Prelude.{IfOk, Some}
 use Rattle.rd_timeline.specs.declared.running.Found.{Found}
 use Rattle.rd_timeline.specs.Policy.{EndsRun, IsWhyNoRun}
 use Rattle.rd_timeline.specs.declared.runs.Request.TheVariants.{Until}
@@ -14,10 +14,11 @@ returns-clause-ok c =
     let new = c.until.new.self in
     let made = c.until.result in
     let At : Found → Type 0 = λ found. found.at ≡ length new.done in
-    let Ends : Found → Type 0 = λ found. EndsRun old (Some c.args.condition) c.args.count found.met new in
+    let Ends : Found → Type 0 = λ found. EndsRun old (Some c.args.condition) c.get.result found.met new in
     let ok = all_ok made At Ends c.until.ensures.at c.until.ensures.ends in
-    obeyed (Obeys old (Until c.args.condition c.args.count) new) made c.ended.result ended_reply (λ found. At found × Ends found)
-    (IsWhyNoRun old (Some c.args.condition) c.args.count) (new ≡ old)
+    subst (λ count. IfOk c.ended.result (Obeys old (Until c.args.condition count) new)) c.get.ensures.number
+    (obeyed (Obeys old (Until c.args.condition c.get.result) new) made c.ended.result ended_reply (λ found. At found × Ends found)
+    (IsWhyNoRun old (Some c.args.condition) c.get.result) (new ≡ old)
     c.ended.ensures.no_memory c.ended.ensures.ok c.ended.ensures.err ok c.until.ensures.refusals c.until.ensures.err
-    (λ found facts. until_done old new c.args.condition c.args.count found c.keeps.ensures.leads facts.0 c.until.ensures.app c.until.ensures.limit facts.1)
-    (λ refusal other why same. until_refused old new c.args.condition c.args.count refusal c.keeps.ensures.leads other why same)
+    (λ found facts. until_done old new c.args.condition c.get.result found c.keeps.ensures.leads facts.0 c.until.ensures.app c.until.ensures.limit facts.1)
+    (λ refusal other why same. until_refused old new c.args.condition c.get.result refusal c.keeps.ensures.leads other why same))

@@ -1,0 +1,59 @@
+//! Views of the target by one call, without a session.
+
+ghost use Rattle.std.specs.Prelude.{◌≡◌, IsSomeAnd};
+ghost use Rattle.rd_names.specs.Apps.{builtin_names};
+ghost use Rattle.rd_desk.specs.Views.{IsViewNamed, view_asked};
+
+use crate::asserts::assert_same;
+use rd_command::binding::Bound;
+use rd_desk::machine::Machine;
+use rd_desk::showing::show;
+use rd_names::app::App;
+use rd_text::kind::Kind;
+use std::alloc::AllocGlobal;
+use std::process::Abort;
+use std::test::Fail;
+
+// What the command asks to see of the target is this line.
+fn assert_shown<H: AllocGlobal + Abort>(
+    rt: &H,
+    machine: &Machine,
+    bound: &Bound<'_>,
+    wanted: &str,
+) -> Result<(), Fail>
+    requires { IsSomeAnd (view_asked bound.now) (IsViewNamed machine.now.app.names) }
+{
+    machine.keeps();
+    let line = show(rt.alloc(), machine.target(), machine.names(), bound)?;
+    assert_same(rt, line.as_slice(), wanted.as_bytes());
+    Ok(())
+}
+
+// The queue, the task and the cores of the built-in application are shown so.
+fn assert_all_shown<H: AllocGlobal + Abort>(rt: &H, machine: &Machine) -> Result<(), Fail>
+    requires { machine.now.app.names ≡ builtin_names }
+{
+    let queue = Bound::Show {
+        kind: Kind::Queue,
+        number: 0,
+    };
+    let line = "queue q0 0/2 items - recv - send - set -\n";
+    assert_shown(rt, machine, &queue, line)?;
+    let task = Bound::Show {
+        kind: Kind::Task,
+        number: 0,
+    };
+    let line = "task t0 core 0 pc 0 phase run regs 0,0,0,0,0,0,0,0 data - notes 0:idle\n";
+    assert_shown(rt, machine, &task, line)?;
+    let line = "cores t0 ready - tick 0 turn 0\n";
+    assert_shown(rt, machine, &Bound::ShowCores, line)
+}
+
+#[test]
+fn at_boot(rt: HostRuntime) -> Result<(), Fail> {
+    let app = App::builtin(rt.alloc())?;
+    let machine = Machine::new(rt.alloc(), app, 10)?;
+    let ended = assert_all_shown(&rt, &machine);
+    machine.close();
+    ended
+}
