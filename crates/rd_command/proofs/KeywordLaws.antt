@@ -1,5 +1,5 @@
 -- What is bound has the keyword of its command.
-use Rattle.std.proofs.Common.{◌≡◌, [], ◌∷◌, List, Option, Some, option_map, refl, subst}
+use Rattle.std.proofs.Common.{◌≡◌, [], ◌∷◌, List, Some, option_map, refl, subst}
 use Rattle.rd_names.specs.Apps.{AppView}
 use Rattle.rd_condition.specs.declared.condition.Condition.{Condition}
 use Rattle.rd_command.specs.declared.binding.Bound.{Bound}

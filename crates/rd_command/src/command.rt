@@ -17,8 +17,8 @@ use std::marker::Model;
 use thiserror::Error;
 
 /// A command of a session: its keyword, and the words of its operands, which have the forms that
-/// the keyword asks for: so the word of a count is a number of 1 to 1,000,000. What they name is
-/// looked up by `bind`, which also makes them numbers, the word of a count a `Count`.
+/// the keyword asks for. So the word of a count is a number of 1 to 1,000,000, and `bind` makes a
+/// `Count` of it. What the words name is looked up by `bind` too.
 #[derive(Drop)]
 pub struct Command<'a> {
     line: &'a [u8],

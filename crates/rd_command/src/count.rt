@@ -40,7 +40,7 @@ impl Count {
         }
     }
 
-    /// The number. It is within these limits.
+    /// The number, which is 1 to 1,000,000.
     pub fn get(self) -> usize
         ensures number { result ≡ self }
         ensures some { 0 < result }

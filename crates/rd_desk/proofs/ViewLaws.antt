@@ -1,12 +1,8 @@
 -- The watches that are shown.
-use Rattle.std.proofs.Common.{◌≡◌, ◌∙◌, ℕ, ◌+◌, ◌<◌, ◌≤◌, List, ◌∷◌, ◌++◌, length, drop, None, ap, subst, sym, arith, add-one, drop-cons, append_assoc}
+use Rattle.std.proofs.Common.{◌≡◌, ◌∙◌, ℕ, ◌+◌, ◌<◌, ◌≤◌, List, ◌∷◌, ◌++◌, length, drop, None, ap, sym, add-one, drop-cons, append_assoc}
 use Rattle.std.proofs.lemmas.List.{append-nil, drop_all}
-use Rattle.std.specs.Prelude.{All, IfSome}
-use Rattle.rd_app.specs.Application.{Application, IsApplication}
 use Rattle.rd_state.specs.Snapshot.{Snapshot}
-use Rattle.rd_state.specs.Valid.{IsValid}
 use Rattle.rd_reply.specs.declared.watches.WatchShown.{WatchShown}
-use Rattle.rd_reply.specs.Names.{SeatedAreNamed}
 use Rattle.rd_desk.specs.Sessions.{WatchesView, watch_at}
 use Rattle.rd_desk.specs.Views.{shown_at, shown_from}
 

@@ -1,6 +1,6 @@
 -- A watch is its own session's, and the history stays.
 use Rattle.std.proofs.Common.{◌≡◌, ◌≢◌, ◌∙◌, ℕ, ◌-◌, ◌<◌, List, [], ◌∷◌, ◌++◌, length, refl, ap, suc, sym, zero, arith}
-use Rattle.std.specs.Prelude.{Option, None, Some, is_none, position, slice_get, slice_index_or, slice_set, unwrap_or}
+use Rattle.std.specs.Prelude.{Option, None, Some, is_none, position, slice_get, slice_set, unwrap_or}
 use Rattle.std.proofs.lemmas.List.{get_or-set_other, get_or_append_left}
 use Rattle.rd_condition.specs.declared.condition.Condition.{Condition}
 use Rattle.rd_timeline.specs.declared.runs.Request.{Request}
@@ -11,13 +11,12 @@ use Rattle.rd_command.specs.declared.binding.Bound.{Bound}
 use Rattle.rd_command.specs.declared.binding.Bound.TheVariants as bound
 use Rattle.rd_reply.specs.Replies.{watches_text}
 use Rattle.rd_desk.specs.declared.entry.Entry.{Entry}
-use Rattle.rd_desk.specs.declared.entry.Event.{Event}
 use Rattle.rd_desk.specs.declared.entry.Event.TheVariants.{Enter, Ask, Leave}
 use Rattle.rd_desk.specs.Debugger.{Debugger, own_watches, target_of, watching}
-use Rattle.rd_desk.specs.DeskView.{DeskView, Does, entry_of}
+use Rattle.rd_desk.specs.DeskView.{entry_of}
 use Rattle.rd_desk.specs.Laws.{TheHistoryStays, WatchesAreDroppedByTheirSession, WatchesAreSeenByTheirSession}
-use Rattle.rd_desk.specs.Serving.{MayAct, after_bound, after_dropped, after_if_there, after_kept, after_unless_held, after_watched, held_by, reply_if_there, reply_of, reply_to_bound, reply_to_dropped, reply_to_kept, reply_to_watched, reply_unless_held, served, shown}
-use Rattle.rd_desk.specs.Sessions.{IsPresent, SessionsView, WatchesView, session_at, watch_at}
+use Rattle.rd_desk.specs.Serving.{after_bound, after_dropped, after_if_there, after_kept, after_unless_held, after_watched, held_by, reply_if_there, reply_to_bound, reply_to_dropped, reply_to_kept, reply_to_watched, reply_unless_held, shown}
+use Rattle.rd_desk.specs.Sessions.{SessionsView, WatchesView, session_at, watch_at}
 use Rattle.rd_desk.specs.Views.{watches_shown}
 use Rattle.rd_desk.proofs.SessionLaws.{there_within}
 

@@ -1,5 +1,5 @@
 -- Who has the wheel, by the history alone.
-use Rattle.std.proofs.Common.{◌≡◌, ◌∙◌, ℕ, List, [], ◌∷◌, true, false, cond, length, refl, ap, subst, sym}
+use Rattle.std.proofs.Common.{◌≡◌, ◌∙◌, ℕ, List, [], ◌∷◌, true, false, cond, length, refl, ap, sym}
 use Rattle.std.specs.Prelude.{Bool, Option, None, Some, Result, Ok, Err, is_none, nat_eq, nat_le, position}
 use Rattle.rd_app.specs.Application.{Application}
 use Rattle.rd_refusal.specs.declared.refusal.Refusal.{Refusal}
@@ -17,7 +17,6 @@ use Rattle.rd_command.specs.Bindings.{bound_of, keyword_of}
 use Rattle.rd_command.specs.Commands.{CommandView}
 use Rattle.rd_command.specs.declared.binding.Bound.{Bound}
 use Rattle.rd_command.specs.declared.binding.Bound.TheVariants as bound
-use Rattle.rd_command.specs.declared.keyword.Keyword.{Keyword}
 use Rattle.rd_command.proofs.Offered.{bound_keyword}
 use Rattle.rd_reply.specs.declared.reply.Reply.TheVariants.{Done, Refused}
 use Rattle.rd_desk.specs.declared.entry.Entry.{Entry}

@@ -1,5 +1,5 @@
 -- The goal of new that the check left open.
-use Rattle.std.proofs.Common.{rules, ◌≡◌, ◌∙◌, ap, subst, sym}
+use Rattle.std.proofs.Common.{rules, ◌∙◌, ap, subst, sym}
 use Rattle.rd_app.specs.Application.{Application}
 use Rattle.rd_names.specs.Apps.{AreAsMany}
 use Rattle.rd_names.specs.Names.{NamesView}
