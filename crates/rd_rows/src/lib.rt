@@ -50,6 +50,8 @@ mod rows;
 #[cfg(test)]
 mod runs;
 #[cfg(test)]
+mod sentences;
+#[cfg(test)]
 mod showing;
 #[cfg(test)]
 mod streams;
