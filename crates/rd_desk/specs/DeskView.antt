@@ -1,6 +1,10 @@
 -- What a contract sees of a desk, and of what a call did to it.
 use Rattle.std.specs.Prelude.{ℕ, ◌≡◌, ◌+◌, ◌≤◌, List, [], ◌∷◌, ◌++◌, length, Ok}
-use Rattle.rd_timeline.specs.History.{state_after}
+use Rattle.rd_app.specs.Application.{Application}
+use Rattle.rd_state.specs.Change.{Change}
+use Rattle.rd_state.specs.Snapshot.{Snapshot}
+use Rattle.rd_calls.specs.declared.moves.Move.{Move}
+use Rattle.rd_timeline.specs.History.{state_after, CanRewind, Retraces}
 use Rattle.rd_desk.specs.declared.entry.Entry.{Entry}
 use Rattle.rd_desk.specs.declared.entry.Event.{Event}
 use Rattle.rd_desk.specs.declared.entry.Receipt.{Receipt}
@@ -21,14 +25,23 @@ pub record DeskView : Type 0 where
 abbrev pub used : DeskView → ℕ
 used d = length d.history + present_count d.debugger.sessions
 
+-- There is a record for each of these moves. Going back from the state by the last ones, as many as
+-- one likes, can be done, and gives the whole state that the moves before them gave.
+pub record LeadsBack (app : Application) (moves : List Move) (s : Snapshot) : Type 0 where
+  pub records : List (List Change)
+  pub each : length records ≡ length moves
+  pub can : CanRewind s records
+  pub back : Retraces app moves records s
+
 -- The history is one of the sequential debugger, and each session that is present has a place for
--- its departure. The moves done, and not undone, give the target from the start, and there are as
--- many names as things in it.
+-- its departure. The moves done, and not undone, give the target from the start, and a record of
+-- each leads back from it. There are as many names as things in it.
 pub record IsKept (d : DeskView) : Type 0 where
   pub legal : IsLegal d.history d.debugger
   pub within : used d ≤ d.most_entries
   pub joins : length d.debugger.sessions ≤ MAX_JOINS
   pub leads : state_after d.debugger.app.runs d.debugger.moves.done ≡ Ok (target_of d.debugger)
+  pub leads_back : LeadsBack d.debugger.app.runs d.debugger.moves.done (target_of d.debugger)
   pub paired : AreNamesOf (target_of d.debugger) d.debugger.app.names
 
 -- the entry of an event

@@ -158,8 +158,8 @@ impl Desk {
     }
 
     /// The history is one of the sequential debugger, each session that is present has a place for
-    /// its departure, and the moves done, and not undone, give the target from the start. There are
-    /// as many names as things in it.
+    /// its departure, and the moves done, and not undone, give the target from the start, from
+    /// which a record of each leads back. There are as many names as things in it.
     pub fn keeps(&self)
         ensures { IsKept self.now }
     {

@@ -14,6 +14,7 @@ ghost use Rattle.rd_reply.specs.declared.reply.Reply.TheVariants as short;
 ghost use Rattle.rd_reply.specs.Replies.{watches_text};
 ghost use Rattle.rd_desk.specs.Debugger.{freed, is_holder, opening, other_holder, own_watches};
 ghost use Rattle.rd_desk.specs.Debugger.{target_of, watching};
+ghost use Rattle.rd_desk.specs.DeskView.{LeadsBack};
 ghost use Rattle.rd_desk.specs.Serving.{after_request, entered, held_by, left, refused};
 ghost use Rattle.rd_desk.specs.Serving.{reply_to_request, shown, IsAnswered, IsDone};
 ghost use Rattle.rd_desk.specs.Sessions.{IsPresent, present_count};
@@ -129,11 +130,13 @@ impl Machine {
         })
     }
 
-    /// The moves done, and not undone, give the target from the start. There are as many names as
-    /// things in it.
+    /// The moves done, and not undone, give the target from the start, and a record of each leads
+    /// back from it. There are as many names as things in it.
     pub fn keeps(&self)
         ensures leads { state_after self.now.app.runs self.now.moves.done
             ≡ Ok (target_of self.now) }
+        ensures leads_back { LeadsBack self.now.app.runs self.now.moves.done
+            (target_of self.now) }
         ensures paired { AreNamesOf (target_of self.now) self.now.app.names }
     {
         self.timeline.keeps();

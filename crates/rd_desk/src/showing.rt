@@ -94,7 +94,8 @@ fn append_view(
 }
 
 /// The line of a view of the target, its LF included: of the thing that a command names, or of the
-/// cores. An `Err` says that there is no memory for it.
+/// cores. The command asks for one of these, by the number of a thing that there is, and the names
+/// are those of the state's objects and tasks. An `Err` says that there is no memory for it.
 pub fn show(
     alloc: Global,
     state: &State,

@@ -16,7 +16,7 @@ next_place-push place (x ∷ xs) r = next_place-push (x.place + 1) xs r
 -- a seat with the receipt of what was done for it
 pub IsSeat-push : (seat : SeatView) (next parts amount : ℕ) (r : Receipt) (receipts : List Receipt) (next' parts' amount' : ℕ) → IsSeat seat next parts amount
     → r.entry.who ≡ seat.who → next ≤ r.place → receipts ≡ seat.receipts ++ r ∷ [] → next' ≡ r.place + 1 → parts' ≡ parts → amount' ≡ amount + 1
-    → IsSeat (record { who = seat.who; receipts = receipts }) next' parts' amount'
+    → IsSeat (record { who = seat.who; receipts = receipts; share = amount' }) next' parts' amount'
 IsSeat-push seat next parts amount r receipts next' parts' amount' kept by behind is n p a = record {
   some = omega (arith, ap length is, length_push seat.receipts r);
   series = subst (IsSeries seat.who 0) (sym is) (IsSeries-push seat.who 0 seat.receipts r kept.series by (omega (arith, behind, kept.next)));

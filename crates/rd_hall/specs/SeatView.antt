@@ -2,10 +2,11 @@
 use Rattle.std.specs.Prelude.{ℕ, ◌≡◌, ◌+◌, ◌<◌, ◌≤◌, List, [], ◌∷◌, ◌++◌, length}
 use Rattle.rd_desk.specs.declared.entry.Receipt.{Receipt}
 
--- the session, and its receipts in the order in which they came
+-- the session, its receipts in the order in which they came, and how much it has of the ledger
 pub record SeatView : Type 0 where
   pub who : ℕ
   pub receipts : List Receipt
+  pub share : ℕ
 
 -- The receipts all name the session, and rise in place, from this place on.
 abbrev pub IsSeries : ℕ → ℕ → List Receipt → Type 0
@@ -18,9 +19,13 @@ abbrev pub next_place : ℕ → List Receipt → ℕ
 next_place place [] = place
 next_place place (receipt ∷ later) = next_place (receipt.place + 1) later
 
--- the seat with one receipt more
+-- the seat with one receipt more, which counts as one in the ledger
 abbrev pub with_receipt : SeatView → Receipt → SeatView
-with_receipt seat receipt = record seat { receipts = seat.receipts ++ receipt ∷ [] }
+with_receipt seat receipt = record {
+  who = seat.who;
+  receipts = seat.receipts ++ receipt ∷ [];
+  share = seat.share + 1;
+}
 
 -- What the fields of a seat keep: it has receipts, the place behind them, one part of the ledger,
 -- and as much of the amount as receipts.

@@ -26,7 +26,7 @@ pub record Reaches (d : DeskView) (seat : SeatView) : Type 0 where
 
 -- the seat of who enters next, without receipts yet
 abbrev pub newcomer : DeskView → SeatView
-newcomer d = record { who = length d.debugger.sessions + 1; receipts = [] }
+newcomer d = record { who = length d.debugger.sessions + 1; receipts = []; share = 0 }
 
 -- The event was done for the seat, which has its receipt.
 abbrev pub DoesFor : DeskView → SeatView → Event → DeskView → SeatView → Type 0

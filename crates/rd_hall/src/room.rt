@@ -1,15 +1,16 @@
 //! A debugger, and the ledger of the receipts that it has given.
 
 ghost use Rattle.std.specs.Prelude.{◌≡◌, ◌≢◌, ◌↔◌, ◌+◌, ◌<◌, ◌≤◌, [], length, vec_len};
-ghost use Rattle.std.specs.Prelude.{IfOk, IfErr, OnOk, OnErr, IsTrue, IsOk, IsErrOf};
+ghost use Rattle.std.specs.Prelude.{Ok, IfOk, IfErr, OnOk, OnErr, IsTrue, IsOk, IsErrOf};
 ghost use Rattle.std.specs.Result.{result_ok};
 ghost use Rattle.rd_command.specs.Bindings.{bound_of};
 ghost use Rattle.rd_desk.specs.Debugger.{opening};
-ghost use Rattle.rd_desk.specs.DeskView.{IsKept, used};
+ghost use Rattle.rd_desk.specs.DeskView.{IsKept, LeadsBack, used};
 ghost use Rattle.rd_desk.specs.Legal.{IsLegal};
 ghost use Rattle.rd_desk.specs.Refusals.{tally_of, IfEnterFull, IfServeFull, is_serve_full};
 ghost use Rattle.rd_desk.specs.declared.entry.Event.TheVariants.{Enter, Ask, Leave};
 ghost use Rattle.rd_desk.specs.declared.sessions.TheConstants.{MAX_JOINS};
+ghost use Rattle.rd_timeline.specs.History.{state_after};
 ghost use Rattle.rd_hall.specs.Account.{IsAccount, IsAccounted};
 ghost use Rattle.rd_hall.specs.Seats.{newcomer, DoesFor, IsOf, Reaches};
 
@@ -23,6 +24,7 @@ use rd_desk::desk::{Desk, EnterError, NotServed};
 use rd_desk::limits::Limits;
 use rd_desk::sessions::MAX_JOINS;
 use rd_names::app::App;
+use rd_state::state::State;
 use std::alloc::Global;
 use std::marker::Model;
 use std::sync::ledger::{Blank, Book};
@@ -98,6 +100,22 @@ impl<L: Setup> Room<L> {
         ensures set_up { IsOf self.now.desk L.app L.most_moves L.most_entries }
     {
         self.desk.keeps();
+    }
+
+    /// The target: the state that the moves done, and not undone, give from the start, whichever
+    /// sessions made them. The history is one of the sequential debugger from its opening on, and
+    /// as long as the ledger's total. There is a record of each move done, and going back by them
+    /// gives the whole state before each.
+    pub fn target(&self) -> &State
+        ensures legal { IsLegal self.now.desk.history self.now.desk.debugger }
+        ensures leads { state_after self.now.desk.debugger.app.runs
+            self.now.desk.debugger.moves.done ≡ Ok result.now }
+        ensures leads_back { LeadsBack self.now.desk.debugger.app.runs
+            self.now.desk.debugger.moves.done result.now }
+        ensures counted { length self.now.desk.history ≡ self.now.total }
+    {
+        self.desk.keeps();
+        self.desk.target()
     }
 
     /// A session joins: it enters the debugger, and gets the receipt of that. `NoMemory` where

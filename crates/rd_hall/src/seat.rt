@@ -44,11 +44,15 @@ impl<L: Setup> Model for Seat<L> {
 
     ghost Value = { SeatView };
 
-    ghost view = { λ s. record { who = s.who; receipts = s.receipts.items } };
+    ghost view = { λ s. record {
+      who = s.who;
+      receipts = s.receipts.items;
+      share = s.share.amount;
+    } };
 
     // There is room for the receipt of its leave.
     ghost invariant = { λ s.
-        IsSeat (record { who = s.who; receipts = s.receipts.items })
+        IsSeat (record { who = s.who; receipts = s.receipts.items; share = s.share.amount })
         s.next s.share.parts s.share.amount
         × (length s.receipts.items < vec_capacity s.receipts) };
 }
@@ -67,10 +71,14 @@ impl<L: Setup> Model for Gone<L> {
 
     ghost Value = { SeatView };
 
-    ghost view = { λ s. record { who = s.who; receipts = s.receipts.items } };
+    ghost view = { λ s. record {
+      who = s.who;
+      receipts = s.receipts.items;
+      share = s.share.amount;
+    } };
 
     ghost invariant = { λ s.
-        IsSeat (record { who = s.who; receipts = s.receipts.items })
+        IsSeat (record { who = s.who; receipts = s.receipts.items; share = s.share.amount })
         s.next s.share.parts s.share.amount };
 }
 
@@ -97,10 +105,12 @@ impl<L: Setup> Seat<L> {
         &receipts[receipts.len() - 1]
     }
 
-    /// There are receipts, all name the session, and they rise in place.
+    /// There are receipts, all name the session, and they rise in place. The session has as much of
+    /// the ledger as receipts.
     pub fn keeps(&self)
         ensures some { 0 < length self.now.receipts }
         ensures series { IsSeries self.now.who 0 self.now.receipts }
+        ensures share { self.now.share ≡ length self.now.receipts }
     {
         let _ = &self.who;
     }
@@ -121,10 +131,12 @@ impl<L: Setup> Gone<L> {
         self.receipts.as_slice()
     }
 
-    /// There are receipts, all name the session, and they rise in place.
+    /// There are receipts, all name the session, and they rise in place. The session has as much of
+    /// the ledger as receipts.
     pub fn keeps(&self)
         ensures some { 0 < length self.now.receipts }
         ensures series { IsSeries self.now.who 0 self.now.receipts }
+        ensures share { self.now.share ≡ length self.now.receipts }
     {
         let _ = &self.who;
     }

@@ -1,6 +1,6 @@
 //! Names of one kind of thing, each with its number.
 
-ghost use Rattle.std.specs.Prelude.{◌≡◌, ◌<◌, [], length, position, slice_get, Some, IfOk};
+ghost use Rattle.std.specs.Prelude.{◌≡◌, ◌<◌, length, position, slice_get, Some, IfOk};
 ghost use Rattle.std.specs.Str.{bytes_eq};
 ghost use Rattle.rd_names.specs.NameSets.{names_among};
 ghost use Rattle.rd_text.specs.Names.{AreDistinctNames};
@@ -36,15 +36,6 @@ impl Model for NameSet {
 }
 
 impl NameSet {
-    /// No names, which takes no memory.
-    pub fn none(alloc: Global) -> NameSet
-        ensures { result ≡ [] }
-    {
-        NameSet {
-            ordered: IndexSet::new(alloc),
-        }
-    }
-
     /// These texts, in their order, but for one that is no name or stands before.
     pub fn new(alloc: Global, names: &[&str]) -> Result<NameSet, AllocError>
         ensures { IfOk result (λ made. made ≡ names_among (texts names.now)) }

@@ -4,12 +4,14 @@ use Rattle.std.proofs.Common.{add-one, refl, ap, sym, arith, append_assoc, appen
 use Rattle.std.proofs.lemmas.List.{length-take-le, length-drop, get_or-drop, get_or-take}
 use Rattle.std.proofs.Math.Seq.{take-append_seam, drop-append_seam, get_or-append_seam}
 use Rattle.std.proofs.lemmas.Nat.{from_le_bytes-to_le_bytes_4}
+use Rattle.std.specs.Prelude.{Result, Ok, Err, OnOk}
 use Rattle.rd_bytes.proofs.Offered.{end_word_of, length-all_but}
-use Rattle.rd_bytes.specs.Ends.{all_but, end_byte, end_word}
-use Rattle.rd_state.proofs.Offered.{all_packed-changes_in, length-changes_in}
-use Rattle.rd_state.specs.Change.{Change}
+use Rattle.rd_bytes.specs.Ends.{end_byte, end_word}
+use Rattle.rd_state.proofs.Offered.{all_packed-changes_in, length-changes_in, weight_bounds_bytes}
+use Rattle.rd_state.specs.Change.{Change, cost_of, saved_bytes, weight_of}
 use Rattle.rd_state.specs.PackedChanges.{all_packed, changes_in, AreChanges}
-use Rattle.rd_packed.specs.Records.{trailer, record_packed, records_packed, body_size, change_count, record_size, last_body, last_record, last_of_all}
+use Rattle.std.proofs.lemmas.List.Sums.{sum_by-cons}
+use Rattle.rd_packed.specs.Records.{TakesLittle, saved_of, trailer, record_packed, records_packed, body_size, change_count, record_size, last_body, last_record, last_of_all}
 use Rattle.rd_packed.specs.Records.{before_record, records_in, EndsInRecord, AreRecords}
 
 pub length-records_in : (n : ℕ) (bytes : List ℕ) → length (records_in n bytes) ≡ n
@@ -92,6 +94,26 @@ pub record_count-le : (n : ℕ) (bytes : List ℕ) → AreRecords n bytes → n 
 record_count-le zero bytes are = omega arith
 record_count-le (suc n) bytes are =
     omega (arith, record_count-le n (before_record bytes) are.2, length-all_but bytes (record_size bytes), are.0.room, are.0.trailer)
+
+-- What follows from what a call promises where it succeeds.
+pub on_ok_then : {T E P Q : Type 0} (r : Result T E) → OnOk r P → (P → Q) → OnOk r Q
+on_ok_then (Ok x) holds follows = follows holds
+on_ok_then (Err y) holds follows = tt
+
+-- Changes weigh as many as they are, and as many bytes as they save.
+weight_parts : (undo : List Change) → weight_of undo ≡ length undo + saved_of undo
+weight_parts [] = refl
+weight_parts (change ∷ later) =
+    omega (arith, sum_by-cons cost_of change later, sum_by-cons saved_bytes change later, weight_parts later)
+
+pub takes_little : (undo : List Change) → TakesLittle undo
+takes_little undo =
+    omega (
+      arith,
+      weight_bounds_bytes undo,
+      weight_parts undo,
+      length-append (all_packed undo) (trailer (length (all_packed undo)) (length undo)),
+    )
 
 -- the numbers of the trailer, read by itself
 trailer_byte : (bytes : List ℕ) (k : ℕ) → 1 ≤ k → k ≤ 8 → 8 ≤ length bytes → end_byte k (take 8 (drop (length bytes - 8) bytes)) ≡ end_byte k bytes

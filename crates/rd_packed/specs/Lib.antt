@@ -2,3 +2,4 @@
 pub mod TapeView
 pub mod Reading
 pub mod Records
+pub mod ReadingAll

@@ -1,9 +1,9 @@
 -- Records, one after the other, read from the end of bytes.
-use Rattle.std.specs.Prelude.{ℕ, zero, suc, ◌≡◌, ◌+◌, ◌-◌, ◌≤◌, List, [], ◌∷◌, ◌++◌}
-use Rattle.std.specs.Prelude.{drop, take, length, slice_index_or}
+use Rattle.std.specs.Prelude.{ℕ, zero, suc, ◌≡◌, ◌+◌, ◌-◌, ◌*◌, ◌≤◌, List, [], ◌∷◌, ◌++◌}
+use Rattle.std.specs.Prelude.{drop, take, length, slice_index_or, sum_by}
 use Rattle.std.specs.Int.{w32, to_le_bytes}
 use Rattle.rd_bytes.specs.Ends.{all_but, end_word}
-use Rattle.rd_state.specs.Change.{Change}
+use Rattle.rd_state.specs.Change.{Change, saved_bytes}
 use Rattle.rd_state.specs.PackedChanges.{all_packed, changes_in, AreChanges}
 
 -- what stands behind the changes of a record: the number of their bytes, and how many they are
@@ -63,6 +63,14 @@ pub record PackedView : Type 0 where
   pub records : List (List Change)
   pub capacity : ℕ
   pub read : ℕ
+
+-- how many bytes changes save
+abbrev pub saved_of : List Change → ℕ
+saved_of undo = sum_by saved_bytes undo
+
+-- A record takes at most 16 bytes a change, those that its changes save, and 8.
+abbrev pub TakesLittle : List Change → Type 0
+TakesLittle undo = length (record_packed undo) ≤ 16 * length undo + saved_of undo + 8
 
 -- the last of the records
 abbrev pub last_of_all : List (List Change) → List Change

@@ -1,6 +1,6 @@
 //! Records as bytes, in a list that is undone from its end.
 #![tactic(auto)]
 
-mod count;
+pub mod count;
 pub mod packed;
 pub mod tape;

@@ -2,22 +2,27 @@
 
 ghost use Rattle.std.specs.Prelude.{◌≡◌, ◌+◌, ◌-◌, ◌<◌, ◌≤◌, ◌∷◌, ◌++◌, ◌^◌, [], length, take};
 ghost use Rattle.std.specs.Prelude.{IfErr, IsOk, OnErr, OnOk};
+ghost use Rattle.std.specs.Prelude.{drop};
+ghost use Rattle.std.specs.Borrow.{sem};
 ghost use Rattle.rd_bytes.specs.Ends.{end_word};
+ghost use Rattle.rd_packed.specs.ReadingAll.{CountsReadOf};
 ghost use Rattle.rd_packed.specs.Records.{body_size, change_count, last_of_all};
-ghost use Rattle.rd_packed.specs.Records.{record_packed, records_packed, trailer};
+ghost use Rattle.rd_packed.specs.Records.{record_packed, records_packed, trailer, TakesLittle};
 ghost use Rattle.rd_state.specs.PackedChanges.{IsPackable};
 ghost use Rattle.rd_state.specs.Undoing.{undone, CanUndo};
 
+use crate::count::ReadCount;
 use crate::tape::Tape;
 use rd_bytes::ends::end_word;
 use rd_bytes::no_memory::NoMemory;
+use rd_state::change_list::ChangeList;
 use rd_state::state::State;
 use rd_state::undo::Undo;
 use std::alloc::Global;
 use std::marker::Model;
 
-// How many bytes stand behind the changes of a record.
-const TRAILER: usize = 8;
+/// How many bytes stand behind the changes of a record.
+pub const TRAILER: usize = 8;
 
 /// A list of records. It can't be dropped: it ends in `retire`.
 pub struct Packed {
@@ -109,30 +114,75 @@ impl Packed {
         self.tape.len()
     }
 
-    /// Puts a record at the end. It refuses for want of memory alone, and where there is room for
-    /// the record's bytes, it doesn't: then the same record is handed back, and the others are as
-    /// they were.
+    /// How many bytes of them were read, as a count of its own.
+    pub fn count(&self) -> ReadCount
+        ensures { result.bytes ≡ self.now.read }
+    {
+        self.tape.count()
+    }
+
+    /// Makes room for so many bytes more. Where there is no memory for them, nothing has changed.
+    pub fn reserve(&mut self, more: usize) -> Result<(), NoMemory>
+        ensures ok { OnOk result
+            (length (records_packed self.new.records) + more ≤ self.new.capacity) }
+        ensures enough { length (records_packed self.old.records) + more ≤ self.old.capacity
+            → IsOk result }
+        ensures records { self.new.records ≡ self.old.records }
+        ensures grows { self.old.capacity ≤ self.new.capacity }
+        ensures read { self.new.read ≡ self.old.read }
+    {
+        self.tape.reserve(more)
+    }
+
+    /// Puts a record of these changes at the end, which takes at most 16 bytes a change, those that
+    /// they save, and 8. It refuses for want of memory alone, and where there is room for the
+    /// record's bytes, it doesn't; then the others are as they were.
+    pub fn append(&mut self, changes: &ChangeList) -> Result<(), NoMemory>
+        requires { IsPackable changes.now.changes }
+        ensures ok { OnOk result
+            (self.new.records ≡ self.old.records ++ changes.now.changes ∷ []) }
+        ensures records_take_little { TakesLittle changes.now.changes }
+        ensures enough { length (records_packed self.old.records)
+            + length (record_packed changes.now.changes) ≤ self.old.capacity → IsOk result }
+        ensures err { OnErr result (self.new.records ≡ self.old.records) }
+        ensures grows { self.old.capacity ≤ self.new.capacity }
+        ensures read { self.new.read ≡ self.old.read }
+    {
+        let count = changes.len();
+        push_record(&mut self.tape, changes.bytes(), count)?;
+        // Each record takes eight bytes at least, so their number fits.
+        let _len = self.tape.len();
+        self.records += 1;
+        Ok(())
+    }
+
+    /// Puts a record at the end, likewise. Where there is no memory for it, the same record is
+    /// handed back, and the others are as they were.
     pub fn push(&mut self, undo: Undo) -> Result<(), Undo>
         requires { IsPackable undo }
         ensures ok { OnOk result (self.new.records ≡ self.old.records ++ undo ∷ []) }
-        ensures enough { length (records_packed self.old.records ++ record_packed undo)
+        ensures records_take_little { TakesLittle undo }
+        ensures enough { length (records_packed self.old.records) + length (record_packed undo)
             ≤ self.old.capacity → IsOk result }
         ensures back { IfErr result (λ back. back ≡ undo) }
         ensures err { OnErr result (self.new.records ≡ self.old.records) }
         ensures grows { self.old.capacity ≤ self.new.capacity }
         ensures read { self.new.read ≡ self.old.read }
     {
-        let count = undo.len();
-        match push_record(&mut self.tape, undo.bytes(), count) {
-            Ok(()) => {
-                // Each record takes eight bytes at least, so their number fits.
-                let _len = self.tape.len();
-                self.records += 1;
-                undo.retire();
-                Ok(())
-            }
-            Err(_) => Err(undo),
+        if self.append(undo.changes()).is_err() {
+            return Err(undo);
         }
+        undo.retire();
+        Ok(())
+    }
+
+    /// The `n` bytes from `from` on of all records, which are counted as read. It takes no memory.
+    pub fn read(&mut self, from: usize, n: usize) -> &[u8]
+        requires { from + n ≤ length (records_packed self.old.records) }
+        ensures* count { sem 𝓛 (CountsReadOf self.entry n) }
+        ensures bytes { result.now ≡ take n (drop from (records_packed self.old.records)) }
+    {
+        self.tape.read(from, n)
     }
 
     /// Goes back by the last record, which leaves the others, and of which each byte is read once.

@@ -49,6 +49,25 @@ impl Tape {
         self.bytes.len()
     }
 
+    /// How many bytes of it were read, as a count of its own.
+    pub fn count(&self) -> ReadCount
+        ensures { result.bytes ≡ self.now.read }
+    {
+        ReadCount::after(&self.read, 0)
+    }
+
+    /// Makes room for so many bytes more. Where there is no memory for them, nothing has changed.
+    pub fn reserve(&mut self, more: usize) -> Result<(), NoMemory>
+        ensures ok { OnOk result (length self.new.bytes + more ≤ self.new.capacity) }
+        ensures enough { length self.old.bytes + more ≤ self.old.capacity → IsOk result }
+        ensures bytes { self.new.bytes ≡ self.old.bytes }
+        ensures grows { self.old.capacity ≤ self.new.capacity }
+        ensures read { self.new.read ≡ self.old.read }
+    {
+        self.bytes.reserve(more)?;
+        Ok(())
+    }
+
     /// Puts these bytes at the end. It takes no memory where there is room for them. Where there is
     /// no memory for them, nothing has changed.
     pub fn push(&mut self, bytes: &[u8]) -> Result<(), NoMemory>

@@ -71,3 +71,17 @@ fn overwrites(rt: HostRuntime) -> Result<(), Fail> {
     assert_same(&rt, queue.spaces(), 0);
     Ok(())
 }
+
+// The item that was put at the back comes out again, and the queue is as before.
+#[test]
+fn takes_back_what_was_put(rt: HostRuntime) -> Result<(), Fail> {
+    let alloc = rt.alloc();
+    let mut queue = Queue::new(alloc, 2, 2, 1, 0)?;
+    put_back(&rt, &mut queue, b"ab");
+    let before = queue.copy(alloc)?;
+    put_back(&rt, &mut queue, b"cd");
+    assert!(&rt; queue.count() > 0);
+    assert_same(&rt, queue.unput().as_slice(), b"cd".as_slice());
+    assert!(&rt; queue.same(&before));
+    Ok(())
+}

@@ -5,6 +5,8 @@
 #[cfg(test)]
 mod asserts;
 #[cfg(test)]
+mod copies;
+#[cfg(test)]
 mod edits;
 #[cfg(test)]
 mod files;
@@ -18,6 +20,8 @@ mod limits;
 mod packing;
 #[cfg(test)]
 mod parts;
+#[cfg(test)]
+mod places;
 #[cfg(test)]
 mod records;
 #[cfg(test)]

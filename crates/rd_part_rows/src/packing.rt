@@ -1,6 +1,9 @@
 //! Records as bytes, and the way back by them.
 
+ghost use Rattle.std.specs.Prelude.{◌≡◌, ◌+◌, [], length, IfOk};
+ghost use Rattle.rd_packed.specs.Records.{last_of_all, records_packed};
 ghost use Rattle.rd_state.specs.Change.{the_change, Fits};
+ghost use Rattle.rd_state.specs.Undoing.{CanUndo};
 
 use crate::asserts::assert_same;
 use rd_app::app::Program;
@@ -9,7 +12,7 @@ use rd_packed::packed::Packed;
 use rd_state::change::Change;
 use rd_state::state::State;
 use rd_state::task_change::TaskChange;
-use rd_state::undo::{Undo, act};
+use rd_state::undo::{Undo, act, each_change_is_undone};
 use std::alloc::Global;
 use std::process::Abort;
 use std::test::Fail;
@@ -17,7 +20,10 @@ use std::test::Fail;
 // Makes a change of a state, and answers the record that undoes it.
 fn recorded(alloc: Global, state: &mut State, change: Change<'_>) -> Result<Undo, NoMemory>
     requires { Fits state.old (the_change change) }
+    ensures leads_back { IfOk result (λ undo. CanUndo state.new undo) }
 {
+    each_change_is_undone();
+    state.sizes();
     let mut undo = Undo::new(alloc);
     match act(state, &mut undo, change) {
         Ok(()) => Ok(undo),
@@ -28,42 +34,62 @@ fn recorded(alloc: Global, state: &mut State, change: Change<'_>) -> Result<Undo
     }
 }
 
-// What was seen of a record: whether it has these bytes, and how many records and bytes there are
-// once it is kept.
-#[derive(Clone, Copy)]
-struct Seen {
-    same: bool,
-    records: usize,
-    bytes: usize,
+// Goes back by the only record. The count of bytes read grows by all bytes that there are.
+fn go_back_by_all(packed: &mut Packed, state: &mut State)
+    requires one { length packed.old.records ≡ 1 }
+    requires fits { CanUndo state.old (last_of_all packed.old.records) }
+    ensures none { packed.new.records ≡ [] }
+    ensures count { packed.new.read
+        ≡ packed.old.read + length (records_packed packed.old.records) }
+{
+    packed.undo_last(state);
 }
 
-fn keep_by_itself(alloc: Global, undo: Undo, bytes: &[u8]) -> Seen {
-    let same = undo.bytes() == bytes;
+// Keeps a record by itself, and goes back by it. Answers whether these were all bytes, and how many
+// records and bytes are left.
+fn keep_and_go_back(
+    alloc: Global,
+    state: &mut State,
+    undo: Undo,
+    bytes: &[u8],
+) -> (bool, usize, usize)
+    requires { CanUndo state.old undo }
+{
     let mut packed = Packed::new(alloc);
-    let is_short = undo.bytes().len() < 1000;
-    let kept = if is_short {
+    let kept = if undo.bytes().len() < 1000 {
         packed.push(undo)
     } else {
         Err(undo)
     };
-    if let Err(undo) = kept {
-        undo.retire();
+    let mut is_same = false;
+    match kept {
+        Ok(()) => {
+            let len = packed.bytes();
+            is_same = packed.read(0, len) == bytes;
+            go_back_by_all(&mut packed, state);
+        }
+        Err(undo) => undo.retire(),
     }
-    let (records, bytes) = (packed.len(), packed.bytes());
+    let left = (packed.len(), packed.bytes());
     packed.retire();
-    Seen {
-        same,
-        records,
-        bytes,
-    }
+    (is_same, left.0, left.1)
 }
 
-// The record has these bytes, and two numbers of four bytes behind them where it is kept.
-fn packs(rt: &impl Abort, alloc: Global, undo: Undo, bytes: &[u8]) {
-    let seen = keep_by_itself(alloc, undo, bytes);
-    assert!(rt; seen.same);
-    assert_same(rt, seen.records, 1);
-    assert_same(rt, seen.bytes, bytes.len() + 8);
+// The kept record has these bytes, the two numbers at their end among them, and leads back to the
+// state before.
+fn packs(
+    rt: &impl Abort,
+    alloc: Global,
+    state: &mut State,
+    undo: Undo,
+    before: &State,
+    bytes: &[u8],
+)
+    requires { CanUndo state.old undo }
+{
+    let seen = keep_and_go_back(alloc, state, undo, bytes);
+    assert_same(rt, seen, (true, 0, 0));
+    assert!(rt; state.same(before));
 }
 
 #[test]
@@ -73,8 +99,10 @@ fn record_of_a_register(rt: HostRuntime) -> Result<(), Fail> {
     assert!(&rt; state.task_count() > 0);
     let (register, value) = (3, 9);
     let change = TaskChange::SetReg { register, value };
+    let before = state.copy(alloc)?;
     let undo = recorded(alloc, &mut state, Change::Task { task: 0, change })?;
-    packs(&rt, alloc, undo, &[0, 3, 0, 0, 0, 0, 5]);
+    let bytes = [0, 3, 0, 0, 0, 0, 5, 7, 0, 0, 0, 1, 0, 0, 0];
+    packs(&rt, alloc, &mut state, undo, &before, &bytes);
     Ok(())
 }
 
@@ -87,7 +115,10 @@ fn record_of_data(rt: HostRuntime) -> Result<(), Fail> {
     recorded(alloc, &mut state, Change::Task { task: 0, change })?.retire();
     assert!(&rt; state.task_count() > 0);
     let change = TaskChange::SetData { bytes: &[] };
+    let before = state.copy(alloc)?;
+    assert!(&rt; state.task_count() > 0);
     let undo = recorded(alloc, &mut state, Change::Task { task: 0, change })?;
-    packs(&rt, alloc, undo, &[0x41, 0, 1, 0, 8]);
+    let bytes = [0x41, 0, 1, 0, 8, 5, 0, 0, 0, 1, 0, 0, 0];
+    packs(&rt, alloc, &mut state, undo, &before, &bytes);
     Ok(())
 }

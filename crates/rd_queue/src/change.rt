@@ -91,7 +91,7 @@ impl Queue {
             QueueChange::TakeFront => self.drop_first(),
             QueueChange::SetItem { index, item } => self.set_item(index, item),
             QueueChange::Clear => self.clear(),
-            QueueChange::Fill { front, back } => self.fill_halves(front, back),
+            QueueChange::Fill { front, back } => self.fill(front, back),
             QueueChange::SetMember {
                 queue_set: Some(queue_set),
             } => self.join_set(queue_set),

@@ -404,18 +404,9 @@ impl Queue {
         self.ring.clear();
     }
 
-    /// Fills an empty queue with the items that these bytes are, one after the other: what undoes
-    /// `clear`. It takes no memory.
-    pub fn fill(&mut self, bytes: &[u8])
-        requires { HasRoomForAll self.old bytes.now }
-        ensures { self.new ≡ with_items self.old (items_in self.old.item_size bytes.now) }
-    {
-        self.ring.push_back(bytes);
-    }
-
-    /// Fills an empty queue likewise, with bytes in two pieces that follow one another. It takes no
-    /// memory.
-    pub(crate) fn fill_halves(&mut self, front: &[u8], back: &[u8])
+    /// Fills an empty queue with the items that these bytes are, one after the other, in two pieces
+    /// that follow one another: what undoes `clear`. It takes no memory.
+    pub fn fill(&mut self, front: &[u8], back: &[u8])
         requires { HasRoomForAll self.old (front.now ++ back.now) }
         ensures { self.new
             ≡ with_items self.old (items_in self.old.item_size (front.now ++ back.now)) }

@@ -1,7 +1,7 @@
 //! Replies in a few words, and their lines.
 
 ghost use Rattle.std.specs.Prelude.{◌≡◌, ◌+◌, ◌*◌, ◌++◌, ◌≤◌, decimal, length};
-ghost use Rattle.std.specs.Prelude.{IsOk, OnErr, OnOk, vec_capacity, vec_len};
+ghost use Rattle.std.specs.Prelude.{vec_capacity, vec_len};
 ghost use Rattle.arrayvec.specs.ArrayVec.{array_vec_len};
 ghost use Rattle.rd_reply.specs.Replies.{done_text, end_text, holder_text, line_of, moves_text};
 ghost use Rattle.rd_reply.specs.Replies.{refusal_text, reply_text, watch_text};
@@ -9,7 +9,6 @@ ghost use Rattle.rd_reply.specs.Replies.{refusal_text, reply_text, watch_text};
 use arrayvec::ArrayVec;
 use itoa::Buffer;
 use rd_refusal::refusal::Refusal;
-use std::alloc::AllocError;
 
 /// How a search for a condition, on by policy or back, came to its end.
 #[derive(Clone, Copy, PartialEq, Eq)]
@@ -163,7 +162,7 @@ fn append_watch(line: &mut ReplyLine, number: usize)
 }
 
 impl Reply {
-    /// The line of the reply.
+    /// The line of the reply, its LF included. It takes no memory.
     pub fn line(self) -> ReplyLine
         ensures { result.items ≡ line_of (reply_text self) }
     {
@@ -190,22 +189,10 @@ impl Reply {
 }
 
 /// Appends the line of a reply, which there is room for.
-pub fn append_reply_reserved(page: &mut Vec<u8>, reply: Reply)
+pub fn append_reply(page: &mut Vec<u8>, reply: Reply)
     requires { vec_len page.old + MAX_REPLY ≤ vec_capacity page.old }
     ensures text { page.new.items ≡ page.old.items ++ line_of (reply_text reply) }
     ensures room { vec_capacity page.old ≤ vec_capacity page.new }
 {
     page.extend_from_slice(reply.line().as_slice()).unwrap();
-}
-
-/// Appends the line of a reply. An `Err` says that there is no memory for it, and leaves the page
-/// as it was; it comes only where the page has no room for `MAX_REPLY` bytes more.
-pub fn append_reply(page: &mut Vec<u8>, reply: Reply) -> Result<(), AllocError>
-    ensures text { OnOk result (page.new.items ≡ page.old.items ++ line_of (reply_text reply)) }
-    ensures err { OnErr result (page.new.items ≡ page.old.items) }
-    ensures room { vec_len page.old + MAX_REPLY ≤ vec_capacity page.old → IsOk result }
-{
-    page.reserve(MAX_REPLY)?;
-    append_reply_reserved(page, reply);
-    Ok(())
 }

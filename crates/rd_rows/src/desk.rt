@@ -12,7 +12,7 @@ use rd_desk::limits::Limits;
 use rd_desk::reply::Reply;
 use rd_desk::tally::Tally;
 use rd_names::app::App;
-use rd_reply::reply::{MAX_REPLY, append_reply_reserved};
+use rd_reply::reply::{MAX_REPLY, append_reply};
 use std::alloc::{AllocError, AllocGlobal};
 use std::process::Abort;
 use std::test::Fail;
@@ -70,7 +70,7 @@ pub fn line_of<H: AllocGlobal>(rt: &H, reply: &Reply) -> Result<Vec<u8>, AllocEr
     let mut line = Vec::with_capacity(rt.alloc(), MAX_REPLY)?;
     match reply {
         Reply::Done => {}
-        Reply::Told { told } => append_reply_reserved(&mut line, *told),
+        Reply::Told { told } => append_reply(&mut line, *told),
         Reply::Shown { text } => line.extend_from_slice(text.as_slice())?,
     }
     Ok(line)

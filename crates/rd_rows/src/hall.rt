@@ -30,11 +30,17 @@ fn limits() -> Limits
     }
 }
 
+// The next pass.
+pub(crate) fn next_pass<L: Setup>(rt: &impl Abort, passes: &mut Vec<Pass<L>>) -> Pass<L> {
+    match passes.pop() {
+        Some(pass) => pass,
+        None => panic!(rt; "there is no pass left"),
+    }
+}
+
 // The next session joins.
 fn join<L: Setup>(rt: &(impl Wait + Abort), hall: &Hall<L>, passes: &mut Vec<Pass<L>>) -> Seat<L> {
-    let Some(pass) = passes.pop() else {
-        panic!(rt; "there is no pass left");
-    };
+    let pass = next_pass(rt, passes);
     match hall.join(rt, pass) {
         Ok(seat) => seat,
         Err(_) => panic!(rt; "a session isn't let in"),

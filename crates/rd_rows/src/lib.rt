@@ -46,6 +46,8 @@ mod refused_groups;
 #[cfg(test)]
 mod rendering;
 #[cfg(test)]
+mod room;
+#[cfg(test)]
 mod rows;
 #[cfg(test)]
 mod runs;

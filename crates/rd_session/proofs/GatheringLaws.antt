@@ -1,8 +1,8 @@
 -- Answers that are gathered, one after the other.
-use Rattle.std.proofs.Common.{◌≡◌, ◌∙◌, ℕ, ◌-◌, List, [], ◌∷◌, ◌++◌, length, refl, ap, subst, sym, arith}
+use Rattle.std.proofs.Common.{◌≡◌, ◌∙◌, ℕ, ◌+◌, ◌-◌, List, [], ◌∷◌, ◌++◌, length, refl, ap, subst, sym, arith}
 use Rattle.std.specs.Prelude.{Option, Some, None, Result, Ok, Err, OnErr, OnOk, slice_get, option_map, is_some, IsTrue}
 use Rattle.std.specs.Io.KnownBytes.{Appends}
-use Rattle.std.proofs.lemmas.List.{append_assoc, append-nil, length_push}
+use Rattle.std.proofs.lemmas.List.{append_assoc, append-nil, length-append, length_push}
 use Rattle.std.proofs.lemmas.Grind.{flat_map-append}
 use Rattle.rd_ends.specs.Ends.{Says}
 use Rattle.rd_ends.proofs.Offered.{Appends-append, Appends-none}
@@ -93,6 +93,14 @@ last_pushed : {X : Type 0} (xs : List X) (x : X) → slice_get (xs ++ x ∷ []) 
 last_pushed [] x = refl
 last_pushed (y ∷ ys) x = last_pushed ys x
 
+-- a seat, by what is seen of it
+abbrev seat_of : ℕ → List Receipt → ℕ → SeatView
+seat_of who receipts share = record { who = who; receipts = receipts; share = share }
+
+seat_same : (who : ℕ) (rs rs' : List Receipt) (n n' : ℕ) → rs ≡ rs' → n ≡ n' → seat_of who rs n ≡ seat_of who rs' n'
+seat_same who rs rs' n n' receipts share =
+    ap (λ (r : List Receipt). seat_of who r n) receipts ∙ ap (seat_of who rs') share
+
 -- the last receipt of a seat that has gained one
 gained_last : (xs ys : List Receipt) (receipt last : Receipt) → ys ≡ xs ++ receipt ∷ [] → slice_get ys (length ys - 1) ≡ Some last → last ≡ receipt
 gained_last xs ys receipt last is at =
@@ -109,12 +117,13 @@ answered_served line command seat after last old new before behind result is gai
     record {
       answer = Served receipt;
       to_line = ap (option_map Ask) is ∙ ap (λ (e : Event). Some e) (sym gains.1.event);
-      gained = gains.1.after;
+      gained = gains.1.after ∙ seat_same seat.who (seat.receipts ++ receipt ∷ []) (seat.receipts ++ receipt ∷ []) (seat.share + 1) (seat.share + length (receipt ∷ [])) refl (omega arith);
       told = subst (λ (r : Receipt). Tells old new before behind result (reply_line r.entry.reply)) same tells;
     }
 
 gained_nothing : (seat after : SeatView) → after ≡ seat → after ≡ with_all seat []
-gained_nothing seat after same = same ∙ ap (λ (rs : List Receipt). record seat { receipts = rs }) (sym (append-nil seat.receipts))
+gained_nothing seat after same =
+    same ∙ seat_same seat.who seat.receipts (seat.receipts ++ []) seat.share (seat.share + 0) (sym (append-nil seat.receipts)) (omega arith)
 
 pub answered_refused : {T E : Type 0} (line : List ℕ) (command : CommandView) (seat after : SeatView) (error : NotServed) (old new : Option (List ℕ)) (before behind : List ℕ) (result : Result T E)
     → command_of (words_of line) ≡ Some command → after ≡ seat → Tells old new before behind result (refusal_line (refusal_of error)) → Answered (Whole line) seat after old new before behind result
@@ -190,8 +199,12 @@ AreAnswers-append (x ∷ xs) ys (a ∷ as') bs one two = (one.0, AreAnswers-appe
 
 gained_more : (seat mid after : SeatView) (xs ys : List Answer) → mid ≡ with_all seat (receipts_in xs) → after ≡ with_all mid (receipts_in ys) → after ≡ with_all seat (receipts_in (xs ++ ys))
 gained_more seat mid after xs ys one two =
+    let all : receipts_in (xs ++ ys) ≡ receipts_in xs ++ receipts_in ys = flat_map-append receipt_in xs ys in
     two ∙ ap (λ (s : SeatView). with_all s (receipts_in ys)) one
-    ∙ ap (λ (rs : List Receipt). record seat { receipts = rs }) (append_assoc seat.receipts (receipts_in xs) (receipts_in ys) ∙ ap (λ (rs : List Receipt). seat.receipts ++ rs) (sym (flat_map-append receipt_in xs ys)))
+    ∙ seat_same seat.who ((seat.receipts ++ receipts_in xs) ++ receipts_in ys) (seat.receipts ++ receipts_in (xs ++ ys))
+    ((seat.share + length (receipts_in xs)) + length (receipts_in ys)) (seat.share + length (receipts_in (xs ++ ys)))
+    (append_assoc seat.receipts (receipts_in xs) (receipts_in ys) ∙ ap (λ (rs : List Receipt). seat.receipts ++ rs) (sym all))
+    (omega (arith, ap length all, length-append (receipts_in xs) (receipts_in ys)))
 
 pub Converses-none : (seat : SeatView) (old : Option (List ℕ)) (before : List ℕ) → Converses [] seat seat old old before before
 Converses-none seat old before = record { answers = []; each = tt; gained = gained_nothing seat seat refl; told = Gathers-none old before }

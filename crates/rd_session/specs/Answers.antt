@@ -1,6 +1,6 @@
 -- The answers to lines, and what was written of them.
-use Rattle.std.specs.Prelude.{ℕ, ◌≡◌, List, [], ◌∷◌, ◌++◌, Option, Some, None, is_some, option_map}
-use Rattle.std.specs.Prelude.{IsTrue}
+use Rattle.std.specs.Prelude.{ℕ, ◌≡◌, ◌+◌, List, [], ◌∷◌, ◌++◌, Option, Some, None, is_some, length}
+use Rattle.std.specs.Prelude.{IsTrue, option_map}
 use Rattle.std.specs.List.{flat_map}
 use Rattle.std.specs.Io.KnownBytes.{Appends}
 use Rattle.rd_ends.specs.Ends.{IsFront}
@@ -47,8 +47,13 @@ receipts_in answers = flat_map receipt_in answers
 abbrev pub texts : List Answer → List ℕ
 texts answers = flat_map text answers
 
+-- the seat with these receipts more, each of which counts as one in the ledger
 abbrev pub with_all : SeatView → List Receipt → SeatView
-with_all seat receipts = record seat { receipts = seat.receipts ++ receipts }
+with_all seat receipts = record {
+  who = seat.who;
+  receipts = seat.receipts ++ receipts;
+  share = seat.share + length receipts;
+}
 
 -- Each line was answered: the seat has gained the receipts among the answers, and their texts were
 -- written.

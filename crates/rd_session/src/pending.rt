@@ -8,7 +8,7 @@ ghost use Rattle.rd_session.specs.Gathering.{Tells};
 use rd_desk::reply::Reply;
 use rd_ends::ends::{Sink, WriteFault};
 use rd_refusal::refusal::Refusal;
-use rd_reply::reply::{MAX_REPLY, Reply as Short, append_reply_reserved};
+use rd_reply::reply::{MAX_REPLY, Reply as Short, append_reply};
 use std::alloc::{AllocError, Global};
 use std::marker::Model;
 
@@ -114,7 +114,7 @@ impl Pending {
         ensures failed { OnErr result (W.failed sink.new ≡ true) }
     {
         self.make_room(sink)?;
-        append_reply_reserved(&mut self.bytes, told);
+        append_reply(&mut self.bytes, told);
         Ok(())
     }
 

@@ -369,11 +369,11 @@ count-le (suc n) bytes are =
 -- ---- how many bytes they take
 
 -- A number is no less than one, and no more than another.
-abbrev pub IsWithin : ℕ → ℕ → ℕ → Type 0
-IsWithin low high n = (low - n) + (n - high) ≡ 0
+abbrev pub IsBetween : ℕ → ℕ → ℕ → Type 0
+IsBetween low high n = (low - n) + (n - high) ≡ 0
 
 -- A change takes a byte at least, 15 at the most, and those that it carries.
-pub packed_short : (change : Change) → IsWithin (1 + saved_bytes change) (15 + saved_bytes change) (length (packed change))
+pub packed_short : (change : Change) → IsBetween (1 + saved_bytes change) (15 + saved_bytes change) (length (packed change))
 packed_short (SetTick tick) = omega arith
 packed_short (SetTurn turn) = omega arith
 packed_short (SetCore core task) = omega arith

@@ -215,6 +215,16 @@ impl ChangeList {
         self.count = len;
     }
 
+    /// Empties the list, which keeps the memory that it has.
+    #[inline(always)]
+    pub(crate) fn clear(&mut self)
+        ensures changes { self.new.changes ≡ [] }
+        ensures capacity { self.new.capacity ≡ self.old.capacity }
+    {
+        self.bytes.truncate(0);
+        self.count = 0;
+    }
+
     /// Ends the list.
     pub(crate) fn retire(self) {
         let ChangeList { bytes: _, count: _ } = self;

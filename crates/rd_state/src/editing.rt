@@ -3,9 +3,11 @@
 ghost use Rattle.std.specs.Prelude.{◌≡◌, ◌<◌, ◌≤◌, ◌++◌, ◌∷◌, [], true, length, drop, insert};
 ghost use Rattle.std.specs.Prelude.{remove, take};
 ghost use Rattle.std.specs.Prelude.{IfSome, IsOk, OnOk, OnErr};
+ghost use Rattle.std.specs.Borrow.{sem, Lends};
+ghost use Rattle.rd_state.specs.contracts.editing.Editing.{the_row};
+ghost use Rattle.rd_state.specs.contracts.state.State.{the_row as state_row};
 ghost use Rattle.rd_state.specs.Change.{applied, cost_of, inverse_of, the_change, Fits};
 ghost use Rattle.rd_state.specs.Edit.{begun_at, capacity_of, room_for, GoesOn, Reaches};
-ghost use Rattle.rd_state.specs.PackedChanges.{all_packed};
 ghost use Rattle.rd_state.specs.Sizes.{IsSized};
 ghost use Rattle.rd_state.specs.Transfers.{change_of, CanTransfer};
 ghost use Rattle.rd_state.specs.Undoing.{undone, CanUndo};
@@ -78,20 +80,25 @@ impl Editing {
         self.start = self.changes.len();
     }
 
-    /// How many changes the record has.
+    /// The changes that the record has.
     #[inline(always)]
-    pub fn len(&self) -> usize
-        ensures { result ≡ length self.now.changes }
+    pub fn recorded(&self) -> &ChangeList
+        ensures { result.now.changes ≡ self.now.changes }
     {
-        self.changes.len()
+        &self.changes
     }
 
-    /// How many bytes the record takes.
+    /// Empties the record, which keeps its room: what it had is kept elsewhere. The next move
+    /// begins here. It takes no memory.
     #[inline(always)]
-    pub fn bytes(&self) -> usize
-        ensures { result ≡ length (all_packed self.now.changes) }
+    pub fn empty(&mut self)
+        ensures begun { self.new ≡ begun_at self.old.now [] self.new.room }
+        ensures capacity { capacity_of self.new ≡ capacity_of self.old }
     {
-        self.changes.bytes().len()
+        // (the record has no more bytes than there is room for)
+        self.changes.bytes();
+        self.changes.clear();
+        self.start = 0;
     }
 
     /// Makes room for `more` bytes of the record. Where there is no memory for it, nothing has
@@ -124,6 +131,17 @@ impl Editing {
     {
         self.state.sizes();
         &self.state
+    }
+
+    /// The state, to go back by what was recorded before, while the record is empty.
+    #[inline(always)]
+    pub fn state_mut(&mut self) -> &mut State
+        requires { self.old.changes ≡ [] }
+        ensures state { result.now ≡ self.old.now }
+        ensures* lends { sem 𝓛 (Lends the_row state_row self.entry result
+            (λ s. begun_at s [] self.old.room)) }
+    {
+        &mut self.state
     }
 
     /// Makes a change and records what undoes it. Where there is no memory for that, nothing has

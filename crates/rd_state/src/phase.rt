@@ -2,7 +2,6 @@
 
 ghost use Rattle.std.specs.Prelude.{◌≡◌};
 ghost use Rattle.rd_state.specs.Phases.{given_bits, is_first, kept_deadline, tries_again, waits_at};
-ghost use Rattle.rd_state.specs.Waiting.{is_by_priority};
 
 use rd_queue::waiting_list::WaitingList;
 use rd_stream::side::Side;
@@ -130,19 +129,6 @@ pub enum Listed {
     QueueSet { queue_set: usize },
     /// For bits of the event group, with a wish.
     Group { group: usize },
-}
-
-impl Listed {
-    /// Whether the list is in the order of its tasks' priorities. That of an event group is in the
-    /// order of arrival.
-    pub fn is_by_priority(self) -> bool
-        ensures { result ≡ is_by_priority self }
-    {
-        match self {
-            Listed::Queue { .. } | Listed::QueueSet { .. } => true,
-            Listed::Group { .. } => false,
-        }
-    }
 }
 
 /// The places of buffers, each of which names one task or nobody.

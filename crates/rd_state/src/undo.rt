@@ -61,6 +61,13 @@ impl Undo {
         self.changes.get(index)
     }
 
+    /// Its changes, as the list that they are.
+    pub fn changes(&self) -> &ChangeList
+        ensures { result.now.changes ≡ self.now }
+    {
+        &self.changes
+    }
+
     /// The bytes of its changes, one after the other.
     pub fn bytes(&self) -> &[u8]
         ensures bytes { result.now ≡ all_packed self.now }
@@ -100,8 +107,8 @@ impl State {
     }
 }
 
-/// Makes a change, and puts the change that undoes it at the record's end. It takes no memory where
-/// there is room for its bytes. Where there is no memory for them, nothing has changed.
+/// Makes a change, and puts the change that undoes it at the record's end. Where there is no memory
+/// for its bytes, nothing has changed.
 pub fn act(state: &mut State, undo: &mut Undo, change: Change<'_>) -> Result<(), NoMemory>
     requires { Fits state.old (the_change change) }
     ensures state { OnOk result (state.new ≡ applied state.old (the_change change.entry)) }

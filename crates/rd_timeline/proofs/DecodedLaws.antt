@@ -17,6 +17,15 @@ use Rattle.rd_timeline.specs.Decoded.{HasByte, byte_of, decoded, edit_of, edits_
 pub edits_among-cons : (byte : ℕ) (bytes : List ℕ) → edits_among (byte ∷ bytes) ≡ edits_at byte + edits_among bytes
 edits_among-cons byte bytes = sum_by-cons (λ b. cond (is_edit_byte b) 1 0) byte bytes
 
+-- no more than there are bytes
+at_most_one : (is : Bool) → cond is 1 0 ≤ 1
+at_most_one true = omega arith
+at_most_one false = omega arith
+
+pub edits_among-le : (bytes : List ℕ) → edits_among bytes ≤ length bytes
+edits_among-le [] = omega arith
+edits_among-le (byte ∷ bytes) = omega (arith, edits_among-cons byte bytes, at_most_one (is_edit_byte byte), edits_among-le bytes)
+
 pub edits_among-append : (xs ys : List ℕ) → edits_among (xs ++ ys) ≡ edits_among xs + edits_among ys
 edits_among-append xs ys = sum_by-append (λ b. cond (is_edit_byte b) 1 0) xs ys
 

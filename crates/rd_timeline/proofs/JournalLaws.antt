@@ -1,7 +1,7 @@
 -- The border between moves done and moves undone, earlier and later.
 use Rattle.std.proofs.Common.{◌≡◌, ◌∙◌, ℕ, ◌+◌, ◌-◌, ◌<◌, ◌≤◌, List, [], ◌∷◌, ◌++◌, length, take, drop, ap, subst, sym, arith}
 use Rattle.std.specs.Global.{Vec}
-use Rattle.std.specs.Prelude.{min, slice_index_or, vec_capacity}
+use Rattle.std.specs.Prelude.{slice_index_or, vec_capacity}
 use Rattle.std.proofs.Math.ListN.{drop_of_length-le}
 use Rattle.std.proofs.Math.Seq.{drop-append_seam, take-append_seam}
 use Rattle.std.proofs.lemmas.List.{drop-append-le, drop_all, drop_more, length-append, length-drop, length-take-le, length_push, take-append-drop, take-take, take_all, take_more}
@@ -196,13 +196,14 @@ pub moves_set_aside : (j : Inside) (moves : Vec ℕ) (edits : EditsView) → IsI
     → journal_of (record j { moves = moves; edits = edits }) ≡ record (journal_of j) { undone = [] }
 moves_set_aside j moves edits order items capacity same =
     let view : List ℕ → List ℕ → ℕ → EditsView → JournalView = λ before after n e. record {
-      target = j.trail.target;
+      target = j.logged.target;
       done = decoded before e.done;
-      records = j.trail.records;
+      records = j.logged.records;
       undone = decoded after e.undone;
-      capacity = min n j.trail.capacity;
+      capacity = n;
       edit_capacity = e.capacity;
-      room = j.trail.room;
+      memory = j.logged.memory;
+      read = j.logged.read;
     } in
     let d = j.done in
     let before : take d moves.items ≡ take d j.moves.items = ap (take d) items ∙ take-take d d j.moves.items (omega arith) in

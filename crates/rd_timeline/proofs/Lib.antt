@@ -1,5 +1,4 @@
 -- Laws of the timeline, and worked rows.
-pub mod CutLaws
 pub mod LogLaws
 pub mod DecodedLaws
 pub mod JournalLaws

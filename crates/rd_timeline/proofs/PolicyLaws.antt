@@ -6,12 +6,10 @@ use Rattle.std.proofs.lemmas.Bool.{cases_lt, false≢true, le-ltb, lt-ltb}
 use Rattle.std.proofs.Common.{cond, ◌≢◌}
 use Rattle.std.proofs.lemmas.List.{append-nil, append_assoc, length-append, length-drop, length_push, take-append-le, take-take, take_all}
 use Rattle.std.proofs.lemmas.List.Quantifiers.{position-Some}
-use Rattle.std.proofs.lemmas.List.Sums.{sum_by-take-le}
 use Rattle.rd_app.specs.Application.{Application}
 use Rattle.rd_refusal.specs.declared.refusal.Refusal.{Refusal}
 use Rattle.rd_refusal.specs.declared.refusal.Refusal.TheVariants.{MovesFull}
 use Rattle.rd_state.specs.Change.{Change}
-use Rattle.rd_state.specs.PackedChanges.{all_packed}
 use Rattle.rd_state.specs.Snapshot.{Snapshot}
 use Rattle.rd_state.specs.Valid.{IsValid}
 use Rattle.rd_calls.specs.declared.moves.Move.{Move}
@@ -21,8 +19,9 @@ use Rattle.rd_timeline.specs.Course.{Course, IsKept}
 use Rattle.rd_timeline.specs.Decoded.{edits_in}
 use Rattle.rd_timeline.specs.History.{state_after}
 use Rattle.rd_timeline.specs.LogView.{bytes_of}
-use Rattle.rd_timeline.specs.Policy.{Run, Going, Met, Refused, EndsRun, IsWhyNoRun, IsWhyNotByPolicy, StandsOn, meets, allowed, done_by_policy, looked_for, moves_by_policy, ran, run_from, run_on, state_by_policy, state_or}
+use Rattle.rd_timeline.specs.Policy.{Run, Going, Met, Refused, EndsRun, IsWhyNoRun, IsWhyNotByPolicy, RunsMoreThanEver, StandsOn, meets, allowed, done_by_policy, looked_for, moves_by_policy, ran, run_from, run_on, state_by_policy, state_or}
 use Rattle.rd_timeline.proofs.DecodedLaws.{edits_in-append}
+use Rattle.rd_timeline.proofs.LogLaws.{bytes_of-parts}
 
 -- A run that has ended stays as it is.
 pub ran_on : (app : Application) (room : ℕ) (goal : Option Condition) (s : Snapshot) (run : Run) (k : ℕ) → run_on app room goal run ≡ run
@@ -89,7 +88,7 @@ IsMost-next old made now next most kept done log most_done most_edits most_bytes
     let before : bytes_of (take (length next.done - 1) next.log) ≡ bytes_of now.log =
     ap (λ k. bytes_of (take k next.log)) (omega (arith, one_more)) ∙ ap bytes_of log in
     let fewer : bytes_of (take (length now.done - 1) now.log) ≤ bytes_of now.log =
-    sum_by-take-le (λ undo. length (all_packed undo)) now.log (length now.done - 1) in
+    omega (arith, bytes_of-parts (length now.done - 1) now.log) in
     let edits : edits_in next.done ≡ edits_in now.done =
     omega (
       arith,
@@ -150,13 +149,14 @@ StandsOn-here course kept = record {
   most_done = omega arith;
   most_edits = omega arith;
   most_bytes = omega arith;
+  read = refl;
 }
 
 -- Moves are laid on once more.
 pub StandsOn-then : (old now next : Course) (more : List Move) → StandsOn old now → next.app ≡ now.app → next.limit ≡ now.limit
     → next.done ≡ now.done ++ more → take (length now.done) next.log ≡ now.log → now.most_done ≤ next.most_done
-    → now.most_edits ≤ next.most_edits → now.most_bytes ≤ next.most_bytes → StandsOn old next
-StandsOn-then old now next more stands app limit done log most_done most_edits most_bytes = record {
+    → now.most_edits ≤ next.most_edits → now.most_bytes ≤ next.most_bytes → next.read ≡ now.read → StandsOn old next
+StandsOn-then old now next more stands app limit done log most_done most_edits most_bytes read = record {
   app = app ∙ stands.app;
   limit = limit ∙ stands.limit;
   done =
@@ -167,6 +167,7 @@ StandsOn-then old now next more stands app limit done log most_done most_edits m
   most_done = omega (arith, stands.most_done, most_done);
   most_edits = omega (arith, stands.most_edits, most_edits);
   most_bytes = omega (arith, stands.most_bytes, most_bytes);
+  read = read ∙ stands.read;
 }
 
 pub StandsOn-trans : (old now next : Course) → StandsOn old now → StandsOn now next → StandsOn old next
@@ -181,6 +182,7 @@ StandsOn-trans old now next first then = record {
   most_done = omega (arith, first.most_done, then.most_done);
   most_edits = omega (arith, first.most_edits, then.most_edits);
   most_bytes = omega (arith, first.most_bytes, then.most_bytes);
+  read = then.read ∙ first.read;
 }
 
 -- ---- a run that has begun, and that goes on
@@ -281,21 +283,46 @@ why_no_run old goal made count now refusal at less within why =
       ]
     ]
 
+-- A run doesn't hang on the moves undone.
+pub runs_from_aside : (old : Course) (goal : Option Condition) (count : ℕ) → RunsMoreThanEver (record old { undone = [] }) goal count
+    → RunsMoreThanEver old goal count
+runs_from_aside old goal count runs = record {
+  made = runs.made;
+  fewer = runs.fewer;
+  now = runs.now;
+  run = runs.run;
+  done = runs.done;
+  stands = record {
+    app = runs.stands.app;
+    limit = runs.stands.limit;
+    done = runs.stands.done;
+    log = runs.stands.log;
+    more = runs.stands.more;
+    most_done = runs.stands.most_done;
+    most_edits = runs.stands.most_edits;
+    most_bytes = runs.stands.most_bytes;
+    read = runs.stands.read;
+  };
+  more = runs.more;
+}
+
 -- ---- all as before
 
 -- Courses are equal where what is seen of them is.
 pub same_course : (old new : Course) → new.app ≡ old.app → new.limit ≡ old.limit → new.target ≡ old.target → new.done ≡ old.done → new.log ≡ old.log
-    → new.undone ≡ old.undone → new.most_done ≡ old.most_done → new.most_edits ≡ old.most_edits → new.most_bytes ≡ old.most_bytes → new ≡ old
-same_course old new app limit target done log undone most_done most_edits most_bytes =
+    → new.undone ≡ old.undone → new.most_done ≡ old.most_done → new.most_edits ≡ old.most_edits → new.most_bytes ≡ old.most_bytes → new.read ≡ old.read
+    → new ≡ old
+same_course old new app limit target done log undone most_done most_edits most_bytes read =
     ap (λ (x : Application). record new { app = x }) app
     ∙ ap (λ x. record new { app = old.app; limit = x }) limit
     ∙ ap (λ (x : Snapshot). record new { app = old.app; limit = old.limit; target = x }) target
     ∙ ap (λ (x : List Move). record new { app = old.app; limit = old.limit; target = old.target; done = x }) done
     ∙ ap (λ (x : List (List Change)). record new { app = old.app; limit = old.limit; target = old.target; done = old.done; log = x }) log
-    ∙ ap (λ (x : List Move). record old { undone = x; most_done = new.most_done; most_edits = new.most_edits; most_bytes = new.most_bytes }) undone
-    ∙ ap (λ x. record old { most_done = x; most_edits = new.most_edits; most_bytes = new.most_bytes }) most_done
-    ∙ ap (λ x. record old { most_edits = x; most_bytes = new.most_bytes }) most_edits
-    ∙ ap (λ x. record old { most_bytes = x }) most_bytes
+    ∙ ap (λ (x : List Move). record old { undone = x; most_done = new.most_done; most_edits = new.most_edits; most_bytes = new.most_bytes; read = new.read }) undone
+    ∙ ap (λ x. record old { most_done = x; most_edits = new.most_edits; most_bytes = new.most_bytes; read = new.read }) most_done
+    ∙ ap (λ x. record old { most_edits = x; most_bytes = new.most_bytes; read = new.read }) most_edits
+    ∙ ap (λ x. record old { most_bytes = x; read = new.read }) most_bytes
+    ∙ ap (λ x. record old { read = x }) read
 
 -- Where the same moves were done from boot, the target is the same.
 pub same_target : (old new : Course) → new.app ≡ old.app → new.done ≡ old.done → state_after old.app old.done ≡ Ok old.target

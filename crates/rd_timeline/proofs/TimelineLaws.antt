@@ -15,15 +15,16 @@ use Rattle.rd_calls.specs.declared.moves.Move.{Move}
 use Rattle.rd_calls.specs.declared.moves.Move.TheVariants.{Core, Tick}
 use Rattle.rd_calls.specs.declared.moves.Move.TheVariants as variant
 use Rattle.rd_calls.specs.Step.{step, IsMoveOf, LeavesSettled}
-use Rattle.rd_calls.specs.declared.play.TheConstants.{MAX_RECORD_BYTES}
+use Rattle.rd_packed.specs.declared.count.ReadCount.{ReadCount}
 use Rattle.rd_timeline.specs.declared.timeline.Start.{Start}
 use Rattle.rd_timeline.specs.declared.timeline.Timeline.TheInside.{Inside}
 use Rattle.rd_timeline.specs.Course.{AreMade, Course, IsKept}
 use Rattle.rd_timeline.specs.Decoded.{edits_in}
 use Rattle.rd_timeline.specs.History.{CanRewind, IsStateAfter, rewound, state_after}
 use Rattle.rd_timeline.specs.Inside.{IsFresh, IsWhole, course_of}
-use Rattle.rd_timeline.specs.JournalView.{HasEditRoom, IsAsBefore, JournalView}
-use Rattle.rd_timeline.specs.LogView.{bytes_of, memory_of}
+use Rattle.rd_timeline.specs.JournalView.{HasEditRoom, JournalView}
+use Rattle.rd_timeline.specs.LogView.{bytes_of}
+use Rattle.rd_timeline.specs.declared.log.TheConstants.{MAX_KEPT_BYTES}
 use Rattle.rd_timeline.specs.Starts.{CanCancel}
 use Rattle.rd_timeline.proofs.DecodedLaws.{edits_in-append}
 use Rattle.rd_timeline.proofs.HistoryLaws.{CanRewind-back, CanRewind-push, Retraces-back, Retraces-boot, Retraces-now, Retraces-push, first_is_made, state_after-push}
@@ -182,7 +183,7 @@ pub IsWhole-push : (t t' : Inside) (move : Move) (last : List Change) → IsWhol
     → IsValid t.app t'.journal.target → IsSettled (priorities_of t.app) t'.journal.target → t'.journal.done ≡ t.journal.done ++ move ∷ []
     → t'.journal.records ≡ t.journal.records ++ last ∷ [] → t'.journal.undone ≡ [] → length t.journal.done < t'.most_done
     → edits_in (t.journal.done ++ move ∷ []) ≤ t'.most_edits → t'.most_done ≤ t'.journal.capacity → t'.most_edits ≤ t'.journal.edit_capacity
-    → t'.most_bytes + MAX_RECORD_BYTES ≤ memory_of t'.journal.records t'.journal.room → IsWhole t'
+    → t'.most_bytes + MAX_KEPT_BYTES ≤ t'.journal.memory → IsWhole t'
 IsWhole-push t t' move last whole app limit named more steps back can valid settled done log undone were edits_were capacity edits memory =
     let pushed = IsKept-push (course_of t) move last t'.journal.target t'.most_done t'.most_edits whole.kept named more were edits_were steps back can valid settled in
     record {
@@ -194,14 +195,13 @@ IsWhole-push t t' move last whole app limit named more steps back can valid sett
     }
 
 -- the fields after the first m moves
-pub IsWhole-back : (t : Inside) (journal : JournalView) (m : ℕ) → m ≤ length t.journal.done → IsWhole t
+pub IsWhole-back : (t : Inside) (journal : JournalView) (read : ReadCount) (m : ℕ) → m ≤ length t.journal.done → IsWhole t
     → journal.target ≡ rewound t.journal.target (drop m t.journal.records) → journal.done ≡ take m t.journal.done
     → journal.records ≡ take m t.journal.records → journal.undone ≡ drop m t.journal.done ++ t.journal.undone → journal.capacity ≡ t.journal.capacity
     → journal.edit_capacity ≡ t.journal.edit_capacity
-    → memory_of journal.records journal.room ≡ memory_of t.journal.records t.journal.room
-    → IsWhole (record t { journal = journal })
-IsWhole-back t journal m within whole target done log undone capacity edits memory = record {
-  kept = kept_as (record t { journal = journal }) _ (IsKept-back (course_of t) m within whole.kept) refl refl target done log undone refl refl;
+    → journal.memory ≡ t.journal.memory → IsWhole (record t { journal = journal; read = read })
+IsWhole-back t journal read m within whole target done log undone capacity edits memory = record {
+  kept = kept_as (record t { journal = journal; read = read }) _ (IsKept-back (course_of t) m within whole.kept) refl refl target done log undone refl refl;
   limits = whole.limits;
   capacity = omega (arith, capacity, whole.capacity);
   edits = omega (arith, edits, whole.edits);
@@ -231,7 +231,7 @@ pub IsWhole-cancel : (t : Inside) (journal : JournalView) (start : Start) → Is
     → journal.target ≡ rewound t.journal.target (drop start.done t.journal.records) → journal.done ≡ take start.done t.journal.done
     → journal.records ≡ take start.done t.journal.records → journal.undone ≡ start.undone → t.journal.capacity ≤ journal.capacity
     → t.journal.edit_capacity ≤ journal.edit_capacity
-    → memory_of journal.records journal.room ≡ memory_of t.journal.records t.journal.room
+    → journal.memory ≡ t.journal.memory
     → IsWhole (record t { journal = journal; most_done = start.most_done; most_edits = start.most_edits; most_bytes = start.most_bytes })
 IsWhole-cancel t journal start whole can target done log undone capacity edits memory =
     let now : Inside = record t { journal = journal; most_done = start.most_done; most_edits = start.most_edits; most_bytes = start.most_bytes } in
@@ -262,7 +262,7 @@ pub IsWhole-replay : (t : Inside) (journal : JournalView) (move : Move) (last : 
     → undone journal.target last ≡ t.journal.target → CanUndo journal.target last → IsValid t.app journal.target
     → IsSettled (priorities_of t.app) journal.target → journal.done ≡ t.journal.done ++ move ∷ []
     → journal.records ≡ t.journal.records ++ last ∷ [] → t.journal.capacity ≤ journal.capacity → t.journal.edit_capacity ≤ journal.edit_capacity
-    → memory_of t.journal.records t.journal.room ≤ memory_of journal.records journal.room → IsWhole (record t { journal = journal })
+    → t.journal.memory ≤ journal.memory → IsWhole (record t { journal = journal })
 IsWhole-replay t journal move last whole same steps back can valid settled done log capacity edits memory =
     let again = IsKept-replay (course_of t) move last journal.target journal.undone whole.kept same steps back can valid settled in
     record {
@@ -273,16 +273,14 @@ IsWhole-replay t journal move last whole same steps back can valid settled done 
       memory = elim whole.memory [ inl fresh ↦ inl fresh | inr room ↦ inr (omega (arith, memory, room)) ];
     }
 
--- Once there is room for a record, and a move is made there, it is kept: for the bytes before that move, and for the most before.
-pub grown : (t : Inside) (bytes most : ℕ) (reserved journal : JournalView) → IsFresh t ⊎ (t.most_bytes + MAX_RECORD_BYTES ≤ memory_of t.journal.records t.journal.room)
-    → IsAsBefore t.journal reserved → bytes ≡ bytes_of reserved.records → most ≡ max t.most_bytes bytes → MAX_RECORD_BYTES ≤ reserved.room
-    → t.journal.room ≤ reserved.room → memory_of reserved.records reserved.room ≤ memory_of journal.records journal.room
-    → most + MAX_RECORD_BYTES ≤ memory_of journal.records journal.room
-grown t bytes most reserved journal before same are is room more memory =
-    let records = ap bytes_of same.records in
+-- Once a move is made with room for the longest record, there is as much room again: for the bytes before that move, and for the most before.
+pub grown : (t : Inside) (bytes most : ℕ) (reserved journal : JournalView) → IsFresh t ⊎ (t.most_bytes + MAX_KEPT_BYTES ≤ t.journal.memory)
+    → bytes ≡ bytes_of reserved.records → most ≡ max t.most_bytes bytes → bytes_of reserved.records + MAX_KEPT_BYTES ≤ journal.memory
+    → t.journal.memory ≤ journal.memory → most + MAX_KEPT_BYTES ≤ journal.memory
+grown t bytes most reserved journal before are is ahead more =
     elim before [
-      | inl fresh ↦ omega (arith, fresh.1, are, is, room, memory)
-      | inr had ↦ omega (arith, had, records, are, is, room, more, memory)
+      | inl fresh ↦ omega (arith, fresh.1, are, is, ahead)
+      | inr had ↦ omega (arith, had, are, is, ahead, more)
     ]
 
 -- Once there is room for a move, and it is made, there is room for as many edits as were done at the most.

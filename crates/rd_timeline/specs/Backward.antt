@@ -13,6 +13,7 @@ use Rattle.rd_timeline.specs.declared.running.Found.{Found}
 use Rattle.rd_refusal.specs.declared.refusal.Refusal.TheVariants.{NoMemory, NothingUndone}
 use Rattle.rd_timeline.specs.Course.{Course}
 use Rattle.rd_timeline.specs.History.{state_after}
+use Rattle.rd_timeline.specs.LogView.{bytes_of}
 use Rattle.rd_timeline.specs.Policy.{StandsOn}
 
 -- ---- on through the moves undone
@@ -40,6 +41,14 @@ abbrev pub IsWhyNoRedo : Course → ℕ → Refusal → Type 0
 IsWhyNoRedo old count refusal =
     ((length old.undone < count) × (refusal ≡ NothingUndone))
     ⊎ ((count ≤ length old.undone) × (refusal ≡ NoMemory))
+
+-- One of them is to be made from more bytes of records than ever a move was.
+pub record RedoesMoreThanEver (old : Course) (count : ℕ) : Type 0 where
+  pub redone : ℕ
+  pub fewer : redone < count
+  pub now : Course
+  pub has : HasRedone old redone now
+  pub more : now.most_bytes < bytes_of now.log
 
 -- ---- back
 

@@ -15,7 +15,7 @@ use Rattle.rd_timeline.specs.LogView.{bytes_of}
 -- the application, how many moves may be done, the target as it is now, the moves done from boot in
 -- order, the record of each, and the moves undone, the one to be redone next first; how many moves
 -- were done at the most so far, how many edits were among those done at the most, and from how many
--- bytes of records a move was made at the most
+-- bytes of records a move was made at the most; how many bytes of records were read to go back
 pub record Course : Type 0 where
   pub app : Application
   pub limit : ℕ
@@ -26,6 +26,7 @@ pub record Course : Type 0 where
   pub most_done : ℕ
   pub most_edits : ℕ
   pub most_bytes : ℕ
+  pub read : ℕ
 
 -- The moves can be made from boot, one after the other, and as many were done once, with as many
 -- edits among them.

@@ -1,10 +1,9 @@
 -- The course that the fields of a `Timeline` stand for.
 use Rattle.std.specs.Prelude.{◌≡◌, ◌⊎◌, ◌+◌, ◌≤◌}
 use Rattle.rd_app.specs.Application.{IsApplication}
-use Rattle.rd_calls.specs.declared.play.TheConstants.{MAX_RECORD_BYTES}
 use Rattle.rd_timeline.specs.declared.timeline.Timeline.TheInside.{Inside}
 use Rattle.rd_timeline.specs.Course.{Course, IsKept}
-use Rattle.rd_timeline.specs.LogView.{memory_of}
+use Rattle.rd_timeline.specs.declared.log.TheConstants.{MAX_KEPT_BYTES}
 
 abbrev pub course_of : Inside → Course
 course_of t = record {
@@ -17,6 +16,7 @@ course_of t = record {
   most_done = t.most_done;
   most_edits = t.most_edits;
   most_bytes = t.most_bytes;
+  read = t.read.bytes;
 }
 
 -- No move was made yet.
@@ -29,5 +29,4 @@ pub record IsWhole (t : Inside) : Type 0 where
   pub limits : IsApplication t.app
   pub capacity : t.most_done ≤ t.journal.capacity
   pub edits : t.most_edits ≤ t.journal.edit_capacity
-  pub memory : IsFresh t
-      ⊎ (t.most_bytes + MAX_RECORD_BYTES ≤ memory_of t.journal.records t.journal.room)
+  pub memory : IsFresh t ⊎ (t.most_bytes + MAX_KEPT_BYTES ≤ t.journal.memory)

@@ -1,5 +1,5 @@
 -- What the fields of a `Journal` stand for.
-use Rattle.std.specs.Prelude.{◌≡◌, ◌≤◌, List, drop, length, min, take, vec_capacity}
+use Rattle.std.specs.Prelude.{◌≡◌, ◌≤◌, List, drop, length, take, vec_capacity}
 use Rattle.rd_timeline.specs.declared.journal.Aside.TheInside as aside
 use Rattle.rd_timeline.specs.declared.journal.Journal.TheInside.{Inside}
 use Rattle.rd_calls.specs.declared.moves.Move.{Move}
@@ -8,20 +8,21 @@ use Rattle.rd_timeline.specs.JournalView.{JournalView}
 
 abbrev pub journal_of : Inside → JournalView
 journal_of j = record {
-  target = j.trail.target;
+  target = j.logged.target;
   done = decoded (take j.done j.moves.items) j.edits.done;
-  records = j.trail.records;
+  records = j.logged.records;
   undone = decoded (drop j.done j.moves.items) j.edits.undone;
-  capacity = min (vec_capacity j.moves) j.trail.capacity;
+  capacity = vec_capacity j.moves;
   edit_capacity = j.edits.capacity;
-  room = j.trail.room;
+  memory = j.logged.memory;
+  read = j.logged.read;
 }
 
 -- So many moves are done, with a record each, and there are as many edits as bytes for them, both
 -- of those done and of those undone.
 pub record IsInOrder (j : Inside) : Type 0 where
   pub border : j.done ≤ length j.moves.items
-  pub records : length j.trail.records ≡ j.done
+  pub records : length j.logged.records ≡ j.done
   pub done : edits_among (take j.done j.moves.items) ≡ length j.edits.done
   pub undone : edits_among (drop j.done j.moves.items) ≡ length j.edits.undone
 

@@ -1,7 +1,6 @@
 -- What the contracts of the timeline cite.
-pub mod Cut
 pub mod LogView
-pub mod TrailView
+pub mod LoggedView
 pub mod Decoded
 pub mod EditsView
 pub mod JournalView

@@ -10,7 +10,7 @@ use Rattle.rd_calls.specs.declared.moves.Move.{Move}
 use Rattle.rd_calls.specs.Step.{policy_of, step}
 use Rattle.rd_condition.specs.declared.condition.Condition.{Condition}
 use Rattle.rd_condition.specs.Conditions.{holds}
-use Rattle.rd_timeline.specs.Course.{Course, IsWhyNot}
+use Rattle.rd_timeline.specs.Course.{Course, IsMoreThanEver, IsWhyNot}
 use Rattle.rd_timeline.specs.LogView.{bytes_of}
 
 -- ---- the moves that policy chooses from a state on
@@ -110,7 +110,7 @@ IsWhyNoRun old goal count refusal =
 abbrev pub IsWhyNotByPolicy : Course → Refusal → Type 0
 IsWhyNotByPolicy course refusal = IsWhyNot course (policy_of course.target) refusal
 
--- Moves were laid on, and nothing was forgotten but the moves undone.
+-- Moves were laid on, nothing was forgotten but the moves undone, and no record was read.
 pub record StandsOn (old new : Course) : Type 0 where
   pub app : new.app ≡ old.app
   pub limit : new.limit ≡ old.limit
@@ -120,3 +120,18 @@ pub record StandsOn (old new : Course) : Type 0 where
   pub most_done : old.most_done ≤ new.most_done
   pub most_edits : old.most_edits ≤ new.most_edits
   pub most_bytes : old.most_bytes ≤ new.most_bytes
+  pub read : new.read ≡ old.read
+
+-- A run comes to a place where more is done than ever, and its next move is made there.
+pub record RunsMoreThanEver (old : Course) (goal : Option Condition) (count : ℕ) : Type 0 where
+  pub made : ℕ
+  pub fewer : made < count
+  pub now : Course
+  pub run : run_from old goal made ≡ Going made now.target
+  pub done : now.done ≡ done_by_policy old made
+  pub stands : StandsOn old now
+  pub more : IsMoreThanEver now (policy_of now.target)
+
+-- What a run may need memory for: to set the moves undone aside, or for more than ever.
+abbrev pub MayLackMemory : Course → Option Condition → ℕ → Type 0
+MayLackMemory old goal count = (0 < length old.undone) ⊎ RunsMoreThanEver old goal count

@@ -31,4 +31,5 @@ pub record IsCancelled (old : Course) (start : Start) (new : Course) : Type 0 wh
   pub most_done : new.most_done ≡ start.most_done
   pub most_edits : new.most_edits ≡ start.most_edits
   pub most_bytes : new.most_bytes ≡ start.most_bytes
+  pub read : new.read ≡ old.read
   pub leads : state_after new.app new.done ≡ Ok new.target

@@ -122,11 +122,12 @@ impl Edits {
         self.done -= n;
     }
 
-    /// Sets the edits undone aside. An `Err` says that there is no memory for that, and leaves all
-    /// as it was.
+    /// Sets the edits undone aside. An `Err` says that there are some and no memory for that, and
+    /// leaves all as it was.
     pub(crate) fn set_aside(&mut self) -> Result<Vec<Edit>, NoMemory>
         ensures aside { IfOk result (λ aside. aside.items ≡ self.old.undone) }
         ensures emptied { OnOk result (self.new ≡ record self.old { undone = [] }) }
+        ensures short { OnErr result (0 < length self.old.undone) }
         ensures err { OnErr result (self.new ≡ self.old) }
     {
         let edits = self.kept.split_off(self.done)?;

@@ -1,22 +1,24 @@
 //! The moves done and undone, with the target, and the records that lead back through those done.
 
 ghost use Rattle.std.specs.Prelude.{◌≡◌, ◌-◌, ◌∷◌, ◌++◌, ◌+◌, ◌<◌, ◌≤◌, [], drop, length};
-ghost use Rattle.std.specs.Prelude.{take, Err, IfErr, IfOk, IsOk, OnErr, OnOk};
-ghost use Rattle.rd_calls.specs.declared.play.TheConstants.{MAX_RECORD_BYTES};
-ghost use Rattle.rd_calls.specs.Step.{step, IsMoveOf};
+ghost use Rattle.std.specs.Prelude.{take, IfErr, IfOk, IsErrOf, IsOk, OnErr, OnOk};
+ghost use Rattle.rd_calls.specs.Step.{IsMoveOf};
 ghost use Rattle.rd_state.specs.Valid.{IsValid};
 ghost use Rattle.rd_timeline.specs.History.{rewound, CanRewind};
 ghost use Rattle.rd_timeline.specs.Decoded.{byte_of, edits_among, edits_at, edits_in};
 ghost use Rattle.rd_timeline.specs.Decoded.{HasByte};
 ghost use Rattle.rd_timeline.specs.JournalView.{next_undone, HasEditRoom, IsAsBefore};
-ghost use Rattle.rd_timeline.specs.LogView.{bytes_of, memory_of, RecordsMove};
+ghost use Rattle.rd_timeline.specs.LogView.{bytes_of, RecordsMove};
+ghost use Rattle.rd_timeline.specs.LoggedView.{IsWhyNotKept};
+ghost use Rattle.rd_timeline.specs.declared.log.TheConstants.{MAX_KEPT_BYTES};
 
 use crate::edits::Edits;
-use crate::trail::Trail;
+use crate::logged::Logged;
 use rd_app::app::Program;
 use rd_bytes::no_memory::NoMemory;
 use rd_calls::moves::Move;
 use rd_edits::edit::Edit;
+use rd_packed::count::ReadCount;
 use rd_refusal::refusal::Refusal;
 use rd_state::state::State;
 use std::alloc::Global;
@@ -31,7 +33,7 @@ pub struct Journal {
     done: usize,
     // The edits among them. They are rare and large.
     edits: Edits,
-    trail: Trail,
+    logged: Logged,
 }
 
 impl Model for Journal {
@@ -93,26 +95,28 @@ fn edits_among(bytes: &[u8]) -> usize
 }
 
 impl Journal {
-    /// No moves yet, from this target on.
-    pub fn new(alloc: Global, target: State) -> Journal
-        ensures target { result.target ≡ target }
-        ensures done { result.done ≡ [] }
-        ensures records { result.records ≡ [] }
-        ensures undone { result.undone ≡ [] }
+    /// No moves yet, from this target on. An `Err` says that there is no memory for the record of a
+    /// move, and drops the target.
+    pub fn new(alloc: Global, target: State) -> Result<Journal, NoMemory>
+        ensures target { IfOk result (λ journal. journal.target ≡ target) }
+        ensures done { IfOk result (λ journal. journal.done ≡ []) }
+        ensures records { IfOk result (λ journal. journal.records ≡ []) }
+        ensures undone { IfOk result (λ journal. journal.undone ≡ []) }
     {
-        Journal {
+        let logged = Logged::new(alloc, target)?;
+        Ok(Journal {
             moves: Vec::new(alloc),
             done: 0,
             edits: Edits::new(alloc),
-            trail: Trail::new(alloc, target),
-        }
+            logged,
+        })
     }
 
     /// The target as it is now.
     pub fn target(&self) -> &State
         ensures { result.now ≡ self.now.target }
     {
-        self.trail.target()
+        self.logged.target()
     }
 
     /// How many moves are done.
@@ -136,74 +140,81 @@ impl Journal {
         self.edits.done()
     }
 
-    /// How many bytes the changes of all records take.
+    /// How many bytes all records take.
     pub fn bytes(&self) -> usize
         ensures { result ≡ bytes_of self.now.records }
     {
-        self.trail.bytes()
+        self.logged.bytes()
     }
 
-    /// Makes room for one move more done, with its record; for a new edit there is `reserve_for`.
-    /// Where there is no memory for that, nothing else has changed. It needs none where there is
-    /// such room, as there is after going back.
+    /// How many bytes of them were read, as a count of its own.
+    pub fn count(&self) -> ReadCount
+        ensures { result.bytes ≡ self.now.read }
+    {
+        self.logged.count()
+    }
+
+    /// Makes room for one move more done; for a new edit there is `reserve_for`. Where there is no
+    /// memory for that, nothing else has changed. It needs none where there is such room, as there
+    /// is after going back.
     pub fn reserve(&mut self) -> Result<(), NoMemory>
         ensures same { IsAsBefore self.old self.new }
         ensures ok { OnOk result (length self.new.done < self.new.capacity) }
-        ensures ok_bytes { OnOk result (MAX_RECORD_BYTES ≤ self.new.room) }
-        ensures enough { length self.old.done < self.old.capacity
-            → MAX_RECORD_BYTES ≤ self.old.room → IsOk result }
+        ensures enough { length self.old.done < self.old.capacity → IsOk result }
         ensures grows { self.old.capacity ≤ self.new.capacity }
         ensures same_edit_capacity { self.new.edit_capacity ≡ self.old.edit_capacity }
-        ensures more_room { self.old.room ≤ self.new.room }
+        ensures same_memory { self.new.memory ≡ self.old.memory }
     {
         let missing = (self.done + 1).saturating_sub(self.moves.len());
         self.moves.reserve(missing)?;
-        self.trail.reserve()
+        Ok(())
     }
 
-    /// Makes room for this move to be done, with its record. Where there is no memory for that,
-    /// nothing else has changed. It needs none where there is such room, as there is after going
-    /// back. Only an edit needs room for an edit.
+    /// Makes room for this move to be done. Where there is no memory for that, nothing else has
+    /// changed. It needs none where there is such room, as there is after going back. Only an edit
+    /// needs room for an edit.
     pub fn reserve_for(&mut self, action: &Move) -> Result<(), NoMemory>
         ensures same { IsAsBefore self.old self.new }
         ensures ok { OnOk result (length self.new.done < self.new.capacity) }
         ensures ok_edit { OnOk result (HasEditRoom self.new action.now) }
-        ensures ok_bytes { OnOk result (MAX_RECORD_BYTES ≤ self.new.room) }
         ensures enough { length self.old.done < self.old.capacity → HasEditRoom self.old action.now
-            → MAX_RECORD_BYTES ≤ self.old.room → IsOk result }
+            → IsOk result }
         ensures grows { self.old.capacity ≤ self.new.capacity }
         ensures more_edits { self.old.edit_capacity ≤ self.new.edit_capacity }
-        ensures more_room { self.old.room ≤ self.new.room }
+        ensures same_memory { self.new.memory ≡ self.old.memory }
     {
         self.edits.reserve(action)?;
         self.reserve()
     }
 
     /// Makes a move: it is laid on the moves done, with its record, and the moves undone are
-    /// forgotten. It takes no memory. A refusal is one of the kernel's rules, and leaves the
+    /// forgotten. It takes no memory where the log has room for the longest record. A refusal is
+    /// one of the kernel's rules, or else `NoMemory` where the log can't grow, and leaves the
     /// target, the moves and their records as they were.
     pub fn play(&mut self, app: &Program, action: &Move) -> Result<(), Refusal>
         requires valid { IsValid app.now self.old.target }
         requires named { IsMoveOf app.now action.now }
         requires capacity { length self.old.done < self.old.capacity }
         requires edit_room { HasEditRoom self.old action.now }
-        requires room { MAX_RECORD_BYTES ≤ self.old.room }
         ensures lays { OnOk result
             (RecordsMove app.now self.old.target action.now self.new.target
             self.old.records self.new.records) }
         ensures done { OnOk result (self.new.done ≡ self.old.done ++ action.now ∷ []) }
         ensures undone { OnOk result (self.new.undone ≡ []) }
-        ensures refusals { IfErr result (λ refusal.
-            step app.now self.old.target action.now ≡ Err refusal) }
+        ensures ahead { OnOk result
+            (bytes_of self.old.records + MAX_KEPT_BYTES ≤ self.new.memory) }
+        ensures refusals { IfErr result (IsWhyNotKept app.now self.old.target action.now) }
+        ensures short { IsErrOf result Refusal.NoMemory
+            → self.old.memory < bytes_of self.old.records + MAX_KEPT_BYTES }
         ensures err { OnErr result (IsAsBefore self.old self.new) }
+        ensures read { self.new.read ≡ self.old.read }
         ensures kept_capacity { self.new.capacity ≡ self.old.capacity }
         ensures kept_edit_capacity { self.new.edit_capacity ≡ self.old.edit_capacity }
-        ensures memory { memory_of self.old.records self.old.room
-            ≤ memory_of self.new.records self.new.room }
+        ensures grows { self.old.memory ≤ self.new.memory }
     {
         app.limits();
         let byte = byte_of_move(action);
-        self.trail.play(app, action)?;
+        self.logged.play(app, action)?;
         self.moves.truncate(self.done);
         self.moves.push_reserved(byte);
         self.done += 1;
@@ -225,41 +236,46 @@ impl Journal {
         }
     }
 
-    /// Makes the move again that is to be redone next. It takes no memory. A refusal is one of the
-    /// kernel's rules, and leaves the target, the moves and their records as they were.
+    /// Makes the move again that is to be redone next. It takes no memory where the log has room
+    /// for the longest record. A refusal is one of the kernel's rules, or else `NoMemory` where the
+    /// log can't grow, and leaves the target, the moves and their records as they were.
     pub fn replay(&mut self, app: &Program) -> Result<(), Refusal>
         requires some { 0 < length self.old.undone }
         requires valid { IsValid app.now self.old.target }
         requires named { IsMoveOf app.now (next_undone self.old) }
         requires capacity { length self.old.done < self.old.capacity }
-        requires room { MAX_RECORD_BYTES ≤ self.old.room }
         ensures lays { OnOk result
             (RecordsMove app.now self.old.target (next_undone self.old) self.new.target
             self.old.records self.new.records) }
         ensures done { OnOk result
             (self.new.done ≡ self.old.done ++ next_undone self.old ∷ []) }
         ensures undone { OnOk result (self.new.undone ≡ drop 1 self.old.undone) }
-        ensures refusals { IfErr result (λ refusal.
-            step app.now self.old.target (next_undone self.old) ≡ Err refusal) }
+        ensures ahead { OnOk result
+            (bytes_of self.old.records + MAX_KEPT_BYTES ≤ self.new.memory) }
+        ensures refusals { IfErr result
+            (IsWhyNotKept app.now self.old.target (next_undone self.old)) }
+        ensures short { IsErrOf result Refusal.NoMemory
+            → self.old.memory < bytes_of self.old.records + MAX_KEPT_BYTES }
         ensures err { OnErr result (IsAsBefore self.old self.new) }
+        ensures read { self.new.read ≡ self.old.read }
         ensures kept_capacity { self.new.capacity ≡ self.old.capacity }
         ensures kept_edit_capacity { self.new.edit_capacity ≡ self.old.edit_capacity }
-        ensures memory { memory_of self.old.records self.old.room
-            ≤ memory_of self.new.records self.new.room }
+        ensures grows { self.old.memory ≤ self.new.memory }
     {
         let action = self.next();
-        self.trail.play(app, &action)?;
+        self.logged.play(app, &action)?;
         let edits = edits_at(self.moves[self.done]);
         self.edits.go_on(edits);
         self.done += 1;
         Ok(())
     }
 
-    /// Sets the moves undone aside. An `Err` says that there is no memory for that, and leaves the
-    /// journal as it was.
+    /// Sets the moves undone aside. An `Err` says that there are some and no memory for that, and
+    /// leaves the journal as it was.
     pub fn set_aside(&mut self) -> Result<Aside, NoMemory>
         ensures aside { IfOk result (λ aside. aside ≡ self.old.undone) }
         ensures emptied { OnOk result (self.new ≡ record self.old { undone = [] }) }
+        ensures short { OnErr result (0 < length self.old.undone) }
         ensures err { OnErr result (self.new ≡ self.old) }
     {
         // (once there is memory for these bytes, nothing else but the edits can find none)
@@ -280,7 +296,8 @@ impl Journal {
         ensures target { self.new.target ≡ self.old.target }
         ensures done { self.new.done ≡ self.old.done }
         ensures records { self.new.records ≡ self.old.records }
-        ensures room { self.new.room ≡ self.old.room }
+        ensures same_memory { self.new.memory ≡ self.old.memory }
+        ensures read { self.new.read ≡ self.old.read }
         ensures grows { self.old.capacity ≤ self.new.capacity }
         ensures more_edits { self.old.edit_capacity ≤ self.new.edit_capacity }
     {
@@ -302,8 +319,9 @@ impl Journal {
         edits_among(&self.moves[self.done - n..self.done])
     }
 
-    /// Takes the last `n` moves done back: the target goes back by their records, and they become
-    /// the first of the moves undone. It takes no memory, and the room stays.
+    /// Takes the last `n` moves done back: the target goes back by their records, of which each
+    /// byte is read once, and they become the first of the moves undone. It takes no memory, and
+    /// the room stays.
     pub fn take_back(&mut self, n: usize)
         requires within { n ≤ length self.old.done }
         requires records { length self.old.records ≡ length self.old.done }
@@ -317,13 +335,14 @@ impl Journal {
         ensures records { self.new.records ≡ take (length self.old.done - n) self.old.records }
         ensures kept_capacity { self.new.capacity ≡ self.old.capacity }
         ensures kept_edit_capacity { self.new.edit_capacity ≡ self.old.edit_capacity }
-        ensures memory { memory_of self.new.records self.new.room
-            ≡ memory_of self.old.records self.old.room }
+        ensures same_memory { self.new.memory ≡ self.old.memory }
+        ensures read { self.new.read ≡ self.old.read
+            + bytes_of (drop (length self.old.done - n) self.old.records) }
     {
         let edits = self.edits_in_last(n);
         self.edits.take_back(edits);
         self.done -= n;
-        self.trail.take_back(n);
+        self.logged.take_back(n);
     }
 
     /// Ends the journal: nobody will go back any more.
@@ -332,8 +351,8 @@ impl Journal {
             moves: _,
             done: _,
             edits: _,
-            trail,
+            logged,
         } = self;
-        trail.retire();
+        logged.retire();
     }
 }

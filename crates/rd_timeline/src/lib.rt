@@ -5,7 +5,7 @@ mod edits;
 pub mod journal;
 pub mod laws;
 pub mod log;
+pub mod logged;
 pub mod running;
 pub mod runs;
 pub mod timeline;
-pub mod trail;

@@ -1,13 +1,14 @@
 //! Runs both ways: on by policy, to where a condition holds, through the moves undone, and back.
 
-ghost use Rattle.std.specs.Prelude.{◌≡◌, ◌↔◌, ◌-◌, ◌<◌, ◌≤◌, ◌++◌, [], false, length, take, drop};
+ghost use Rattle.std.specs.Prelude.{◌≡◌, ◌↔◌, ◌+◌, ◌-◌, ◌<◌, ◌≤◌, [], false, length, take, drop};
 ghost use Rattle.std.specs.Prelude.{Ok, None, Some, IfOk, IfErr, IfSome, OnOk, OnErr, IsErrOf};
 ghost use Rattle.rd_condition.specs.Conditions.{holds, IsConditionOf};
 ghost use Rattle.rd_timeline.specs.Backward.{GoesBackTo, HasRedone, HasRedonePart};
-ghost use Rattle.rd_timeline.specs.Backward.{IsWhyNoRedo};
+ghost use Rattle.rd_timeline.specs.Backward.{IsWhyNoRedo, RedoesMoreThanEver};
 ghost use Rattle.rd_timeline.specs.History.{state_after};
+ghost use Rattle.rd_timeline.specs.LogView.{bytes_of};
 ghost use Rattle.rd_timeline.specs.Policy.{meets, EndsRun, IsWhyNoRun, IsWhyNotByPolicy};
-ghost use Rattle.rd_timeline.specs.Policy.{StandsOn};
+ghost use Rattle.rd_timeline.specs.Policy.{MayLackMemory, RunsMoreThanEver, StandsOn};
 
 use crate::timeline::Timeline;
 use rd_bytes::no_memory::NoMemory;
@@ -58,6 +59,7 @@ impl Timeline {
         ensures ends { IfOk result (λ met. EndsRun self.old goal count met self.new) }
         ensures stands { StandsOn self.old self.new }
         ensures refusals { IfErr result (IsWhyNoRun self.old goal count) }
+        ensures short { IsErrOf result Refusal.NoMemory → RunsMoreThanEver self.old goal count }
     {
         self.keeps();
         for _ in 0..count {
@@ -79,7 +81,9 @@ impl Timeline {
         ensures ends { IfOk result (λ met. EndsRun self.old goal count met self.new) }
         ensures app { self.new.app ≡ self.old.app }
         ensures limit { self.new.limit ≡ self.old.limit }
+        ensures read { self.new.read ≡ self.old.read }
         ensures refusals { IfErr result (IsWhyNoRun self.old goal count) }
+        ensures short { IsErrOf result Refusal.NoMemory → MayLackMemory self.old goal count }
         ensures err { OnErr result (self.new ≡ self.old) }
     {
         self.keeps();
@@ -98,15 +102,18 @@ impl Timeline {
     /// Makes so many moves, one at the least, as `policy` chooses, all or none. Answers how many
     /// moves are done then. A refusal leaves the timeline as it was, the moves undone included:
     /// that of the first move that is refused, `MovesFull` or `TickLimit`, or `NoMemory` where a
-    /// growth was refused before that. There is no other.
+    /// growth was refused before that. There is no other. Memory is needed only to set the moves
+    /// undone aside, and for more than ever was done.
     pub fn forward(&mut self, count: usize) -> Result<usize, Refusal>
         requires { 0 < count }
         ensures at { IfOk result (λ at. at ≡ length self.new.done) }
         ensures ends { OnOk result (EndsRun self.old None count false self.new) }
         ensures app { self.new.app ≡ self.old.app }
         ensures limit { self.new.limit ≡ self.old.limit }
+        ensures read { self.new.read ≡ self.old.read }
         ensures leads { state_after self.new.app self.new.done ≡ Ok self.new.target }
         ensures refusals { IfErr result (IsWhyNoRun self.old None count) }
+        ensures short { IsErrOf result Refusal.NoMemory → MayLackMemory self.old None count }
         ensures err { OnErr result (self.new ≡ self.old) }
     {
         self.keeps();
@@ -126,8 +133,11 @@ impl Timeline {
             EndsRun self.old (Some condition) count found.met self.new) }
         ensures app { self.new.app ≡ self.old.app }
         ensures limit { self.new.limit ≡ self.old.limit }
+        ensures read { self.new.read ≡ self.old.read }
         ensures leads { state_after self.new.app self.new.done ≡ Ok self.new.target }
         ensures refusals { IfErr result (IsWhyNoRun self.old (Some condition) count) }
+        ensures short { IsErrOf result Refusal.NoMemory
+            → MayLackMemory self.old (Some condition) count }
         ensures err { OnErr result (self.new ≡ self.old) }
     {
         self.keeps();
@@ -142,6 +152,7 @@ impl Timeline {
         requires { count ≤ length self.old.undone }
         ensures ok { OnOk result (HasRedone self.old count self.new) }
         ensures part { HasRedonePart self.old count self.new }
+        ensures short { OnErr result (RedoesMoreThanEver self.old count) }
     {
         self.keeps();
         for _ in 0..count {
@@ -152,14 +163,17 @@ impl Timeline {
 
     /// Makes the next `count` moves that are undone again, all or none. Answers how many moves are
     /// done then. It is refused as `NothingUndone` where fewer are undone, and else as `NoMemory`
-    /// alone, where a growth was refused. A refusal leaves the timeline as it was.
+    /// alone, where a growth was refused, as none is but for more bytes of records than a move was
+    /// ever made from. A refusal leaves the timeline as it was.
     pub fn redo(&mut self, count: usize) -> Result<usize, Refusal>
         ensures at { IfOk result (λ at. at ≡ length self.new.done) }
         ensures redone { OnOk result (HasRedone self.old count self.new) }
+        ensures read { self.new.read ≡ self.old.read }
         ensures leads { state_after self.new.app self.new.done ≡ Ok self.new.target }
         ensures nothing_undone { IsErrOf result Refusal.NothingUndone
             ↔ (length self.old.undone < count) }
         ensures refusals { IfErr result (IsWhyNoRedo self.old count) }
+        ensures short { IsErrOf result Refusal.NoMemory → RedoesMoreThanEver self.old count }
         ensures err { OnErr result (self.new ≡ self.old) }
     {
         self.keeps();
@@ -168,7 +182,7 @@ impl Timeline {
         }
         let done = self.at();
         if self.redo_each(count).is_err() {
-            self.back(self.at() - done).unwrap();
+            self.go_back(self.at() - done);
             return Err(Refusal::NoMemory);
         }
         self.keeps();
@@ -176,12 +190,17 @@ impl Timeline {
     }
 
     /// Goes back to the last earlier place where the condition holds, or else to the start. It
-    /// takes no memory and is never refused. The moves taken back can be redone.
+    /// takes no memory and is never refused, and reads each byte of the moves' records once. The
+    /// moves taken back can be redone.
     pub fn back_until(&mut self, condition: Condition) -> Found
         requires named { IsConditionOf self.old.app condition }
         ensures at { result.at ≡ length self.new.done }
         ensures place { GoesBackTo self.old condition result self.new }
+        ensures log { self.new.log ≡ take result.at self.old.log }
+        ensures read { self.new.read
+            ≡ self.old.read + bytes_of (drop result.at self.old.log) }
     {
+        self.keeps();
         for _ in 0..self.at() {
             self.back(1).unwrap();
             if self.meets(Some(condition)) {

@@ -1,9 +1,10 @@
 //! The target with the moves that led to it: going on, going back.
 
-ghost use Rattle.std.specs.Prelude.{◌≡◌, ◌↔◌, ◌-◌, ◌<◌, ◌≤◌, ◌∷◌, ◌++◌, [], length, take, drop};
-ghost use Rattle.std.specs.Prelude.{max, Ok, IfOk, IfErr, OnOk, OnErr, IsOk, IsErrOf};
+ghost use Rattle.std.specs.Prelude.{◌≡◌, ◌↔◌, ◌+◌, ◌-◌, ◌<◌, ◌≤◌, ◌∷◌, ◌++◌, [], length, take};
+ghost use Rattle.std.specs.Prelude.{drop, max, Ok, IfOk, IfErr, OnOk, OnErr, IsOk, IsErrOf};
 ghost use Rattle.rd_state.specs.Boot.{boot_of};
 ghost use Rattle.rd_app.specs.Application.{priorities_of};
+ghost use Rattle.rd_packed.specs.Records.{record_packed, TakesLittle};
 ghost use Rattle.rd_state.specs.PackedChanges.{IsPackable};
 ghost use Rattle.rd_state.specs.Settled.{IsSettled};
 ghost use Rattle.rd_state.specs.Valid.{IsValid};
@@ -23,6 +24,7 @@ use rd_app::app::Program;
 use rd_bytes::no_memory::NoMemory;
 use rd_calls::moves::Move;
 use rd_calls::play::why_not;
+use rd_packed::count::ReadCount;
 use rd_refusal::refusal::Refusal;
 use rd_state::state::State;
 use rd_state::undo::Undo;
@@ -40,6 +42,8 @@ pub struct Timeline {
     most_done: usize,
     most_edits: usize,
     most_bytes: usize,
+    // How many bytes of records `back` has read.
+    read: ReadCount,
 }
 
 impl Model for Timeline {
@@ -66,7 +70,8 @@ pub(crate) struct Start {
 }
 
 impl Timeline {
-    /// A timeline at boot, for at most `limit` moves. A refusal drops the application.
+    /// A timeline at boot, for at most `limit` moves, with the memory for the record of one move. A
+    /// refusal drops the application.
     pub fn new(alloc: Global, app: Program, limit: usize) -> Result<Timeline, NoMemory>
         ensures { IfOk result (λ timeline. timeline ≡ record {
           app = app;
@@ -78,17 +83,20 @@ impl Timeline {
           most_done = 0;
           most_edits = 0;
           most_bytes = 0;
+          read = 0;
         }) }
     {
         app.limits();
         let target = State::boot(alloc, &app)?;
+        let journal = Journal::new(alloc, target)?;
         Ok(Timeline {
             app,
             limit,
-            journal: Journal::new(alloc, target),
+            journal,
             most_done: 0,
             most_edits: 0,
             most_bytes: 0,
+            read: ReadCount::new(),
         })
     }
 
@@ -142,8 +150,8 @@ impl Timeline {
     /// many moves are done. A refusal leaves the timeline as it was: `MovesFull` where the moves
     /// done are at their limit, else `NoTask` where the core is idle, `TickLimit` where there is no
     /// further tick and `BadEdit` where the edit can't be made, whatever memory is left, else
-    /// `NoMemory` where a growth was refused. There is no other. No memory is needed for as much as
-    /// there was once.
+    /// `NoMemory` where a growth was refused: where the log can't grow, the move is taken back.
+    /// There is no other. No memory is needed for as much as there was once.
     pub fn go(&mut self, action: Move) -> Result<usize, Refusal>
         requires named { IsMoveOf self.old.app action }
         ensures at { IfOk result (λ at. at ≡ length self.new.done) }
@@ -161,6 +169,7 @@ impl Timeline {
             (self.new.most_edits ≡ max self.old.most_edits (edits_in self.new.done)) }
         ensures most_bytes { OnOk result
             (self.new.most_bytes ≡ max self.old.most_bytes (bytes_of self.old.log)) }
+        ensures read { OnOk result (self.new.read ≡ self.old.read) }
 
         // When it is refused, and that nothing has changed then.
         ensures moves_full { IsErrOf result Refusal.MovesFull ↔ IsFull self.old }
@@ -192,9 +201,29 @@ impl Timeline {
         Ok(at)
     }
 
+    // Goes back by `n` moves, which are there and can be redone, and counts nothing.
+    pub(crate) fn go_back(&mut self, n: usize)
+        requires { n ≤ length self.old.done }
+        ensures done { self.new.done ≡ take (length self.old.done - n) self.old.done }
+        ensures undone { self.new.undone
+            ≡ drop (length self.old.done - n) self.old.done ++ self.old.undone }
+        ensures log { self.new.log ≡ take (length self.old.done - n) self.old.log }
+        ensures app { self.new.app ≡ self.old.app }
+        ensures limit { self.new.limit ≡ self.old.limit }
+        ensures most_done { self.new.most_done ≡ self.old.most_done }
+        ensures most_edits { self.new.most_edits ≡ self.old.most_edits }
+        ensures most_bytes { self.new.most_bytes ≡ self.old.most_bytes }
+        ensures read { self.new.read ≡ self.old.read }
+        ensures leads { state_after self.new.app self.new.done ≡ Ok self.new.target }
+    {
+        self.journal.take_back(n);
+        self.keeps();
+    }
+
     /// Goes back by `n` moves, which can be redone, the last one undone first. Answers how many
-    /// moves are done then. It takes no memory. The only refusal is `TooFar` with the number of
-    /// moves done, where there are fewer; the timeline is then as it was.
+    /// moves are done then. It takes no memory, and reads each byte of their records once. The only
+    /// refusal is `TooFar` with the number of moves done, where there are fewer; the timeline is
+    /// then as it was.
     pub fn back(&mut self, n: usize) -> Result<usize, Refusal>
         ensures ok { IsOk result ↔ (n ≤ length self.old.done) }
         ensures at { IfOk result (λ at. at ≡ length self.new.done) }
@@ -208,6 +237,8 @@ impl Timeline {
         ensures most_done { OnOk result (self.new.most_done ≡ self.old.most_done) }
         ensures most_edits { OnOk result (self.new.most_edits ≡ self.old.most_edits) }
         ensures most_bytes { OnOk result (self.new.most_bytes ≡ self.old.most_bytes) }
+        ensures read { OnOk result (self.new.read
+            ≡ self.old.read + bytes_of (drop (length self.old.done - n) self.old.log)) }
         ensures leads { OnOk result (state_after self.new.app self.new.done ≡ Ok self.new.target) }
         ensures too_far { IfErr result (λ refusal.
             refusal ≡ Refusal.TooFar (length self.old.done)) }
@@ -217,16 +248,19 @@ impl Timeline {
         if n > done {
             return Err(Refusal::TooFar { done });
         }
+        let before = self.journal.count();
         self.journal.take_back(n);
+        self.read = self.read.more(&before, &self.journal.count());
         self.keeps();
         Ok(self.at())
     }
 
-    /// A run begins: the moves undone are set aside. An `Err` says that there is no memory for
-    /// that, and leaves the timeline as it was.
+    /// A run begins: the moves undone are set aside. An `Err` says that there are some and no
+    /// memory for that, and leaves the timeline as it was.
     pub(crate) fn begin_run(&mut self) -> Result<Start, NoMemory>
         ensures start { IfOk result (IsStartOf self.old) }
         ensures emptied { OnOk result (self.new ≡ record self.old { undone = [] }) }
+        ensures short { OnErr result (0 < length self.old.undone) }
         ensures err { OnErr result (self.new ≡ self.old) }
     {
         Ok(Start {
@@ -260,7 +294,8 @@ impl Timeline {
     }
 
     /// Makes the move again that is to be redone next, which is there. An `Err` says that there is
-    /// no memory for it, and leaves the timeline as it was.
+    /// no memory for it, and leaves the timeline as it was. It needs none where a move was made
+    /// from as many bytes of records.
     pub(crate) fn redo_one(&mut self) -> Result<(), NoMemory>
         requires { 0 < length self.old.undone }
         ensures done { OnOk result (self.new.done ≡ self.old.done ++ take 1 self.old.undone) }
@@ -269,18 +304,25 @@ impl Timeline {
         ensures most_done { OnOk result (self.new.most_done ≡ self.old.most_done) }
         ensures most_edits { OnOk result (self.new.most_edits ≡ self.old.most_edits) }
         ensures most_bytes { OnOk result (self.new.most_bytes ≡ self.old.most_bytes) }
+        ensures short { OnErr result (self.old.most_bytes < bytes_of self.old.log) }
         ensures err { OnErr result (self.new ≡ self.old) }
     {
-        self.journal.reserve()?;
-        self.journal.replay(&self.app).unwrap();
+        if let Err(_refusal) = self.journal.replay(&self.app) {
+            // (the kernel's rules refuse no move that was made before)
+            return Err(NoMemory);
+        }
         Ok(())
     }
 
-    /// Keeps a record at the log's end. Where the log can't grow, the record is handed back, and
-    /// both are as they were.
+    /// Keeps a record at the log's end, where it takes at most 16 bytes a change, those that its
+    /// changes save, and 8. Where the log can't grow, and has no room for it, the record is handed
+    /// back, and both are as they were.
     pub fn keep(log: &mut Log, undo: Undo) -> Result<(), Undo>
         requires { IsPackable undo }
         ensures ok { OnOk result (log.new.records ≡ log.old.records ++ undo ∷ []) }
+        ensures records_take_little { TakesLittle undo }
+        ensures enough { bytes_of log.old.records + length (record_packed undo)
+            ≤ log.old.capacity → IsOk result }
         ensures back { IfErr result (λ back. back ≡ undo) }
         ensures err { OnErr result (log.new.records ≡ log.old.records) }
     {
@@ -296,6 +338,7 @@ impl Timeline {
             most_done: _,
             most_edits: _,
             most_bytes: _,
+            read: _,
         } = self;
         journal.retire();
     }

@@ -1,9 +1,10 @@
--- The goal of keeps that the check left open.
+-- The goals of keeps that the check left open.
 use Rattle.std.proofs.Common.{◌≡◌, ap, subst, sym}
 use Rattle.rd_state.specs.Boot.{boot_of}
 use Rattle.rd_state.specs.Snapshot.{Snapshot}
 use Rattle.rd_timeline.specs.Policy.{state_or}
 use Rattle.rd_desk.specs.Debugger.{Debugger, target_of}
+use Rattle.rd_desk.specs.DeskView.{LeadsBack}
 use Rattle.rd_desk.specs.MachineInside.{debugger_of}
 use Rattle.rd_desk.specs.Views.{AreNamesOf}
 use Rattle.rd_desk.proofs.NameLaws.{named_in_state}
@@ -16,3 +17,12 @@ returns-clause-paired c =
     let named = named_in_state m.timeline.app m.names m.timeline.target c.self.invariant.named c.keeps.ensures.valid in
     subst (λ (d : Debugger). AreNamesOf (target_of d) d.app.names) c.self.view_is
     (subst (λ (s : Snapshot). AreNamesOf s m.names) (sym target) named)
+
+pub returns-clause-leads_back : goal.returns-clause-leads_back
+returns-clause-leads_back c =
+    let m = c.self.inside in
+    let target : target_of (debugger_of m) ≡ m.timeline.target = ap (state_or (boot_of m.timeline.app)) c.keeps.ensures.leads in
+    let kept = c.keeps.ensures.kept in
+    let back : LeadsBack m.timeline.app m.timeline.done m.timeline.target = record { records = m.timeline.log; each = kept.records; can = kept.rewinds; back = kept.retraces } in
+    subst (λ (d : Debugger). LeadsBack d.app.runs d.moves.done (target_of d)) c.self.view_is
+    (subst (LeadsBack m.timeline.app m.timeline.done) (sym target) back)

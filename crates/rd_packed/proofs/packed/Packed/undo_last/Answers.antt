@@ -1,6 +1,6 @@
 -- The goals of `Packed::undo_last` that the check left open.
 use Rattle.std.proofs.Common.{◌≡◌, ◌-◌, ◌∙◌, ap, sym, subst, arith, drop, length, take}
-use Rattle.rd_packed.specs.Records.{PackedView, before_record, change_count, last_body, last_of_all, last_record, record_packed, records_in}
+use Rattle.rd_packed.specs.Records.{PackedView, before_record, change_count, last_body, last_record, record_packed, records_in}
 use Rattle.rd_packed.specs.TapeView.{TapeView}
 use Rattle.rd_state.specs.PackedChanges.{changes_in}
 use Rattle.rd_state.specs.Undoing.{undone, CanUndo}

@@ -8,16 +8,6 @@ use Rattle.rd_timeline.specs.JournalView.{JournalView}
 use Rattle.rd_timeline.proofs.JournalLaws.{done_count, edits_done, has_byte, moves_laid}
 use Rattle.rd_timeline.proofs.journal.Journal.play.Goals as goal
 
-pub play-requires-clause-capacity : goal.play-requires-clause-capacity
-play-requires-clause-capacity c =
-    omega (
-      arith,
-      c.requires.capacity,
-      c.self.invariant.records,
-      done_count c.self.inside c.args.self.now c.self.view_is c.self.invariant,
-      ap (λ (v : JournalView). v.capacity) c.self.view_is,
-    )
-
 pub push_reserved-requires : goal.push_reserved-requires
 push_reserved-requires c =
     omega (
@@ -50,7 +40,7 @@ invariant_of-self-2 c =
           omega (
             arith,
             ap length c.in_ok-play.ensures.lays.records,
-            length_push c.self.inside.trail.records c.in_ok-play.ensures.lays.undo,
+            length_push c.self.inside.logged.records c.in_ok-play.ensures.lays.undo,
             c.self.invariant.records,
           );
       done = laid.done_edits ∙ ap length (sym c.lay.ensures.done);

@@ -1,25 +1,15 @@
 -- The goals of `Journal::replay` that the check left open.
-use Rattle.std.proofs.Common.{◌≡◌, ◌∙◌, ◌+◌, Err, ap, arith, drop, length, rules, subst, sym, take}
+use Rattle.std.proofs.Common.{◌∙◌, ◌+◌, ap, arith, drop, length, rules, subst, sym, take}
 use Rattle.std.specs.Prelude.{List}
 use Rattle.std.proofs.lemmas.List.{length_push}
 use Rattle.rd_edits.specs.declared.edit.Edit.{Edit}
 use Rattle.rd_calls.specs.declared.moves.Move.{Move}
-use Rattle.rd_calls.specs.Step.{step}
 use Rattle.rd_timeline.specs.Decoded.{decoded, edits_at}
 use Rattle.rd_timeline.specs.JournalView.{JournalView, next_undone}
 use Rattle.rd_timeline.specs.LogView.{RecordsMove}
-use Rattle.rd_timeline.proofs.JournalLaws.{IsLater, border_on, done_count, next_edits}
+use Rattle.rd_timeline.specs.LoggedView.{IsWhyNotKept}
+use Rattle.rd_timeline.proofs.JournalLaws.{IsLater, border_on, next_edits}
 use Rattle.rd_timeline.proofs.journal.Journal.replay.Goals as goal
-
-pub play-requires-clause-capacity : goal.play-requires-clause-capacity
-play-requires-clause-capacity c =
-    omega (
-      arith,
-      c.requires.capacity,
-      c.self.invariant.records,
-      done_count c.self.inside c.args.self.now c.self.view_is c.self.invariant,
-      ap (λ (v : JournalView). v.capacity) c.self.view_is,
-    )
 
 pub go_on-requires : goal.go_on-requires
 go_on-requires c =
@@ -40,7 +30,7 @@ invariant_of-self-2 c =
           omega (
             arith,
             ap length c.in_ok-play.ensures.lays.records,
-            length_push c.self.inside.trail.records c.in_ok-play.ensures.lays.undo,
+            length_push c.self.inside.logged.records c.in_ok-play.ensures.lays.undo,
             c.self.invariant.records,
           );
       done = later.done_edits ∙ ap length (sym c.go_on.ensures.done);
@@ -63,9 +53,9 @@ returns-clause-undone c =
 
 pub returns-in_err-play-clause-refusals : goal.returns-in_err-play-clause-refusals
 returns-in_err-play-clause-refusals c =
-    let refused : step c.args.app.now c.args.self.now.target (next_undone c.args.self.now) ≡ Err c.in_err-play.field-0.0 =
-    ap (λ (move : Move). step c.args.app.now c.args.self.now.target move) (sym c.next-action.ensures)
-    ∙ ap (λ (v : JournalView). step c.args.app.now v.target c.next-action.result) (sym c.self.view_is) ∙ c.in_err-play.ensures.refusals in
+    let why : IsWhyNotKept c.args.app.now c.args.self.now.target (next_undone c.args.self.now) c.in_err-play.field-0.0 =
+    subst (λ (move : Move). IsWhyNotKept c.args.app.now c.args.self.now.target move c.in_err-play.field-0.0) c.next-action.ensures
+    (subst (λ (v : JournalView). IsWhyNotKept c.args.app.now v.target c.next-action.result c.in_err-play.field-0.0) c.self.view_is c.in_err-play.ensures.refusals) in
     search rules
 
 pub returns-clause-lays : goal.returns-clause-lays

@@ -5,12 +5,11 @@ use Rattle.std.proofs.lemmas.Bool.{false≢true}
 use Rattle.std.proofs.lemmas.List.{length-take-le}
 use Rattle.rd_timeline.specs.JournalView.{JournalView}
 use Rattle.rd_timeline.proofs.DecodedLaws.{length-decoded}
-use Rattle.rd_timeline.proofs.HistoryLaws.{on_ok_then}
 use Rattle.rd_timeline.proofs.JournalLaws.{done_count}
 use Rattle.rd_timeline.proofs.journal.Journal.reserve.Goals as goal
 
 pub returns-in_err-reserve-clause-enough : goal.returns-in_err-reserve-clause-enough
-returns-in_err-reserve-clause-enough c more room =
+returns-in_err-reserve-clause-enough c more =
     absurd
     (false≢true
     (c.in_err-reserve.ensures.succeeds
@@ -26,11 +25,8 @@ returns-in_err-reserve-clause-enough c more room =
 
 pub returns-clause-ok : goal.returns-clause-ok
 returns-clause-ok c =
-    on_ok_then c.reserve-2.result c.reserve-2.ensures.ok (λ more. omega (
+    omega (
       arith,
-      more,
-      ap length c.reserve-2.ensures.records,
-      c.self.invariant.records,
       c.len.ensures,
       c.saturating_sub-missing.ensures,
       c.in_ok-reserve.ensures.ok,
@@ -38,16 +34,4 @@ returns-clause-ok c =
       length-decoded (take c.self.inside.done c.reserve.new.self.items) c.self.inside.edits.done,
       ap (λ (bytes : List ℕ). length (take c.self.inside.done bytes)) c.in_ok-reserve.ensures.items,
       length-take-le c.self.inside.done c.self.inside.moves.items c.self.invariant.border,
-    ))
-
-pub returns-clause-enough : goal.returns-clause-enough
-returns-clause-enough c more room =
-    c.reserve-2.ensures.enough
-    (omega (
-      arith,
-      more,
-      c.self.invariant.records,
-      done_count c.self.inside c.args.self.now c.self.view_is c.self.invariant,
-      ap (λ (v : JournalView). v.capacity) c.self.view_is,
-    ))
-    (omega (arith, room, ap (λ (v : JournalView). v.room) c.self.view_is))
+    )

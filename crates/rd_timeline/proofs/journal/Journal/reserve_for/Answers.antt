@@ -9,7 +9,7 @@ use Rattle.rd_timeline.proofs.JournalLaws.{edits_done}
 use Rattle.rd_timeline.proofs.journal.Journal.reserve_for.Goals as goal
 
 pub returns-in_err-reserve-clause-enough : goal.returns-in_err-reserve-clause-enough
-returns-in_err-reserve-clause-enough c more edit room =
+returns-in_err-reserve-clause-enough c more edit =
     absurd
     (false≢true
     (c.in_err-reserve.ensures.enough (λ is. omega (

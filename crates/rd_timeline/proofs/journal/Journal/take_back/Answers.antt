@@ -21,7 +21,7 @@ invariant_of-self c =
           omega (
             arith,
             ap length c.take_back-2.ensures.records,
-            length-take-le (length c.self.inside.trail.records - c.args.n) c.self.inside.trail.records (omega arith),
+            length-take-le (length c.self.inside.logged.records - c.args.n) c.self.inside.logged.records (omega arith),
             c.self.invariant.records,
           );
       done = earlier.done_edits ∙ ap length (sym c.take_back.ensures.done);

@@ -1,6 +1,7 @@
 -- So many moves were taken back, and the condition held after none of those before them.
-use Rattle.std.proofs.Common.{◌≡◌, ◌-◌, ◌++◌, drop, length, take}
+use Rattle.std.proofs.Common.{◌≡◌, ◌+◌, ◌-◌, ◌++◌, drop, length, take}
 use Rattle.rd_timeline.specs.Backward.{last_met}
+use Rattle.rd_timeline.specs.LogView.{bytes_of}
 use Rattle.rd_timeline.proofs.timeline.Timeline.back_until.Given as goal
 
 abbrev pub invariant-loop : goal.invariant-loop
@@ -14,4 +15,6 @@ invariant-loop l = record {
   most_done : l.self.most_done ≡ l.fn.self.most_done;
   most_edits : l.self.most_edits ≡ l.fn.self.most_edits;
   most_bytes : l.self.most_bytes ≡ l.fn.self.most_bytes;
+  log : l.self.log ≡ take (length l.fn.self.done - l.counter) l.fn.self.log;
+  read : l.self.read ≡ l.fn.self.read + bytes_of (drop (length l.fn.self.done - l.counter) l.fn.self.log);
 }

@@ -2,7 +2,6 @@
 use Rattle.std.proofs.Common.{◌≡◌, ◌∙◌, ◌-◌, ap, arith, drop, length, subst, sym, take}
 use Rattle.rd_timeline.specs.Course.{Course}
 use Rattle.rd_timeline.specs.History.{rewound}
-use Rattle.rd_timeline.specs.LogView.{bytes_of}
 use Rattle.rd_timeline.specs.Starts.{CanCancel}
 use Rattle.rd_timeline.proofs.HistoryLaws.{CanRewind-later}
 use Rattle.rd_timeline.proofs.TimelineLaws.{IsWhole-cancel}
@@ -25,4 +24,4 @@ invariant_of-self c =
     IsWhole-cancel t c.put_back.new.self start c.self.invariant can
     (put.target ∙ taken.target ∙ ap (λ k. rewound t.journal.target (drop k t.journal.records)) first)
     (put.done ∙ taken.done ∙ ap (λ k. take k t.journal.done) first) (put.records ∙ taken.records ∙ ap (λ k. take k t.journal.records) first)
-    put.undone (omega (arith, put.grows, taken.kept_capacity)) (omega (arith, put.more_edits, taken.kept_edit_capacity)) (omega (arith, taken.memory, put.room, ap bytes_of put.records))
+    put.undone (omega (arith, put.grows, taken.kept_capacity)) (omega (arith, put.more_edits, taken.kept_edit_capacity)) (omega (arith, taken.same_memory, put.same_memory))

@@ -1,5 +1,5 @@
 -- The goals of `go` that the check left open.
-use Rattle.std.proofs.Common.{◌≡◌, ◌≤◌, ◌<◌, ◌+◌, ◌∙◌, arith, length, ◌++◌, ◌∷◌, [], List, ap, refl, rules, subst, sym}
+use Rattle.std.proofs.Common.{◌≡◌, ◌<◌, ◌+◌, ◌∙◌, arith, length, ◌++◌, ◌∷◌, [], List, ap, refl, rules, subst, sym}
 use Rattle.std.specs.Prelude.{Ok}
 use Rattle.rd_calls.specs.declared.moves.Move.{Move}
 use Rattle.rd_state.specs.Change.{Change}
@@ -15,7 +15,6 @@ use Rattle.rd_timeline.specs.History.{state_after}
 use Rattle.rd_timeline.proofs.DecodedLaws.{edits_in-append}
 use Rattle.rd_timeline.proofs.HistoryLaws.{state_after-push}
 use Rattle.rd_timeline.proofs.TimelineLaws.{IsWhole-push, at_most_room, grown, settled_after, state_now}
-use Rattle.rd_calls.specs.declared.play.TheConstants.{MAX_RECORD_BYTES}
 use Rattle.std.proofs.lemmas.List.{length_push}
 use Rattle.rd_timeline.proofs.timeline.Timeline.go.Goals as goal
 
@@ -38,7 +37,6 @@ invariant_of-self-2 c =
     let from_target : step t.app t.journal.target c.args.action ≡ Ok c.play.new.self.target =
     ap (λ (s : Snapshot). step t.app s c.args.action) (sym same.target) ∙ played.step in
     let capacity : length c.reserve_for.new.self.done < c.reserve_for.new.self.capacity = search rules in
-    let room : MAX_RECORD_BYTES ≤ c.reserve_for.new.self.room = search rules in
     let ok_edit : HasEditRoom c.reserve_for.new.self c.args.action = search rules in
     let one_more : length c.play.new.self.done ≡ length c.reserve_for.new.self.done + 1 =
     omega (arith, ap length made.done, length_push c.reserve_for.new.self.done c.args.action) in
@@ -54,6 +52,7 @@ invariant_of-self-2 c =
       most_done = c.max-self-inside.result;
       most_edits = c.max-self-inside-2.result;
       most_bytes = c.max-self-inside-3.result;
+      read = t.read;
     })
     c.args.action made.lays.undo c.self.invariant refl refl (subst (λ (course : Course). IsMoveOf course.app c.args.action) (sym c.self.view_is) c.requires.named) (search rules) from_target (played.leads_back ∙ same.target) played.can_undo
     played.valid settled all
@@ -64,8 +63,8 @@ invariant_of-self-2 c =
     (at_most_room c.args.action t.most_edits c.edits.result c.max-self-inside-2.result c.reserve_for.new.self c.play.new.self c.max-self-inside-2.ensures c.edits.ensures
     made.done made.kept_edit_capacity (omega (arith, c.reserve_for.ensures.more_edits, c.self.invariant.edits)) ok_edit
     (omega (arith, ap edits_in same.done, c.self.invariant.kept.made.edits_were, edits_in-append t.journal.done t.journal.undone)))
-    (grown t c.bytes-bytes.result c.max-self-inside-3.result c.reserve_for.new.self c.play.new.self c.self.invariant.memory same c.bytes-bytes.ensures c.max-self-inside-3.ensures
-    room c.reserve_for.ensures.more_room made.memory)
+    (grown t c.bytes-bytes.result c.max-self-inside-3.result c.reserve_for.new.self c.play.new.self c.self.invariant.memory c.bytes-bytes.ensures c.max-self-inside-3.ensures
+    made.ahead (omega (arith, c.reserve_for.ensures.same_memory, c.play.ensures.grows)))
 
 pub returns-clause-leads : goal.returns-clause-leads
 returns-clause-leads c =

@@ -4,8 +4,10 @@ use Rattle.std.proofs.lemmas.List.{length-append}
 use Rattle.rd_app.specs.Application.{Application}
 use Rattle.rd_calls.specs.declared.moves.Move.{Move}
 use Rattle.rd_calls.specs.Step.{policy_of, step, IsMoveOf}
-use Rattle.rd_timeline.specs.Course.{IsWhyNot}
-use Rattle.rd_timeline.specs.Policy.{IsWhyNoRun}
+use Rattle.std.specs.Prelude.{Err, IsErrOf}
+use Rattle.rd_refusal.specs.declared.refusal.Refusal.TheVariants.{NoMemory}
+use Rattle.rd_timeline.specs.Course.{IsMoreThanEver, IsWhyNot}
+use Rattle.rd_timeline.specs.Policy.{IsWhyNoRun, RunsMoreThanEver}
 use Rattle.rd_timeline.proofs.PolicyLaws.{EndsRun-met, IsAt, IsAt-begun, IsAt-next, IsMost-next, StandsOn-then, policy_named, why_no_run}
 use Rattle.rd_timeline.proofs.timeline.Timeline.go_on.Goals as goal
 
@@ -34,6 +36,21 @@ returns-in_err-go-clause-refusals c =
     why_no_run c.args.self.now c.args.goal c.loop.counter c.args.count c.loop.self c.in_err-go.field-0.0 at (omega (arith, c.loop-test.true)) within why in
     search rules
 
+pub returns-in_err-go-clause-short : goal.returns-in_err-go-clause-short
+returns-in_err-go-clause-short c =
+    let i = c.loop.invariant in
+    let beyond : IsErrOf (Err c.in_err-go.field-0.0) NoMemory → RunsMoreThanEver c.args.self.now c.args.goal c.args.count = λ is. record {
+      made = c.loop.counter;
+      fewer = omega (arith, c.loop-test.true);
+      now = c.loop.self;
+      run = i.run;
+      done = i.done;
+      stands = i.stands;
+      more =
+          subst (IsMoreThanEver c.loop.self) (c.policy-action.ensures ∙ ap policy_of c.target.ensures) (c.in_err-go.ensures.short is);
+    } in
+    search rules
+
 pub returns-then-meets-clause-ends : goal.returns-then-meets-clause-ends
 returns-then-meets-clause-ends c =
     let i = c.loop.invariant in
@@ -46,7 +63,7 @@ returns-then-meets-clause-ends c =
     let done = made.done ∙ ap (λ (move : Move). c.loop.self.done ++ move ∷ []) is in
     let stands =
     StandsOn-then c.args.self.now c.loop.self c.go.new.self (c.policy-action.result ∷ []) i.stands made.app made.limit made.done made.log
-    (omega (arith, made.most_done)) (omega (arith, made.most_edits)) (omega (arith, made.most_bytes)) in
+    (omega (arith, made.most_done)) (omega (arith, made.most_edits)) (omega (arith, made.most_bytes)) made.read in
     let most =
     IsMost-next c.args.self.now c.loop.counter c.loop.self c.go.new.self i.most c.keeps-in-loop.ensures.kept done made.log made.most_done made.most_edits
     made.most_bytes in
@@ -68,7 +85,7 @@ loop-preserved c =
     let more : length c.loop.self.done ≢ c.loop.self.limit = search rules in
     let stands =
     StandsOn-then c.args.self.now c.loop.self c.go.new.self (c.policy-action.result ∷ []) i.stands made.app made.limit made.done made.log
-    (omega (arith, made.most_done)) (omega (arith, made.most_edits)) (omega (arith, made.most_bytes)) in
+    (omega (arith, made.most_done)) (omega (arith, made.most_edits)) (omega (arith, made.most_bytes)) made.read in
     let done = made.done ∙ ap (λ (move : Move). c.loop.self.done ++ move ∷ []) is in
     let most =
     IsMost-next c.args.self.now c.loop.counter c.loop.self c.go.new.self i.most c.keeps-in-loop.ensures.kept done made.log made.most_done made.most_edits

@@ -1,5 +1,6 @@
 -- The goals of `redo_each` that the check left open.
-use Rattle.std.proofs.Common.{◌<◌, arith, length}
+use Rattle.std.proofs.Common.{◌<◌, arith, length, rules}
+use Rattle.rd_timeline.specs.Backward.{RedoesMoreThanEver}
 use Rattle.rd_timeline.proofs.BackwardLaws.{HasRedone-here, HasRedone-next}
 use Rattle.rd_timeline.proofs.PolicyLaws.{StandsOn-here, StandsOn-trans}
 use Rattle.rd_timeline.proofs.timeline.Timeline.redo_each.Goals as goal
@@ -17,3 +18,14 @@ loop-preserved c =
           made.most_edits made.most_bytes;
       stands = StandsOn-trans c.args.self.now c.loop.self c.redo_one.new.self i.stands made.stands;
     }
+
+pub returns-in_err-redo_one-clause-short : goal.returns-in_err-redo_one-clause-short
+returns-in_err-redo_one-clause-short c =
+    let beyond : RedoesMoreThanEver c.args.self.now c.args.count = record {
+      redone = c.loop.counter;
+      fewer = omega (arith, c.loop-test.true);
+      now = c.loop.self;
+      has = c.loop.invariant.has;
+      more = c.in_err-redo_one.ensures.short;
+    } in
+    search rules

@@ -1,9 +1,11 @@
 -- The goals of `run_by_policy` that the check left open.
-use Rattle.std.proofs.Common.{◌∙◌, ap, arith, subst, take}
+use Rattle.std.proofs.Common.{◌∙◌, ap, arith, inr, rules, subst, take}
+use Rattle.std.specs.Prelude.{Err, IsErrOf}
+use Rattle.rd_refusal.specs.declared.refusal.Refusal.TheVariants.{NoMemory}
 use Rattle.std.proofs.lemmas.List.{length-append}
 use Rattle.rd_timeline.specs.Course.{Course}
-use Rattle.rd_timeline.specs.Policy.{IsWhyNotByPolicy, StandsOn}
-use Rattle.rd_timeline.proofs.PolicyLaws.{IsAt-begun, same_course, same_target, why_no_run}
+use Rattle.rd_timeline.specs.Policy.{IsWhyNotByPolicy, MayLackMemory, RunsMoreThanEver, StandsOn}
+use Rattle.rd_timeline.proofs.PolicyLaws.{IsAt-begun, runs_from_aside, same_course, same_target, why_no_run}
 use Rattle.rd_timeline.proofs.timeline.Timeline.run_by_policy.Goals as goal
 
 pub returns-in_default-clause-refusals : goal.returns-in_default-clause-refusals
@@ -24,4 +26,11 @@ returns-in-Err-clause-err c =
     let log = cancelled.log ∙ ap (λ k. take k c.go_on.new.self.log) start.done ∙ stands.log in
     same_course old c.cancel_run.new.self app (cancelled.limit ∙ stands.limit)
     (same_target old c.cancel_run.new.self app done c.keeps.ensures.leads cancelled.leads) done log (cancelled.undone ∙ start.undone)
-    (cancelled.most_done ∙ start.most_done) (cancelled.most_edits ∙ start.most_edits) (cancelled.most_bytes ∙ start.most_bytes)
+    (cancelled.most_done ∙ start.most_done) (cancelled.most_edits ∙ start.most_edits) (cancelled.most_bytes ∙ start.most_bytes) (cancelled.read ∙ stands.read)
+
+pub returns-in-Err-clause-short : goal.returns-in-Err-clause-short
+returns-in-Err-clause-short c =
+    let run : IsErrOf (Err c.in-Err.refusal) NoMemory → MayLackMemory c.args.self.now c.args.goal c.args.count =
+    λ is. inr (runs_from_aside c.args.self.now c.args.goal c.args.count
+    (subst (λ (course : Course). RunsMoreThanEver course c.args.goal c.args.count) c.in-Ok.ensures.emptied (c.in-Err.ensures.short is))) in
+    search rules

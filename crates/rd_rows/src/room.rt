@@ -1,0 +1,128 @@
+//! What the room lends to whoever has the lock.
+
+ghost use Rattle.std.specs.Prelude.{◌≡◌, ◌+◌, IfOk};
+ghost use Rattle.rd_desk.specs.declared.sessions.TheConstants.{MAX_JOINS};
+
+use crate::asserts::assert_same;
+use crate::hall::next_pass;
+use rd_command::binding::bind;
+use rd_command::command::parse_line;
+use rd_desk::limits::Limits;
+use rd_desk::sessions::MAX_JOINS;
+use rd_hall::room::Room;
+use rd_hall::seat::{Gone, Pass, Seat};
+use rd_hall::setup::Setup;
+use rd_names::app::App;
+use rd_names::names::Names;
+use rd_state::state::State;
+use std::alloc::{AllocGlobal, Global};
+use std::marker::Brand;
+use std::process::Abort;
+use std::sync::ledger::Blank;
+use std::test::Fail;
+
+// What a command is bound by, outside of the room.
+#[derive(Drop)]
+struct Outside {
+    names: Names,
+    cores: usize,
+    entries: usize,
+}
+
+impl Outside {
+    fn of(alloc: Global, app: &App) -> Result<Outside, Fail>
+        ensures names { IfOk result (λ outside. outside.names ≡ app.now.names) }
+        ensures cores { IfOk result (λ outside. outside.cores ≡ app.now.runs.cores) }
+        ensures entries { IfOk result (λ outside. outside.entries ≡ app.now.runs.entries) }
+    {
+        Ok(Outside {
+            names: app.names().copy(alloc)?,
+            cores: app.program().cores(),
+            entries: app.program().entries(),
+        })
+    }
+}
+
+// A session asks, and is served.
+fn ask<L: Setup>(
+    rt: &impl Abort,
+    room: &mut Room<L>,
+    outside: &Outside,
+    seat: Seat<L>,
+    line: &str,
+) -> Seat<L>
+    requires names { outside.now.names ≡ L.app.names }
+    requires cores { outside.now.cores ≡ L.app.runs.cores }
+    requires entries { outside.now.entries ≡ L.app.runs.entries }
+{
+    let Ok(command) = parse_line(line.as_bytes()) else {
+        panic!(rt; "{line} is no command");
+    };
+    let bound = bind(&command, &outside.names, outside.cores, outside.entries);
+    let (seat, served) = room.ask(seat, &command, &bound);
+    assert!(rt; served.is_ok(), "{line} isn't served");
+    seat
+}
+
+// A session comes, steps, goes back and leaves. The target is the one at boot all the while, but
+// after its step.
+fn step_and_go_back<L: Setup>(
+    rt: &impl Abort,
+    room: &mut Room<L>,
+    outside: &Outside,
+    passes: &mut Vec<Pass<L>>,
+    boot: &State,
+) -> Gone<L>
+    requires names { outside.now.names ≡ L.app.names }
+    requires cores { outside.now.cores ≡ L.app.runs.cores }
+    requires entries { outside.now.entries ≡ L.app.runs.entries }
+{
+    assert!(rt; room.target().same(boot));
+    let Ok(seat) = room.join(next_pass(rt, passes)) else {
+        panic!(rt; "a session isn't let in");
+    };
+    assert!(rt; room.target().same(boot));
+    let seat = ask(rt, room, outside, seat, "step 0");
+    assert!(rt; !room.target().same(boot));
+    let seat = ask(rt, room, outside, seat, "back 1");
+    assert!(rt; room.target().same(boot));
+    let gone = room.leave(seat);
+    assert!(rt; room.target().same(boot));
+    gone
+}
+
+// How many entries there are at the end.
+fn entries_of_one<L: Setup, H: Abort + AllocGlobal>(
+    rt: &H,
+    blank: Blank,
+    app: App,
+) -> Result<Option<usize>, Fail>
+    requires name { blank.name ≡ L.name }
+    requires parts { (blank.parts ≡ L.parts) × (blank.parts ≡ MAX_JOINS + 1) }
+    requires app { app ≡ L.app }
+    requires moves { L.most_moves ≡ 10 }
+    requires entries { L.most_entries ≡ 10 }
+{
+    let boot = State::boot(rt.alloc(), app.program())?;
+    let outside = Outside::of(rt.alloc(), &app)?;
+    let mut gones = Vec::with_capacity(rt.alloc(), 1)?;
+    let limits = Limits {
+        moves: 10,
+        history: 10,
+    };
+    let (mut room, mut passes) = Room::<L>::open(rt.alloc(), blank, app, limits)?;
+    gones.push_reserved(step_and_go_back(rt, &mut room, &outside, &mut passes, &boot));
+    match room.finish(gones) {
+        Ok(closed) => Ok(Some(closed.entries())),
+        Err(_) => Ok(None),
+    }
+}
+
+#[test]
+fn target_of_a_room(rt: HostRuntime) -> Result<(), Fail> {
+    let app = App::builtin(rt.alloc())?;
+    let blank = Blank::new(MAX_JOINS as u64 + 1);
+    let found = entries_of_one::<Brand, HostRuntime>(&rt, blank, app)?;
+    assert_same(&rt, found, Some(4));
+    Ok(())
+}
