@@ -274,7 +274,3 @@ too_few (Err refusal) count done iff = elim (cases_lt done count) [
   | inl fewer ↦ fewer
   | inr there ↦ absurd (false≢true (iff.1 there))
 ]
-
-pub both_err : {T : Type 0} (made : Result T Refusal) (P : Refusal → Type 0) (Q : Type 0) → IfErr made P → OnErr made Q → IfErr made (λ refusal. P refusal × Q)
-both_err (Ok x) P Q p q = tt
-both_err (Err refusal) P Q p q = (p, q)

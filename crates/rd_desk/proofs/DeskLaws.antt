@@ -1,6 +1,6 @@
 -- A history with one entry more, and what no event changes.
 use Rattle.std.proofs.Common.{◌≡◌, ◌≢◌, ◌∙◌, ℕ, List, [], ◌∷◌, ◌++◌, true, false, length, refl, ap, subst, sym}
-use Rattle.std.specs.Prelude.{Bool, Result, Ok, Err, IfOk, OnErr, Option, None, Some, ◌-◌, is_none, position, slice_set, unwrap_or}
+use Rattle.std.specs.Prelude.{Bool, Result, Ok, Err, IfOk, IsSomeAnd, OnErr, Option, None, Some, ◌-◌, is_none, position, slice_set, unwrap_or}
 use Rattle.std.proofs.lemmas.List.{length-set}
 use Rattle.rd_condition.specs.declared.condition.Condition.{Condition}
 use Rattle.rd_timeline.specs.declared.runs.Request.{Request}
@@ -20,6 +20,7 @@ use Rattle.rd_desk.specs.Debugger.{Debugger, is_holder, opening, own_watches, wa
 use Rattle.rd_desk.specs.declared.entry.Receipt.{Receipt}
 use Rattle.rd_desk.specs.DeskView.{DeskView, Does, entry_of}
 use Rattle.rd_desk.specs.Legal.{IsLegal, Leads}
+use Rattle.rd_desk.specs.Memory.{NeedsMemory, needs_memory}
 use Rattle.rd_desk.specs.Serving.{MayAct, after_bound, after_command, after_dropped, after_if_there, after_kept, after_unless_held, after_watched, held_by, reply_if_there, reply_to_bound, reply_to_command, reply_to_dropped, reply_to_giver, reply_to_kept, reply_to_watched, reply_unless_held, served}
 use Rattle.rd_desk.specs.HistoryView.{IsView}
 use Rattle.rd_desk.specs.Sessions.{IsPresent, WatchesView, present_count, watch_at}
@@ -159,74 +160,74 @@ legal_push d history who event after longer legal may then is =
     subst (λ (entries : List Entry). P entries after) (sym is)
     (subst (λ (e : Debugger). P (history ++ entry_of d who event ∷ []) e) (sym then) begun)
 
--- ---- what is shown changes nothing
+-- ---- what is shown changes nothing, and takes memory
 
-unchanged_watched : (d : Debugger) (watch : Option Condition) (make : Condition → Request) (text : List ℕ)
-    → reply_to_watched d watch make ≡ Shown text → after_watched d watch make ≡ d
-unchanged_watched d None make text is = refl
-unchanged_watched d (Some condition) make text is = absurd cc
+watched_is_told : (d : Debugger) (watch : Option Condition) (make : Condition → Request) (text : List ℕ) → reply_to_watched d watch make ≢ Shown text
+watched_is_told d None make text is = absurd cc
+watched_is_told d (Some condition) make text is = absurd cc
 
-unchanged_kept : (d : Debugger) (who : ℕ) (condition : Condition) (number : Option ℕ) (text : List ℕ) → reply_to_kept number ≡ Shown text
-    → after_kept d who condition number ≡ d
-unchanged_kept d who condition None text is = refl
-unchanged_kept d who condition (Some number) text is = absurd cc
+kept_is_told : (number : Option ℕ) (text : List ℕ) → reply_to_kept number ≢ Shown text
+kept_is_told None text is = absurd cc
+kept_is_told (Some number) text is = absurd cc
 
-unchanged_dropped : (d : Debugger) (who number : ℕ) (watch : Option Condition) (text : List ℕ) → reply_to_dropped number watch ≡ Shown text
-    → after_dropped d who number watch ≡ d
-unchanged_dropped d who number None text is = refl
-unchanged_dropped d who number (Some condition) text is = absurd cc
+dropped_is_told : (number : ℕ) (watch : Option Condition) (text : List ℕ) → reply_to_dropped number watch ≢ Shown text
+dropped_is_told number None text is = absurd cc
+dropped_is_told number (Some condition) text is = absurd cc
 
 giver_is_told : (b : Bool) (text : List ℕ) → reply_to_giver b ≢ Shown text
 giver_is_told true text is = absurd cc
 giver_is_told false text is = absurd cc
 
-unchanged_bound : (d : Debugger) (who : ℕ) (command : Bound) (text : List ℕ) → reply_to_bound d who command ≡ Shown text → after_bound d who command ≡ d
-unchanged_bound d who (bound.Step core) text is = absurd cc
-unchanged_bound d who bound.Tick text is = absurd cc
-unchanged_bound d who (bound.Forward count) text is = absurd cc
-unchanged_bound d who (bound.Redo count) text is = absurd cc
-unchanged_bound d who (bound.Back count) text is = absurd cc
-unchanged_bound d who (bound.Until condition count) text is = absurd cc
-unchanged_bound d who (bound.UntilWatch watch count) text is =
-    unchanged_watched d (watch_at (own_watches d who) watch) (λ condition. request.Until condition count) text is
-unchanged_bound d who (bound.BackUntil condition) text is = absurd cc
-unchanged_bound d who (bound.BackUntilWatch watch) text is =
-    unchanged_watched d (watch_at (own_watches d who) watch) (λ condition. request.BackUntil condition) text is
-unchanged_bound d who (bound.Poke edit) text is = absurd cc
-unchanged_bound d who bound.TakeWheel text is = absurd cc
-unchanged_bound d who bound.GiveWheel text is = absurd (giver_is_told (is_holder d.wheel who) text is)
-unchanged_bound d who (bound.Watch condition) text is = unchanged_kept d who condition (position is_none (own_watches d who)) text is
-unchanged_bound d who (bound.Unwatch number) text is = unchanged_dropped d who number (watch_at (own_watches d who) number) text is
-unchanged_bound d who (bound.Show kind number) text is = refl
-unchanged_bound d who bound.ShowCores text is = refl
-unchanged_bound d who bound.ShowMoves text is = refl
-unchanged_bound d who bound.ShowWheel text is = refl
-unchanged_bound d who bound.ShowWatches text is = refl
+-- What shows a text leaves the debugger as it was, and takes memory for the text.
+abbrev Shows : Debugger → Debugger → Type 0 → Type 0
+Shows d after Needs = (after ≡ d) × Needs
 
-unchanged_if_there : (d : Debugger) (who : ℕ) (command : Option Bound) (text : List ℕ) → reply_if_there d who command ≡ Shown text
-    → after_if_there d who command ≡ d
-unchanged_if_there d who None text is = refl
-unchanged_if_there d who (Some command) text is = unchanged_bound d who command text is
+shows_bound : (d : Debugger) (who : ℕ) (command : Bound) (text : List ℕ) → reply_to_bound d who command ≡ Shown text
+    → Shows d (after_bound d who command) (needs_memory command ≡ true)
+shows_bound d who (bound.Step core) text is = absurd cc
+shows_bound d who bound.Tick text is = absurd cc
+shows_bound d who (bound.Forward count) text is = absurd cc
+shows_bound d who (bound.Redo count) text is = absurd cc
+shows_bound d who (bound.Back count) text is = absurd cc
+shows_bound d who (bound.Until condition count) text is = absurd cc
+shows_bound d who (bound.UntilWatch watch count) text is =
+    absurd (watched_is_told d (watch_at (own_watches d who) watch) (λ condition. request.Until condition count) text is)
+shows_bound d who (bound.BackUntil condition) text is = absurd cc
+shows_bound d who (bound.BackUntilWatch watch) text is =
+    absurd (watched_is_told d (watch_at (own_watches d who) watch) (λ condition. request.BackUntil condition) text is)
+shows_bound d who (bound.Poke edit) text is = absurd cc
+shows_bound d who bound.TakeWheel text is = absurd cc
+shows_bound d who bound.GiveWheel text is = absurd (giver_is_told (is_holder d.wheel who) text is)
+shows_bound d who (bound.Watch condition) text is = absurd (kept_is_told (position is_none (own_watches d who)) text is)
+shows_bound d who (bound.Unwatch number) text is = absurd (dropped_is_told number (watch_at (own_watches d who) number) text is)
+shows_bound d who (bound.Show kind number) text is = (refl, refl)
+shows_bound d who bound.ShowCores text is = (refl, refl)
+shows_bound d who bound.ShowMoves text is = absurd cc
+shows_bound d who bound.ShowWheel text is = absurd cc
+shows_bound d who bound.ShowWatches text is = (refl, refl)
 
-unchanged_unless_held : (d : Debugger) (who : ℕ) (command : CommandView) (holder : Option ℕ) (text : List ℕ)
-    → reply_unless_held d who command holder ≡ Shown text → after_unless_held d who command holder ≡ d
-unchanged_unless_held d who command None text is = unchanged_if_there d who (bound_of d.app command) text is
-unchanged_unless_held d who command (Some holder) text is = refl
+shows_if_there : (d : Debugger) (who : ℕ) (command : Option Bound) (text : List ℕ) → reply_if_there d who command ≡ Shown text
+    → Shows d (after_if_there d who command) (IsSomeAnd command (λ bound. needs_memory bound ≡ true))
+shows_if_there d who None text is = absurd cc
+shows_if_there d who (Some command) text is = shows_bound d who command text is
 
-pub shown_changes_nothing : (d : Debugger) (who : ℕ) (command : CommandView) (text : List ℕ) → reply_to_command d who command ≡ Shown text
-    → after_command d who command ≡ d
-shown_changes_nothing d who command text is = unchanged_unless_held d who command (held_by d who command) text is
+shows_unless_held : (d : Debugger) (who : ℕ) (command : CommandView) (holder : Option ℕ) (text : List ℕ) → held_by d who command ≡ holder
+    → reply_unless_held d who command holder ≡ Shown text → Shows d (after_unless_held d who command holder) (NeedsMemory d who command)
+shows_unless_held d who command None text held is =
+    let shows = shows_if_there d who (bound_of d.app command) text is in
+    (shows.0, record { free = held; needs = shows.1 })
+shows_unless_held d who command (Some holder) text held is = absurd cc
 
 view_is : (reply : Reply) → IsView reply → (text : List ℕ) × (reply ≡ Shown text)
 view_is Done view = absurd view
 view_is (Told told) view = absurd view
 view_is (Shown text) view = (text, refl)
 
-pub view_changes_nothing : (d : Debugger) (who : ℕ) (command : CommandView) (reply : Reply) → reply ≡ reply_to_command d who command → IsView reply
-    → after_command d who command ≡ d
-view_changes_nothing d who command reply is view =
+pub a_view_shows : (d : Debugger) (who : ℕ) (command : CommandView) (reply : Reply) → reply ≡ reply_to_command d who command → IsView reply
+    → Shows d (after_command d who command) (NeedsMemory d who command)
+a_view_shows d who command reply is view =
     let shown = view_is reply view in
-    shown_changes_nothing d who command shown.0 (sym is ∙ shown.1)
+    shows_unless_held d who command (held_by d who command) shown.0 refl (sym is ∙ shown.1)
 
 -- ---- the command of a line
 

@@ -2,7 +2,7 @@
 use Rattle.std.specs.Prelude.{◌≤◌, length}
 use Rattle.rd_desk.specs.declared.desk.Desk.TheInside.{Inside}
 use Rattle.rd_desk.specs.declared.sessions.TheConstants.{MAX_JOINS}
-use Rattle.rd_desk.specs.DeskView.{DeskView, used}
+use Rattle.rd_desk.specs.DeskView.{DeskView, RoomedDesk, used}
 use Rattle.rd_desk.specs.Legal.{IsLegal}
 use Rattle.rd_desk.specs.Sessions.{present_count}
 
@@ -11,6 +11,13 @@ desk_of d = record {
   debugger = d.machine;
   most_entries = d.limit;
   history = d.history.entries;
+}
+
+abbrev pub roomed_desk_of : Inside → RoomedDesk
+roomed_desk_of d = record {
+  desk = desk_of d;
+  row_room = d.history.row_room;
+  byte_room = d.history.byte_room;
 }
 
 -- The history is legal, and has room for each session's departure.

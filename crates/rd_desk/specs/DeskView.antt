@@ -21,6 +21,12 @@ pub record DeskView : Type 0 where
   pub most_entries : ℕ
   pub history : List Entry
 
+-- a desk, for how many entries more its history has room, and for how many bytes of theirs
+pub record RoomedDesk : Type 0 where
+  pub desk : DeskView
+  pub row_room : ℕ
+  pub byte_room : ℕ
+
 -- the places of the history that are taken, or kept for departures
 abbrev pub used : DeskView → ℕ
 used d = length d.history + present_count d.debugger.sessions

@@ -15,5 +15,6 @@ pub mod Legal
 pub mod DeskView
 pub mod DeskInside
 pub mod Refusals
+pub mod Memory
 pub mod Wheel
 pub mod Laws

@@ -1,20 +1,19 @@
 //! A command that is kept.
 
-ghost use Rattle.std.specs.Prelude.{◌≡◌, ◌↔◌, IfOk, IsSome, IsTrue, Some};
+ghost use Rattle.std.specs.Prelude.{◌≡◌, ◌↔◌, ◌<◌, length, IfOk, IsSome, IsTrue, OnErr, Some};
 ghost use Rattle.rd_text.specs.Words.{words_of};
 ghost use Rattle.rd_command.specs.Commands.{command_of};
 ghost use Rattle.rd_desk.specs.Asked.{asked_by};
 
 use rd_bytes::no_memory::NoMemory;
-use rd_command::command::Command;
 use rd_command::laws::what_is_spelled_is_found;
 use rd_text::words::Words;
 use smallvec::SmallVec;
 use std::alloc::Global;
 use std::marker::Model;
 
-// How many bytes of a line take no memory elsewhere.
-const INLINE_BYTES: usize = 24;
+/// How many bytes of a line take no memory elsewhere.
+pub const INLINE_BYTES: usize = 24;
 
 /// A command that is kept, by its line.
 #[derive(Drop)]
@@ -36,13 +35,15 @@ impl Model for Asked {
 }
 
 impl Asked {
-    /// The same command. An `Err` says that there is no memory for its line, and comes only where
-    /// that has more than 24 bytes.
-    pub fn new(alloc: Global, command: &Command<'_>) -> Result<Asked, NoMemory>
-        ensures { IfOk result (λ asked. asked ≡ command.now) }
+    /// The command of this line. An `Err` says that there is no memory for the line, and comes only
+    /// where that has more than 24 bytes.
+    pub fn new(alloc: Global, line: &[u8]) -> Result<Asked, NoMemory>
+        requires { IsSome (command_of (words_of line.now)) }
+        ensures ok { IfOk result (λ asked. asked ≡ asked_by line.now) }
+        ensures err { OnErr result (INLINE_BYTES < length line.now) }
     {
         Ok(Asked {
-            line: SmallVec::from_slice(alloc, command.line())?,
+            line: SmallVec::from_slice(alloc, line)?,
         })
     }
 

@@ -42,12 +42,14 @@ pub(crate) fn go(timeline: &mut Timeline, action: Move) -> Result<Reply, NoMemor
     told(timeline.go(action))
 }
 
-/// Takes the last moves back.
-pub(crate) fn back(timeline: &mut Timeline, count: Count) -> Result<Reply, NoMemory>
-    ensures ok { IfOk result (Obeys timeline.old (request.Back count) timeline.new) }
-    ensures err { OnErr result (timeline.new ≡ timeline.old) }
+/// Takes the last moves back. It takes no memory.
+pub(crate) fn back(timeline: &mut Timeline, count: Count) -> Reply
+    ensures { Obeys timeline.old (request.Back count) timeline.new result }
 {
-    told(timeline.back(count.get()))
+    match timeline.back(count.get()) {
+        Ok(at) => Reply::Done { at },
+        Err(refusal) => Reply::Refused { refusal },
+    }
 }
 
 /// Makes so many moves by policy.

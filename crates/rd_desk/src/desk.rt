@@ -1,13 +1,16 @@
 //! The sequential debugger with its history.
 
 ghost use Rattle.std.specs.Prelude.{◌≡◌, ◌≢◌, ◌↔◌, ◌+◌, ◌<◌, ◌≤◌, ◌∷◌, ◌++◌, [], length};
-ghost use Rattle.std.specs.Prelude.{IfErr, IfOk, IsErrOf, IsTrue, OnErr, OnOk};
+ghost use Rattle.std.specs.Prelude.{IfErr, IfOk, IsErrOf, IsTrue, OnErr, OnOk, Some};
 ghost use Rattle.std.specs.Result.{result_ok};
+ghost use Rattle.rd_text.specs.Words.{words_of};
 ghost use Rattle.rd_command.specs.Bindings.{bound_of};
+ghost use Rattle.rd_command.specs.Commands.{command_of};
 ghost use Rattle.rd_desk.specs.declared.entry.Event.TheVariants.{Enter, Ask, Leave};
 ghost use Rattle.rd_desk.specs.Debugger.{opening, target_of};
 ghost use Rattle.rd_desk.specs.DeskView.{entry_of, used, Does, IsKept};
 ghost use Rattle.rd_desk.specs.HistoryView.{reply_bytes, IsView};
+ghost use Rattle.rd_desk.specs.Memory.{MayLackMemory, TakesAtMost};
 ghost use Rattle.rd_desk.specs.Serving.{entered};
 ghost use Rattle.rd_desk.specs.Refusals.{tally_of, IfEnterFull, IfServeFull, is_enter_full};
 ghost use Rattle.rd_desk.specs.Refusals.{is_serve_full};
@@ -80,13 +83,13 @@ pub struct Desk {
 }
 
 impl Model for Desk {
-    ghost use Rattle.rd_desk.specs.DeskView.{DeskView};
+    ghost use Rattle.rd_desk.specs.DeskView.{RoomedDesk};
 
-    ghost Value = { DeskView };
+    ghost Value = { RoomedDesk };
 
-    ghost use Rattle.rd_desk.specs.DeskInside.{desk_of, IsWhole};
+    ghost use Rattle.rd_desk.specs.DeskInside.{roomed_desk_of, IsWhole};
 
-    ghost view = { desk_of };
+    ghost view = { roomed_desk_of };
 
     ghost invariant = { IsWhole };
 }
@@ -100,6 +103,7 @@ fn admit(machine: &mut Machine, history: &mut History) -> Receipt
     ensures history { history.new.entries ≡ history.old.entries
         ++ entry_of machine.old (length machine.old.sessions + 1) Enter ∷ [] }
     ensures room { history.new.row_room + 1 ≡ history.old.row_room }
+    ensures bytes { history.old.byte_room ≤ history.new.byte_room }
     ensures place { result.place ≡ length history.old.entries }
     ensures entry { result.entry
         ≡ entry_of machine.old (length machine.old.sessions + 1) Enter }
@@ -132,6 +136,7 @@ fn make_room_for(
     ensures rows { history.old.row_room ≤ history.new.row_room }
     ensures bytes { OnOk result
         (length line.now + length (reply_bytes reply.now) ≤ history.new.byte_room) }
+    ensures kept_bytes { history.old.byte_room ≤ history.new.byte_room }
     ensures err { OnErr result (IsView reply.now) }
 {
     match reply {
@@ -143,7 +148,7 @@ fn make_room_for(
 impl Desk {
     /// A debugger at its opening, with no entry. A refusal drops the application.
     pub fn open(alloc: Global, app: App, limits: Limits) -> Result<Desk, NoMemory>
-        ensures { IfOk result (λ desk. desk ≡ record {
+        ensures { IfOk result (λ opened. opened.desk ≡ record {
           debugger = opening app limits.moves;
           most_entries = limits.history;
           history = [];
@@ -161,75 +166,82 @@ impl Desk {
     /// its departure, and the moves done, and not undone, give the target from the start, from
     /// which a record of each leads back. There are as many names as things in it.
     pub fn keeps(&self)
-        ensures { IsKept self.now }
+        ensures { IsKept self.now.desk }
     {
         self.machine.keeps();
     }
 
     /// The target.
     pub fn target(&self) -> &State
-        ensures { result.now ≡ target_of self.now.debugger }
+        ensures { result.now ≡ target_of self.now.desk.debugger }
     {
         self.machine.target()
     }
 
     /// What runs of the application.
     pub fn program(&self) -> &Program
-        ensures { result.now ≡ self.now.debugger.app.runs }
+        ensures { result.now ≡ self.now.desk.debugger.app.runs }
     {
         self.machine.program()
     }
 
     /// What the application's things are called.
     pub fn names(&self) -> &Names
-        ensures { result.now ≡ self.now.debugger.app.names }
+        ensures { result.now ≡ self.now.desk.debugger.app.names }
     {
         self.machine.names()
     }
 
     /// How many entries the history has.
     pub fn entries(&self) -> usize
-        ensures { result ≡ length self.now.history }
+        ensures { result ≡ length self.now.desk.history }
     {
         self.history.len()
     }
 
     /// Whether a session has entered, and not departed.
     pub fn is_present(&self, who: u32) -> bool
-        ensures { IsTrue result ↔ IsPresent self.now.debugger.sessions who }
+        ensures { IsTrue result ↔ IsPresent self.now.desk.debugger.sessions who }
     {
         self.machine.is_present(who)
     }
 
     // How many places are free beyond those that are kept for departures.
     fn free(&self) -> usize
-        ensures { result + used self.now ≡ self.now.most_entries }
+        ensures { result + used self.now.desk ≡ self.now.desk.most_entries }
     {
         self.limit - (self.history.len() + self.machine.present())
     }
 
     fn tally(&self) -> Tally
-        requires { self.now.most_entries < used self.now + 2 }
-        ensures { result ≡ tally_of self.now }
+        requires { self.now.desk.most_entries < used self.now.desk + 2 }
+        ensures { result ≡ tally_of self.now.desk }
     {
         Tally::new(self.history.len(), self.machine.present(), self.limit)
     }
 
     /// A session enters, and gets the next number, from 1 on. `Full` where 64 have entered, else
     /// `HistoryFull` where fewer than two places are free, else `NoMemory` where a growth was
-    /// refused. The place for its departure is kept from now on. A refusal changes nothing.
+    /// refused, which is only where the history had no room for its entry and its departure, beside
+    /// the departures of the others. The place for its departure is kept from now on. A refusal
+    /// changes nothing.
     pub fn enter(&mut self) -> Result<Receipt, EnterError>
-        ensures ok { IfOk result (λ receipt.
-            Does self.old (length self.old.debugger.sessions + 1) Enter self.new receipt) }
+        ensures ok { IfOk result (λ receipt. Does self.old.desk
+            (length self.old.desk.debugger.sessions + 1) Enter self.new.desk receipt) }
         ensures full { IsErrOf result EnterError.Full
-            ↔ (length self.old.debugger.sessions ≡ MAX_JOINS) }
+            ↔ (length self.old.desk.debugger.sessions ≡ MAX_JOINS) }
         ensures history_full { IsTrue (is_enter_full result)
-            ↔ ((length self.old.debugger.sessions < MAX_JOINS)
-            × (self.old.most_entries < used self.old + 2)) }
-        ensures room { OnOk result (used self.old + 2 ≤ self.old.most_entries) }
+            ↔ ((length self.old.desk.debugger.sessions < MAX_JOINS)
+            × (self.old.desk.most_entries < used self.old.desk + 2)) }
+        ensures room { OnOk result (used self.old.desk + 2 ≤ self.old.desk.most_entries) }
         ensures tally { IfErr result (λ error. IfEnterFull error (λ tally.
-            (tally ≡ tally_of self.old) × (tally.limit < tally.entries + tally.present + 2))) }
-        ensures err { OnErr result (self.new ≡ self.old) }
+            (tally ≡ tally_of self.old.desk)
+            × (tally.limit < tally.entries + tally.present + 2))) }
+        ensures no_memory { IsErrOf result EnterError.NoMemory
+            → self.old.row_room < present_count self.old.desk.debugger.sessions + 2 }
+        ensures err { OnErr result (self.new.desk ≡ self.old.desk) }
+        ensures taken { OnOk result (TakesAtMost 1 0 self.old self.new) }
+        ensures not_taken { OnErr result (TakesAtMost 0 0 self.old self.new) }
     {
         if self.machine.joins() == MAX_JOINS {
             return Err(EnterError::Full);
@@ -246,54 +258,67 @@ impl Desk {
         }
     }
 
-    /// Serves a command of a session that is present, with what `bind` made of it for the
-    /// application of this desk. `HistoryFull` where no place is free, else `NoMemory` where a
-    /// growth was refused: for the entry, for the copy of a command of more than 24 bytes, for the
-    /// record of a move or for the text of a view. Then nothing has changed. All other refusals are
-    /// replies, and take a place in the history.
+    /// Serves a command of a session that is present, with the line that it was read from, and what
+    /// `bind` made of it for the application of this desk. `HistoryFull` where no place is free,
+    /// else `NoMemory` where a growth was refused: for the entry, for the copy of a line of more
+    /// than 24 bytes, for the records of moves or for the text of a view. A command that makes no
+    /// move, shows no text and finds room for its entry is never refused for memory. A refusal
+    /// changes nothing. All other refusals are replies, and take a place in the history.
     pub fn serve(
         &mut self,
         who: u32,
+        line: &[u8],
         command: &Command<'_>,
         bound: &Result<Bound<'_>, Unknown>,
     ) -> Result<Receipt, NotServed>
-        requires there { IsPresent self.old.debugger.sessions who }
-        requires bound { result_ok bound.now ≡ bound_of self.old.debugger.app command.now }
-        ensures ok { IfOk result (Does self.old who (Ask command.now) self.new) }
+        requires there { IsPresent self.old.desk.debugger.sessions who }
+        requires line { command_of (words_of line.now) ≡ Some command.now }
+        requires bound { result_ok bound.now ≡ bound_of self.old.desk.debugger.app command.now }
+        ensures ok { IfOk result (Does self.old.desk who (Ask command.now) self.new.desk) }
         ensures history_full { IsTrue (is_serve_full result)
-            ↔ (self.old.most_entries ≡ used self.old) }
-        ensures room { OnOk result (used self.old < self.old.most_entries) }
+            ↔ (self.old.desk.most_entries ≡ used self.old.desk) }
+        ensures room { OnOk result (used self.old.desk < self.old.desk.most_entries) }
         ensures tally { IfErr result (λ error. IfServeFull error (λ tally.
-            (tally ≡ tally_of self.old) × (tally.limit ≡ tally.entries + tally.present))) }
+            (tally ≡ tally_of self.old.desk) × (tally.limit ≡ tally.entries + tally.present))) }
+        ensures no_memory { IsErrOf result NotServed.NoMemory
+            → MayLackMemory self.old who line.now command.now }
         ensures not_broken { IfErr result (λ error. error ≢ NotServed.Broken) }
-        ensures err { OnErr result (self.new ≡ self.old) }
+        ensures err { OnErr result (self.new.desk ≡ self.old.desk) }
+        ensures taken { IfOk result (λ receipt. TakesAtMost 1
+            (length line.now + length (reply_bytes receipt.entry.reply)) self.old self.new) }
+        ensures not_taken { OnErr result (TakesAtMost 0 0 self.old self.new) }
     {
         if self.free() == 0 {
             return Err(NotServed::HistoryFull {
                 tally: self.tally(),
             });
         }
-        self.record_command(who, command, bound)
+        self.record_command(who, line, command, bound)
     }
 
     // Serves a command where a place is free.
     fn record_command(
         &mut self,
         who: u32,
+        line: &[u8],
         command: &Command<'_>,
         bound: &Result<Bound<'_>, Unknown>,
     ) -> Result<Receipt, NotServed>
-        requires there { IsPresent self.old.debugger.sessions who }
-        requires bound { result_ok bound.now ≡ bound_of self.old.debugger.app command.now }
-        requires free { used self.old < self.old.most_entries }
-        ensures ok { IfOk result (Does self.old who (Ask command.now) self.new) }
+        requires there { IsPresent self.old.desk.debugger.sessions who }
+        requires line { command_of (words_of line.now) ≡ Some command.now }
+        requires bound { result_ok bound.now ≡ bound_of self.old.desk.debugger.app command.now }
+        requires free { used self.old.desk < self.old.desk.most_entries }
+        ensures ok { IfOk result (Does self.old.desk who (Ask command.now) self.new.desk) }
         ensures no_memory { IfErr result (λ error. error ≡ NotServed.NoMemory) }
-        ensures err { OnErr result (self.new ≡ self.old) }
+        ensures lacks { OnErr result (MayLackMemory self.old who line.now command.now) }
+        ensures err { OnErr result (self.new.desk ≡ self.old.desk) }
+        ensures taken { IfOk result (λ receipt. TakesAtMost 1
+            (length line.now + length (reply_bytes receipt.entry.reply)) self.old self.new) }
+        ensures not_taken { OnErr result (TakesAtMost 0 0 self.old self.new) }
     {
-        let line = command.line();
         let rows = self.machine.present() + 1;
         self.history.make_room(rows, line.len())?;
-        let asked = Asked::new(self.alloc, command)?;
+        let asked = Asked::new(self.alloc, line)?;
         let reply = self.machine.serve(who, command, bound)?;
         make_room_for(&mut self.history, rows, line, &reply)?;
         let place = self.history.len();
@@ -310,8 +335,9 @@ impl Desk {
 
     /// A session departs: it has no wheel and no watches any more. It takes no memory.
     pub fn depart(&mut self, who: u32) -> Receipt
-        requires { IsPresent self.old.debugger.sessions who }
-        ensures { Does self.old who Leave self.new result }
+        requires { IsPresent self.old.desk.debugger.sessions who }
+        ensures left { Does self.old.desk who Leave self.new.desk result }
+        ensures taken { TakesAtMost 1 0 self.old self.new }
     {
         let place = self.history.len();
         self.machine.leave(who);
@@ -328,7 +354,7 @@ impl Desk {
 
     /// Ends the debugger, and hands its history out. It takes no memory.
     pub fn close(self) -> History
-        ensures { result.entries ≡ self.history }
+        ensures { result.entries ≡ self.desk.history }
     {
         let Desk {
             alloc: _,

@@ -1,7 +1,7 @@
 //! The history: entries that are kept one behind the other, with their bytes in one place.
 
-ghost use Rattle.std.specs.Prelude.{◌≡◌, ◌↔◌, ◌+◌, ◌≤◌, ◌<◌, ◌∷◌, ◌++◌, [], length, OnOk};
-ghost use Rattle.std.specs.Prelude.{vec_capacity, vec_len, IsTrue};
+ghost use Rattle.std.specs.Prelude.{◌≡◌, ◌↔◌, ◌+◌, ◌≤◌, ◌<◌, ◌⊎◌, ◌∷◌, ◌++◌, [], length};
+ghost use Rattle.std.specs.Prelude.{vec_capacity, vec_len, IsTrue, OnErr, OnOk};
 ghost use Rattle.rd_desk.specs.HistoryView.{deed_event, reply_bytes, IsEntered, IsLineOf};
 ghost use Rattle.rd_desk.specs.HistoryRows.{entry_in, kept_of, reply_from, IsRowOf};
 
@@ -100,6 +100,7 @@ fn reserve<T>(list: &mut Vec<T>, more: usize) -> Result<(), NoMemory>
     ensures items { list.new.items ≡ list.old.items }
     ensures ok { OnOk result (vec_len list.new + more ≤ vec_capacity list.new) }
     ensures kept { vec_capacity list.old ≤ vec_capacity list.new }
+    ensures full { OnErr result (vec_capacity list.old < vec_len list.old + more) }
 {
     if list.reserve(more).is_err() {
         list.reserve_exact(more)?;
@@ -170,13 +171,16 @@ impl History {
     }
 
     /// Makes room for so many entries more, and for so many bytes of theirs. Where there is no
-    /// memory for them, the entries stay, and there is no less room.
+    /// memory for them, which is only where one of them had no room, the entries stay, and there is
+    /// no less room.
     pub fn make_room(&mut self, rows: usize, bytes: usize) -> Result<(), NoMemory>
         ensures entries { self.new.entries ≡ self.old.entries }
         ensures ok_rows { OnOk result (rows ≤ self.new.row_room) }
         ensures ok_bytes { OnOk result (bytes ≤ self.new.byte_room) }
         ensures kept_rows { self.old.row_room ≤ self.new.row_room }
         ensures kept_bytes { self.old.byte_room ≤ self.new.byte_room }
+        ensures full { OnErr result
+            ((self.old.row_room < rows) ⊎ (self.old.byte_room < bytes)) }
     {
         reserve(&mut self.rows, rows)?;
         reserve(&mut self.bytes, bytes)

@@ -1,7 +1,7 @@
 //! The sequential debugger without its history: what each event makes of it, and what is replied.
 
-ghost use Rattle.std.specs.Prelude.{◌≡◌, ◌↔◌, ◌+◌, ◌<◌, length, slice_set};
-ghost use Rattle.std.specs.Prelude.{IfOk, IfSome, IsSomeAnd, IsTrue, OnErr, Ok};
+ghost use Rattle.std.specs.Prelude.{◌≡◌, ◌↔◌, ◌+◌, ◌<◌, length, slice_set, true};
+ghost use Rattle.std.specs.Prelude.{IfOk, IfSome, IsErr, IsSomeAnd, IsTrue, OnErr, Ok};
 ghost use Rattle.rd_calls.specs.declared.moves.Move.TheVariants as move;
 ghost use Rattle.std.specs.Result.{result_ok};
 ghost use Rattle.rd_command.specs.Bindings.{IsBoundOf, bound_of};
@@ -15,6 +15,7 @@ ghost use Rattle.rd_reply.specs.Replies.{watches_text};
 ghost use Rattle.rd_desk.specs.Debugger.{freed, is_holder, opening, other_holder, own_watches};
 ghost use Rattle.rd_desk.specs.Debugger.{target_of, watching};
 ghost use Rattle.rd_desk.specs.DeskView.{LeadsBack};
+ghost use Rattle.rd_desk.specs.Memory.{needs_memory, NeedsMemory};
 ghost use Rattle.rd_desk.specs.Serving.{after_request, entered, held_by, left, refused};
 ghost use Rattle.rd_desk.specs.Serving.{reply_to_request, shown, IsAnswered, IsDone};
 ghost use Rattle.rd_desk.specs.Sessions.{IsPresent, present_count};
@@ -249,15 +250,11 @@ impl Machine {
 
     // Takes the last moves back.
     #[inline(never)]
-    fn back(&mut self, count: Count) -> Result<Reply, NoMemory>
-        ensures after { IfOk result (λ reply.
-            self.new ≡ after_request self.old (request.Back count)) }
-        ensures reply { IfOk result (λ reply.
-            reply ≡ reply_to_request self.old (request.Back count)) }
-        ensures err { OnErr result (self.new ≡ self.old) }
+    fn back(&mut self, count: Count) -> Reply
+        ensures after { self.new ≡ after_request self.old (request.Back count) }
+        ensures reply { result ≡ reply_to_request self.old (request.Back count) }
     {
-        let told = asking::back(&mut self.timeline, count)?;
-        Ok(Reply::Told { told })
+        told(asking::back(&mut self.timeline, count))
     }
 
     // Makes so many moves by policy.
@@ -325,14 +322,13 @@ impl Machine {
 
     // Goes back to where the condition of a watch held.
     #[inline(never)]
-    fn back_until_watch(&mut self, who: u32, watch: usize) -> Result<Reply, NoMemory>
-        requires there { IsPresent self.old.sessions who }
-        ensures ok { IfOk result (IsDone self.old who (bound.BackUntilWatch watch) self.new) }
-        ensures err { OnErr result (self.new ≡ self.old) }
+    fn back_until_watch(&mut self, who: u32, watch: usize) -> Reply
+        requires { IsPresent self.old.sessions who }
+        ensures { IsDone self.old who (bound.BackUntilWatch watch) self.new result }
     {
         match self.sessions.watches(who).condition(watch) {
-            Some(condition) => Ok(self.back_until(condition)),
-            None => Ok(refused(Refusal::NoWatch)),
+            Some(condition) => self.back_until(condition),
+            None => refused(Refusal::NoWatch),
         }
     }
 
@@ -440,6 +436,7 @@ impl Machine {
         requires there { IsPresent self.old.sessions who }
         requires named { IsBoundOf self.old.app command.now }
         ensures ok { IfOk result (IsDone self.old who command.now self.new) }
+        ensures no_memory { IsErr result → needs_memory command.now ≡ true }
         ensures err { OnErr result (self.new ≡ self.old) }
     {
         match command {
@@ -447,11 +444,11 @@ impl Machine {
             Bound::Tick => self.tick(),
             Bound::Forward { count } => self.forward(*count),
             Bound::Redo { count } => self.redo(*count),
-            Bound::Back { count } => self.back(*count),
+            Bound::Back { count } => Ok(self.back(*count)),
             Bound::Until { condition, count } => self.until(*condition, *count),
             Bound::UntilWatch { watch, count } => self.until_watch(who, *watch, *count),
             Bound::BackUntil { condition } => Ok(self.back_until(*condition)),
-            Bound::BackUntilWatch { watch } => self.back_until_watch(who, *watch),
+            Bound::BackUntilWatch { watch } => Ok(self.back_until_watch(who, *watch)),
             Bound::Poke { edit } => self.poke(edit),
             Bound::TakeWheel => Ok(self.take_wheel(who)),
             Bound::GiveWheel => Ok(self.give_wheel(who)),
@@ -479,8 +476,9 @@ impl Machine {
     /// another session has the wheel, that what is named isn't there, that there is no such watch,
     /// that there is no room for a watch, that the session doesn't have the wheel that it would
     /// give, and then those of the timeline. They are replies, and change nothing. An `Err` says
-    /// that there is no memory for the command; then nothing has changed either. What the command
-    /// names was looked up before, by `bind`.
+    /// that there is no memory for the moves or the text that the command makes, and comes only
+    /// where it makes some; then nothing has changed either. What the command names was looked up
+    /// before, by `bind`.
     pub fn serve(
         &mut self,
         who: u32,
@@ -490,6 +488,7 @@ impl Machine {
         requires there { IsPresent self.old.sessions who }
         requires bound { result_ok bound.now ≡ bound_of self.old.app command.now }
         ensures ok { IfOk result (IsAnswered self.old who command.now self.new) }
+        ensures no_memory { IsErr result → NeedsMemory self.old who command.now }
         ensures err { OnErr result (self.new ≡ self.old) }
     {
         if let Some(holder) = self.held_by(who, command) {

@@ -1,6 +1,6 @@
 //! The lines of views.
 
-ghost use Rattle.std.specs.Prelude.{◌≡◌, ◌++◌, ◌<◌, length, IfOk, IfSome, IsSomeAnd, OnOk};
+ghost use Rattle.std.specs.Prelude.{◌≡◌, ◌++◌, ◌<◌, [], length, IfOk, IfSome, IsSomeAnd, OnOk};
 ghost use Rattle.rd_names.specs.Names.{names_of};
 ghost use Rattle.rd_reply.specs.Replies.{line_of, watches_text};
 ghost use Rattle.rd_desk.specs.Sessions.{AreWatchesOf};
@@ -11,7 +11,7 @@ ghost use Rattle.rd_desk.specs.Views.{view_text, watches_shown};
 use crate::text::Text;
 use crate::watches::Watches;
 use rd_bytes::no_memory::NoMemory;
-use rd_command::binding::Bound;
+use rd_command::binding::{Bound, MAX_WATCHES};
 use rd_condition::condition::Condition;
 use rd_names::names::Names;
 use rd_reply::buffers::{show_message, show_stream};
@@ -22,10 +22,21 @@ use rd_reply::watches::{WatchShown, show_watches};
 use rd_state::state::State;
 use rd_text::kind::Kind;
 use rd_timeline::timeline::Timeline;
+use smallvec::SmallVec;
 use std::alloc::{AllocError, Global};
 
 // For how many bytes room is made first.
 const ROOM: usize = 128;
+
+// An empty page, with room for a short view where there is memory for that.
+fn first_page(alloc: Global) -> Vec<u8>
+    ensures { result.items ≡ [] }
+{
+    let mut page = Vec::new(alloc);
+    // (a page that is refused this may still have room for a shorter view)
+    let _ = page.reserve(ROOM);
+    page
+}
 
 // Appends what is shown of the thing of that kind and number.
 fn append_thing(
@@ -107,7 +118,7 @@ pub fn show(
     ensures { IfOk result (λ line. IfSome (view_asked bound.now) (λ view.
         line.items ≡ line_of (text_shown names.now state.now view))) }
 {
-    let mut line = Vec::with_capacity(alloc, ROOM)?;
+    let mut line = first_page(alloc);
     append_view(state, names, &mut line, bound)?;
     Ok(line)
 }
@@ -115,7 +126,7 @@ pub fn show(
 // Appends a watch with that number, if there is one, with whether its condition holds.
 fn append_shown(
     timeline: &Timeline,
-    shown: &mut Vec<WatchShown>,
+    shown: &mut SmallVec<WatchShown, MAX_WATCHES>,
     number: usize,
     watch: Option<Condition>,
 ) -> Result<(), NoMemory>
@@ -136,12 +147,12 @@ fn shown_of(
     timeline: &Timeline,
     alloc: Global,
     watches: &Watches,
-) -> Result<Vec<WatchShown>, NoMemory>
+) -> Result<SmallVec<WatchShown, MAX_WATCHES>, NoMemory>
     requires { AreWatchesOf timeline.now.app watches.now }
     ensures { IfOk result (λ shown.
         shown.items ≡ watches_shown timeline.now.target watches.now) }
 {
-    let mut shown = Vec::new(alloc);
+    let mut shown = SmallVec::new(alloc);
     for number in 0..watches.numbers() {
         append_shown(timeline, &mut shown, number, watches.condition(number))?;
     }
@@ -159,7 +170,7 @@ pub(crate) fn show_all_watches(
         text ≡ line_of (watches_text (watches_shown timeline.now.target watches.now))) }
 {
     let shown = shown_of(timeline, alloc, watches)?;
-    let mut line = Vec::with_capacity(alloc, ROOM)?;
+    let mut line = first_page(alloc);
     show_watches(&mut line, shown.as_slice())?;
     Ok(Text::new(line))
 }

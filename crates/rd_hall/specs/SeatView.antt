@@ -8,6 +8,11 @@ pub record SeatView : Type 0 where
   pub receipts : List Receipt
   pub share : ℕ
 
+-- a session that hasn't left, and for how many receipts more it has room
+pub record RoomedSeat : Type 0 where
+  pub session : SeatView
+  pub room : ℕ
+
 -- The receipts all name the session, and rise in place, from this place on.
 abbrev pub IsSeries : ℕ → ℕ → List Receipt → Type 0
 IsSeries who place [] = Unit {0}

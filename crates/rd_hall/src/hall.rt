@@ -87,7 +87,7 @@ impl<L: Setup> Hall<L> {
     /// `HistoryFull` where fewer than two places of the history are free, `NoMemory` where a growth
     /// was refused. A refusal gives the pass back.
     pub fn join(&self, rt: &impl Wait, pass: Pass<L>) -> Result<Seat<L>, (Pass<L>, EnterError)>
-        ensures ok { IfOk result Joined }
+        ensures ok { IfOk result (λ seat. Joined seat.session) }
         ensures tally { IfErr result (λ error. IfEnterFull error.1 (λ tally.
             (tally.limit ≡ L.most_entries)
             × (tally.limit < tally.entries + tally.present + 2))) }
@@ -107,11 +107,12 @@ impl<L: Setup> Hall<L> {
         seat: Seat<L>,
         command: &Command<'_>,
     ) -> (Seat<L>, Result<(), NotServed>)
-        ensures ok { OnOk result.1 (Gained seat (Ask command.now) result.0) }
+        ensures ok { OnOk result.1
+            (Gained seat.session (Ask command.now) result.0.session) }
         ensures tally { IfErr result.1 (λ error. IfServeFull error (λ tally.
             (tally.limit ≡ L.most_entries)
             × (tally.limit ≡ tally.entries + tally.present))) }
-        ensures err { OnErr result.1 (result.0 ≡ seat) }
+        ensures err { OnErr result.1 (result.0.session ≡ seat.session) }
     {
         let bound = bind(command, &self.names, self.cores, self.entries);
         let mut room = self.room.lock(rt);
@@ -122,7 +123,7 @@ impl<L: Setup> Hall<L> {
     /// A session leaves, under the lock, and gets the receipt of that, or none where the history
     /// isn't its own.
     pub fn leave(&self, rt: &impl Wait, seat: Seat<L>) -> Gone<L>
-        ensures { (result ≡ seat) ⊎ Gained seat Leave result }
+        ensures { (result ≡ seat.session) ⊎ Gained seat.session Leave result }
     {
         let mut room = self.room.lock(rt);
         room.leave(seat)

@@ -43,10 +43,10 @@ impl<L: Setup> Model for Room<L> {
 
     ghost Value = { RoomView };
 
-    ghost view = { λ r. record { desk = r.desk; total = r.book.total } };
+    ghost view = { λ r. record { desk = r.desk.desk; total = r.book.total } };
 
-    ghost invariant = { λ r. (length r.desk.history ≡ r.book.total)
-        × IsOf r.desk L.app L.most_moves L.most_entries };
+    ghost invariant = { λ r. (length r.desk.desk.history ≡ r.book.total)
+        × IsOf r.desk.desk L.app L.most_moves L.most_entries };
 }
 
 // The book of a ledger in which nothing is counted, and 64 passes.
@@ -123,8 +123,8 @@ impl<L: Setup> Room<L> {
     /// where fewer than two places are free, else `NoMemory` where the debugger has none. A refusal
     /// changes nothing, and gives the pass back.
     pub fn join(&mut self, pass: Pass<L>) -> Result<Seat<L>, (Pass<L>, EnterError)>
-        ensures ok { IfOk result
-            (DoesFor self.old.desk (newcomer self.old.desk) Enter self.new.desk) }
+        ensures ok { IfOk result (λ seat. DoesFor self.old.desk (newcomer self.old.desk) Enter
+            self.new.desk seat.session) }
         ensures not_full { OnOk result
             (length self.old.desk.debugger.sessions ≢ MAX_JOINS) }
         ensures room { OnOk result (used self.old.desk + 2 ≤ self.old.desk.most_entries) }
@@ -159,16 +159,17 @@ impl<L: Setup> Room<L> {
 
     // Whether the history reaches past the seat's last receipt, and its session is present.
     fn reaches(&self, seat: &Seat<L>) -> bool
-        ensures { IsTrue result ↔ Reaches self.now.desk seat.now }
+        ensures { IsTrue result ↔ Reaches self.now.desk seat.now.session }
     {
         seat.next <= self.desk.entries() && self.desk.is_present(seat.who)
     }
 
     /// Serves a command, with what `bind` made of it for the application; the seat gets the receipt
     /// of that. `Broken` where the history doesn't reach past the seat's last receipt, or its
-    /// session isn't present, else `NoMemory` where there is no memory for the receipt, else
-    /// `HistoryFull` where no place is free, else `NoMemory` where the debugger has none. A refusal
-    /// changes nothing. It takes no memory beside that of the seat and of the debugger.
+    /// session isn't present, else `NoMemory` where the seat has no room for two more receipts,
+    /// this and that of its leave, and no memory for them, else `HistoryFull` where no place is
+    /// free, else `NoMemory` where the debugger has none. A refusal changes nothing. It takes no
+    /// memory beside that of the seat and of the debugger.
     pub fn ask(
         &mut self,
         seat: Seat<L>,
@@ -176,16 +177,22 @@ impl<L: Setup> Room<L> {
         bound: &Result<Bound<'_>, Unknown>,
     ) -> (Seat<L>, Result<(), NotServed>)
         requires bound { result_ok bound.now ≡ bound_of L.app command.now }
-        ensures ok { OnOk result.1
-            (DoesFor self.old.desk seat (Ask command.now) self.new.desk result.0) }
-        ensures broken { IsErrOf result.1 NotServed.Broken ↔ (¬ Reaches self.old.desk seat) }
+        ensures ok { OnOk result.1 (DoesFor self.old.desk seat.session (Ask command.now)
+            self.new.desk result.0.session) }
+        ensures broken { IsErrOf result.1 NotServed.Broken
+            ↔ (¬ Reaches self.old.desk seat.session) }
         ensures history_full { IsTrue (is_serve_full result.1)
-            → self.old.desk.most_entries ≡ used self.old.desk }
+            ↔ (Reaches self.old.desk seat.session
+            × (self.old.desk.most_entries ≡ used self.old.desk)
+            × (2 ≤ result.0.room)) }
         ensures room { OnOk result.1 (used self.old.desk < self.old.desk.most_entries) }
         ensures tally { IfErr result.1 (λ error. IfServeFull error (λ tally.
             (tally ≡ tally_of self.old.desk)
             × (tally.limit ≡ tally.entries + tally.present))) }
-        ensures err { OnErr result.1 ((self.new ≡ self.old) × (result.0 ≡ seat)) }
+        ensures err { OnErr result.1
+            ((self.new ≡ self.old) × (result.0.session ≡ seat.session)) }
+        ensures room_kept { OnErr result.1 (seat.room ≤ result.0.room) }
+        ensures room_taken { OnOk result.1 (seat.room ≤ result.0.room + 1) }
     {
         if !self.reaches(&seat) {
             return (seat, Err(NotServed::Broken));
@@ -200,18 +207,21 @@ impl<L: Setup> Room<L> {
         command: &Command<'_>,
         bound: &Result<Bound<'_>, Unknown>,
     ) -> (Seat<L>, Result<(), NotServed>)
-        requires reaches { Reaches self.old.desk seat }
+        requires reaches { Reaches self.old.desk seat.session }
         requires bound { result_ok bound.now ≡ bound_of L.app command.now }
-        ensures ok { OnOk result.1
-            (DoesFor self.old.desk seat (Ask command.now) self.new.desk result.0) }
+        ensures ok { OnOk result.1 (DoesFor self.old.desk seat.session (Ask command.now)
+            self.new.desk result.0.session) }
         ensures not_broken { IfErr result.1 (λ error. error ≢ NotServed.Broken) }
         ensures history_full { IsTrue (is_serve_full result.1)
-            → self.old.desk.most_entries ≡ used self.old.desk }
+            ↔ ((self.old.desk.most_entries ≡ used self.old.desk) × (2 ≤ result.0.room)) }
         ensures room { OnOk result.1 (used self.old.desk < self.old.desk.most_entries) }
         ensures tally { IfErr result.1 (λ error. IfServeFull error (λ tally.
             (tally ≡ tally_of self.old.desk)
             × (tally.limit ≡ tally.entries + tally.present))) }
-        ensures err { OnErr result.1 ((self.new ≡ self.old) × (result.0 ≡ seat)) }
+        ensures err { OnErr result.1
+            ((self.new ≡ self.old) × (result.0.session ≡ seat.session)) }
+        ensures room_kept { OnErr result.1 (seat.room ≤ result.0.room) }
+        ensures room_taken { OnOk result.1 (seat.room ≤ result.0.room + 1) }
     {
         let Seat {
             who,
@@ -228,7 +238,7 @@ impl<L: Setup> Room<L> {
             };
             return (seat, Err(NotServed::NoMemory));
         }
-        match self.desk.serve(who, command, bound) {
+        match self.desk.serve(who, command.line(), command, bound) {
             Ok(served) => {
                 self.book.add(&mut share, 1);
                 let next = self.desk.entries();
@@ -257,10 +267,10 @@ impl<L: Setup> Room<L> {
     /// seat's last receipt, or its session isn't present, nothing changes, and it gets none. It
     /// takes no memory.
     pub fn leave(&mut self, seat: Seat<L>) -> Gone<L>
-        ensures left { Reaches self.old.desk seat
-            → DoesFor self.old.desk seat Leave self.new.desk result }
-        ensures broken { ¬ Reaches self.old.desk seat
-            → (self.new ≡ self.old) × (result ≡ seat) }
+        ensures left { Reaches self.old.desk seat.session
+            → DoesFor self.old.desk seat.session Leave self.new.desk result }
+        ensures broken { ¬ Reaches self.old.desk seat.session
+            → (self.new ≡ self.old) × (result ≡ seat.session) }
     {
         if !self.reaches(&seat) {
             let Seat {

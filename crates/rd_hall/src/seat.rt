@@ -39,15 +39,18 @@ pub struct Seat<L: Setup> {
 }
 
 impl<L: Setup> Model for Seat<L> {
-    ghost use Rattle.std.specs.Prelude.{◌<◌, length, vec_capacity};
-    ghost use Rattle.rd_hall.specs.SeatView.{SeatView, IsSeat};
+    ghost use Rattle.std.specs.Prelude.{◌-◌, ◌<◌, length, vec_capacity, vec_len};
+    ghost use Rattle.rd_hall.specs.SeatView.{RoomedSeat, IsSeat};
 
-    ghost Value = { SeatView };
+    ghost Value = { RoomedSeat };
 
     ghost view = { λ s. record {
-      who = s.who;
-      receipts = s.receipts.items;
-      share = s.share.amount;
+      session = record {
+        who = s.who;
+        receipts = s.receipts.items;
+        share = s.share.amount;
+      };
+      room = vec_capacity s.receipts - vec_len s.receipts;
     } };
 
     // There is room for the receipt of its leave.
@@ -85,32 +88,34 @@ impl<L: Setup> Model for Gone<L> {
 impl<L: Setup> Seat<L> {
     /// The number of the session, from 1 on.
     pub fn who(&self) -> u32
-        ensures { result ≡ self.now.who }
+        ensures { result ≡ self.now.session.who }
     {
         self.who
     }
 
     /// The receipts, in the order in which they came.
     pub fn receipts(&self) -> &[Receipt]
-        ensures { result.now ≡ self.now.receipts }
+        ensures { result.now ≡ self.now.session.receipts }
     {
         self.receipts.as_slice()
     }
 
     /// The last receipt.
     pub fn last(&self) -> &Receipt
-        ensures { slice_get self.now.receipts (length self.now.receipts - 1) ≡ Some result.now }
+        ensures { slice_get self.now.session.receipts (length self.now.session.receipts - 1)
+            ≡ Some result.now }
     {
         let receipts = self.receipts.as_slice();
         &receipts[receipts.len() - 1]
     }
 
     /// There are receipts, all name the session, and they rise in place. The session has as much of
-    /// the ledger as receipts.
+    /// the ledger as receipts, and room for the receipt of its leave.
     pub fn keeps(&self)
-        ensures some { 0 < length self.now.receipts }
-        ensures series { IsSeries self.now.who 0 self.now.receipts }
-        ensures share { self.now.share ≡ length self.now.receipts }
+        ensures some { 0 < length self.now.session.receipts }
+        ensures series { IsSeries self.now.session.who 0 self.now.session.receipts }
+        ensures share { self.now.session.share ≡ length self.now.session.receipts }
+        ensures room { 0 < self.now.room }
     {
         let _ = &self.who;
     }

@@ -9,7 +9,7 @@ use crate::page::Page;
 use crate::parts::{Appended, append_comma, append_number};
 
 /// What is shown of a watch.
-#[derive(Clone, Copy)]
+#[derive(Clone, Copy, Default)]
 pub struct WatchShown {
     /// Its number.
     pub number: usize,

@@ -52,7 +52,7 @@ pub fn assert_enters(rt: &impl Abort, desk: &mut Desk, who: u32) {
 
 // The session is present.
 fn assert_present(rt: &impl Abort, desk: &Desk, who: u32)
-    ensures { IsPresent desk.now.debugger.sessions who }
+    ensures { IsPresent desk.now.desk.debugger.sessions who }
 {
     assert!(rt; desk.is_present(who), "session {who} isn't present");
 }
@@ -108,7 +108,7 @@ fn assert_asked<H: AllocGlobal + Abort>(rt: &H, desk: &mut Desk, asked: Asked) -
         desk.program().cores(),
         desk.program().entries(),
     );
-    match desk.serve(asked.who, &command, &bound) {
+    match desk.serve(asked.who, command.line(), &command, &bound) {
         Ok(receipt) => {
             assert_receipt(rt, &receipt, place, asked.who);
             assert_answer(rt, &receipt, asked)
@@ -444,7 +444,7 @@ fn assert_no_place(rt: &impl Abort, desk: &mut Desk) {
         desk.program().cores(),
         desk.program().entries(),
     );
-    match desk.serve(1, &command, &bound) {
+    match desk.serve(1, command.line(), &command, &bound) {
         Ok(_receipt) => assert!(rt; false, "the history isn't full"),
         Err(refusal) => match refusal {
             NotServed::HistoryFull { tally } => assert_tally(rt, &tally, 1, 1, 2),
@@ -482,7 +482,7 @@ pub fn serve(rt: &impl Abort, desk: &mut Desk, who: u32, line: &str) -> Receipt 
         desk.program().cores(),
         desk.program().entries(),
     );
-    match desk.serve(who, &command, &bound) {
+    match desk.serve(who, command.line(), &command, &bound) {
         Ok(receipt) => receipt,
         Err(_) => panic!(rt; "{line} isn't served"),
     }

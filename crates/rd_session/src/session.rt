@@ -68,8 +68,8 @@ fn ask<L: Setup, W: Sink>(
     sink: &mut W,
 ) -> (Seat<L>, Result<(), WriteFault>)
     requires { command_of (words_of line.now) ≡ Some command.now }
-    ensures answered { Answered (Whole line.now) seat result.0 (W.contents sink.old)
-        (W.contents sink.new) pending.old.bytes pending.new.bytes result.1 }
+    ensures answered { Answered (Whole line.now) seat.session result.0.session
+        (W.contents sink.old) (W.contents sink.new) pending.old.bytes pending.new.bytes result.1 }
     ensures failed { OnErr result.1 (W.failed sink.new ≡ true) }
 {
     let (seat, served) = hall.ask(rt, seat, command);
@@ -91,8 +91,8 @@ fn answer<L: Setup, W: Sink>(
     pending: &mut Pending,
     sink: &mut W,
 ) -> (Seat<L>, Result<(), WriteFault>)
-    ensures answered { Answered (Whole line.now) seat result.0 (W.contents sink.old)
-        (W.contents sink.new) pending.old.bytes pending.new.bytes result.1 }
+    ensures answered { Answered (Whole line.now) seat.session result.0.session
+        (W.contents sink.old) (W.contents sink.new) pending.old.bytes pending.new.bytes result.1 }
     ensures failed { OnErr result.1 (W.failed sink.new ≡ true) }
 {
     match parse_line(line) {
@@ -110,8 +110,8 @@ fn answer_at<R: Wait, L: Setup, G: Gate, W: Sink>(
     pending: &mut Pending,
     sink: &mut W,
 ) -> (Seat<L>, Result<(), WriteFault>)
-    ensures answered { Answered (Whole line.now) seat result.0 (W.contents sink.old)
-        (W.contents sink.new) pending.old.bytes pending.new.bytes result.1 }
+    ensures answered { Answered (Whole line.now) seat.session result.0.session
+        (W.contents sink.old) (W.contents sink.new) pending.old.bytes pending.new.bytes result.1 }
     ensures failed { OnErr result.1 (W.failed sink.new ≡ true) }
 {
     let who = seat.who();
@@ -130,7 +130,7 @@ fn answer_long<L: Setup, W: Sink>(
     pending: &mut Pending,
     sink: &mut W,
 ) -> Ended
-    ensures { Stops result (Long ∷ []) seat.now seat.now (W.contents sink.old)
+    ensures { Stops result (Long ∷ []) seat.now.session seat.now.session (W.contents sink.old)
         (W.contents sink.new) pending.old.bytes None (W.failed sink.new) }
 {
     *number = number.saturating_add(1);
@@ -152,14 +152,14 @@ fn answer_lines<R: Wait, L: Setup, G: Gate, W: Sink>(
     pending: &mut Pending,
     sink: &mut W,
 ) -> (Seat<L>, Result<(), Ended>)
-    ensures more { OnOk result.1 (Converses (lines_from (Some []) lines.old) seat result.0
-        (W.contents sink.old) (W.contents sink.new) pending.old.bytes []) }
+    ensures more { OnOk result.1 (Converses (lines_from (Some []) lines.old) seat.session
+        result.0.session (W.contents sink.old) (W.contents sink.new) pending.old.bytes []) }
     ensures rest { OnOk result.1 (rest_from (Some []) lines.old ≡ Some lines.new) }
     ensures part { OnOk result.1 (front_of lines.new ≡ Part) }
     ensures sent { OnOk result.1 (pending.new.bytes ≡ []) }
-    ensures stops { IfErr result.1 (λ why. Stops why (lines_from (Some []) lines.old) seat result.0
-        (W.contents sink.old) (W.contents sink.new) pending.old.bytes
-        (rest_from (Some []) lines.old) (W.failed sink.new)) }
+    ensures stops { IfErr result.1 (λ why. Stops why (lines_from (Some []) lines.old)
+        seat.session result.0.session (W.contents sink.old) (W.contents sink.new)
+        pending.old.bytes (rest_from (Some []) lines.old) (W.failed sink.new)) }
 {
     let mut seat = seat;
     loop {
@@ -199,10 +199,10 @@ fn answer_rest<R: Wait, L: Setup, G: Gate, W: Sink>(
     sink: &mut W,
 ) -> (Seat<L>, Result<(), WriteFault>)
     requires { pending.old.bytes ≡ [] }
-    ensures ok { OnOk result.1 (Converses (last_of (Some rest.now)) seat result.0
-        (W.contents sink.old) (W.contents sink.new) [] []) }
-    ensures err { OnErr result.1 (Breaks (last_of (Some rest.now)) seat result.0
-        (W.contents sink.old) (W.contents sink.new) []) }
+    ensures ok { OnOk result.1 (Converses (last_of (Some rest.now)) seat.session
+        result.0.session (W.contents sink.old) (W.contents sink.new) [] []) }
+    ensures err { OnErr result.1 (Breaks (last_of (Some rest.now)) seat.session
+        result.0.session (W.contents sink.old) (W.contents sink.new) []) }
     ensures failed { OnErr result.1 (W.failed sink.new ≡ true) }
 {
     if rest.is_empty() {
@@ -229,9 +229,9 @@ fn listen<R: Wait, L: Setup, G: Gate, S: Source, W: Sink>(
 ) -> Seat<L>
     requires held { lines.old ≡ [] }
     requires pending { pending.old.bytes ≡ [] }
-    ensures heard { Heard (S.remaining source.old) (S.remaining source.new) seat result
-        (W.contents sink.old) (W.contents sink.new) (S.failed source.new) (W.failed sink.new)
-        (AllMade (S.reads source.old) (S.reads source.new)) }
+    ensures heard { Heard (S.remaining source.old) (S.remaining source.new) seat.session
+        result.session (W.contents sink.old) (W.contents sink.new) (S.failed source.new)
+        (W.failed sink.new) (AllMade (S.reads source.old) (S.reads source.new)) }
     ensures reads { S.reads source.new ≤ S.reads source.old + 16777216 }
 {
     let mut seat = seat;
@@ -273,7 +273,7 @@ pub fn session<L: Setup, S: Source, W: Sink>(
     buffers: &mut Buffers,
 ) -> Gone<L>
     ensures heard { (stayed : SeatView) × Heard (S.remaining source.old) (S.remaining source.new)
-        seat stayed (W.contents sink.old) (W.contents sink.new) (S.failed source.new)
+        seat.session stayed (W.contents sink.old) (W.contents sink.new) (S.failed source.new)
         (W.failed sink.new) (AllMade (S.reads source.old) (S.reads source.new))
         × ((result ≡ stayed) ⊎ Gained stayed Leave result) }
     ensures reads { S.reads source.new ≤ S.reads source.old + 16777216 }

@@ -5,7 +5,7 @@ use Rattle.rd_session.proofs.session.answer_lines.Given as goal
 
 abbrev pub invariant-loop-len : goal.invariant-loop-len
 invariant-loop-len g l = record {
-  answering : Answering l.fn.lines l.lines l.fn.seat l.seat (g.W.Sink.contents l.fn.sink)
+  answering : Answering l.fn.lines l.lines l.fn.seat.session l.seat.session (g.W.Sink.contents l.fn.sink)
       (g.W.Sink.contents l.sink) l.fn.pending.bytes l.pending.bytes;
 }
 

@@ -4,7 +4,7 @@ use Rattle.std.proofs.lemmas.List.{length_push}
 use Rattle.rd_desk.specs.declared.entry.Entry.{Entry}
 use Rattle.rd_desk.specs.declared.entry.Event.TheVariants.{Enter}
 use Rattle.rd_desk.specs.Debugger.{Debugger}
-use Rattle.rd_desk.specs.DeskView.{DeskView, entry_of, used}
+use Rattle.rd_desk.specs.DeskView.{RoomedDesk, entry_of, used}
 use Rattle.rd_desk.proofs.DeskLaws.{legal_push}
 use Rattle.rd_desk.proofs.desk.Desk.enter.Goals as goal
 
@@ -20,8 +20,8 @@ invariant_of-self c =
     let one_more = length_push d.history.entries last in
     let one_joined = ap (λ (e : Debugger). length e.sessions) c.admit.ensures.machine in
     let joined = length_push d.machine.sessions in
-    let seen = ap (λ (v : DeskView). used v) c.self.view_is in
-    let limit = ap (λ (v : DeskView). v.most_entries) c.self.view_is in
+    let seen = ap (λ (v : RoomedDesk). used v.desk) c.self.view_is in
+    let limit = ap (λ (v : RoomedDesk). v.desk.most_entries) c.self.view_is in
     record {
       legal = legal_push d.machine d.history.entries who Enter c.admit.new.machine c.admit.new.history.entries whole.legal refl c.admit.ensures.machine entries;
       within = omega (arith, longer, one_more, c.admit.ensures.present, seen, limit, c.free.ensures);

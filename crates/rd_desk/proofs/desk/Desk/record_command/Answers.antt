@@ -1,16 +1,17 @@
 -- The goals of record_command that the check left open.
-use Rattle.std.proofs.Common.{◌≡◌, ◌∙◌, ◌++◌, ◌∷◌, [], List, ap, arith, length, subst, sym}
+use Rattle.std.proofs.Common.{◌≡◌, ◌∙◌, ◌++◌, ◌∷◌, [], List, ap, arith, inl, length, subst, sym}
 use Rattle.std.specs.Prelude.{Result, Ok, Err, OnErr}
 use Rattle.std.proofs.lemmas.List.{length_push}
 use Rattle.rd_desk.specs.declared.entry.Entry.{Entry}
 use Rattle.rd_desk.specs.declared.entry.Event.TheVariants.{Ask}
 use Rattle.rd_desk.specs.Asked.{asked_by}
 use Rattle.rd_desk.specs.Debugger.{Debugger}
-use Rattle.rd_desk.specs.DeskView.{DeskView, entry_of, used}
+use Rattle.rd_desk.specs.DeskView.{RoomedDesk, entry_of, used}
 use Rattle.rd_desk.specs.Legal.{IsLegal}
+use Rattle.rd_desk.specs.Memory.{NeedsMemory}
 use Rattle.rd_desk.specs.Serving.{IsAnswered}
 use Rattle.rd_desk.specs.Sessions.{present_count}
-use Rattle.rd_desk.proofs.DeskLaws.{entry_is, legal_push, sessions_stay, view_changes_nothing}
+use Rattle.rd_desk.proofs.DeskLaws.{entry_is, legal_push, sessions_stay, a_view_shows}
 use Rattle.rd_desk.proofs.desk.Desk.record_command.Goals as goal
 
 pub invariant_of-self-2 : goal.invariant_of-self-2
@@ -24,17 +25,17 @@ invariant_of-self-2 c =
     let answered : IsAnswered d.machine who command c.serve.new.self reply = c.in_ok-reply.ensures.ok in
     let stay = sessions_stay d.machine who command there in
     let last = entry_of d.machine who (Ask command) in
-    let kept : Entry = record { who = who; event = Ask (asked_by c.line-line.result.now); reply = reply } in
+    let kept : Entry = record { who = who; event = Ask (asked_by c.args.line.now); reply = reply } in
     let before : c.make_room_for.new.history.entries ≡ d.history.entries = c.make_room_for.ensures.entries ∙ c.make_room.ensures.entries in
     let entries : c.push.new.self.entries ≡ d.history.entries ++ last ∷ [] =
     c.push.ensures.entries ∙ ap (λ (es : List Entry). es ++ kept ∷ []) before
-    ∙ ap (λ (e : Entry). d.history.entries ++ e ∷ []) (entry_is d.machine who c.line-line.result.now command reply c.line-line.ensures answered.reply_is) in
+    ∙ ap (λ (e : Entry). d.history.entries ++ e ∷ []) (entry_is d.machine who c.args.line.now command reply c.requires.line answered.reply_is) in
     let longer = ap length entries in
     let one_more = length_push d.history.entries last in
     let present = ap (λ (e : Debugger). present_count e.sessions) answered.after ∙ stay.present in
     let joins = ap (λ (e : Debugger). length e.sessions) answered.after ∙ stay.joins in
-    let seen = ap (λ (v : DeskView). used v) c.self.view_is in
-    let limit = ap (λ (v : DeskView). v.most_entries) c.self.view_is in
+    let seen = ap (λ (v : RoomedDesk). used v.desk) c.self.view_is in
+    let limit = ap (λ (v : RoomedDesk). v.desk.most_entries) c.self.view_is in
     record {
       legal = legal_push d.machine d.history.entries who (Ask command) c.serve.new.self c.push.new.self.entries whole.legal there answered.after entries;
       within = omega (arith, longer, one_more, present, seen, limit, c.requires.free);
@@ -51,7 +52,7 @@ invariant_of-self-in_err-make_room_for c =
     let reply = c.in_ok-reply.reply in
     let answered : IsAnswered d.machine who command c.serve.new.self reply = c.in_ok-reply.ensures.ok in
     let same : c.serve.new.self ≡ d.machine =
-    answered.after ∙ view_changes_nothing d.machine who command reply answered.reply_is c.in_err-make_room_for.ensures.err in
+    answered.after ∙ (a_view_shows d.machine who command reply answered.reply_is c.in_err-make_room_for.ensures.err).0 in
     let before : c.make_room_for.new.history.entries ≡ d.history.entries = c.make_room_for.ensures.entries ∙ c.make_room.ensures.entries in
     let longer = ap length before in
     let present = ap (λ (e : Debugger). present_count e.sessions) same in
@@ -76,9 +77,18 @@ returns-in_err-make_room_for-clause-err c =
     let reply = c.in_ok-reply.reply in
     let answered : IsAnswered d.machine who command c.serve.new.self reply = c.in_ok-reply.ensures.ok in
     let same : c.serve.new.self ≡ d.machine =
-    answered.after ∙ view_changes_nothing d.machine who command reply answered.reply_is c.in_err-make_room_for.ensures.err in
+    answered.after ∙ (a_view_shows d.machine who command reply answered.reply_is c.in_err-make_room_for.ensures.err).0 in
     let before : c.make_room_for.new.history.entries ≡ d.history.entries = c.make_room_for.ensures.entries ∙ c.make_room.ensures.entries in
     on_err _ c.from_residual-in_err-make_room_for.result
     (ap (λ (e : Debugger). record { debugger = e; most_entries = d.limit; history = c.make_room_for.new.history.entries }) same
     ∙ ap (λ (es : List Entry). record { debugger = d.machine; most_entries = d.limit; history = es }) before
-    ∙ c.self.view_is)
+    ∙ ap (λ (v : RoomedDesk). v.desk) c.self.view_is)
+
+pub returns-in_err-make_room_for-clause-lacks : goal.returns-in_err-make_room_for-clause-lacks
+returns-in_err-make_room_for-clause-lacks c =
+    let who = c.args.who in
+    let command = c.args.command.now in
+    let answered : IsAnswered c.self.inside.machine who command c.serve.new.self c.in_ok-reply.reply = c.in_ok-reply.ensures.ok in
+    let shows = a_view_shows c.self.inside.machine who command c.in_ok-reply.reply answered.reply_is c.in_err-make_room_for.ensures.err in
+    let needs = subst (λ (v : RoomedDesk). NeedsMemory v.desk.debugger who command) c.self.view_is shows.1 in
+    on_err _ c.from_residual-in_err-make_room_for.result (inl needs)

@@ -1,0 +1,56 @@
+-- What a command may take memory for.
+use Rattle.std.specs.Prelude.{ℕ, ◌≡◌, ◌+◌, ◌<◌, ◌≤◌, ◌⊎◌, Bool, false, true, List, None, length}
+use Rattle.std.specs.Prelude.{IsSomeAnd}
+use Rattle.rd_command.specs.Bindings.{bound_of}
+use Rattle.rd_command.specs.Commands.{CommandView}
+use Rattle.rd_command.specs.declared.binding.Bound.{Bound}
+use Rattle.rd_command.specs.declared.binding.Bound.TheVariants as bound
+use Rattle.rd_desk.specs.Debugger.{Debugger}
+use Rattle.rd_desk.specs.declared.asked.TheConstants.{INLINE_BYTES}
+use Rattle.rd_desk.specs.DeskView.{RoomedDesk}
+use Rattle.rd_desk.specs.Serving.{held_by}
+use Rattle.rd_desk.specs.Sessions.{present_count}
+
+-- Does it make moves, or a text that is shown?
+abbrev pub needs_memory : Bound → Bool
+needs_memory (bound.Step core) = true
+needs_memory bound.Tick = true
+needs_memory (bound.Forward count) = true
+needs_memory (bound.Redo count) = true
+needs_memory (bound.Back count) = false
+needs_memory (bound.Until condition count) = true
+needs_memory (bound.UntilWatch watch count) = true
+needs_memory (bound.BackUntil condition) = false
+needs_memory (bound.BackUntilWatch watch) = false
+needs_memory (bound.Poke edit) = true
+needs_memory bound.TakeWheel = false
+needs_memory bound.GiveWheel = false
+needs_memory (bound.Watch condition) = false
+needs_memory (bound.Unwatch number) = false
+needs_memory (bound.Show kind number) = true
+needs_memory bound.ShowCores = true
+needs_memory bound.ShowMoves = false
+needs_memory bound.ShowWheel = false
+needs_memory bound.ShowWatches = true
+
+-- No other session has the wheel that the command needs, it names what is there, and it makes moves
+-- or a text.
+pub record NeedsMemory (d : Debugger) (who : ℕ) (command : CommandView) : Type 0 where
+  pub free : held_by d who command ≡ None
+  pub needs : IsSomeAnd (bound_of d.app command) (λ bound. needs_memory bound ≡ true)
+
+-- There is no room for the entry of a command with this line, beside those that are kept for
+-- departures, or the line is longer than one that a receipt has in place.
+abbrev pub LacksRoom : RoomedDesk → List ℕ → Type 0
+LacksRoom d line =
+    (d.row_room < present_count d.desk.debugger.sessions + 1)
+    ⊎ ((d.byte_room < length line) ⊎ (INLINE_BYTES < length line))
+
+-- A command with this line may be refused for want of memory.
+abbrev pub MayLackMemory : RoomedDesk → ℕ → List ℕ → CommandView → Type 0
+MayLackMemory d who line command = NeedsMemory d.desk.debugger who command ⊎ LacksRoom d line
+
+-- An entry took so many rows and bytes of the room at the most.
+pub record TakesAtMost (rows bytes : ℕ) (old new : RoomedDesk) : Type 0 where
+  pub rows_left : old.row_room ≤ new.row_room + rows
+  pub bytes_left : old.byte_room ≤ new.byte_room + bytes
