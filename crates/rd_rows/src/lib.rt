@@ -6,6 +6,8 @@ mod applications;
 #[cfg(test)]
 mod asserts;
 #[cfg(test)]
+mod broken_files;
+#[cfg(test)]
 mod buffer_waits;
 #[cfg(test)]
 mod buffers;
@@ -17,6 +19,8 @@ mod connections;
 mod desk;
 #[cfg(test)]
 mod edits;
+#[cfg(test)]
+mod faults;
 #[cfg(test)]
 mod groups;
 #[cfg(test)]
