@@ -94,7 +94,7 @@ fn append_reserved(bytes: &mut Vec<u8>, more: &[u8])
     bytes.extend_from_slice(more).unwrap();
 }
 
-// Makes room for so many items more. Where a list can't grow by half its length, which is what it
+// Makes room for so many items more. Where a list can't grow to twice its room, which is what it
 // takes so that it seldom grows, it grows by just these.
 fn reserve<T>(list: &mut Vec<T>, more: usize) -> Result<(), NoMemory>
     ensures items { list.new.items ≡ list.old.items }

@@ -13,7 +13,7 @@ pub struct Page<'a> {
     is_full: bool,
 }
 
-// Appends bytes to a page that couldn't grow by half its length, which is what it takes so that it
+// Appends bytes to a page that couldn't grow to twice its room, which is what it takes so that it
 // seldom grows: it grows by just these.
 #[cold]
 #[inline(never)]
