@@ -261,9 +261,10 @@ impl Desk {
     /// Serves a command of a session that is present, with the line that it was read from, and what
     /// `bind` made of it for the application of this desk. `HistoryFull` where no place is free,
     /// else `NoMemory` where a growth was refused: for the entry, for the copy of a line of more
-    /// than 24 bytes, for the records of moves or for the text of a view. A command that makes no
-    /// move, shows no text and finds room for its entry is never refused for memory. A refusal
-    /// changes nothing. All other refusals are replies, and take a place in the history.
+    /// than 24 bytes, for the records of moves or for the text of a view. A command with a line of
+    /// at most 24 bytes that makes no move, shows no text and finds room for its entry is never
+    /// refused for memory. A refusal changes nothing. All other refusals are replies, and take a
+    /// place in the history.
     pub fn serve(
         &mut self,
         who: u32,
