@@ -60,6 +60,14 @@ IsFlushed who upto sink calls pending sink' calls' pending' =
     → Talking start heard unsaid (spot seat sink calls pending)
     → Talking start heard unsaid (spot seat sink' calls' pending')
 
+-- What was heard and answered stays so.
+abbrev pub GoesOn : ℕ → SinkView → Option (List Call) → PendingView → SinkView
+    → Option (List Call) → PendingView → Type 0
+GoesOn who sink calls pending sink' calls' pending' =
+    (start : Talk) (heard : List Line) (seat : SeatView) → start.seat.who ≡ who
+    → Talking start heard [] (spot seat sink calls pending)
+    → Talking start heard [] (spot seat sink' calls' pending')
+
 -- A write has failed that was given all that was gathered.
 abbrev pub IsLost : ℕ → SinkView → Option (List Call) → PendingView → SinkView
     → Option (List Call) → Type 0

@@ -11,8 +11,8 @@ ghost use Rattle.rd_hall.specs.Seats.{Gained};
 ghost use Rattle.rd_session.specs.Lines.{Whole, Long, front_of, last_of, lines_from, rest_from};
 ghost use Rattle.rd_session.specs.declared.lines.Front.TheVariants.{Part};
 ghost use Rattle.rd_session.specs.Replies.{refusal_of};
-ghost use Rattle.rd_session.specs.Gathering.{Answered, Begins, BreaksAmid, HearsMore, IsLost};
-ghost use Rattle.rd_session.specs.Gathering.{SaysAll, Stops, spot};
+ghost use Rattle.rd_session.specs.Gathering.{Answered, Begins, BreaksAmid, GoesOn, HearsMore};
+ghost use Rattle.rd_session.specs.Gathering.{IsFlushed, IsLost, SaysAll, Stops, spot};
 ghost use Rattle.rd_session.specs.Hearing.{Heard};
 ghost use Rattle.rd_reply.specs.declared.reply.TheConstants.{MAX_REPLY};
 
@@ -61,8 +61,52 @@ fn refusal_of(error: &NotServed) -> Refusal
     }
 }
 
-// Begins a line: makes room for a reply in a few words, and calls the gate. Where there is no room
-// the answers before it are written first; if that fails, the line isn't begun.
+// Writes all answers.
+fn finish<G: Gate, W: Sink>(
+    gate: &mut G,
+    who: u32,
+    pending: &mut Pending,
+    sink: &mut W,
+) -> Result<(), WriteFault>
+    requires out { pending.old.out ≤ pending.old.begun }
+    requires counts { (W.seen sink.old).faults ≡ 0 }
+    ensures flushed { OnOk result (IsFlushed who pending.old.begun (W.seen sink.old)
+        (G.calls gate.old) pending.old (W.seen sink.new) (G.calls gate.new) pending.new) }
+    ensures pending { OnOk result (pending.new
+        ≡ record pending.old { bytes = []; out = pending.old.begun }) }
+    ensures lost { OnErr result (IsLost who (W.seen sink.old) (G.calls gate.old) pending.old
+        (W.seen sink.new) (G.calls gate.new)) }
+    ensures faults { (W.seen sink.new).faults ≡ faults_after (W.seen sink.old).faults result }
+{
+    flush(gate, who, pending.begun(), pending, sink)
+}
+
+// Makes room for a reply in a few words: where there is none the answers before it are written.
+fn make_room<G: Gate, W: Sink>(
+    gate: &mut G,
+    who: u32,
+    pending: &mut Pending,
+    sink: &mut W,
+) -> Result<(), WriteFault>
+    requires out { pending.old.out ≤ pending.old.begun }
+    requires counts { (W.seen sink.old).faults ≡ 0 }
+    ensures kept { OnOk result (GoesOn who (W.seen sink.old) (G.calls gate.old) pending.old
+        (W.seen sink.new) (G.calls gate.new) pending.new) }
+    ensures room { OnOk result (length pending.new.bytes + MAX_REPLY ≤ pending.new.capacity) }
+    ensures begun { OnOk result (pending.new.begun ≡ pending.old.begun) }
+    ensures out { OnOk result (pending.new.out ≤ pending.new.begun) }
+    ensures lost { OnErr result (IsLost who (W.seen sink.old) (G.calls gate.old) pending.old
+        (W.seen sink.new) (G.calls gate.new)) }
+    ensures faults { (W.seen sink.new).faults ≡ faults_after (W.seen sink.old).faults result }
+{
+    if pending.fits(MAX_REPLY) {
+        return Ok(());
+    }
+    finish(gate, who, pending, sink)
+}
+
+// Begins a line: makes room for a reply in a few words, and calls the gate. Where answers before it
+// can't be written, the line isn't begun.
 fn begin<G: Gate, W: Sink>(
     gate: &mut G,
     who: u32,
@@ -81,9 +125,7 @@ fn begin<G: Gate, W: Sink>(
         (W.seen sink.new) (G.calls gate.new)) }
     ensures faults { (W.seen sink.new).faults ≡ faults_after (W.seen sink.old).faults result }
 {
-    if !pending.fits(MAX_REPLY) {
-        flush(gate, who, pending.begun(), pending, sink)?;
-    }
+    make_room(gate, who, pending, sink)?;
     pending.begin();
     gate.before(who, pending.begun());
     Ok(())
@@ -181,26 +223,6 @@ fn answer_line<R: Wait, L: Setup, G: Gate, W: Sink>(
         Ok(()) => answer(host, gate, seat, line, pending, sink),
         Err(fault) => (seat, Err(fault)),
     }
-}
-
-// Writes all answers.
-fn finish<G: Gate, W: Sink>(
-    gate: &mut G,
-    who: u32,
-    pending: &mut Pending,
-    sink: &mut W,
-) -> Result<(), WriteFault>
-    requires out { pending.old.out ≤ pending.old.begun }
-    requires counts { (W.seen sink.old).faults ≡ 0 }
-    ensures flushed { OnOk result (IsFlushed who pending.old.begun (W.seen sink.old)
-        (G.calls gate.old) pending.old (W.seen sink.new) (G.calls gate.new) pending.new) }
-    ensures pending { OnOk result (pending.new
-        ≡ record pending.old { bytes = []; out = pending.old.begun }) }
-    ensures lost { OnErr result (IsLost who (W.seen sink.old) (G.calls gate.old) pending.old
-        (W.seen sink.new) (G.calls gate.new)) }
-    ensures faults { (W.seen sink.new).faults ≡ faults_after (W.seen sink.old).faults result }
-{
-    flush(gate, who, pending.begun(), pending, sink)
 }
 
 // Answers a line that is too long, and writes all answers.
