@@ -20,7 +20,9 @@ use std::time::Duration;
 // How often a connection that ends is read at the most, how many bytes at a time, and for how many
 // milliseconds it is waited for a byte.
 const LAST_READS: u32 = 256;
+
 const LAST_ROOM: usize = 16_384;
+
 const LAST_WAIT: u64 = 200;
 
 /// A connection that has come, and that no thread serves yet. Where it is dropped it is told that

@@ -15,12 +15,11 @@ use rd_session::buffers::Buffers;
 use rd_session::gate::Gate;
 use rd_session::session::session;
 use std::alloc::Global;
-use std::io;
 use std::io::ErrorKind;
 use std::net::{TcpListener, TcpStream};
 use std::sync::Wait;
-use std::thread;
 use std::thread::Threads;
+use std::{io, thread};
 
 /// What came of the connections.
 #[derive(Drop)]
@@ -61,11 +60,7 @@ impl<L: Setup> Served<L> {
 /// next is tried once a session has ended, if one is there. The room for all sessions is made
 /// first: where there is no memory for it, none is accepted, and there are as many faults as
 /// passes.
-pub fn serve_net<
-    L: Setup + Send + Sync,
-    R: Threads + Wait + Sync,
-    G: Gate + Copy + Send + Sync,
->(
+pub fn serve_net<L: Setup + Send + Sync, R: Threads + Wait + Sync, G: Gate + Copy + Send + Sync>(
     rt: &R,
     alloc: Global,
     listener: TcpListener,
