@@ -10,6 +10,7 @@ ghost use Rattle.rd_hall.specs.Account.{IsAccounted};
 ghost use Rattle.rd_hall.specs.Seats.{Gained, Joined};
 
 use crate::account::{Broken, Closed};
+use crate::look::Look;
 use crate::room::Room;
 use crate::seat::{Gone, Pass, Seat};
 use crate::setup::Setup;
@@ -20,6 +21,7 @@ use rd_desk::desk::{EnterError, NotServed};
 use rd_desk::limits::Limits;
 use rd_names::app::App;
 use rd_names::names::Names;
+use rd_state::state::State;
 use std::alloc::Global;
 use std::sync::ledger::Blank;
 use std::sync::{Mutex, Wait};
@@ -81,6 +83,24 @@ impl<L: Setup> Hall<L> {
         ensures { result.now ≡ L.app.names }
     {
         &self.names
+    }
+
+    /// What stands behind the lock now, beside the target itself. It takes no memory.
+    pub fn look(&self, rt: &impl Wait) -> Look {
+        let room = self.room.lock(rt);
+        room.look()
+    }
+
+    /// A copy of the target behind the lock. `NoMemory` where a growth was refused.
+    pub fn copy_target(&self, rt: &impl Wait, alloc: Global) -> Result<State, NoMemory> {
+        let room = self.room.lock(rt);
+        room.target().copy(alloc)
+    }
+
+    /// Whether the target behind the lock is this state, to the last field. It takes no memory.
+    pub fn is_target(&self, rt: &impl Wait, state: &State) -> bool {
+        let room = self.room.lock(rt);
+        room.target().same(state)
     }
 
     /// A session joins, under the lock: it has the receipt of that. `Full` where 64 have joined,

@@ -12,9 +12,11 @@ ghost use Rattle.rd_desk.specs.declared.entry.Event.TheVariants.{Enter, Ask, Lea
 ghost use Rattle.rd_desk.specs.declared.sessions.TheConstants.{MAX_JOINS};
 ghost use Rattle.rd_timeline.specs.History.{state_after};
 ghost use Rattle.rd_hall.specs.Account.{IsAccount, IsAccounted};
+ghost use Rattle.rd_hall.specs.Looks.{look_of};
 ghost use Rattle.rd_hall.specs.Seats.{newcomer, DoesFor, IsOf, Reaches};
 
 use crate::account::{Broken, Closed, is_account};
+use crate::look::Look;
 use crate::seat::{Gone, Pass, Seat};
 use crate::setup::Setup;
 use rd_bytes::no_memory::NoMemory;
@@ -116,6 +118,20 @@ impl<L: Setup> Room<L> {
     {
         self.desk.keeps();
         self.desk.target()
+    }
+
+    /// What stands in the debugger now, beside the target itself. It takes no memory.
+    pub fn look(&self) -> Look
+        ensures { result ≡ look_of self.now.desk }
+    {
+        Look {
+            done: self.desk.done(),
+            undone: self.desk.undone(),
+            kept: self.desk.kept(),
+            wheel: self.desk.wheel(),
+            watches: self.desk.watch_count(),
+            entries: self.desk.entries(),
+        }
     }
 
     /// A session joins: it enters the debugger, and gets the receipt of that. `NoMemory` where
