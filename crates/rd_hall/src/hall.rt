@@ -7,7 +7,8 @@ ghost use Rattle.rd_desk.specs.Refusals.{IfEnterFull, IfServeFull};
 ghost use Rattle.rd_desk.specs.declared.entry.Event.TheVariants.{Enter, Ask, Leave};
 ghost use Rattle.rd_desk.specs.declared.sessions.TheConstants.{MAX_JOINS};
 ghost use Rattle.rd_hall.specs.Account.{IsAccounted};
-ghost use Rattle.rd_hall.specs.Seats.{Gained, Joined};
+ghost use Rattle.rd_hall.specs.Seats.{Finds, Gained, Joined, KeepsOut, LetsGo, Serves, TurnsAway};
+ghost use Rattle.rd_hall.specs.Seats.{newcomer};
 
 use crate::account::{Broken, Closed};
 use crate::look::Look;
@@ -111,6 +112,11 @@ impl<L: Setup> Hall<L> {
         ensures tally { IfErr result (λ error. IfEnterFull error.1 (λ tally.
             (tally.limit ≡ L.most_entries)
             × (tally.limit < tally.entries + tally.present + 2))) }
+        ensures entered { IfOk result (λ seat.
+            Finds L.app L.most_moves L.most_entries 0 (λ d.
+            Serves d (newcomer d) Enter seat.session)) }
+        ensures refused { IfErr result (λ error.
+            Finds L.app L.most_moves L.most_entries 0 (λ d. KeepsOut d error.1)) }
     {
         let mut room = self.room.lock(rt);
         room.keeps();
@@ -133,19 +139,32 @@ impl<L: Setup> Hall<L> {
             (tally.limit ≡ L.most_entries)
             × (tally.limit ≡ tally.entries + tally.present))) }
         ensures err { OnErr result.1 (result.0.session ≡ seat.session) }
+        ensures served { OnOk result.1
+            (Finds L.app L.most_moves L.most_entries seat.session.share (λ d.
+            Serves d seat.session (Ask command.now) result.0.session)) }
+        ensures refused { IfErr result.1 (λ error.
+            Finds L.app L.most_moves L.most_entries seat.session.share (λ d.
+            TurnsAway d seat.session error)) }
     {
+        let mut seat = seat;
         let bound = bind(command, &self.names, self.cores, self.entries);
         let mut room = self.room.lock(rt);
         room.keeps();
+        room.backs(&mut seat);
         room.ask(seat, command, &bound)
     }
 
     /// A session leaves, under the lock, and gets the receipt of that, or none where the history
     /// isn't its own.
     pub fn leave(&self, rt: &impl Wait, seat: Seat<L>) -> Gone<L>
-        ensures { (result ≡ seat.session) ⊎ Gained seat.session Leave result }
+        ensures receipt { (result ≡ seat.session) ⊎ Gained seat.session Leave result }
+        ensures left { Finds L.app L.most_moves L.most_entries seat.session.share (λ d.
+            LetsGo d seat.session result) }
     {
+        let mut seat = seat;
         let mut room = self.room.lock(rt);
+        room.keeps();
+        room.backs(&mut seat);
         room.leave(seat)
     }
 

@@ -173,6 +173,16 @@ impl<L: Setup> Room<L> {
         }
     }
 
+    /// The history has no fewer entries than the seat has of the ledger, whoever made them. It does
+    /// nothing at run time.
+    pub fn backs(&mut self, seat: &mut Seat<L>)
+        ensures room { self.new ≡ self.old }
+        ensures seat { seat.new ≡ seat.old }
+        ensures backed { seat.old.session.share ≤ length self.old.desk.history }
+    {
+        self.book.audit(&mut seat.share);
+    }
+
     // Whether the history reaches past the seat's last receipt, and its session is present.
     fn reaches(&self, seat: &Seat<L>) -> bool
         ensures { IsTrue result ↔ Reaches self.now.desk seat.now.session }
