@@ -1,7 +1,7 @@
 -- The sessions of a debugger, and their watches.
 use Rattle.std.specs.Prelude.{ℕ, ◌-◌, ◌<◌, List, [], is_some, IsSome, replicate}
 use Rattle.std.specs.Prelude.{Option, None, count_by, slice_index_or, slice_set, unwrap_or, Some}
-use Rattle.std.specs.Prelude.{All, IfSome, ◌≡◌, ◌++◌, ◌∷◌, length}
+use Rattle.std.specs.Prelude.{All, IfSome, ◌≡◌, ◌++◌, ◌∷◌, length, sum_by}
 use Rattle.rd_app.specs.Application.{Application}
 use Rattle.rd_command.specs.declared.binding.TheConstants.{MAX_WATCHES}
 use Rattle.rd_condition.specs.declared.condition.Condition.{Condition}
@@ -43,6 +43,15 @@ present_count sessions = count_by is_some sessions
 -- the watches of a session that is present
 abbrev pub watches_of : SessionsView → ℕ → WatchesView
 watches_of sessions who = unwrap_or (session_at sessions who) []
+
+-- how many watches a session keeps, if it is present
+abbrev pub kept_by : Option WatchesView → ℕ
+kept_by None = 0
+kept_by (Some watches) = count_by is_some watches
+
+-- how many watches the sessions that are present keep together
+abbrev pub watch_count : SessionsView → ℕ
+watch_count sessions = sum_by kept_by sessions
 
 -- one session more, without watches
 abbrev pub joined : SessionsView → SessionsView

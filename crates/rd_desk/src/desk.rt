@@ -14,7 +14,7 @@ ghost use Rattle.rd_desk.specs.Memory.{MayLackMemory, TakesAtMost};
 ghost use Rattle.rd_desk.specs.Serving.{entered};
 ghost use Rattle.rd_desk.specs.Refusals.{tally_of, IfEnterFull, IfServeFull, is_enter_full};
 ghost use Rattle.rd_desk.specs.Refusals.{is_serve_full};
-ghost use Rattle.rd_desk.specs.Sessions.{IsPresent, present_count};
+ghost use Rattle.rd_desk.specs.Sessions.{IsPresent, present_count, watch_count};
 
 use crate::asked::Asked;
 use crate::entry::{Entry, Event, Receipt};
@@ -197,6 +197,41 @@ impl Desk {
         ensures { result ≡ length self.now.desk.history }
     {
         self.history.len()
+    }
+
+    /// How many moves are done.
+    pub fn done(&self) -> usize
+        ensures { result ≡ length self.now.desk.debugger.moves.done }
+    {
+        self.machine.done()
+    }
+
+    /// How many moves are undone.
+    pub fn undone(&self) -> usize
+        ensures { result ≡ length self.now.desk.debugger.moves.undone }
+    {
+        self.machine.undone()
+    }
+
+    /// How many moves have a record kept: each one that is done.
+    pub fn kept(&self) -> usize
+        ensures { result ≡ length self.now.desk.debugger.moves.done }
+    {
+        self.machine.kept()
+    }
+
+    /// The session that has the wheel, if one has.
+    pub fn wheel(&self) -> Option<u32>
+        ensures { result ≡ self.now.desk.debugger.wheel }
+    {
+        self.machine.wheel()
+    }
+
+    /// How many watches the sessions that are present keep together.
+    pub fn watch_count(&self) -> usize
+        ensures { result ≡ watch_count self.now.desk.debugger.sessions }
+    {
+        self.machine.watch_count()
     }
 
     /// Whether a session has entered, and not departed.

@@ -94,20 +94,6 @@ fn append_reserved(bytes: &mut Vec<u8>, more: &[u8])
     bytes.extend_from_slice(more).unwrap();
 }
 
-// Makes room for so many items more. Where a list can't grow to twice its room, which is what it
-// takes so that it seldom grows, it grows by just these.
-fn reserve<T>(list: &mut Vec<T>, more: usize) -> Result<(), NoMemory>
-    ensures items { list.new.items ≡ list.old.items }
-    ensures ok { OnOk result (vec_len list.new + more ≤ vec_capacity list.new) }
-    ensures kept { vec_capacity list.old ≤ vec_capacity list.new }
-    ensures full { OnErr result (vec_capacity list.old < vec_len list.old + more) }
-{
-    if list.reserve(more).is_err() {
-        list.reserve_exact(more)?;
-    }
-    Ok(())
-}
-
 // Whether the event is what is kept of one.
 fn is_event(deed: Deed, line: &[u8], event: &Event) -> bool
     requires { IsLineOf deed line.now }
@@ -182,8 +168,9 @@ impl History {
         ensures full { OnErr result
             ((self.old.row_room < rows) ⊎ (self.old.byte_room < bytes)) }
     {
-        reserve(&mut self.rows, rows)?;
-        reserve(&mut self.bytes, bytes)
+        self.rows.reserve(rows)?;
+        self.bytes.reserve(bytes)?;
+        Ok(())
     }
 
     /// Appends an entry, which there is room for. The line is that of the command, if one was asked

@@ -18,7 +18,7 @@ ghost use Rattle.rd_desk.specs.DeskView.{LeadsBack};
 ghost use Rattle.rd_desk.specs.Memory.{needs_memory, NeedsMemory};
 ghost use Rattle.rd_desk.specs.Serving.{after_request, entered, held_by, left, refused};
 ghost use Rattle.rd_desk.specs.Serving.{reply_to_request, shown, IsAnswered, IsDone};
-ghost use Rattle.rd_desk.specs.Sessions.{IsPresent, present_count};
+ghost use Rattle.rd_desk.specs.Sessions.{IsPresent, present_count, watch_count};
 ghost use Rattle.rd_desk.specs.Views.{AreNamesOf, IsViewNamed, text_shown, view_asked};
 ghost use Rattle.rd_desk.specs.Views.{watches_shown};
 
@@ -184,6 +184,42 @@ impl Machine {
         ensures { IsTrue result ↔ IsPresent self.now.sessions who }
     {
         self.sessions.is_present(who)
+    }
+
+    /// How many moves are done.
+    pub fn done(&self) -> usize
+        ensures { result ≡ length self.now.moves.done }
+    {
+        self.timeline.at()
+    }
+
+    /// How many moves are undone.
+    pub fn undone(&self) -> usize
+        ensures { result ≡ length self.now.moves.undone }
+    {
+        self.timeline.left()
+    }
+
+    /// How many moves have a record kept: each one that is done.
+    pub fn kept(&self) -> usize
+        ensures { result ≡ length self.now.moves.done }
+    {
+        self.timeline.keeps();
+        self.timeline.kept()
+    }
+
+    /// The session that has the wheel, if one has.
+    pub fn wheel(&self) -> Option<u32>
+        ensures { result ≡ self.now.wheel }
+    {
+        self.wheel
+    }
+
+    /// How many watches the sessions that are present keep together.
+    pub fn watch_count(&self) -> usize
+        ensures { result ≡ watch_count self.now.sessions }
+    {
+        self.sessions.watch_count()
     }
 
     /// A session enters. It takes no memory.

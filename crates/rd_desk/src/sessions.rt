@@ -1,8 +1,9 @@
 //! The sessions of a debugger: who has entered, and who is present.
 
-ghost use Rattle.std.specs.Prelude.{◌≡◌, ◌↔◌, ◌+◌, ◌<◌, [], length, IfOk, IsTrue};
-ghost use Rattle.rd_desk.specs.Sessions.{IsPresent, joined, present_count, watch_at};
-ghost use Rattle.rd_desk.specs.Sessions.{watches_of, with_watches, without};
+ghost use Rattle.std.specs.Prelude.{◌≡◌, ◌↔◌, ◌+◌, ◌<◌, ◌≤◌, [], length, IfOk, IsTrue};
+ghost use Rattle.rd_command.specs.declared.binding.TheConstants.{MAX_WATCHES};
+ghost use Rattle.rd_desk.specs.Sessions.{IsPresent, joined, kept_by, present_count, watch_at};
+ghost use Rattle.rd_desk.specs.Sessions.{watch_count, watches_of, with_watches, without};
 
 use crate::watches::Watches;
 use rd_bytes::no_memory::NoMemory;
@@ -30,6 +31,17 @@ impl Model for Sessions {
     ghost view = { λ s. s.slots.items };
 
     ghost invariant = { IsSessions };
+}
+
+// How many watches a session keeps, if it is present.
+fn kept_by(slot: &Option<Watches>) -> usize
+    ensures count { result ≡ kept_by slot.now }
+    ensures within { result ≤ MAX_WATCHES }
+{
+    match slot {
+        Some(watches) => watches.kept(),
+        None => 0,
+    }
 }
 
 impl Sessions {
@@ -68,6 +80,17 @@ impl Sessions {
             Some(slot) => slot.is_some(),
             None => false,
         }
+    }
+
+    /// How many watches those that are present keep together.
+    pub fn watch_count(&self) -> usize
+        ensures { result ≡ watch_count self.now }
+    {
+        let mut count = 0;
+        for slot in &self.slots {
+            count += kept_by(slot);
+        }
+        count
     }
 
     /// A session enters. It takes no memory.

@@ -25,18 +25,8 @@ use rd_timeline::timeline::Timeline;
 use smallvec::SmallVec;
 use std::alloc::{AllocError, Global};
 
-// For how many bytes room is made first.
+// For how many bytes of a view room is made first.
 const ROOM: usize = 128;
-
-// An empty page, with room for a short view where there is memory for that.
-fn first_page(alloc: Global) -> Vec<u8>
-    ensures { result.items ≡ [] }
-{
-    let mut page = Vec::new(alloc);
-    // (a page that is refused this may still have room for a shorter view)
-    let _ = page.reserve(ROOM);
-    page
-}
 
 // Appends what is shown of the thing of that kind and number.
 fn append_thing(
@@ -118,7 +108,7 @@ pub fn show(
     ensures { IfOk result (λ line. IfSome (view_asked bound.now) (λ view.
         line.items ≡ line_of (text_shown names.now state.now view))) }
 {
-    let mut line = first_page(alloc);
+    let mut line = Vec::with_capacity(alloc, ROOM)?;
     append_view(state, names, &mut line, bound)?;
     Ok(line)
 }
@@ -170,7 +160,7 @@ pub(crate) fn show_all_watches(
         text ≡ line_of (watches_text (watches_shown timeline.now.target watches.now))) }
 {
     let shown = shown_of(timeline, alloc, watches)?;
-    let mut line = first_page(alloc);
+    let mut line = Vec::with_capacity(alloc, ROOM)?;
     show_watches(&mut line, shown.as_slice())?;
     Ok(Text::new(line))
 }

@@ -1,6 +1,8 @@
 //! The watches of a session: conditions that it looks at again and again.
 
-ghost use Rattle.std.specs.Prelude.{◌≡◌, ◌<◌, is_none, length, position, slice_set};
+ghost use Rattle.std.specs.Prelude.{◌≡◌, ◌<◌, ◌≤◌, count_by, is_none, is_some, length, position};
+ghost use Rattle.std.specs.Prelude.{slice_set};
+ghost use Rattle.rd_command.specs.declared.binding.TheConstants.{MAX_WATCHES};
 ghost use Rattle.rd_desk.specs.Sessions.{no_watches, watch_at};
 
 use rd_command::binding::MAX_WATCHES;
@@ -41,6 +43,14 @@ impl Watches {
         // (each of them has a slot)
         let _ = &self.slots;
         MAX_WATCHES
+    }
+
+    /// How many watches there are.
+    pub fn kept(&self) -> usize
+        ensures count { result ≡ count_by is_some self.now }
+        ensures within { result ≤ MAX_WATCHES }
+    {
+        self.slots.iter().filter(|slot| slot.is_some()).count()
     }
 
     /// The condition of the watch with that number, if there is one.

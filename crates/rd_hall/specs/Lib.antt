@@ -2,4 +2,5 @@
 pub mod Setups
 pub mod SeatView
 pub mod Seats
+pub mod Looks
 pub mod Account

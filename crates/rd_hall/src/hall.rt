@@ -7,9 +7,11 @@ ghost use Rattle.rd_desk.specs.Refusals.{IfEnterFull, IfServeFull};
 ghost use Rattle.rd_desk.specs.declared.entry.Event.TheVariants.{Enter, Ask, Leave};
 ghost use Rattle.rd_desk.specs.declared.sessions.TheConstants.{MAX_JOINS};
 ghost use Rattle.rd_hall.specs.Account.{IsAccounted};
-ghost use Rattle.rd_hall.specs.Seats.{Gained, Joined};
+ghost use Rattle.rd_hall.specs.Seats.{Finds, Gained, Joined, KeepsOut, LetsGo, Serves, TurnsAway};
+ghost use Rattle.rd_hall.specs.Seats.{newcomer};
 
 use crate::account::{Broken, Closed};
+use crate::look::Look;
 use crate::room::Room;
 use crate::seat::{Gone, Pass, Seat};
 use crate::setup::Setup;
@@ -20,6 +22,7 @@ use rd_desk::desk::{EnterError, NotServed};
 use rd_desk::limits::Limits;
 use rd_names::app::App;
 use rd_names::names::Names;
+use rd_state::state::State;
 use std::alloc::Global;
 use std::sync::ledger::Blank;
 use std::sync::{Mutex, Wait};
@@ -83,6 +86,24 @@ impl<L: Setup> Hall<L> {
         &self.names
     }
 
+    /// What stands behind the lock now, beside the target itself. It takes no memory.
+    pub fn look(&self, rt: &impl Wait) -> Look {
+        let room = self.room.lock(rt);
+        room.look()
+    }
+
+    /// A copy of the target behind the lock. `NoMemory` where a growth was refused.
+    pub fn copy_target(&self, rt: &impl Wait, alloc: Global) -> Result<State, NoMemory> {
+        let room = self.room.lock(rt);
+        room.target().copy(alloc)
+    }
+
+    /// Whether the target behind the lock is this state, to the last field. It takes no memory.
+    pub fn is_target(&self, rt: &impl Wait, state: &State) -> bool {
+        let room = self.room.lock(rt);
+        room.target().same(state)
+    }
+
     /// A session joins, under the lock: it has the receipt of that. `Full` where 64 have joined,
     /// `HistoryFull` where fewer than two places of the history are free, `NoMemory` where a growth
     /// was refused. A refusal gives the pass back.
@@ -91,6 +112,11 @@ impl<L: Setup> Hall<L> {
         ensures tally { IfErr result (λ error. IfEnterFull error.1 (λ tally.
             (tally.limit ≡ L.most_entries)
             × (tally.limit < tally.entries + tally.present + 2))) }
+        ensures entered { IfOk result (λ seat.
+            Finds L.app L.most_moves L.most_entries 0 (λ d.
+            Serves d (newcomer d) Enter seat.session)) }
+        ensures refused { IfErr result (λ error.
+            Finds L.app L.most_moves L.most_entries 0 (λ d. KeepsOut d error.1)) }
     {
         let mut room = self.room.lock(rt);
         room.keeps();
@@ -113,19 +139,32 @@ impl<L: Setup> Hall<L> {
             (tally.limit ≡ L.most_entries)
             × (tally.limit ≡ tally.entries + tally.present))) }
         ensures err { OnErr result.1 (result.0.session ≡ seat.session) }
+        ensures served { OnOk result.1
+            (Finds L.app L.most_moves L.most_entries seat.session.share (λ d.
+            Serves d seat.session (Ask command.now) result.0.session)) }
+        ensures refused { IfErr result.1 (λ error.
+            Finds L.app L.most_moves L.most_entries seat.session.share (λ d.
+            TurnsAway d seat.session error)) }
     {
+        let mut seat = seat;
         let bound = bind(command, &self.names, self.cores, self.entries);
         let mut room = self.room.lock(rt);
         room.keeps();
+        room.backs(&mut seat);
         room.ask(seat, command, &bound)
     }
 
     /// A session leaves, under the lock, and gets the receipt of that, or none where the history
     /// isn't its own.
     pub fn leave(&self, rt: &impl Wait, seat: Seat<L>) -> Gone<L>
-        ensures { (result ≡ seat.session) ⊎ Gained seat.session Leave result }
+        ensures receipt { (result ≡ seat.session) ⊎ Gained seat.session Leave result }
+        ensures left { Finds L.app L.most_moves L.most_entries seat.session.share (λ d.
+            LetsGo d seat.session result) }
     {
+        let mut seat = seat;
         let mut room = self.room.lock(rt);
+        room.keeps();
+        room.backs(&mut seat);
         room.leave(seat)
     }
 

@@ -4,6 +4,7 @@
 
 pub mod account;
 pub mod hall;
+pub mod look;
 pub mod room;
 pub mod seat;
 pub mod setup;

@@ -12,9 +12,11 @@ ghost use Rattle.rd_desk.specs.declared.entry.Event.TheVariants.{Enter, Ask, Lea
 ghost use Rattle.rd_desk.specs.declared.sessions.TheConstants.{MAX_JOINS};
 ghost use Rattle.rd_timeline.specs.History.{state_after};
 ghost use Rattle.rd_hall.specs.Account.{IsAccount, IsAccounted};
+ghost use Rattle.rd_hall.specs.Looks.{look_of};
 ghost use Rattle.rd_hall.specs.Seats.{newcomer, DoesFor, IsOf, Reaches};
 
 use crate::account::{Broken, Closed, is_account};
+use crate::look::Look;
 use crate::seat::{Gone, Pass, Seat};
 use crate::setup::Setup;
 use rd_bytes::no_memory::NoMemory;
@@ -118,6 +120,20 @@ impl<L: Setup> Room<L> {
         self.desk.target()
     }
 
+    /// What stands in the debugger now, beside the target itself. It takes no memory.
+    pub fn look(&self) -> Look
+        ensures { result ≡ look_of self.now.desk }
+    {
+        Look {
+            done: self.desk.done(),
+            undone: self.desk.undone(),
+            kept: self.desk.kept(),
+            wheel: self.desk.wheel(),
+            watches: self.desk.watch_count(),
+            entries: self.desk.entries(),
+        }
+    }
+
     /// A session joins: it enters the debugger, and gets the receipt of that. `NoMemory` where
     /// there is no memory for its receipts, else `Full` where 64 have entered, else `HistoryFull`
     /// where fewer than two places are free, else `NoMemory` where the debugger has none. A refusal
@@ -155,6 +171,16 @@ impl<L: Setup> Room<L> {
             }
             Err(error) => Err((pass, error)),
         }
+    }
+
+    /// The history has no fewer entries than the seat has of the ledger, whoever made them. It does
+    /// nothing at run time.
+    pub fn backs(&mut self, seat: &mut Seat<L>)
+        ensures room { self.new ≡ self.old }
+        ensures seat { seat.new ≡ seat.old }
+        ensures backed { seat.old.session.share ≤ length self.old.desk.history }
+    {
+        self.book.audit(&mut seat.share);
     }
 
     // Whether the history reaches past the seat's last receipt, and its session is present.

@@ -1,7 +1,7 @@
 //! A page that is appended to until its memory runs out.
 
-ghost use Rattle.std.specs.Prelude.{◌≡◌, ◌++◌, false, true, IsErr, IsOk, OnErr, OnOk};
-ghost use Rattle.rd_reply.specs.Pages.{Appends, KeepsFront, LacksRoom};
+ghost use Rattle.std.specs.Prelude.{◌≡◌, false, true, IsErr, IsOk};
+ghost use Rattle.rd_reply.specs.Pages.{Appends};
 
 use std::alloc::AllocError;
 
@@ -11,19 +11,6 @@ use std::alloc::AllocError;
 pub struct Page<'a> {
     bytes: &'a mut Vec<u8>,
     is_full: bool,
-}
-
-// Appends bytes to a page that couldn't grow to twice its room, which is what it takes so that it
-// seldom grows: it grows by just these.
-#[cold]
-#[inline(never)]
-fn append_exactly(page: &mut Vec<u8>, bytes: &[u8]) -> Result<(), AllocError>
-    ensures ok { OnOk result (page.new.items ≡ page.old.items ++ bytes.now) }
-    ensures full { OnErr result (LacksRoom page.old bytes.now) }
-    ensures kept { KeepsFront page.old page.new }
-{
-    page.reserve_exact(bytes.len())?;
-    page.extend_from_slice(bytes)
 }
 
 impl<'a> Page<'a> {
@@ -54,8 +41,7 @@ impl<'a> Page<'a> {
         ensures { Appends self.old self.new bytes.now }
     {
         if !self.is_full {
-            self.is_full = self.bytes.extend_from_slice(bytes).is_err()
-                && append_exactly(self.bytes, bytes).is_err();
+            self.is_full = self.bytes.extend_from_slice(bytes).is_err();
         }
     }
 

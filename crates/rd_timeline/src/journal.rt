@@ -140,6 +140,13 @@ impl Journal {
         self.edits.done()
     }
 
+    /// How many moves have a record kept.
+    pub fn kept(&self) -> usize
+        ensures { result ≡ length self.now.records }
+    {
+        self.logged.kept()
+    }
+
     /// How many bytes all records take.
     pub fn bytes(&self) -> usize
         ensures { result ≡ bytes_of self.now.records }

@@ -75,6 +75,13 @@ impl Logged {
         self.editing.state()
     }
 
+    /// How many records there are.
+    pub fn kept(&self) -> usize
+        ensures { result ≡ length self.now.records }
+    {
+        self.log.len()
+    }
+
     /// How many bytes all records take.
     pub fn bytes(&self) -> usize
         ensures { result ≡ bytes_of self.now.records }

@@ -146,6 +146,13 @@ impl Timeline {
         self.journal.undone()
     }
 
+    /// How many moves have a record kept. It takes no memory.
+    pub fn kept(&self) -> usize
+        ensures { result ≡ length self.now.log }
+    {
+        self.journal.kept()
+    }
+
     /// Makes a move: it is laid on the moves done, and the moves undone are forgotten. Answers how
     /// many moves are done. A refusal leaves the timeline as it was: `MovesFull` where the moves
     /// done are at their limit, else `NoTask` where the core is idle, `TickLimit` where there is no

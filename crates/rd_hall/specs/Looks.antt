@@ -1,0 +1,16 @@
+-- What is told of a room at one moment.
+use Rattle.std.specs.Prelude.{length}
+use Rattle.rd_desk.specs.DeskView.{DeskView}
+use Rattle.rd_desk.specs.Sessions.{watch_count}
+use Rattle.rd_hall.specs.declared.look.Look.{Look}
+
+-- what stands in the desk, beside the target itself
+abbrev pub look_of : DeskView → Look
+look_of d = record {
+  done = length d.debugger.moves.done;
+  undone = length d.debugger.moves.undone;
+  kept = length d.debugger.moves.done;
+  wheel = d.debugger.wheel;
+  watches = watch_count d.debugger.sessions;
+  entries = length d.history;
+}
