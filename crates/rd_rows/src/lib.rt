@@ -30,6 +30,8 @@ mod faults;
 #[cfg(test)]
 mod gates;
 #[cfg(test)]
+mod gathered_faults;
+#[cfg(test)]
 mod groups;
 #[cfg(test)]
 mod hall;
