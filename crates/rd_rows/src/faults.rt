@@ -1,31 +1,16 @@
-//! Sessions whose reads or writes fail, at each of them in turn.
-
-ghost use Rattle.std.specs.Prelude.{◌≡◌, ◌+◌};
-ghost use Rattle.rd_desk.specs.declared.sessions.TheConstants.{MAX_JOINS};
+//! Runs of the program whose reads or writes fail, at each of them in turn.
 
 use crate::asserts::assert_same;
-use crate::hall::next_pass;
+use crate::attending::whole_lines;
 use crate::memory::{Source, Target};
-use rd_desk::limits::Limits;
-use rd_desk::sessions::MAX_JOINS;
-use rd_ends::over::Over;
-use rd_hall::hall::Hall;
-use rd_hall::seat::{Gone, Pass};
-use rd_hall::setup::Setup;
-use rd_main::run_main;
-use rd_names::app::App;
-use rd_session::buffers::Buffers;
-use rd_session::gate::Gate;
-use rd_session::session::session;
+use crate::rows::run;
 use std::alloc::{AllocError, AllocGlobal, Global};
 use std::io;
 use std::io::Write;
-use std::marker::Brand;
 use std::net::{Net, TcpListener, TcpStream};
 use std::process::Abort;
 use std::rt::Files;
 use std::sync::Wait;
-use std::sync::ledger::Blank;
 use std::test::Fail;
 use std::thread::Threads;
 
@@ -53,11 +38,6 @@ fn first_replies(alloc: Global, count: usize) -> Result<Vec<u8>, AllocError> {
     Ok(lines)
 }
 
-// How many whole lines these bytes have.
-fn whole_lines(bytes: &[u8]) -> usize {
-    bytes.iter().filter(|byte| **byte == b'\n').count()
-}
-
 // The lines, of which so many reads can be made.
 fn source_of(reads: usize) -> Source<'static> {
     let mut source = Source::new(LINES.as_bytes());
@@ -66,27 +46,17 @@ fn source_of(reads: usize) -> Source<'static> {
     source
 }
 
-// Runs the program over these. It ends as if nothing had failed.
-fn run<H, W: Write>(rt: &H, source: &mut Source<'_>, target: &mut W)
-where
-    H: Files + AllocGlobal + Abort + Wait + Sync + Threads,
-    H: Net<Listener = TcpListener, Stream = TcpStream>,
-{
-    let words: Vec<String> = Vec::new(rt.alloc());
-    let mut errors = Vec::new(rt.alloc());
-    let status = run_main(rt, words.as_slice(), source, target, &mut errors);
-    assert_same(rt, status, 0);
-    assert!(rt; errors.is_empty());
-}
-
-// After so many reads the next one fails: the lines that were whole by then are answered.
+// After so many reads the next one fails: the lines that were whole by then are answered, and no
+// read is tried behind it.
 fn assert_read_fault<H>(rt: &H, reads: usize) -> Result<(), Fail>
 where
     H: Files + AllocGlobal + Abort + Wait + Sync + Threads,
     H: Net<Listener = TcpListener, Stream = TcpStream>,
 {
     let mut target = Target::new(Vec::new(rt.alloc()));
-    run(rt, &mut source_of(reads), &mut target);
+    let mut source = source_of(reads);
+    run(rt, &mut source, &mut target);
+    assert_same(rt, source.calls, reads.saturating_add(1));
     let read = LINES.len().min(reads.saturating_mul(CHUNK));
     let expected = first_replies(rt.alloc(), whole_lines(&LINES.as_bytes()[..read]))?;
     assert_eq!(rt;
@@ -97,9 +67,10 @@ where
     Ok(())
 }
 
+// What a read that fails leaves, each of them in turn.
 #[test]
 fn each_read_fails(rt: HostRuntime) -> Result<(), Fail> {
-    for reads in 0..10 {
+    for reads in 0..8 {
         assert_read_fault(&rt, reads)?;
     }
     Ok(())
@@ -121,6 +92,7 @@ where
     assert_same(rt, whole_lines(target.bytes.as_slice()), writes.min(6));
 }
 
+// What a write that fails leaves, each of them in turn.
 #[test]
 fn each_write_fails(rt: HostRuntime) {
     for writes in 0..8 {
@@ -166,88 +138,10 @@ where
     assert_same(rt, whole_lines(written).saturating_add(1), writes);
 }
 
+// What a write that fails amid its bytes leaves, each of them in turn.
 #[test]
 fn each_write_breaks_off(rt: HostRuntime) {
     for writes in 1..7 {
         assert_broken_write(&rt, writes);
     }
-}
-
-// A gate that is always open.
-#[derive(Drop)]
-struct Open {}
-
-impl Gate for Open {
-    fn before(&self, _who: u32, _line: u64) {}
-
-    fn after(&self, _who: u32, _line: u64) {}
-}
-
-// A session joins, asks, is answered so, and leaves: at the end of its lines, or at a read fault.
-fn attend<L: Setup, H: Wait + Abort + AllocGlobal>(
-    rt: &H,
-    hall: &Hall<L>,
-    passes: &mut Vec<Pass<L>>,
-    source: Source<'_>,
-    replies: &str,
-) -> Gone<L> {
-    let Ok(mut buffers) = Buffers::new(rt.alloc()) else {
-        panic!(rt; "no memory");
-    };
-    let Ok(seat) = hall.join(rt, next_pass(rt, passes)) else {
-        panic!(rt; "a session isn't let in");
-    };
-    let mut source = Over::new(source);
-    let mut sink = Over::new(Vec::new(rt.alloc()));
-    let gone = session(
-        rt,
-        &mut source,
-        &mut sink,
-        hall,
-        seat,
-        &Open {},
-        &mut buffers,
-    );
-    assert_same(rt, sink.inner.as_slice(), replies.as_bytes());
-    gone
-}
-
-// The first session takes the wheel and steps, until its third read fails; the second steps.
-fn entries_after_a_fault<L: Setup, H: Wait + Abort + AllocGlobal>(
-    rt: &H,
-    blank: Blank,
-    app: App,
-) -> Result<Option<usize>, Fail>
-    requires name { blank.name ≡ L.name }
-    requires parts { (blank.parts ≡ L.parts) × (blank.parts ≡ MAX_JOINS + 1) }
-    requires app { app ≡ L.app }
-    requires moves { L.most_moves ≡ 10 }
-    requires entries { L.most_entries ≡ 10 }
-{
-    let mut gones = Vec::with_capacity(rt.alloc(), 2)?;
-    let limits = Limits {
-        moves: 10,
-        history: 10,
-    };
-    let (hall, mut passes) = Hall::<L>::open(rt.alloc(), blank, app, limits)?;
-    let mut broken = Source::new(b"wheel take\nstep 0\nstep 0\n");
-    broken.chunk = 11;
-    broken.reads = 2;
-    gones.push_reserved(attend(rt, &hall, &mut passes, broken, "ok wheel\nok at 1\n"));
-    let whole = Source::new(b"show wheel\nstep 0\n");
-    gones.push_reserved(attend(rt, &hall, &mut passes, whole, "wheel -\nok at 2\n"));
-    match hall.finish(gones) {
-        Ok(closed) => Ok(Some(closed.entries())),
-        Err(_) => Ok(None),
-    }
-}
-
-// Who has the wheel and is gone after a read fault holds nobody up.
-#[test]
-fn wheel_after_a_fault(rt: HostRuntime) -> Result<(), Fail> {
-    let app = App::builtin(rt.alloc())?;
-    let blank = Blank::new(MAX_JOINS as u64 + 1);
-    let found = entries_after_a_fault::<Brand, HostRuntime>(&rt, blank, app)?;
-    assert_same(&rt, found, Some(8));
-    Ok(())
 }

@@ -6,6 +6,8 @@ mod applications;
 #[cfg(test)]
 mod asserts;
 #[cfg(test)]
+mod attending;
+#[cfg(test)]
 mod broken_files;
 #[cfg(test)]
 mod buffer_waits;
@@ -16,15 +18,27 @@ mod conditions;
 #[cfg(test)]
 mod connections;
 #[cfg(test)]
+mod counting;
+#[cfg(test)]
+mod cuts;
+#[cfg(test)]
 mod desk;
 #[cfg(test)]
 mod edits;
 #[cfg(test)]
 mod faults;
 #[cfg(test)]
+mod gates;
+#[cfg(test)]
+mod gathered_faults;
+#[cfg(test)]
 mod groups;
 #[cfg(test)]
 mod hall;
+#[cfg(test)]
+mod last_reads;
+#[cfg(test)]
+mod lines;
 #[cfg(test)]
 mod load;
 #[cfg(test)]
@@ -41,6 +55,10 @@ mod programs;
 mod queue_sets;
 #[cfg(test)]
 mod queues;
+#[cfg(test)]
+mod read_faults;
+#[cfg(test)]
+mod receipts;
 #[cfg(test)]
 mod refused_buffers;
 #[cfg(test)]
@@ -66,4 +84,8 @@ mod tasks;
 #[cfg(test)]
 mod together;
 #[cfg(test)]
+mod turns;
+#[cfg(test)]
 mod watches;
+#[cfg(test)]
+mod write_faults;

@@ -6,8 +6,7 @@ ghost use Rattle.rd_desk.specs.declared.sessions.TheConstants.{MAX_JOINS};
 
 use crate::asserts::assert_same;
 use crate::connections::{ask, connect, here};
-use crate::desk::line_of;
-use rd_desk::entry::{Event, Receipt};
+use crate::receipts::{Session, all_sessions};
 use rd_desk::limits::Limits;
 use rd_desk::sessions::MAX_JOINS;
 use rd_hall::account::Closed;
@@ -132,7 +131,7 @@ fn run_client<H: Net<Stream = TcpStream> + Wait + Clock + Abort>(
 fn serve_clients<L: Setup + Send + Sync, H>(
     rt: &H,
     alloc: Global,
-    listener: &TcpListener,
+    listener: TcpListener,
     port: u16,
     hall: &Hall<L>,
     passes: Vec<Pass<L>>,
@@ -151,44 +150,8 @@ where
             ));
             assert!(rt; spawned.is_ok(), "there is no thread");
         }
-        serve_net(rt, alloc, listener, hall, passes, &NoGate)
+        serve_net(rt, alloc, listener, hall, passes, NoGate)
     })
-}
-
-// What a session asked, and what it was replied, a line each.
-#[derive(Drop)]
-struct Session {
-    asked: Vec<u8>,
-    replies: Vec<u8>,
-}
-
-fn session_of<H: AllocGlobal>(rt: &H, receipts: &[Receipt]) -> Result<Session, AllocError> {
-    let mut asked = Vec::new(rt.alloc());
-    let mut replies = Vec::new(rt.alloc());
-    for receipt in receipts {
-        if let Event::Ask { command } = &receipt.entry.event {
-            asked.extend_from_slice(command.line())?;
-            asked.push(b'\n')?;
-            let line = line_of(rt, &receipt.entry.reply)?;
-            replies.extend_from_slice(line.as_slice())?;
-        }
-    }
-    Ok(Session { asked, replies })
-}
-
-// What each session asked and was replied. Each of its receipts is the entry at its place.
-fn all_sessions<L: Setup, H: AllocGlobal + Abort>(
-    rt: &H,
-    closed: &Closed<L>,
-) -> Result<Vec<Session>, AllocError> {
-    let mut all = Vec::new(rt.alloc());
-    for gone in closed.gones() {
-        for receipt in gone.receipts() {
-            assert!(rt; closed.history().has(receipt), "a receipt isn't an entry");
-        }
-        all.push(session_of(rt, gone.receipts())?)?;
-    }
-    Ok(all)
 }
 
 // One session asked what the client sent, and the client received just the replies to it.
@@ -224,7 +187,7 @@ fn serve_all<L: Setup + Send + Sync, H>(
     alloc: Global,
     blank: Blank,
     app: App,
-    listener: &TcpListener,
+    listener: TcpListener,
     port: u16,
 ) -> Option<(u32, usize)>
 where
@@ -257,7 +220,7 @@ fn sixty_four_clients(rt: HostRuntime) -> Result<(), Fail> {
     let listener = TcpListener::bind(&rt, here(0))?;
     let port = listener.local_addr()?.port();
     let blank = Blank::new(MAX_JOINS as u64 + 1);
-    let told = serve_all::<Brand, HostRuntime>(&rt, rt.alloc(), blank, app, &listener, port);
+    let told = serve_all::<Brand, HostRuntime>(&rt, rt.alloc(), blank, app, listener, port);
     assert_same(&rt, told, Some((0, 4_032)));
     Ok(())
 }

@@ -3,12 +3,13 @@
 use std::io;
 use std::io::{ErrorKind, Read, Write};
 
-/// Gives `chunk` bytes a read. After `reads` reads it fails.
+/// Gives `chunk` bytes a read. After `reads` reads it fails. It counts the calls, failed ones too.
 #[derive(Drop)]
 pub struct Source<'a> {
     pub rest: &'a [u8],
     pub chunk: usize,
     pub reads: usize,
+    pub calls: usize,
 }
 
 impl<'a> Source<'a> {
@@ -18,12 +19,14 @@ impl<'a> Source<'a> {
             rest: bytes,
             chunk: usize::MAX,
             reads: usize::MAX,
+            calls: 0,
         }
     }
 }
 
 impl Read for Source<'_> {
     fn read(&mut self, buffer: &mut [u8]) -> io::Result<usize> {
+        self.calls = self.calls.saturating_add(1);
         let Some(reads) = self.reads.checked_sub(1) else {
             return Err(io::Error::from(ErrorKind::ConnectionReset));
         };
@@ -32,6 +35,59 @@ impl Read for Source<'_> {
         let (now, later) = self.rest.split_at(count);
         buffer[..count].copy_from_slice(now);
         self.rest = later;
+        Ok(count)
+    }
+}
+
+/// How many bytes the first line of these has, its LF among them.
+pub fn first_len(bytes: &[u8]) -> usize {
+    match bytes.iter().position(|byte| *byte == b'\n') {
+        Some(at) => at.saturating_add(1),
+        None => bytes.len(),
+    }
+}
+
+/// Gives a line a read, or all at once, and counts the calls.
+#[derive(Drop)]
+pub struct LineByLine<'a> {
+    pub rest: &'a [u8],
+    pub calls: usize,
+    pub is_whole: bool,
+}
+
+impl Read for LineByLine<'_> {
+    fn read(&mut self, buffer: &mut [u8]) -> io::Result<usize> {
+        self.calls = self.calls.saturating_add(1);
+        let wanted = if self.is_whole {
+            self.rest.len()
+        } else {
+            first_len(self.rest)
+        };
+        let count = buffer.len().min(wanted).min(self.rest.len());
+        let (now, later) = self.rest.split_at(count);
+        buffer[..count].copy_from_slice(now);
+        self.rest = later;
+        Ok(count)
+    }
+}
+
+/// Gives one of these pieces a read, none of which is longer than the room, and counts the calls.
+/// An empty one is an end of the input, and so is what comes behind the last.
+#[derive(Drop)]
+pub struct Pieces<'a> {
+    pub pieces: &'a [&'a [u8]],
+    pub calls: usize,
+}
+
+impl Read for Pieces<'_> {
+    fn read(&mut self, buffer: &mut [u8]) -> io::Result<usize> {
+        let piece = match self.pieces.get(self.calls) {
+            Some(piece) => *piece,
+            None => &[],
+        };
+        self.calls = self.calls.saturating_add(1);
+        let count = buffer.len().min(piece.len());
+        buffer[..count].copy_from_slice(&piece[..count]);
         Ok(count)
     }
 }
@@ -74,6 +130,43 @@ impl Write for Target {
         self.writes = self.writes.saturating_add(1);
         self.bytes.extend_from_slice(buffer)?;
         Ok(buffer.len())
+    }
+
+    fn flush(&mut self) -> io::Result<()> {
+        Ok(())
+    }
+}
+
+/// Has room for so many bytes, and keeps what is written. It counts the writes, of which each fails
+/// that finds no room.
+#[derive(Drop)]
+pub struct Narrow {
+    pub bytes: Vec<u8>,
+    pub room: usize,
+    pub writes: usize,
+}
+
+impl Narrow {
+    /// Nothing was written yet.
+    pub fn new(bytes: Vec<u8>, room: usize) -> Narrow {
+        Narrow {
+            bytes,
+            room,
+            writes: 0,
+        }
+    }
+}
+
+impl Write for Narrow {
+    fn write(&mut self, buffer: &[u8]) -> io::Result<usize> {
+        self.writes = self.writes.saturating_add(1);
+        let count = buffer.len().min(self.room);
+        if count == 0 {
+            return Err(io::Error::from(ErrorKind::BrokenPipe));
+        }
+        self.bytes.extend_from_slice(&buffer[..count])?;
+        self.room -= count;
+        Ok(count)
     }
 
     fn flush(&mut self) -> io::Result<()> {

@@ -2,6 +2,7 @@
 
 use crate::asserts::assert_same;
 use crate::desk::{assert_enters, open, serve};
+use crate::memory::Narrow;
 use rd_desk::desk::Desk;
 use rd_desk::reply::Reply;
 use rd_ends::over::Over;
@@ -9,36 +10,8 @@ use rd_refusal::refusal::Refusal;
 use rd_reply::reply::Reply as Short;
 use rd_session::render::render;
 use std::alloc::AllocGlobal;
-use std::io;
-use std::io::{ErrorKind, Write};
 use std::process::Abort;
 use std::test::Fail;
-
-// Has room for so many bytes, and keeps what is written. It counts the writes, of which each fails
-// that finds no room.
-#[derive(Drop)]
-struct Narrow {
-    bytes: Vec<u8>,
-    room: usize,
-    writes: usize,
-}
-
-impl Write for Narrow {
-    fn write(&mut self, buffer: &[u8]) -> io::Result<usize> {
-        self.writes = self.writes.saturating_add(1);
-        let count = buffer.len().min(self.room);
-        if count == 0 {
-            return Err(io::Error::from(ErrorKind::BrokenPipe));
-        }
-        self.bytes.extend_from_slice(&buffer[..count])?;
-        self.room -= count;
-        Ok(count)
-    }
-
-    fn flush(&mut self) -> io::Result<()> {
-        Ok(())
-    }
-}
 
 // What is written where there is room for so many bytes, in how many writes, and whether the last
 // of them fails.
@@ -52,14 +25,10 @@ struct Rendered {
 
 // The reply is written so.
 fn assert_rendered<H: AllocGlobal + Abort>(rt: &H, reply: &Reply, wanted: Rendered) {
-    let mut sink = Over::new(Narrow {
-        bytes: Vec::new(rt.alloc()),
-        room: wanted.room,
-        writes: 0,
-    });
+    let mut sink = Over::new(Narrow::new(Vec::new(rt.alloc()), wanted.room));
     let written = render(reply, &mut sink);
     assert_same(rt, written.is_err(), wanted.fails);
-    assert_same(rt, sink.failed, wanted.fails);
+    assert_same(rt, sink.faults, u64::from(wanted.fails));
     assert_same(rt, sink.inner.writes, wanted.writes);
     assert_same(rt, sink.inner.bytes.as_slice(), wanted.text.as_bytes());
 }

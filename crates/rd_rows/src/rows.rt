@@ -4,6 +4,7 @@ use crate::asserts::assert_same;
 use crate::memory::{Source, Target};
 use rd_main::run_main;
 use std::alloc::{AllocError, AllocGlobal, Global};
+use std::io::{Read, Write};
 use std::net::{Net, TcpListener, TcpStream};
 use std::process::Abort;
 use std::rt::Files;
@@ -13,27 +14,27 @@ use std::thread::Threads;
 
 const EMPTY_QUEUE: &str = "queue q0 0/2 items - recv - send - set -\n";
 
-// Runs the program with no words, and fails unless the status is 0 and nothing went to the errors.
-fn run<H>(rt: &H, source: &mut Source<'_>, target: &mut Target)
+/// Runs the program with no words, and fails unless the status is 0 and nothing went to the errors.
+pub fn run<H, R: Read, W: Write>(rt: &H, reader: &mut R, writer: &mut W)
 where
     H: Files + AllocGlobal + Abort + Wait + Sync + Threads,
     H: Net<Listener = TcpListener, Stream = TcpStream>,
 {
     let words: Vec<String> = Vec::new(rt.alloc());
     let mut errors = Vec::new(rt.alloc());
-    let status = run_main(rt, words.as_slice(), source, target, &mut errors);
+    let status = run_main(rt, words.as_slice(), reader, writer, &mut errors);
     assert_same(rt, status, 0);
     assert!(rt; errors.is_empty());
 }
 
-// What the program answers to these bytes.
-fn answers<H>(rt: &H, mut source: Source<'_>) -> Vec<u8>
+/// What the program answers to what a reader gives.
+pub fn answers<H, R: Read>(rt: &H, reader: &mut R) -> Vec<u8>
 where
     H: Files + AllocGlobal + Abort + Wait + Sync + Threads,
     H: Net<Listener = TcpListener, Stream = TcpStream>,
 {
     let mut target = Target::new(Vec::new(rt.alloc()));
-    run(rt, &mut source, &mut target);
+    run(rt, reader, &mut target);
     target.into_bytes()
 }
 
@@ -44,13 +45,24 @@ fn padded_line(alloc: Global, len: usize, end: &[u8]) -> Result<Vec<u8>, AllocEr
     Ok(bytes)
 }
 
-// Lines to the built-in application, and what is answered.
+/// Lines to the built-in application, and what is answered.
 #[derive(Clone, Copy)]
-struct Session {
-    name: &'static str,
-    lines: &'static str,
-    replies: &'static str,
+pub struct Session {
+    pub name: &'static str,
+    pub lines: &'static str,
+    pub replies: &'static str,
 }
+
+/// Moves back to the start, and one too many.
+pub const UNDO_TO_BOOT: Session = Session {
+    name: "undo_to_boot",
+    lines: "step 0\nstep 0\nstep 0\nstep 0\nshow queue q0\nback 4\nshow queue q0\nback 1\n",
+    replies: "ok at 1\nok at 2\nok at 3\nok at 4\n\
+         queue q0 2/2 items 41,41 recv - send - set -\n\
+         ok at 0\n\
+         queue q0 0/2 items - recv - send - set -\n\
+         no TooFar 0\n",
+};
 
 const SESSIONS: [Session; 12] = [
     Session {
@@ -67,15 +79,7 @@ const SESSIONS: [Session; 12] = [
              task t0 core 0 pc 4 phase run regs 0,0,0,0,0,0,0,0 data 41 notes 0:idle\n\
              queue q0 2/2 items 41,41 recv - send - set -\n",
     },
-    Session {
-        name: "undo_to_boot",
-        lines: "step 0\nstep 0\nstep 0\nstep 0\nshow queue q0\nback 4\nshow queue q0\nback 1\n",
-        replies: "ok at 1\nok at 2\nok at 3\nok at 4\n\
-             queue q0 2/2 items 41,41 recv - send - set -\n\
-             ok at 0\n\
-             queue q0 0/2 items - recv - send - set -\n\
-             no TooFar 0\n",
-    },
+    UNDO_TO_BOOT,
     Session {
         name: "an idle core",
         lines: "step 0\nstep 0\nstep 0\nstep 0\nstep 0\nstep 0\nshow task t0\nback 5\nback 1\n",
@@ -142,11 +146,11 @@ where
         lines,
         replies,
     } = session;
-    let whole = answers(rt, Source::new(lines.as_bytes()));
+    let whole = answers(rt, &mut Source::new(lines.as_bytes()));
     assert_eq!(rt; whole.as_slice(), replies.as_bytes(), "in {name}");
     let mut slow = Source::new(lines.as_bytes());
     slow.chunk = 1;
-    let single = answers(rt, slow);
+    let single = answers(rt, &mut slow);
     assert_eq!(rt;
         single.as_slice(),
         replies.as_bytes(),
@@ -217,7 +221,7 @@ where
     let bytes = padded_line(rt.alloc(), len, end.as_bytes())?;
     let mut source = Source::new(bytes.as_slice());
     source.chunk = chunk;
-    let written = answers(rt, source);
+    let written = answers(rt, &mut source);
     assert_eq!(rt;
         written.as_slice(),
         replies.as_bytes(),
@@ -250,7 +254,7 @@ fn many_lines(rt: HostRuntime) -> Result<(), Fail> {
     for chunk in [7, 4096, usize::MAX] {
         let mut source = Source::new(lines.as_slice());
         source.chunk = chunk;
-        let written = answers(&rt, source);
+        let written = answers(&rt, &mut source);
         assert!(rt; written.as_slice() == expected.as_slice(), "{chunk} a read");
     }
     Ok(())
@@ -273,7 +277,7 @@ fn faults(rt: HostRuntime) -> Result<(), Fail> {
     let mut source = Source::new(b"step 0\nstep 0\nstep 0\n");
     source.chunk = 10;
     source.reads = 1;
-    let written = answers(&rt, source);
+    let written = answers(&rt, &mut source);
     assert_same(&rt, written.as_slice(), b"ok at 1\n".as_slice());
 
     let mut source = Source::new(b"step 0\nshow queue q0\nstep 0\n");

@@ -82,14 +82,19 @@ fn forward(rt: HostRuntime) -> Result<(), Fail> {
     assert_rows(&rt, &FORWARD)
 }
 
+/// An edit behind moves that were taken back, to the built-in application, and what is answered.
+pub const EDIT_FORGETS_THE_UNDONE: &str = "step 0\nstep 0\nstep 0\nstep 0\nback 2\nshow moves\n\
+     poke reg t0 0 7\nredo 1\nshow moves\n";
+
+pub const EDIT_FORGETS_THE_UNDONE_REPLIES: &str = "ok at 1\nok at 2\nok at 3\nok at 4\nok at 2\n\
+     moves 2 undone 2\nok at 3\nno NothingUndone\nmoves 3 undone 0\n";
+
 const REDO: [Row; 5] = [
     Row {
         name: "edit_forgets_the_undone",
         app: BUILTIN,
-        commands: "step 0\nstep 0\nstep 0\nstep 0\nback 2\nshow moves\npoke reg t0 0 7\nredo 1\n\
-                   show moves\n",
-        replies: "ok at 1\nok at 2\nok at 3\nok at 4\nok at 2\nmoves 2 undone 2\nok at 3\n\
-                  no NothingUndone\nmoves 3 undone 0\n",
+        commands: EDIT_FORGETS_THE_UNDONE,
+        replies: EDIT_FORGETS_THE_UNDONE_REPLIES,
     },
     Row {
         name: "without the edit",

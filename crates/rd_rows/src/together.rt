@@ -5,12 +5,14 @@ ghost use Rattle.std.specs.Prelude.{◌≡◌, ◌+◌};
 ghost use Rattle.rd_desk.specs.declared.sessions.TheConstants.{MAX_JOINS};
 
 use crate::asserts::assert_same;
+use crate::counting::{CountingGate, TellingWriter};
+use crate::memory::{Narrow, first_len};
 use rd_desk::limits::Limits;
 use rd_desk::sessions::MAX_JOINS;
 use rd_ends::ends::{ReadFault, Source};
 use rd_ends::over::Over;
 use rd_hall::hall::Hall;
-use rd_hall::seat::{Gone, Pass};
+use rd_hall::seat::{Gone, Pass, Seat};
 use rd_hall::setup::Setup;
 use rd_names::app::App;
 use rd_session::buffers::Buffers;
@@ -67,22 +69,30 @@ enum At {
     Reads,
 }
 
-// Session 1 isn't let past its first line until session 2 has answered its own.
+// Session 1 isn't let past its first line until session 2 has answered its own. Each session has a
+// gate of its own, which fails unless it is called in order, and after an answer that is out.
 #[derive(Drop)]
 struct Turns<'a, H> {
     rt: &'a H,
     marks: &'a Marks,
     at: At,
+    counting: CountingGate<'a, H>,
 }
 
 impl<H: Abort + Clock> Gate for Turns<'_, H> {
-    fn before(&self, who: u32, line: u64) {
+    ghost use Rattle.std.specs.Prelude.{None};
+
+    ghost calls = { λ gate. None };
+
+    fn before(&mut self, who: u32, line: u64) {
+        self.counting.before(who, line);
         if self.at == At::Gate && who == 1 && line == 1 {
             wait_for(self.rt, &self.marks.second_answered);
         }
     }
 
-    fn after(&self, who: u32, line: u64) {
+    fn after(&mut self, who: u32, line: u64) {
+        self.counting.after(who, line);
         if who == 2 && line == 1 {
             set(&self.marks.second_answered);
         }
@@ -97,6 +107,7 @@ struct Lines<'a, H> {
     at: At,
     is_first: bool,
     reads: u64,
+    ends: u64,
     rest: &'a [u8],
 }
 
@@ -120,22 +131,22 @@ impl<H: Abort + Clock> Lines<'_, H> {
 }
 
 impl<H: Abort + Clock> Source for Lines<'_, H> {
-    ghost use Rattle.std.specs.Prelude.{None, true, ◌^◌};
+    ghost use Rattle.std.specs.Prelude.{None};
 
-    ghost remaining = { λ l. None };
-
-    ghost reads = { λ l. 2 ^ 63 };
-
-    ghost failed = { λ l. true };
+    ghost seen = { λ l. record {
+      remaining = None;
+      reads = l.reads;
+      ends = l.ends;
+      faults = 0;
+    } };
 
     fn read(&mut self, room: &mut [u8]) -> Result<usize, ReadFault> {
-        self.reads = self.reads.saturating_add(1);
+        self.reads += 1;
         self.wait();
-        let line = match self.rest.iter().position(|byte| *byte == b'\n') {
-            Some(at) => at.saturating_add(1),
-            None => self.rest.len(),
-        };
-        let count = line.min(room.len()).min(self.rest.len());
+        let count = first_len(self.rest).min(room.len()).min(self.rest.len());
+        if count == 0 {
+            self.ends += 1;
+        }
         let (now, later) = self.rest.split_at(count);
         room[..count].copy_from_slice(now);
         self.rest = later;
@@ -143,38 +154,76 @@ impl<H: Abort + Clock> Source for Lines<'_, H> {
     }
 }
 
-// Joins, answers lines, and leaves.
+// Which session it is, and what it asks.
+#[derive(Clone, Copy)]
+struct Client<'a> {
+    is_first: bool,
+    text: &'a [u8],
+}
+
+// Joins once it may, and says so.
+fn enter<L: Setup, H: Wait + Abort + Clock>(
+    rt: &H,
+    hall: &Hall<L>,
+    pass: Pass<L>,
+    marks: &Marks,
+    is_first: bool,
+) -> Option<Seat<L>> {
+    if !is_first {
+        wait_for(rt, &marks.first_joined);
+    }
+    let Ok(seat) = hall.join(rt, pass) else {
+        return None;
+    };
+    if is_first {
+        set(&marks.first_joined);
+    }
+    Some(seat)
+}
+
+// Joins, answers lines, and leaves. All answers have passed the gate by then.
 fn attend<L: Setup, H: Wait + Abort + Clock>(
     rt: &H,
     alloc: Global,
     hall: &Hall<L>,
     pass: Pass<L>,
-    turns: &Turns<'_, H>,
-    is_first: bool,
-    text: &[u8],
+    marks: &Marks,
+    at: At,
+    client: Client<'_>,
 ) -> Option<(Gone<L>, Vec<u8>)> {
     let mut buffers = Buffers::new(alloc).ok()?;
-    if !is_first {
-        wait_for(rt, &turns.marks.first_joined);
-    }
-    let seat = match hall.join(rt, pass) {
-        Ok(seat) => seat,
-        Err(_) => return None,
+    let seat = enter(rt, hall, pass, marks, client.is_first)?;
+    let lines_out = AtomicU64::new(0);
+    let mut turns = Turns {
+        rt,
+        marks,
+        at,
+        counting: CountingGate::new(rt, seat.who(), &lines_out),
     };
-    if is_first {
-        set(&turns.marks.first_joined);
-    }
     let mut lines = Lines {
         rt,
-        marks: turns.marks,
-        at: turns.at,
-        is_first,
+        marks,
+        at,
+        is_first: client.is_first,
         reads: 0,
-        rest: text,
+        ends: 0,
+        rest: client.text,
     };
-    let mut sink = Over::new(Vec::new(alloc));
-    let gone = session(rt, &mut lines, &mut sink, hall, seat, turns, &mut buffers);
-    Some((gone, sink.inner))
+    let mut sink = Over::new(TellingWriter {
+        narrow: Narrow::new(Vec::new(alloc), usize::MAX),
+        lines_out: &lines_out,
+    });
+    let gone = session(
+        rt,
+        &mut lines,
+        &mut sink,
+        hall,
+        seat,
+        &mut turns,
+        &mut buffers,
+    );
+    assert_same(rt, turns.counting.told, 2);
+    Some((gone, sink.inner.narrow.bytes))
 }
 
 // What two sessions were answered, and how many entries the audit has.
@@ -195,32 +244,19 @@ fn attend_both<L: Setup + Send + Sync, H: Threads + Wait + Sync + Abort + Clock>
     at: At,
 ) -> (Option<(Gone<L>, Vec<u8>)>, Option<(Gone<L>, Vec<u8>)>) {
     let marks = Marks::new();
-    let turns = Turns {
-        rt,
-        marks: &marks,
-        at,
+    let shared = &marks;
+    let first = Client {
+        is_first: true,
+        text: b"show moves\nshow wheel\n",
     };
-    let held = &turns;
+    let second = Client {
+        is_first: false,
+        text: b"show wheel\nshow moves\n",
+    };
     thread::join(
         rt,
-        move || attend(
-            rt,
-            alloc,
-            hall,
-            one,
-            held,
-            true,
-            b"show moves\nshow wheel\n",
-        ),
-        move || attend(
-            rt,
-            alloc,
-            hall,
-            two,
-            held,
-            false,
-            b"show wheel\nshow moves\n",
-        ),
+        move || attend(rt, alloc, hall, one, shared, at, first),
+        move || attend(rt, alloc, hall, two, shared, at, second),
     )
 }
 
@@ -286,6 +322,7 @@ fn assert_beside<H: Abort>(rt: &H, told: Option<Told>) {
     assert_same(rt, told.entries, 8);
 }
 
+// Sessions run beside each other: while one is held at its gate, another is answered.
 #[test]
 fn held_at_the_gate(rt: HostRuntime) -> Result<(), Fail> {
     let app = App::builtin(rt.alloc())?;
@@ -295,6 +332,7 @@ fn held_at_the_gate(rt: HostRuntime) -> Result<(), Fail> {
     Ok(())
 }
 
+// No line waits for another session's reads.
 #[test]
 fn held_at_the_reads(rt: HostRuntime) -> Result<(), Fail> {
     let app = App::builtin(rt.alloc())?;

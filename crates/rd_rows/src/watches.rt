@@ -11,14 +11,19 @@ const BUILTIN: &str = concat!(
     r#""send q0 0","end"]}]}"#,
 );
 
+/// A watch, and what is refused, to the built-in application, and what is answered.
+pub const WATCHES: &str = "watch tick > 0\ntick\nshow watches\nback until w0\nunwatch 3\n\
+     wheel give\nstep 9\npoke pc t0 5\n";
+
+pub const WATCHES_REPLIES: &str = "ok watch 0\nok at 1\nwatches 0:holds\nok at 0 start\n\
+     no NoWatch\nno NotHolder\nno NoSuch\nno BadEdit\n";
+
 const ROWS: [Row; 7] = [
     Row {
         name: "watches",
         app: BUILTIN,
-        commands: "watch tick > 0\ntick\nshow watches\nback until w0\nunwatch 3\nwheel give\n\
-                   step 9\npoke pc t0 5\n",
-        replies: "ok watch 0\nok at 1\nwatches 0:holds\nok at 0 start\nno NoWatch\n\
-                  no NotHolder\nno NoSuch\nno BadEdit\n",
+        commands: WATCHES,
+        replies: WATCHES_REPLIES,
     },
     Row {
         name: "a 17th watch",

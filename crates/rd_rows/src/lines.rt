@@ -1,0 +1,62 @@
+//! Lines to the built-in application, one by one: which are commands.
+
+use crate::memory::Source;
+use crate::rows::answers;
+use std::alloc::AllocGlobal;
+use std::net::{Net, TcpListener, TcpStream};
+use std::process::Abort;
+use std::rt::Files;
+use std::sync::Wait;
+use std::test::Fail;
+use std::thread::Threads;
+
+// Bytes that are no command, and bytes that are `step 0`. (A byte of 80 is no text by itself.)
+const NO_COMMANDS: [&[u8]; 9] = [
+    b"step 0\x80\n",
+    b"\x80\n",
+    b"step\xff0\n",
+    b"back 0\n",
+    b"step 4294967296\n",
+    b"step 00000000000\n",
+    b"\n",
+    b" \n",
+    b"\r\n",
+];
+
+const STEPS: [&[u8]; 7] = [
+    b"step 0\n",
+    b"step  0\n",
+    b" step 0 \n",
+    b"step 0000000000\n",
+    b"step 0\r\n",
+    b"  step   0  \r\n",
+    b"step 0",
+];
+
+// Between two lines that are answered, each of these is answered so.
+fn assert_lines<H>(rt: &H, lines: &[&[u8]], replies: &str) -> Result<(), Fail>
+where
+    H: Files + AllocGlobal + Abort + Wait + Sync + Threads,
+    H: Net<Listener = TcpListener, Stream = TcpStream>,
+{
+    for line in lines {
+        let line: &[u8] = *line;
+        let mut script = Vec::from_slice(rt.alloc(), b"step 0\n")?;
+        script.extend_from_slice(line)?;
+        let found = answers(rt, &mut Source::new(script.as_slice()));
+        assert_eq!(rt; found.as_slice(), replies.as_bytes(), "to {line:?}");
+    }
+    Ok(())
+}
+
+// A line is a command exactly where its words spell one; each other is answered `no Syntax`.
+#[test]
+fn no_commands(rt: HostRuntime) -> Result<(), Fail> {
+    assert_lines(&rt, &NO_COMMANDS, "ok at 1\nno Syntax\n")
+}
+
+// Spaces don't matter, nor do zeros in front of a number, nor one CR at the end.
+#[test]
+fn commands(rt: HostRuntime) -> Result<(), Fail> {
+    assert_lines(&rt, &STEPS, "ok at 1\nok at 2\n")
+}
