@@ -1,10 +1,9 @@
 //! Sources and sinks of bytes.
 
-ghost use Rattle.std.specs.Prelude.{◌≡◌, ◌^◌, ◌+◌, ◌<◌, ◌≤◌, ℕ, List, Option, Bool, true};
-ghost use Rattle.std.specs.Prelude.{length, take};
-ghost use Rattle.std.specs.Prelude.{IfOk, OnErr, OnOk};
-ghost use Rattle.std.specs.Io.KnownBytes.{Consumes, IsAtEnd, Keeps};
-ghost use Rattle.rd_ends.specs.Ends.{Says};
+ghost use Rattle.std.specs.Prelude.{◌≡◌, ◌^◌, ◌+◌, ◌<◌, ◌≤◌, length, take, IfOk, OnErr};
+ghost use Rattle.std.specs.Io.KnownBytes.{Appends, Consumes, IsAtEnd, Keeps};
+ghost use Rattle.rd_ends.specs.Ends.{CountsReads, Says, SinkView, SourceView};
+ghost use Rattle.rd_ends.specs.Ends.{ends_after, faults_after};
 
 use thiserror::Error;
 
@@ -20,42 +19,35 @@ pub struct WriteFault;
 
 /// Where bytes come from.
 pub trait Source {
-    /// The bytes that reads will give, where they are known.
-    ghost remaining: { Self → Option (List ℕ) };
-
-    /// How often it was read, if that is less than 2 ^ 63.
-    ghost reads: { Self → ℕ };
-
-    /// Whether a read has failed.
-    ghost failed: { Self → Bool };
+    /// What is known of it: the bytes that reads will give, and what came of those so far.
+    ghost seen: { Self → SourceView };
 
     /// Reads once, into the front of `room`, which isn't empty, and answers how many bytes have
     /// come. None come only at the end. An `Err` says that the read has failed; it takes nothing.
+    /// Fewer than 2 ^ 63 reads were made so far.
     fn read(&mut self, room: &mut [u8]) -> Result<usize, ReadFault>
-        requires { 0 < length room.old }
+        requires room { 0 < length room.old }
+        requires counts { CountsReads (seen self.old) }
         ensures within { IfOk result (λ count. count ≤ length room.new) }
         ensures bytes { IfOk result (λ count.
-            Consumes (remaining self.old) (remaining self.new) (take count room.new)) }
-        ensures end { IfOk result (λ count. count ≡ 0 → IsAtEnd (remaining self.new)) }
-        ensures ok { OnOk result (failed self.new ≡ failed self.old) }
-        ensures err { OnErr result (failed self.new ≡ true) }
-        ensures err_bytes { OnErr result (Keeps (remaining self.old) (remaining self.new)) }
-        ensures counted { reads self.old < 2 ^ 63 → reads self.new ≡ reads self.old + 1 }
-        ensures bound { reads self.new ≤ reads self.old + 1 };
+            Consumes (seen self.old).remaining (seen self.new).remaining (take count room.new)) }
+        ensures end { IfOk result (λ count. count ≡ 0 → IsAtEnd (seen self.new).remaining) }
+        ensures err { OnErr result (Keeps (seen self.old).remaining (seen self.new).remaining) }
+        ensures reads { (seen self.new).reads ≡ (seen self.old).reads + 1 }
+        ensures ends { (seen self.new).ends ≡ ends_after (seen self.old).ends result }
+        ensures faults { (seen self.new).faults ≡ faults_after (seen self.old).faults result };
 }
 
 /// Where bytes go.
 pub trait Sink {
-    /// The bytes that it has taken, where they are known.
-    ghost contents: { Self → Option (List ℕ) };
-
-    /// Whether a write has failed.
-    ghost failed: { Self → Bool };
+    /// What is known of it: the bytes that it was given and has taken, and how many writes failed.
+    ghost seen: { Self → SinkView };
 
     /// Writes all these bytes; none of them is kept back. An `Err` says that the write has failed.
-    /// Then the sink has taken a front of them.
+    /// Then the sink has taken a front of them. Fewer than 2 ^ 63 writes have failed so far.
     fn write(&mut self, bytes: &[u8]) -> Result<(), WriteFault>
-        ensures says { Says (contents self.old) (contents self.new) result bytes.now }
-        ensures ok { OnOk result (failed self.new ≡ failed self.old) }
-        ensures err { OnErr result (failed self.new ≡ true) };
+        requires { (seen self.old).faults < 2 ^ 63 }
+        ensures says { Says (seen self.old).contents (seen self.new).contents result bytes.now }
+        ensures given { Appends (seen self.old).given (seen self.new).given bytes.now }
+        ensures faults { (seen self.new).faults ≡ faults_after (seen self.old).faults result };
 }

@@ -1,6 +1,6 @@
 //! The readers and writers of std as sources and sinks.
 
-ghost use Rattle.std.specs.Prelude.{◌≡◌, ◌<◌, ◌≤◌, false, length, take, IfOk, OnErr, OnOk};
+ghost use Rattle.std.specs.Prelude.{◌≡◌, ◌<◌, ◌≤◌, length, take, None, IfOk, OnErr};
 ghost use Rattle.std.specs.Io.KnownBytes.{Appends, Consumes, IsAtEnd, Keeps};
 ghost use Rattle.rd_ends.specs.Ends.{Says};
 
@@ -12,10 +12,12 @@ use std::io::{ErrorKind, Read, Write};
 pub struct Over<T> {
     /// The reader, or the writer.
     pub inner: T,
-    /// How often it was read, up to `u64::MAX`.
+    /// How often it was read.
     pub reads: u64,
-    /// Whether a call has failed.
-    pub failed: bool,
+    /// How many reads have found the end.
+    pub ends: u64,
+    /// How many calls have failed.
+    pub faults: u64,
 }
 
 impl<T> Over<T> {
@@ -23,42 +25,50 @@ impl<T> Over<T> {
     pub fn new(inner: T) -> Over<T>
         ensures inner { result.inner ≡ inner }
         ensures reads { result.reads ≡ 0 }
-        ensures failed { result.failed ≡ false }
+        ensures ends { result.ends ≡ 0 }
+        ensures faults { result.faults ≡ 0 }
     {
         Over {
             inner,
             reads: 0,
-            failed: false,
+            ends: 0,
+            faults: 0,
         }
     }
 }
 
 impl<R: Read> Source for Over<R> {
-    ghost remaining = { λ over. R.remaining over.inner };
-
-    ghost reads = { λ over. over.reads };
-
-    ghost failed = { λ over. over.failed };
+    ghost seen = { λ over. record {
+      remaining = R.remaining over.inner;
+      reads = over.reads;
+      ends = over.ends;
+      faults = over.faults;
+    } };
 
     fn read(&mut self, room: &mut [u8]) -> Result<usize, ReadFault> {
-        self.reads = self.reads.saturating_add(1);
+        self.reads += 1;
         let count = read_once(&mut self.inner, room);
-        if count.is_err() {
-            self.failed = true;
+        match count {
+            Ok(0) => self.ends += 1,
+            Ok(_) => {}
+            Err(_) => self.faults += 1,
         }
         count
     }
 }
 
 impl<W: Write> Sink for Over<W> {
-    ghost contents = { λ over. W.contents over.inner };
-
-    ghost failed = { λ over. over.failed };
+    // (a writer doesn't tell which bytes it was given and hasn't taken)
+    ghost seen = { λ over. record {
+      contents = W.contents over.inner;
+      given = None;
+      faults = over.faults;
+    } };
 
     fn write(&mut self, bytes: &[u8]) -> Result<(), WriteFault> {
         let written = write_out(&mut self.inner, bytes);
         if written.is_err() {
-            self.failed = true;
+            self.faults += 1;
         }
         written
     }

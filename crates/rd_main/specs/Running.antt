@@ -1,5 +1,6 @@
 -- What the one session of a hall was, and why the program fails once it has begun.
-use Rattle.std.specs.Prelude.{ℕ, ◌≡◌, List, [], ◌∷◌, Bool, Option}
+use Rattle.std.specs.Prelude.{◌≡◌, List, [], ◌∷◌, None}
+use Rattle.rd_ends.specs.Ends.{SinkView, SourceView}
 use Rattle.rd_hall.specs.SeatView.{SeatView}
 use Rattle.rd_session.specs.Hearing.{Attended}
 use Rattle.rd_start.specs.declared.fault.Fault.TheVariants.{NoMemory}
@@ -7,11 +8,11 @@ use Rattle.rd_main.specs.declared.failure.Failure.{Failure}
 use Rattle.rd_main.specs.declared.failure.Failure.TheVariants.{Start, CannotListen, Broken}
 
 -- The one session that a hall had was answered each line that was read.
-pub record AttendedAlone (had has old new : Option (List ℕ)) (read_fault write_fault : Bool)
-    (spent : Type 0) (gones : List SeatView) : Type 0 where
+pub record AttendedAlone (had has : SourceView) (old new : SinkView) (gones : List SeatView)
+    : Type 0 where
   pub gone : SeatView
   pub alone : gones ≡ gone ∷ []
-  pub attended : Attended had has old new read_fault write_fault spent gone
+  pub attended : Attended had has old new None None gone
 
 -- A session by itself fails for this: there is no memory for it, or the history isn't what it was
 -- answered.

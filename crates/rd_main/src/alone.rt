@@ -5,7 +5,7 @@ ghost use Rattle.rd_desk.specs.Debugger.{Debugger, opening};
 ghost use Rattle.rd_desk.specs.Legal.{Leads};
 ghost use Rattle.rd_desk.specs.declared.sessions.TheConstants.{MAX_JOINS};
 ghost use Rattle.rd_hall.specs.Account.{IsAccounted};
-ghost use Rattle.rd_session.specs.Hearing.{AllMade};
+ghost use Rattle.rd_ends.specs.Ends.{IsUnread};
 ghost use Rattle.rd_main.specs.Running.{AttendedAlone, FailsAlone};
 
 use crate::failure::Failure;
@@ -73,6 +73,8 @@ fn begin<L: Setup, H: Wait, S: Source, W: Sink>(
     requires app { app ≡ L.app }
     requires moves { limits.moves ≡ L.most_moves }
     requires entries { limits.history ≡ L.most_entries }
+    requires unread { IsUnread (S.seen source.old) }
+    requires unwritten { (W.seen sink.old).faults ≡ 0 }
     ensures { IfErr result FailsAlone }
 {
     attend::<L, H, S, W>(rt, alloc, blank, app, limits, source, sink, buffers)?;
@@ -81,7 +83,8 @@ fn begin<L: Setup, H: Wait, S: Source, W: Sink>(
 
 /// The one session of a hall, which is opened for it and ended behind it. With an answer the
 /// history is legal from the opening on, the session's receipts are just its entries, and the texts
-/// of its answers to what was read were written. `NoMemory` where there is none for the hall or for
+/// of its answers to what was read were written. Nothing was read of the source yet, and no write
+/// to the sink has failed. `NoMemory` where there is none for the hall or for
 /// the session to join, `Broken` where the history isn't what the session was answered.
 pub fn attend<L: Setup, H: Wait, S: Source, W: Sink>(
     rt: &H,
@@ -98,13 +101,13 @@ pub fn attend<L: Setup, H: Wait, S: Source, W: Sink>(
     requires app { app ≡ L.app }
     requires moves { limits.moves ≡ L.most_moves }
     requires entries { limits.history ≡ L.most_entries }
+    requires unread { IsUnread (S.seen source.old) }
+    requires unwritten { (W.seen sink.old).faults ≡ 0 }
     ensures legal { IfOk result (λ closed.
         (end : Debugger) × Leads (opening L.app L.most_moves) closed.history end) }
     ensures accounted { IfOk result (λ closed. IsAccounted closed.history closed.gones) }
-    ensures attended { IfOk result (λ closed. AttendedAlone (S.remaining source.old)
-        (S.remaining source.new) (W.contents sink.old) (W.contents sink.new)
-        (S.failed source.new) (W.failed sink.new)
-        (AllMade (S.reads source.old) (S.reads source.new)) closed.gones) }
+    ensures attended { IfOk result (λ closed. AttendedAlone (S.seen source.old)
+        (S.seen source.new) (W.seen sink.old) (W.seen sink.new) closed.gones) }
     ensures failures { IfErr result FailsAlone }
 {
     let mut gones = Vec::with_capacity(alloc, 1)?;
@@ -114,7 +117,7 @@ pub fn attend<L: Setup, H: Wait, S: Source, W: Sink>(
         let _ = hall.finish(gones);
         return Err(Failure::from(NoMemory));
     };
-    let gone = session(rt, source, sink, &hall, seat, &NoGate, buffers);
+    let gone = session(rt, source, sink, &hall, seat, &mut NoGate, buffers);
     gones.push_reserved(gone);
     match hall.finish(gones) {
         Ok(closed) => Ok(closed),

@@ -32,7 +32,8 @@ const DONE: u8 = 0;
 /// Runs the program on the words of its command line, without its own name, and answers its exit
 /// status: 0 at the end of all sessions and after help, 2 for a bad command line, 1 where no
 /// session begins for another cause, or where the history isn't what the sessions were answered.
-/// The cause is said in one line on `errors`.
+/// The cause is said in one line on `errors`; so is, with status 0, how many connections have
+/// failed, if some have.
 pub fn run_main<H, R: Read, W: Write, E: Write>(
     handle: &H,
     words: &[String],
@@ -47,7 +48,7 @@ where
     ensures no_words { length words.now ≡ 0 → result ≤ 1 }
     ensures bad_command_line { result ≡ 2 → AreRefused (words_read (map string_bytes words.now)) }
 {
-    match run(handle, words, reader, writer) {
+    match run(handle, words, reader, writer, errors) {
         Ok(()) => DONE,
         Err(failure) => report(errors, &failure),
     }
@@ -77,11 +78,12 @@ fn report<E: Write>(errors: &mut E, failure: &Failure) -> u8
 }
 
 // Does what the words ask for.
-fn run<H, R: Read, W: Write>(
+fn run<H, R: Read, W: Write, E: Write>(
     handle: &H,
     words: &[String],
     reader: &mut R,
     writer: &mut W,
+    errors: &mut E,
 ) -> Result<(), Failure>
 where
     H: Files + AllocGlobal + Wait + Sync + Threads,
@@ -117,6 +119,7 @@ where
                 port,
                 sessions,
                 writer,
+                errors,
             )
         }
         Request::Help { text } => {

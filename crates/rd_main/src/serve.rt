@@ -23,10 +23,10 @@ use std::sync::ledger::Blank;
 use std::thread::Threads;
 
 /// So many sessions over an application, each over a connection to that port of 127.0.0.1. Says
-/// where it listens, and at the end how many entries the history has. `CannotListen` where the port
-/// can't be had, `NoMemory` where there is none to begin, `Broken` where the history isn't what the
-/// sessions were answered.
-pub fn listen<H, W: Write>(
+/// where it listens, and at the end how many entries the history has and, on `errors`, how many
+/// connections have failed, if some have. `CannotListen` where the port can't be had, `NoMemory`
+/// where there is none to begin, `Broken` where the history isn't what the sessions were answered.
+pub fn listen<H, W: Write, E: Write>(
     rt: &H,
     alloc: Global,
     app: App,
@@ -34,17 +34,20 @@ pub fn listen<H, W: Write>(
     port: u16,
     sessions: usize,
     writer: &mut W,
+    errors: &mut E,
 ) -> Result<(), Failure>
 where
     H: Wait + Sync + Threads + Net<Listener = TcpListener, Stream = TcpStream>,
     ensures { IfErr result FailsTogether }
 {
     let blank = Blank::new(MAX_JOINS as u64 + 1);
-    host::<Brand, H, W>(rt, alloc, blank, app, limits, port, sessions, writer)
+    host::<Brand, H, W, E>(
+        rt, alloc, blank, app, limits, port, sessions, writer, errors,
+    )
 }
 
 // Opens a hall, serves its sessions, and ends it.
-fn host<L: Setup + Send + Sync, H, W: Write>(
+fn host<L: Setup + Send + Sync, H, W: Write, E: Write>(
     rt: &H,
     alloc: Global,
     blank: Blank,
@@ -53,6 +56,7 @@ fn host<L: Setup + Send + Sync, H, W: Write>(
     port: u16,
     sessions: usize,
     writer: &mut W,
+    errors: &mut E,
 ) -> Result<(), Failure>
 where
     H: Wait + Sync + Threads + Net<Listener = TcpListener, Stream = TcpStream>,
@@ -66,12 +70,24 @@ where
     let (hall, mut passes) = Hall::<L>::open(alloc, blank, app, limits)?;
     passes.truncate(sessions);
     match serve(rt, alloc, &hall, passes, port, writer) {
-        Ok(served) => close(hall, served.gone, writer),
+        Ok(Served { gone, faults }) => {
+            report_faults(faults, errors);
+            close(hall, gone, writer)
+        }
         Err(failure) => {
             let _ = hall.finish(Vec::new(alloc));
             Err(failure)
         }
     }
+}
+
+// Says how many connections have failed, if some have.
+fn report_faults<E: Write>(faults: u32, errors: &mut E) {
+    let _ = match faults {
+        0 => Ok(()),
+        1 => writeln!(errors, "rdbg: 1 connection failed"),
+        _ => writeln!(errors, "rdbg: {faults} connections failed"),
+    };
 }
 
 // Ends a hall, and says how many entries its history has.
@@ -110,5 +126,5 @@ where
     };
     let _ = writeln!(writer, "listening {port}");
     let _ = writer.flush();
-    Ok(serve_net(rt, alloc, &listener, hall, passes, &NoGate))
+    Ok(serve_net(rt, alloc, listener, hall, passes, NoGate))
 }

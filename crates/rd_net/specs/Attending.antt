@@ -1,14 +1,17 @@
 -- What the session of a connection was.
-use Rattle.std.specs.Prelude.{ℕ, Bool, None}
+use Rattle.std.specs.Prelude.{List, Option}
+use Rattle.rd_ends.specs.Ends.{SinkView, SourceView}
 use Rattle.rd_hall.specs.SeatView.{SeatView}
-use Rattle.rd_session.specs.Hearing.{AllMade, Attended}
+use Rattle.rd_session.specs.Calls.{Call}
+use Rattle.rd_session.specs.Hearing.{Attended}
 
 -- It was answered each line that was read. What a connection has still to give, what it was given,
 -- and whether its reads and writes fail, nobody can say of it.
 pub record AttendedOver (gone : SeatView) : Type 0 where
-  pub read_fault : Bool
-  pub write_fault : Bool
-  pub reads_before : ℕ
-  pub reads_after : ℕ
-  pub attended : Attended None None None None read_fault write_fault
-      (AllMade reads_before reads_after) gone
+  pub had : SourceView
+  pub has : SourceView
+  pub old : SinkView
+  pub new : SinkView
+  pub before : Option (List Call)
+  pub after : Option (List Call)
+  pub attended : Attended had has old new before after gone

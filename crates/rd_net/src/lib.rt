@@ -1,4 +1,6 @@
 //! Sessions over connections.
 #![tactic(auto)]
 
+pub mod caller;
 pub mod net;
+mod table;

@@ -1,10 +1,10 @@
--- Answers that are gathered, one after the other.
-use Rattle.std.proofs.Common.{◌≡◌, ◌∙◌, ℕ, ◌+◌, ◌-◌, List, [], ◌∷◌, ◌++◌, length, refl, ap, subst, sym, arith}
-use Rattle.std.specs.Prelude.{Option, Some, None, Result, Ok, Err, OnErr, OnOk, slice_get, option_map, is_some, IsTrue}
+-- Answers that are gathered, and written many at a time.
+use Rattle.std.proofs.Common.{◌≡◌, ◌∙◌, ℕ, ◌+◌, ◌-◌, ◌<◌, List, [], ◌∷◌, ◌++◌, length, refl, ap, subst, sym, arith}
+use Rattle.std.specs.Prelude.{Option, Some, None, Result, Ok, Err, slice_get, option_map, is_some, IsTrue}
 use Rattle.std.specs.Io.KnownBytes.{Appends}
 use Rattle.std.proofs.lemmas.List.{append_assoc, append-nil, length-append, length_push}
 use Rattle.std.proofs.lemmas.Grind.{flat_map-append}
-use Rattle.rd_ends.specs.Ends.{Says}
+use Rattle.rd_ends.specs.Ends.{IsFront, Says, SinkView}
 use Rattle.rd_ends.proofs.Offered.{Appends-append, Appends-none}
 use Rattle.rd_text.specs.Words.{words_of}
 use Rattle.rd_command.specs.Commands.{CommandView, command_of}
@@ -14,80 +14,25 @@ use Rattle.rd_desk.specs.declared.entry.Event.TheVariants.{Ask}
 use Rattle.rd_desk.specs.declared.entry.Receipt.{Receipt}
 use Rattle.rd_hall.specs.SeatView.{SeatView}
 use Rattle.rd_hall.specs.Seats.{Gains}
+use Rattle.rd_session.specs.BuffersView.{PendingView}
+use Rattle.rd_session.specs.Calls.{Adds, Before, Call, Called}
 use Rattle.rd_session.specs.Lines.{Line, Whole, Long}
 use Rattle.rd_session.specs.Replies.{Answer, Served, Unserved, Syntax, TooLong, refusal_line, refusal_of, reply_line, text}
-use Rattle.rd_session.specs.Answers.{AreAnswers, BreaksOff, Talks, receipt_in, receipts_in, texts, with_all}
-use Rattle.rd_session.specs.Gathering.{Answered, Breaks, Converses, Gathers, Loses, Tells}
+use Rattle.rd_session.specs.Answers.{AreAnswers, BreaksOff, HasNoRoom, IsAnswerTo, Talk, Talks, asked, receipt_in, receipts_in, texts, with_all}
+use Rattle.rd_session.specs.Gathering.{AreOut, Spot, Talking, spot}
+use Rattle.rd_session.proofs.CallLaws.{Adds-none, Called-begun, Called-none, Called-out, Called-same}
 
--- ---- bytes
+-- ---- texts and receipts
 
--- Nothing is written, and the text is pending.
-pub Gathers-kept : (old : Option (List ℕ)) (before more : List ℕ) → Gathers old old before (before ++ more) more
-Gathers-kept old before more = record { written = []; out = Appends-none old; all = refl }
+texts_append : (xs ys : List Answer) → texts (xs ++ ys) ≡ texts xs ++ texts ys
+texts_append xs ys = flat_map-append text xs ys
 
-pub Gathers-none : (old : Option (List ℕ)) (before : List ℕ) → Gathers old old before before []
-Gathers-none old before = record { written = []; out = Appends-none old; all = append-nil before }
+texts_push : (xs : List Answer) (answer : Answer) → texts (xs ++ answer ∷ []) ≡ texts xs ++ text answer
+texts_push xs answer = texts_append xs (answer ∷ []) ∙ ap (λ (bs : List ℕ). texts xs ++ bs) (append-nil (text answer))
 
-pub Gathers-then : (old between new : Option (List ℕ)) (before mid behind xs ys : List ℕ)
-    → Gathers old between before mid xs → Gathers between new mid behind ys → Gathers old new before behind (xs ++ ys)
-Gathers-then old between new before mid behind xs ys one two = record {
-  written = one.written ++ two.written;
-  out = Appends-append old between new _ _ one.out two.out;
-  all = sym (append_assoc before xs ys) ∙ ap (λ (zs : List ℕ). zs ++ ys) one.all ∙ append_assoc one.written mid ys
-      ∙ ap (λ (zs : List ℕ). one.written ++ zs) two.all ∙ sym (append_assoc one.written two.written behind);
-}
-
-pub Loses-then : (old between new : Option (List ℕ)) (before mid xs ys : List ℕ)
-    → Gathers old between before mid xs → Loses between new mid ys → Loses old new before (xs ++ ys)
-Loses-then old between new before mid xs ys one two = record {
-  front = one.written ++ two.front;
-  is_front = (
-    two.is_front.0,
-    sym (append_assoc before xs ys) ∙ ap (λ (zs : List ℕ). zs ++ ys) one.all ∙ append_assoc one.written mid ys
-        ∙ ap (λ (zs : List ℕ). one.written ++ zs) two.is_front.1 ∙ sym (append_assoc one.written two.front two.is_front.0),
-  );
-  out = Appends-append old between new _ _ one.out two.out;
-}
-
--- Nor was more written.
-pub Loses-more : (old new : Option (List ℕ)) (before xs ys : List ℕ) → Loses old new before xs → Loses old new before (xs ++ ys)
-Loses-more old new before xs ys one = record {
-  front = one.front;
-  is_front = (
-    one.is_front.0 ++ ys,
-    sym (append_assoc before xs ys) ∙ ap (λ (zs : List ℕ). zs ++ ys) one.is_front.1 ∙ append_assoc one.front one.is_front.0 ys,
-  );
-  out = one.out;
-}
-
-pub Tells-then : {T E : Type 0} (old between new : Option (List ℕ)) (before mid behind xs ys : List ℕ) (result : Result T E)
-    → Gathers old between before mid xs → Tells between new mid behind result ys → Tells old new before behind result (xs ++ ys)
-Tells-then old between new before mid behind xs ys (Ok done) one two = Gathers-then old between new before mid behind xs ys one two
-Tells-then old between new before mid behind xs ys (Err fault) one two = Loses-then old between new before mid xs ys one two
-
--- All was written, and then a line by itself.
-pub written_then : {T E : Type 0} (old between new : Option (List ℕ)) (before mid line : List ℕ) (result : Result T E)
-    → Gathers old between before mid [] → mid ≡ [] → Says between new result line → Tells old new before mid result line
-written_then old between new before mid line (Ok done) one none two =
-    Gathers-then old between new before mid mid [] line one (subst (λ (m : List ℕ). Gathers between new m m line) (sym none)
-    (record { written = line; out = two; all = sym (append-nil line) }))
-written_then old between new before mid line (Err fault) one none two =
-    Loses-then old between new before mid [] line one (subst (λ (m : List ℕ). Loses between new m line) (sym none)
-    (record { front = two.0; is_front = two.1; out = two.2 }))
-
--- A line is gathered, and all was written.
-pub sent_then : {T E : Type 0} (old between new : Option (List ℕ)) (before mid behind line : List ℕ) (result : Result T E)
-    → Gathers old between before mid line → Tells between new mid behind result [] → Tells old new before behind result line
-sent_then old between new before mid behind line result one two =
-    subst (λ (bs : List ℕ). Tells old new before behind result bs) (append-nil line) (Tells-then old between new before mid behind line [] result one two)
-
--- There was room, and then a line is pending.
-pub kept_then : (old new : Option (List ℕ)) (before mid behind line : List ℕ)
-    → Gathers old new before mid [] → behind ≡ mid ++ line → Gathers old new before behind line
-kept_then old new before mid behind line one is =
-    Gathers-then old new new before mid behind [] line one (subst (λ (bs : List ℕ). Gathers new new mid bs line) (sym is) (Gathers-kept new mid line))
-
--- ---- one line
+no_answers : (xs : List Answer) → length xs ≡ 0 → xs ≡ []
+no_answers [] none = refl
+no_answers (x ∷ xs) none = absurd (omega (arith, none))
 
 last_pushed : {X : Type 0} (xs : List X) (x : X) → slice_get (xs ++ x ∷ []) (length xs) ≡ Some x
 last_pushed [] x = refl
@@ -108,88 +53,61 @@ gained_last xs ys receipt last is at =
     let found : slice_get ys (length ys - 1) ≡ Some receipt = ap (slice_get ys) place ∙ ap (λ (zs : List Receipt). slice_get zs (length xs)) is ∙ last_pushed xs receipt in
     cc
 
-pub answered_served : {T E : Type 0} (line : List ℕ) (command : CommandView) (seat after : SeatView) (last : Receipt) (old new : Option (List ℕ)) (before behind : List ℕ) (result : Result T E)
+gained_nothing : (seat after : SeatView) → after ≡ seat → after ≡ with_all seat []
+gained_nothing seat after same =
+    same ∙ seat_same seat.who seat.receipts (seat.receipts ++ []) seat.share (seat.share + 0) (sym (append-nil seat.receipts)) (omega arith)
+
+gained_more : (seat mid after : SeatView) (xs : List Answer) (answer : Answer) → mid ≡ with_all seat (receipts_in xs) → after ≡ with_all mid (receipt_in answer) → after ≡ with_all seat (receipts_in (xs ++ answer ∷ []))
+gained_more seat mid after xs answer one two =
+    let all : receipts_in (xs ++ answer ∷ []) ≡ receipts_in xs ++ receipt_in answer =
+    flat_map-append receipt_in xs (answer ∷ []) ∙ ap (λ (rs : List Receipt). receipts_in xs ++ rs) (append-nil (receipt_in answer)) in
+    two ∙ ap (λ (s : SeatView). with_all s (receipt_in answer)) one
+    ∙ seat_same seat.who ((seat.receipts ++ receipts_in xs) ++ receipt_in answer) (seat.receipts ++ receipts_in (xs ++ answer ∷ []))
+    ((seat.share + length (receipts_in xs)) + length (receipt_in answer)) (seat.share + length (receipts_in (xs ++ answer ∷ [])))
+    (append_assoc seat.receipts (receipts_in xs) (receipt_in answer) ∙ ap (λ (rs : List Receipt). seat.receipts ++ rs) (sym all))
+    (omega (arith, ap length all, length-append (receipts_in xs) (receipt_in answer)))
+
+-- ---- the answer to one line
+
+-- what is known of an answer: to which line it is, and what the seat has by it
+pub record Answers (line : Line) (seat after : SeatView) (said : List ℕ) : Type 0 where
+  pub answer : Answer
+  pub to_line : IsAnswerTo line answer
+  pub gained : after ≡ with_all seat (receipt_in answer)
+  pub says : text answer ≡ said
+
+pub answer_served : (line : List ℕ) (command : CommandView) (seat after : SeatView) (last : Receipt)
     → command_of (words_of line) ≡ Some command → (receipt : Receipt) × Gains seat (Ask command) after receipt → slice_get after.receipts (length after.receipts - 1) ≡ Some last
-    → Tells old new before behind result (reply_line last.entry.reply) → Answered (Whole line) seat after old new before behind result
-answered_served line command seat after last old new before behind result is gains at tells =
+    → Answers (Whole line) seat after (reply_line last.entry.reply)
+answer_served line command seat after last is gains at =
     let receipt = gains.0 in
     let same : last ≡ receipt = gained_last seat.receipts after.receipts receipt last (ap (λ (s : SeatView). s.receipts) gains.1.after) at in
     record {
       answer = Served receipt;
       to_line = ap (option_map Ask) is ∙ ap (λ (e : Event). Some e) (sym gains.1.event);
       gained = gains.1.after ∙ seat_same seat.who (seat.receipts ++ receipt ∷ []) (seat.receipts ++ receipt ∷ []) (seat.share + 1) (seat.share + length (receipt ∷ [])) refl (omega arith);
-      told = subst (λ (r : Receipt). Tells old new before behind result (reply_line r.entry.reply)) same tells;
+      says = ap (λ (r : Receipt). reply_line r.entry.reply) (sym same);
     }
 
-gained_nothing : (seat after : SeatView) → after ≡ seat → after ≡ with_all seat []
-gained_nothing seat after same =
-    same ∙ seat_same seat.who seat.receipts (seat.receipts ++ []) seat.share (seat.share + 0) (sym (append-nil seat.receipts)) (omega arith)
-
-pub answered_refused : {T E : Type 0} (line : List ℕ) (command : CommandView) (seat after : SeatView) (error : NotServed) (old new : Option (List ℕ)) (before behind : List ℕ) (result : Result T E)
-    → command_of (words_of line) ≡ Some command → after ≡ seat → Tells old new before behind result (refusal_line (refusal_of error)) → Answered (Whole line) seat after old new before behind result
-answered_refused line command seat after error old new before behind result is same tells = record {
+pub answer_refused : (line : List ℕ) (command : CommandView) (seat after : SeatView) (error : NotServed)
+    → command_of (words_of line) ≡ Some command → after ≡ seat → Answers (Whole line) seat after (refusal_line (refusal_of error))
+answer_refused line command seat after error is same = record {
   answer = Unserved error;
   to_line = subst (λ (o : Option CommandView). IsTrue (is_some (option_map Ask o))) (sym is) refl;
   gained = gained_nothing seat after same;
-  told = tells;
+  says = refl;
 }
 
-pub answered_syntax : {T E : Type 0} (line : List ℕ) (seat : SeatView) (old new : Option (List ℕ)) (before behind : List ℕ) (result : Result T E)
-    → command_of (words_of line) ≡ None → Tells old new before behind result (text Syntax) → Answered (Whole line) seat seat old new before behind result
-answered_syntax line seat old new before behind result is tells = record {
+pub answer_syntax : (line : List ℕ) (seat : SeatView) → command_of (words_of line) ≡ None → Answers (Whole line) seat seat (text Syntax)
+answer_syntax line seat is = record {
   answer = Syntax;
   to_line = ap (option_map Ask) is;
   gained = gained_nothing seat seat refl;
-  told = tells;
+  says = refl;
 }
 
--- a line was answered, and so the only one
-pub one_line : {T E : Type 0} (line : Line) (seat after : SeatView) (old new : Option (List ℕ)) (before behind : List ℕ) (result : Result T E)
-    → Answered line seat after old new before behind result
-    → OnOk result (Converses (line ∷ []) seat after old new before behind) × OnErr result (Breaks (line ∷ []) seat after old new before)
-one_line line seat after old new before behind (Ok done) answered = (
-  record {
-    answers = answered.answer ∷ [];
-    each = (answered.to_line, tt);
-    gained = answered.gained ∙ ap (λ (rs : List Receipt). with_all seat rs) (sym (append-nil (receipt_in answered.answer)));
-    told = subst (λ (bs : List ℕ). Gathers old new before behind bs) (sym (append-nil (text answered.answer))) answered.told;
-  },
-  tt,
-)
-one_line line seat after old new before behind (Err fault) answered = (
-  tt,
-  record {
-    heard = line ∷ [];
-    rest = [];
-    lines_are = refl;
-    answers = answered.answer ∷ [];
-    each = (answered.to_line, tt);
-    gained = answered.gained ∙ ap (λ (rs : List Receipt). with_all seat rs) (sym (append-nil (receipt_in answered.answer)));
-    lost = subst (λ (bs : List ℕ). Loses old new before bs) (sym (append-nil (text answered.answer))) answered.told;
-  },
-)
-
-pub long_told : (seat : SeatView) (old new : Option (List ℕ)) (before behind : List ℕ) → Gathers old new before behind (text TooLong) → behind ≡ []
-    → Converses (Long ∷ []) seat seat old new before []
-long_told seat old new before behind told none = record {
-  answers = TooLong ∷ [];
-  each = (tt, tt);
-  gained = gained_nothing seat seat refl;
-  told = subst (λ (bs : List ℕ). Gathers old new before bs (text TooLong)) none told;
-}
-
-pub long_lost : (seat : SeatView) (old new : Option (List ℕ)) (before : List ℕ) → Loses old new before (text TooLong) → Breaks (Long ∷ []) seat seat old new before
-long_lost seat old new before lost = record {
-  heard = Long ∷ [];
-  rest = [];
-  lines_are = refl;
-  answers = TooLong ∷ [];
-  each = (tt, tt);
-  gained = gained_nothing seat seat refl;
-  lost = lost;
-}
-
--- ---- one line after the other
+pub answer_long : (seat : SeatView) → Answers Long seat seat (text TooLong)
+answer_long seat = record { answer = TooLong; to_line = tt; gained = gained_nothing seat seat refl; says = refl }
 
 AreAnswers-append : (xs ys : List Line) (as' bs : List Answer) → AreAnswers xs as' → AreAnswers ys bs → AreAnswers (xs ++ ys) (as' ++ bs)
 AreAnswers-append [] ys [] bs one two = two
@@ -197,93 +115,212 @@ AreAnswers-append [] ys (a ∷ as') bs one two = absurd one
 AreAnswers-append (x ∷ xs) ys [] bs one two = absurd one
 AreAnswers-append (x ∷ xs) ys (a ∷ as') bs one two = (one.0, AreAnswers-append xs ys as' bs one.1 two)
 
-gained_more : (seat mid after : SeatView) (xs ys : List Answer) → mid ≡ with_all seat (receipts_in xs) → after ≡ with_all mid (receipts_in ys) → after ≡ with_all seat (receipts_in (xs ++ ys))
-gained_more seat mid after xs ys one two =
-    let all : receipts_in (xs ++ ys) ≡ receipts_in xs ++ receipts_in ys = flat_map-append receipt_in xs ys in
-    two ∙ ap (λ (s : SeatView). with_all s (receipts_in ys)) one
-    ∙ seat_same seat.who ((seat.receipts ++ receipts_in xs) ++ receipts_in ys) (seat.receipts ++ receipts_in (xs ++ ys))
-    ((seat.share + length (receipts_in xs)) + length (receipts_in ys)) (seat.share + length (receipts_in (xs ++ ys)))
-    (append_assoc seat.receipts (receipts_in xs) (receipts_in ys) ∙ ap (λ (rs : List Receipt). seat.receipts ++ rs) (sym all))
-    (omega (arith, ap length all, length-append (receipts_in xs) (receipts_in ys)))
+-- ---- where a session is, one step after the other
 
-pub Converses-none : (seat : SeatView) (old : Option (List ℕ)) (before : List ℕ) → Converses [] seat seat old old before before
-Converses-none seat old before = record { answers = []; each = tt; gained = gained_nothing seat seat refl; told = Gathers-none old before }
-
-pub Converses-then : (xs ys : List Line) (seat mid after : SeatView) (old between new : Option (List ℕ)) (before amid behind : List ℕ)
-    → Converses xs seat mid old between before amid → Converses ys mid after between new amid behind → Converses (xs ++ ys) seat after old new before behind
-Converses-then xs ys seat mid after old between new before amid behind one two = record {
-  answers = one.answers ++ two.answers;
-  each = AreAnswers-append xs ys one.answers two.answers one.each two.each;
-  gained = gained_more seat mid after one.answers two.answers one.gained two.gained;
-  told = subst (λ (bs : List ℕ). Gathers old new before behind bs) (sym (flat_map-append text one.answers two.answers)) (Gathers-then old between new before amid behind _ _ one.told two.told);
+pub Talking-new : (start : Talk) (pending : PendingView) → pending.bytes ≡ [] → pending.begun ≡ 0 → pending.out ≡ 0 → Talking start [] [] (record { talk = start; pending = pending })
+Talking-new start pending bytes begun out = record {
+  answers = [];
+  told = [];
+  waiting = [];
+  split = refl;
+  each = tt;
+  gained = gained_nothing start.seat start.seat refl;
+  out = Appends-none start.sink.contents;
+  given = Appends-none start.sink.given;
+  faults = refl;
+  gathered = bytes;
+  begun_is = begun;
+  out_is = out;
+  called = Called-none start.seat.who start.calls;
 }
 
-pub Breaks-then : (xs ys : List Line) (seat mid after : SeatView) (old between new : Option (List ℕ)) (before amid : List ℕ)
-    → Converses xs seat mid old between before amid → Breaks ys mid after between new amid → Breaks (xs ++ ys) seat after old new before
-Breaks-then xs ys seat mid after old between new before amid one two = record {
-  heard = xs ++ two.heard;
-  rest = two.rest;
-  lines_are = ap (λ (ls : List Line). xs ++ ls) two.lines_are ∙ sym (append_assoc xs two.heard two.rest);
-  answers = one.answers ++ two.answers;
-  each = AreAnswers-append xs two.heard one.answers two.answers one.each two.each;
-  gained = gained_more seat mid after one.answers two.answers one.gained two.gained;
-  lost = subst (λ (bs : List ℕ). Loses old new before bs) (sym (flat_map-append text one.answers two.answers)) (Loses-then old between new before amid _ _ one.told two.lost);
+-- a line was begun, and this is its answer
+pub Talking-begun : (who : ℕ) (start : Talk) (heard : List Line) (seat after : SeatView) (line : Line) (answer : Answer) (sink : SinkView) (calls calls' : Option (List Call)) (pending pending' : PendingView) (number : ℕ)
+    → start.seat.who ≡ who → IsAnswerTo line answer → after ≡ with_all seat (receipt_in answer)
+    → Adds calls calls' (Before who number ∷ []) → number ≡ pending.begun + 1 → pending'.bytes ≡ pending.bytes → pending'.begun ≡ pending.begun + 1 → pending'.out ≡ pending.out
+    → Talking start heard [] (spot seat sink calls pending) → Talking start (heard ++ line ∷ []) (answer ∷ []) (spot after sink calls' pending')
+Talking-begun who start heard seat after line answer sink calls calls' pending pending' number is to_line gained added number_is bytes begun out t = record {
+  answers = t.answers ++ answer ∷ [];
+  told = t.told;
+  waiting = t.waiting;
+  split = ap (λ (l : List Answer). l ++ answer ∷ []) (t.split ∙ append-nil (t.told ++ t.waiting));
+  each = AreAnswers-append heard (line ∷ []) t.answers (answer ∷ []) t.each (to_line, tt);
+  gained = gained_more start.seat seat after t.answers answer t.gained gained;
+  out = t.out;
+  given = t.given;
+  faults = t.faults;
+  gathered = bytes ∙ t.gathered;
+  begun_is = omega (arith, begun, t.begun_is, length_push t.answers answer);
+  out_is = out ∙ t.out_is;
+  called = Called-begun start.seat.who start.calls calls calls' number (length t.answers) (length (t.answers ++ answer ∷ [])) (length t.told) t.called
+      (subst (λ (w : ℕ). Adds calls calls' (Before w number ∷ [])) (sym is) added) (omega (arith, number_is, t.begun_is)) (length_push t.answers answer);
 }
+
+-- a text was gathered
+pub Talking-gathered : (start : Talk) (heard : List Line) (seat : SeatView) (answer : Answer) (line : List ℕ) (sink : SinkView) (calls : Option (List Call)) (pending pending' : PendingView)
+    → text answer ≡ line → pending'.bytes ≡ pending.bytes ++ line → pending'.begun ≡ pending.begun → pending'.out ≡ pending.out
+    → Talking start heard (answer ∷ []) (spot seat sink calls pending) → Talking start heard [] (spot seat sink calls pending')
+Talking-gathered start heard seat answer line sink calls pending pending' says bytes begun out t = record {
+  answers = t.answers;
+  told = t.told;
+  waiting = t.waiting ++ answer ∷ [];
+  split = t.split ∙ append_assoc t.told t.waiting (answer ∷ []) ∙ sym (append-nil (t.told ++ (t.waiting ++ answer ∷ [])));
+  each = t.each;
+  gained = t.gained;
+  out = t.out;
+  given = t.given;
+  faults = t.faults;
+  gathered = bytes ∙ ap (λ (bs : List ℕ). bs ++ line) t.gathered ∙ ap (λ (bs : List ℕ). texts t.waiting ++ bs) (sym says) ∙ sym (texts_push t.waiting answer);
+  begun_is = begun ∙ t.begun_is;
+  out_is = out ∙ t.out_is;
+  called = t.called;
+}
+
+-- these bytes were taken behind those
+taken : (old between new : Option (List ℕ)) (xs ys : List Answer) (bytes : List ℕ) → Appends old between (texts xs) → Appends between new bytes → bytes ≡ texts ys → Appends old new (texts (xs ++ ys))
+taken old between new xs ys bytes one two is =
+    subst (λ (bs : List ℕ). Appends old new bs) (ap (λ (bs : List ℕ). texts xs ++ bs) is ∙ sym (texts_append xs ys)) (Appends-append old between new (texts xs) bytes one two)
+
+-- all that was gathered is written
+pub Talking-flushed : (who upto : ℕ) (start : Talk) (heard : List Line) (unsaid : List Answer) (seat : SeatView) (sink sink' : SinkView) (calls calls' : Option (List Call)) (pending pending' : PendingView)
+    → start.seat.who ≡ who → upto + length unsaid ≡ pending.begun
+    → Appends sink.contents sink'.contents pending.bytes → Appends sink.given sink'.given pending.bytes → sink'.faults ≡ sink.faults → AreOut who pending.out upto calls calls'
+    → pending'.bytes ≡ [] → pending'.begun ≡ pending.begun → pending'.out ≡ upto
+    → Talking start heard unsaid (spot seat sink calls pending) → Talking start heard unsaid (spot seat sink' calls' pending')
+Talking-flushed who upto start heard unsaid seat sink sink' calls calls' pending pending' is all contents given faults outs bytes begun out t =
+    let sum : length t.answers ≡ length (t.told ++ t.waiting) + length unsaid = ap length t.split ∙ length-append (t.told ++ t.waiting) unsaid in
+    let reached : upto ≡ length (t.told ++ t.waiting) = omega (arith, sum, all, t.begun_is) in
+    record {
+      answers = t.answers;
+      told = t.told ++ t.waiting;
+      waiting = [];
+      split = t.split ∙ ap (λ (l : List Answer). l ++ unsaid) (sym (append-nil (t.told ++ t.waiting)));
+      each = t.each;
+      gained = t.gained;
+      out = taken start.sink.contents sink.contents sink'.contents t.told t.waiting pending.bytes t.out contents t.gathered;
+      given = taken start.sink.given sink.given sink'.given t.told t.waiting pending.bytes t.given given t.gathered;
+      faults = faults ∙ t.faults;
+      gathered = bytes;
+      begun_is = begun ∙ t.begun_is;
+      out_is = out ∙ reached;
+      called = Called-out start.seat.who start.calls calls calls' pending.out upto (length t.answers) (length t.told) (length (t.told ++ t.waiting)) t.called
+          (subst (λ (w : ℕ). AreOut w pending.out upto calls calls') (sym is) outs) t.out_is reached (omega (arith, sum));
+    }
+
+-- nothing waits, and a text was written by itself
+pub Talking-alone : (who : ℕ) (start : Talk) (heard : List Line) (seat : SeatView) (answer : Answer) (line : List ℕ) (sink sink' : SinkView) (calls calls' : Option (List Call)) (pending pending' : PendingView)
+    → start.seat.who ≡ who → text answer ≡ line → pending.bytes ≡ []
+    → Appends sink.contents sink'.contents line → Appends sink.given sink'.given line → sink'.faults ≡ sink.faults → AreOut who pending.out pending.begun calls calls'
+    → pending'.bytes ≡ [] → pending'.begun ≡ pending.begun → pending'.out ≡ pending.begun
+    → Talking start heard (answer ∷ []) (spot seat sink calls pending) → Talking start heard [] (spot seat sink' calls' pending')
+Talking-alone who start heard seat answer line sink sink' calls calls' pending pending' is says none contents given faults outs bytes begun out t =
+    let nothing : texts (t.told ++ t.waiting) ≡ texts t.told = texts_append t.told t.waiting ∙ ap (λ (bs : List ℕ). texts t.told ++ bs) (sym t.gathered ∙ none) ∙ append-nil (texts t.told) in
+    let one : line ≡ texts (answer ∷ []) = sym says ∙ sym (append-nil (text answer)) in
+    record {
+      answers = t.answers;
+      told = (t.told ++ t.waiting) ++ answer ∷ [];
+      waiting = [];
+      split = t.split ∙ sym (append-nil ((t.told ++ t.waiting) ++ answer ∷ [])) ∙ sym (append-nil (((t.told ++ t.waiting) ++ answer ∷ []) ++ []));
+      each = t.each;
+      gained = t.gained;
+      out = taken start.sink.contents sink.contents sink'.contents (t.told ++ t.waiting) (answer ∷ []) line (subst (λ (bs : List ℕ). Appends start.sink.contents sink.contents bs) (sym nothing) t.out) contents one;
+      given = taken start.sink.given sink.given sink'.given (t.told ++ t.waiting) (answer ∷ []) line (subst (λ (bs : List ℕ). Appends start.sink.given sink.given bs) (sym nothing) t.given) given one;
+      faults = faults ∙ t.faults;
+      gathered = bytes;
+      begun_is = begun ∙ t.begun_is;
+      out_is = out ∙ t.begun_is ∙ ap length t.split;
+      called = Called-out start.seat.who start.calls calls calls' pending.out pending.begun (length t.answers) (length t.told) (length ((t.told ++ t.waiting) ++ answer ∷ [])) t.called
+          (subst (λ (w : ℕ). AreOut w pending.out pending.begun calls calls') (sym is) outs) t.out_is (t.begun_is ∙ ap length t.split) (omega (arith, ap length t.split));
+    }
+
+-- ---- a write has failed
+
+-- It was given all that was gathered.
+pub Talking-lost : (start : Talk) (heard : List Line) (unsaid : List Answer) (seat : SeatView) (sink sink' : SinkView) (calls : Option (List Call)) (pending : PendingView)
+    → HasNoRoom pending.bytes unsaid → (front : List ℕ) × IsFront front pending.bytes × Appends sink.contents sink'.contents front → Appends sink.given sink'.given pending.bytes
+    → sink'.faults ≡ sink.faults + 1
+    → Talking start heard unsaid (spot seat sink calls pending) → BreaksOff heard start (record { seat = seat; sink = sink'; calls = calls })
+Talking-lost start heard unsaid seat sink sink' calls pending room says given faults t = record {
+  heard = heard;
+  rest = [];
+  lines_are = sym (append-nil heard);
+  told = t.told;
+  lost = t.waiting;
+  unsaid = unsaid;
+  no_room = subst (λ (bs : List ℕ). HasNoRoom bs unsaid) t.gathered room;
+  each = subst (λ (l : List Answer). AreAnswers heard l) t.split t.each;
+  gained = t.gained ∙ ap (λ (l : List Answer). with_all start.seat (receipts_in l)) t.split;
+  front = says.0;
+  is_front = subst (λ (bs : List ℕ). IsFront says.0 bs) t.gathered says.1;
+  out = Appends-append start.sink.contents sink.contents sink'.contents (texts t.told) says.0 t.out says.2;
+  given = taken start.sink.given sink.given sink'.given t.told t.waiting pending.bytes t.given given t.gathered;
+  faults = omega (arith, faults, t.faults);
+  called = Called-same start.seat.who start.calls calls (length t.answers) (length ((t.told ++ t.waiting) ++ unsaid)) (length t.told) (length t.told) t.called (ap length t.split) refl;
+}
+
+-- It was given a text by itself, where nothing waits.
+pub Talking-lost_alone : (start : Talk) (heard : List Line) (seat : SeatView) (answer : Answer) (line : List ℕ) (sink sink' : SinkView) (calls : Option (List Call)) (pending : PendingView)
+    → text answer ≡ line → pending.bytes ≡ [] → pending.out + 1 ≡ pending.begun
+    → (front : List ℕ) × IsFront front line × Appends sink.contents sink'.contents front → Appends sink.given sink'.given line → sink'.faults ≡ sink.faults + 1
+    → Talking start heard (answer ∷ []) (spot seat sink calls pending) → BreaksOff heard start (record { seat = seat; sink = sink'; calls = calls })
+Talking-lost_alone start heard seat answer line sink sink' calls pending says none counts fails given faults t =
+    let sum : length t.answers ≡ length (t.told ++ t.waiting) + 1 = ap length t.split ∙ length_push (t.told ++ t.waiting) answer in
+    let nobody : t.waiting ≡ [] = no_answers t.waiting (omega (arith, sum, length-append t.told t.waiting, counts, t.begun_is, t.out_is)) in
+    let split : t.answers ≡ (t.told ++ answer ∷ []) ++ [] =
+    t.split ∙ ap (λ (l : List Answer). (t.told ++ l) ++ answer ∷ []) nobody ∙ ap (λ (l : List Answer). l ++ answer ∷ []) (append-nil t.told) ∙ sym (append-nil (t.told ++ answer ∷ [])) in
+    let one : line ≡ texts (answer ∷ []) = sym says ∙ sym (append-nil (text answer)) in
+    record {
+      heard = heard;
+      rest = [];
+      lines_are = sym (append-nil heard);
+      told = t.told;
+      lost = answer ∷ [];
+      unsaid = [];
+      no_room = tt;
+      each = subst (λ (l : List Answer). AreAnswers heard l) split t.each;
+      gained = t.gained ∙ ap (λ (l : List Answer). with_all start.seat (receipts_in l)) split;
+      front = fails.0;
+      is_front = subst (λ (bs : List ℕ). IsFront fails.0 bs) one fails.1;
+      out = Appends-append start.sink.contents sink.contents sink'.contents (texts t.told) fails.0 t.out fails.2;
+      given = taken start.sink.given sink.given sink'.given t.told (answer ∷ []) line t.given given one;
+      faults = omega (arith, faults, t.faults);
+      called = Called-same start.seat.who start.calls calls (length t.answers) (length ((t.told ++ answer ∷ []) ++ [])) (length t.told) (length t.told) t.called (ap length split) refl;
+    }
 
 -- lines that nobody came to
-pub Breaks-more : (xs ys : List Line) (seat after : SeatView) (old new : Option (List ℕ)) (before : List ℕ) → Breaks xs seat after old new before → Breaks (xs ++ ys) seat after old new before
-Breaks-more xs ys seat after old new before off = record {
+pub BreaksOff-more : (xs ys : List Line) (old new : Talk) → BreaksOff xs old new → BreaksOff (xs ++ ys) old new
+BreaksOff-more xs ys old new off = record {
   heard = off.heard;
   rest = off.rest ++ ys;
   lines_are = ap (λ (ls : List Line). ls ++ ys) off.lines_are ∙ append_assoc off.heard off.rest ys;
-  answers = off.answers;
-  each = off.each;
-  gained = off.gained;
+  told = off.told;
   lost = off.lost;
-}
-
--- what is pending was written too
-pub Converses-sent : (lines : List Line) (seat after : SeatView) (old between new : Option (List ℕ)) (before amid behind : List ℕ)
-    → Converses lines seat after old between before amid → Gathers between new amid behind [] → Converses lines seat after old new before behind
-Converses-sent lines seat after old between new before amid behind one two = record {
-  answers = one.answers;
-  each = one.each;
-  gained = one.gained;
-  told = subst (λ (bs : List ℕ). Gathers old new before behind bs) (append-nil (texts one.answers)) (Gathers-then old between new before amid behind (texts one.answers) [] one.told two);
-}
-
--- it wasn't
-pub Breaks-sent : (lines : List Line) (seat after : SeatView) (old between new : Option (List ℕ)) (before amid : List ℕ)
-    → Converses lines seat after old between before amid → Loses between new amid [] → Breaks lines seat after old new before
-Breaks-sent lines seat after old between new before amid one two = record {
-  heard = lines;
-  rest = [];
-  lines_are = sym (append-nil lines);
-  answers = one.answers;
-  each = one.each;
-  gained = one.gained;
-  lost = subst (λ (bs : List ℕ). Loses old new before bs) (append-nil (texts one.answers)) (Loses-then old between new before amid (texts one.answers) [] one.told two);
-}
-
--- ---- with nothing pending
-
-pub Talks-of : (lines : List Line) (seat after : SeatView) (old new : Option (List ℕ)) → Converses lines seat after old new [] [] → Talks lines seat after old new
-Talks-of lines seat after old new all = record {
-  answers = all.answers;
-  each = all.each;
-  gained = all.gained;
-  out = subst (λ (bs : List ℕ). Appends old new bs) (sym (all.told.all ∙ append-nil all.told.written)) all.told.out;
-}
-
-pub BreaksOff-of : (lines : List Line) (seat after : SeatView) (old new : Option (List ℕ)) → Breaks lines seat after old new [] → BreaksOff lines seat after old new
-BreaksOff-of lines seat after old new off = record {
-  heard = off.heard;
-  rest = off.rest;
-  lines_are = off.lines_are;
-  answers = off.answers;
+  unsaid = off.unsaid;
+  no_room = off.no_room;
   each = off.each;
   gained = off.gained;
-  front = off.lost.front;
-  is_front = off.lost.is_front;
-  out = off.lost.out;
+  front = off.front;
+  is_front = off.is_front;
+  out = off.out;
+  given = off.given;
+  faults = off.faults;
+  called = off.called;
 }
+
+-- ---- all is written
+
+pub Talks-of : (heard : List Line) (start : Talk) (now : Spot) → now.pending.out ≡ now.pending.begun → Talking start heard [] now → Talks heard start now.talk
+Talks-of heard start now all t =
+    let sum : length t.answers ≡ length (t.told ++ t.waiting) + 0 = ap length t.split ∙ length-append (t.told ++ t.waiting) [] in
+    let nobody : t.waiting ≡ [] = no_answers t.waiting (omega (arith, sum, length-append t.told t.waiting, all, t.begun_is, t.out_is)) in
+    let same : t.told ≡ t.answers =
+    sym (t.split ∙ append-nil (t.told ++ t.waiting) ∙ ap (λ (l : List Answer). t.told ++ l) nobody ∙ append-nil t.told) in
+    record {
+      answers = t.answers;
+      each = t.each;
+      gained = t.gained;
+      out = subst (λ (l : List Answer). Appends start.sink.contents now.talk.sink.contents (texts l)) same t.out;
+      given = subst (λ (l : List Answer). Appends start.sink.given now.talk.sink.given (texts l)) same t.given;
+      faults = t.faults;
+      called = Called-same start.seat.who start.calls now.talk.calls (length t.answers) (length t.answers) (length t.told) (length t.answers) t.called refl (ap length same);
+    }

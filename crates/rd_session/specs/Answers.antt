@@ -1,15 +1,16 @@
 -- The answers to lines, and what was written of them.
-use Rattle.std.specs.Prelude.{ℕ, ◌≡◌, ◌+◌, List, [], ◌∷◌, ◌++◌, Option, Some, None, is_some, length}
-use Rattle.std.specs.Prelude.{IsTrue, option_map}
+use Rattle.std.specs.Prelude.{ℕ, ◌≡◌, ◌+◌, ◌<◌, List, [], ◌∷◌, ◌++◌, Option, Some, None, is_some}
+use Rattle.std.specs.Prelude.{length, IsTrue, option_map}
 use Rattle.std.specs.List.{flat_map}
 use Rattle.std.specs.Io.KnownBytes.{Appends}
-use Rattle.rd_ends.specs.Ends.{IsFront}
+use Rattle.rd_ends.specs.Ends.{IsFront, SinkView}
 use Rattle.rd_text.specs.Words.{words_of}
 use Rattle.rd_command.specs.Commands.{command_of}
 use Rattle.rd_desk.specs.declared.entry.Event.{Event}
 use Rattle.rd_desk.specs.declared.entry.Event.TheVariants.{Ask}
 use Rattle.rd_desk.specs.declared.entry.Receipt.{Receipt}
 use Rattle.rd_hall.specs.SeatView.{SeatView}
+use Rattle.rd_session.specs.Calls.{Call, Called}
 use Rattle.rd_session.specs.Lines.{Line, Whole, Long}
 use Rattle.rd_session.specs.Replies.{Answer, Served, Unserved, Syntax, TooLong, text}
 
@@ -55,24 +56,47 @@ with_all seat receipts = record {
   share = seat.share + length receipts;
 }
 
--- Each line was answered: the seat has gained the receipts among the answers, and their texts were
--- written.
-pub record Talks (lines : List Line) (seat after : SeatView) (old new : Option (List ℕ)) : Type 0
-  where
-    pub answers : List Answer
-    pub each : AreAnswers lines answers
-    pub gained : after ≡ with_all seat (receipts_in answers)
-    pub out : Appends old new (texts answers)
+-- whom a session stands between: its seat, where its answers go, and what was called of its gate
+pub record Talk : Type 0 where
+  pub seat : SeatView
+  pub sink : SinkView
+  pub calls : Option (List Call)
 
--- The sink failed: the lines so far were answered, and a front of the texts was written.
-pub record BreaksOff (lines : List Line) (seat after : SeatView) (old new : Option (List ℕ))
-    : Type 0 where
+-- Each line was answered: the seat has gained the receipts among the answers, and their texts were
+-- written. No write has failed. The gate was called for each line, before and after.
+pub record Talks (lines : List Line) (old new : Talk) : Type 0 where
+  pub answers : List Answer
+  pub each : AreAnswers lines answers
+  pub gained : new.seat ≡ with_all old.seat (receipts_in answers)
+  pub out : Appends old.sink.contents new.sink.contents (texts answers)
+  pub given : Appends old.sink.given new.sink.given (texts answers)
+  pub faults : new.sink.faults ≡ old.sink.faults
+  pub called : Called old.seat.who old.calls new.calls (length answers) (length answers)
+
+-- There are no such answers, or one that has no room beside these bytes.
+abbrev pub HasNoRoom : List ℕ → List Answer → Type 0
+HasNoRoom bytes [] = Unit {0}
+HasNoRoom bytes (answer ∷ []) = 65536 < length bytes + length (text answer)
+HasNoRoom bytes (answer ∷ other ∷ answers) = ⊥
+
+-- A write has failed, and it was the last. The lines that were asked are those whose answers the
+-- writes before it took (told), those whose answers it was given (lost), of whose texts it took a
+-- front, and at the most one whose answer had no room beside these. Behind them no line was asked.
+-- The gate was called before each that was asked, and after each that was told.
+pub record BreaksOff (lines : List Line) (old new : Talk) : Type 0 where
   pub heard : List Line
   pub rest : List Line
   pub lines_are : lines ≡ heard ++ rest
-  pub answers : List Answer
-  pub each : AreAnswers heard answers
-  pub gained : after ≡ with_all seat (receipts_in answers)
+  pub told : List Answer
+  pub lost : List Answer
+  pub unsaid : List Answer
+  pub no_room : HasNoRoom (texts lost) unsaid
+  pub each : AreAnswers heard ((told ++ lost) ++ unsaid)
+  pub gained : new.seat ≡ with_all old.seat (receipts_in ((told ++ lost) ++ unsaid))
   pub front : List ℕ
-  pub is_front : IsFront front (texts answers)
-  pub out : Appends old new front
+  pub is_front : IsFront front (texts lost)
+  pub out : Appends old.sink.contents new.sink.contents (texts told ++ front)
+  pub given : Appends old.sink.given new.sink.given (texts (told ++ lost))
+  pub faults : new.sink.faults ≡ old.sink.faults + 1
+  pub called : Called old.seat.who old.calls new.calls
+      (length ((told ++ lost) ++ unsaid)) (length told)

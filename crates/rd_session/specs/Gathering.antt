@@ -1,64 +1,137 @@
 -- Answers that are gathered, and written many at a time.
-use Rattle.std.specs.Prelude.{ℕ, ◌≡◌, List, [], ◌++◌, Bool, true, Option, None, Result, Ok, Err}
+use Rattle.std.specs.Prelude.{ℕ, ◌≡◌, ◌+◌, ◌≤◌, List, [], ◌∷◌, ◌++◌, length, Option}
+use Rattle.std.specs.Prelude.{None, Result, OnErr, OnOk}
 use Rattle.std.specs.Io.KnownBytes.{Appends}
-use Rattle.rd_ends.specs.Ends.{IsFront}
+use Rattle.rd_ends.specs.Ends.{SinkView}
 use Rattle.rd_hall.specs.SeatView.{SeatView}
+use Rattle.rd_session.specs.BuffersView.{PendingView}
+use Rattle.rd_session.specs.Calls.{Adds, Call, Called, LeadTo}
 use Rattle.rd_session.specs.Lines.{Line}
 use Rattle.rd_session.specs.Replies.{Answer, text}
-use Rattle.rd_session.specs.Answers.{AreAnswers, IsAnswerTo, receipt_in, receipts_in, texts}
-use Rattle.rd_session.specs.Answers.{with_all}
+use Rattle.rd_session.specs.Answers.{AreAnswers, BreaksOff, HasNoRoom, IsAnswerTo, Talk, Talks}
+use Rattle.rd_session.specs.Answers.{receipt_in, receipts_in, texts, with_all}
 use Rattle.rd_session.specs.declared.session.Ended.{Ended}
 use Rattle.rd_session.specs.declared.session.Ended.TheVariants.{LineTooLong, WriteFault}
 
--- Of what was pending, with a text behind it, a front was written, and the rest is pending now.
-pub record Gathers (old new : Option (List ℕ)) (before behind more : List ℕ) : Type 0 where
-  pub written : List ℕ
-  pub out : Appends old new written
-  pub all : before ++ more ≡ written ++ behind
+-- where a session is: whom it stands between, and its answers that weren't written yet
+pub record Spot : Type 0 where
+  pub talk : Talk
+  pub pending : PendingView
 
--- The sink failed: some front of them was written.
-pub record Loses (old new : Option (List ℕ)) (before more : List ℕ) : Type 0 where
-  pub front : List ℕ
-  pub is_front : IsFront front (before ++ more)
-  pub out : Appends old new front
+abbrev pub spot : SeatView → SinkView → Option (List Call) → PendingView → Spot
+spot seat sink calls pending = record {
+  talk = record { seat = seat; sink = sink; calls = calls };
+  pending = pending;
+}
 
--- A text was gathered behind what was pending, or the sink failed.
-abbrev pub Tells : {T E : Type 0} → Option (List ℕ) → Option (List ℕ) → List ℕ → List ℕ
-    → Result T E → List ℕ → Type 0
-Tells old new before behind (Ok done) more = Gathers old new before behind more
-Tells old new before behind (Err fault) more = Loses old new before more
+-- Since the beginning these lines were heard and answered: some of the answers are written (told),
+-- some gathered behind them (waiting), and some are neither yet (unsaid).
+pub record Talking (start : Talk) (heard : List Line) (unsaid : List Answer) (now : Spot) : Type 0
+  where
+    pub answers : List Answer
+    pub told : List Answer
+    pub waiting : List Answer
+    pub split : answers ≡ (told ++ waiting) ++ unsaid
+    pub each : AreAnswers heard answers
+    pub gained : now.talk.seat ≡ with_all start.seat (receipts_in answers)
+    pub out : Appends start.sink.contents now.talk.sink.contents (texts told)
+    pub given : Appends start.sink.given now.talk.sink.given (texts told)
+    pub faults : now.talk.sink.faults ≡ start.sink.faults
+    pub gathered : now.pending.bytes ≡ texts waiting
+    pub begun_is : now.pending.begun ≡ length answers
+    pub out_is : now.pending.out ≡ length told
+    pub called : Called start.seat.who start.calls now.talk.calls (length answers) (length told)
 
--- One line was answered, and the text of its answer was gathered, or the sink failed.
-pub record Answered {T E : Type 0} (line : Line) (seat after : SeatView)
-    (old new : Option (List ℕ)) (before behind : List ℕ) (result : Result T E) : Type 0 where
+-- ---- what a call does, whatever was heard before
+
+-- The gate was told that the answers behind these, up to so many, are out.
+abbrev pub AreOut : ℕ → ℕ → ℕ → Option (List Call) → Option (List Call) → Type 0
+AreOut who out upto old new =
+    (calls : List Call) × Adds old new calls
+    × ((begun : ℕ) → upto ≤ begun
+    → LeadTo who calls (record { begun = begun; out = out }) (record { begun = begun; out = upto }))
+
+-- All that was gathered is written.
+abbrev pub IsFlushed : ℕ → ℕ → SinkView → Option (List Call) → PendingView → SinkView
+    → Option (List Call) → PendingView → Type 0
+IsFlushed who upto sink calls pending sink' calls' pending' =
+    (start : Talk) (heard : List Line) (unsaid : List Answer) (seat : SeatView)
+    → start.seat.who ≡ who → upto + length unsaid ≡ pending.begun
+    → Talking start heard unsaid (spot seat sink calls pending)
+    → Talking start heard unsaid (spot seat sink' calls' pending')
+
+-- What was heard and answered stays so.
+abbrev pub GoesOn : ℕ → SinkView → Option (List Call) → PendingView → SinkView
+    → Option (List Call) → PendingView → Type 0
+GoesOn who sink calls pending sink' calls' pending' =
+    (start : Talk) (heard : List Line) (seat : SeatView) → start.seat.who ≡ who
+    → Talking start heard [] (spot seat sink calls pending)
+    → Talking start heard [] (spot seat sink' calls' pending')
+
+-- A write has failed that was given all that was gathered.
+abbrev pub IsLost : ℕ → SinkView → Option (List Call) → PendingView → SinkView
+    → Option (List Call) → Type 0
+IsLost who sink calls pending sink' calls' =
+    (start : Talk) (heard : List Line) (unsaid : List Answer) (seat : SeatView)
+    → start.seat.who ≡ who → HasNoRoom pending.bytes unsaid
+    → Talking start heard unsaid (spot seat sink calls pending)
+    → BreaksOff heard start (record { seat = seat; sink = sink'; calls = calls' })
+
+-- An answer with this text, which was neither gathered nor written before, is so now.
+abbrev pub IsSaid : ℕ → List ℕ → SinkView → Option (List Call) → PendingView → SinkView
+    → Option (List Call) → PendingView → Type 0
+IsSaid who line sink calls pending sink' calls' pending' =
+    (start : Talk) (heard : List Line) (seat : SeatView) (answer : Answer)
+    → start.seat.who ≡ who → text answer ≡ line
+    → Talking start heard (answer ∷ []) (spot seat sink calls pending)
+    → Talking start heard [] (spot seat sink' calls' pending')
+
+-- A write has failed where an answer with this text was to be gathered or written.
+abbrev pub IsUnsaid : ℕ → List ℕ → SinkView → Option (List Call) → PendingView → SinkView
+    → Option (List Call) → Type 0
+IsUnsaid who line sink calls pending sink' calls' =
+    (start : Talk) (heard : List Line) (seat : SeatView) (answer : Answer)
+    → start.seat.who ≡ who → text answer ≡ line
+    → Talking start heard (answer ∷ []) (spot seat sink calls pending)
+    → BreaksOff heard start (record { seat = seat; sink = sink'; calls = calls' })
+
+-- A line was begun: with an answer to it, and the seat that has its receipt, it is heard.
+abbrev pub Begins : ℕ → SinkView → Option (List Call) → PendingView → SinkView
+    → Option (List Call) → PendingView → Type 0
+Begins who sink calls pending sink' calls' pending' =
+    (start : Talk) (heard : List Line) (seat after : SeatView) (line : Line) (answer : Answer)
+    → start.seat.who ≡ who → IsAnswerTo line answer → after ≡ with_all seat (receipt_in answer)
+    → Talking start heard [] (spot seat sink calls pending)
+    → Talking start (heard ++ line ∷ []) (answer ∷ []) (spot after sink' calls' pending')
+
+-- A line that was begun has its answer, whose text was gathered or written, or the sink failed.
+pub record Answered {T E : Type 0} (who : ℕ) (line : Line) (seat after : SeatView)
+    (sink : SinkView) (calls : Option (List Call)) (pending : PendingView)
+    (sink' : SinkView) (calls' : Option (List Call)) (pending' : PendingView)
+    (result : Result T E) : Type 0 where
   pub answer : Answer
   pub to_line : IsAnswerTo line answer
   pub gained : after ≡ with_all seat (receipt_in answer)
-  pub told : Tells old new before behind result (text answer)
+  pub said : OnOk result (IsSaid who (text answer) sink calls pending sink' calls' pending')
+  pub unsaid : OnErr result (IsUnsaid who (text answer) sink calls pending sink' calls')
 
--- Each line was answered.
-pub record Converses (lines : List Line) (seat after : SeatView) (old new : Option (List ℕ))
-    (before behind : List ℕ) : Type 0 where
-  pub answers : List Answer
-  pub each : AreAnswers lines answers
-  pub gained : after ≡ with_all seat (receipts_in answers)
-  pub told : Gathers old new before behind (texts answers)
+-- These lines were heard, and answered.
+abbrev pub HearsMore : List Line → Spot → Spot → Type 0
+HearsMore lines old new = (start : Talk) (heard : List Line) → start.seat.who ≡ old.talk.seat.who
+    → Talking start heard [] old → Talking start (heard ++ lines) [] new
 
--- The sink failed: the lines so far were answered.
-pub record Breaks (lines : List Line) (seat after : SeatView) (old new : Option (List ℕ))
-    (before : List ℕ) : Type 0 where
-  pub heard : List Line
-  pub rest : List Line
-  pub lines_are : lines ≡ heard ++ rest
-  pub answers : List Answer
-  pub each : AreAnswers heard answers
-  pub gained : after ≡ with_all seat (receipts_in answers)
-  pub lost : Loses old new before (texts answers)
+-- A write has failed amid these lines.
+abbrev pub BreaksAmid : List Line → Spot → Talk → Type 0
+BreaksAmid lines old new = (start : Talk) (heard : List Line)
+    → start.seat.who ≡ old.talk.seat.who
+    → Talking start heard [] old → BreaksOff (heard ++ lines) start new
+
+-- These lines were heard and answered, and all answers are written.
+abbrev pub SaysAll : List Line → Spot → Talk → Type 0
+SaysAll lines old new = (start : Talk) (heard : List Line) → start.seat.who ≡ old.talk.seat.who
+    → Talking start heard [] old → Talks (heard ++ lines) start new
 
 -- What was answered where a session stops amid these lines.
-abbrev pub Stops : Ended → List Line → SeatView → SeatView → Option (List ℕ) → Option (List ℕ)
-    → List ℕ → Option (List ℕ) → Bool → Type 0
-Stops LineTooLong lines seat after old new before rest failed =
-    Converses lines seat after old new before [] × (rest ≡ None)
-Stops WriteFault lines seat after old new before rest failed =
-    Breaks lines seat after old new before × (failed ≡ true)
+abbrev pub Stops : Ended → List Line → Spot → Talk → Option (List ℕ) → Type 0
+Stops LineTooLong lines old new rest = SaysAll lines old new × (rest ≡ None)
+Stops WriteFault lines old new rest = BreaksAmid lines old new

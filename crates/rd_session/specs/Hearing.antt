@@ -1,62 +1,88 @@
 -- What a session has heard, and why it has ended.
-use Rattle.std.specs.Prelude.{ℕ, ◌≡◌, ◌+◌, ◌^◌, ◌≤◌, ◌⊎◌, List, [], Bool, true, false, Option}
-use Rattle.std.specs.Prelude.{None, Some}
+use Rattle.std.specs.Prelude.{ℕ, ◌≡◌, ◌+◌, ◌<◌, ◌≤◌, ◌⊎◌, List, [], ◌∷◌, length, Bool, true}
+use Rattle.std.specs.Prelude.{false, Option, None, Some, if◌then◌else◌}
+use Rattle.std.specs.List.{flat_map}
 use Rattle.std.specs.Io.KnownBytes.{Consumes, IsAtEnd}
+use Rattle.rd_ends.specs.Ends.{SinkView, SourceView}
 use Rattle.rd_desk.specs.declared.entry.Event.TheVariants.{Leave}
 use Rattle.rd_hall.specs.SeatView.{SeatView}
 use Rattle.rd_hall.specs.Seats.{Gained, Joined}
+use Rattle.rd_session.specs.Calls.{Call}
 use Rattle.rd_session.specs.Lines.{Line, lines_of, rest_from}
-use Rattle.rd_session.specs.Answers.{Talks, BreaksOff}
+use Rattle.rd_session.specs.Answers.{BreaksOff, Talk, Talks}
 
--- All lines were answered, or where the sink failed those so far.
-abbrev pub Told : Bool → List Line → SeatView → SeatView → Option (List ℕ) → Option (List ℕ)
-    → Type 0
-Told true lines seat after old new = BreaksOff lines seat after old new
-Told false lines seat after old new = Talks lines seat after old new
+-- what reads brought, one behind the other
+abbrev pub bytes_of : List (List ℕ) → List ℕ
+bytes_of pages = flat_map (λ page. page) pages
+
+-- Each page has bytes, and none was read behind a line that is too long.
+abbrev pub ArePages : Option (List ℕ) → List (List ℕ) → Type 0
+ArePages held [] = Unit {0}
+ArePages None (page ∷ pages) = ⊥
+ArePages (Some held) (page ∷ pages) =
+    (0 < length page) × ArePages (rest_from (Some held) page) pages
+
+-- No line is too long so far.
+abbrev pub NoneIsLong : List ℕ → Type 0
+NoneIsLong bytes = (held : List ℕ) × (rest_from (Some []) bytes ≡ Some held)
 
 -- Why a session has ended.
 pub data End : Type 0 where
   AtInputEnd : End
   ReadFailed : End
-  WriteFailed : End
+  WriteFailed : Bool → End
   LongLine : End
   AllReads : End
 
--- What shows it: the input is at its end, and what stood behind the last LF was answered too; a
--- read or a write has failed; a line was too long; all reads were made.
-abbrev pub IsEnd : End → Option (List ℕ) → Option (List ℕ) → Bool → Bool → Bool → Bool → Type 0
-    → Type 0
-IsEnd AtInputEnd rest behind ended failed read_fault write_fault spent =
-    (ended ≡ true) × IsAtEnd behind × (failed ≡ false)
-IsEnd ReadFailed rest behind ended failed read_fault write_fault spent = read_fault ≡ true
-IsEnd WriteFailed rest behind ended failed read_fault write_fault spent =
-    (failed ≡ true) × (write_fault ≡ true)
-IsEnd LongLine rest behind ended failed read_fault write_fault spent = rest ≡ None
-IsEnd AllReads rest behind ended failed read_fault write_fault spent = spent
+-- how often a read found the end, and how often one failed, since the start
+abbrev pub ends_at : End → ℕ
+ends_at AtInputEnd = 1
+ends_at ReadFailed = 0
+ends_at (WriteFailed ended) = if ended then 1 else 0
+ends_at LongLine = 0
+ends_at AllReads = 0
 
--- Of what was read, each line was answered in order, and the texts of the answers were written, or
--- a front of them where the sink failed. The seat has gained the receipts among the answers.
-pub record Heard (had has : Option (List ℕ)) (seat after : SeatView) (old new : Option (List ℕ))
-    (read_fault write_fault : Bool) (spent : Type 0) : Type 0 where
-  pub bytes : List ℕ
-  pub read : Consumes had has bytes
-  pub ended : Bool
-  pub at_end : ended ≡ true → IsAtEnd has
-  pub failed : Bool
-  pub is_fault : failed ≡ true → write_fault ≡ true
-  pub told : Told failed (lines_of bytes ended) seat after old new
+abbrev pub read_faults_at : End → ℕ
+read_faults_at AtInputEnd = 0
+read_faults_at ReadFailed = 1
+read_faults_at (WriteFailed ended) = 0
+read_faults_at LongLine = 0
+read_faults_at AllReads = 0
+
+-- What was heard of these bytes, and answered: at the end of the input what stands behind the last
+-- LF was a line too. Where a write has failed, it did so amid the lines or, once the input had
+-- ended, at the last of them.
+abbrev pub IsEnd : End → List ℕ → SourceView → Talk → Talk → Type 0
+IsEnd AtInputEnd bytes source old new =
+    IsAtEnd source.remaining × NoneIsLong bytes × Talks (lines_of bytes true) old new
+IsEnd ReadFailed bytes source old new = NoneIsLong bytes × Talks (lines_of bytes false) old new
+IsEnd (WriteFailed true) bytes source old new =
+    IsAtEnd source.remaining × NoneIsLong bytes × BreaksOff (lines_of bytes true) old new
+IsEnd (WriteFailed false) bytes source old new = BreaksOff (lines_of bytes false) old new
+IsEnd LongLine bytes source old new =
+    (rest_from (Some []) bytes ≡ None) × Talks (lines_of bytes false) old new
+IsEnd AllReads bytes source old new =
+    (source.reads ≡ 16777216) × NoneIsLong bytes × Talks (lines_of bytes false) old new
+
+-- Reads brought these pages, and each read but those brought a byte: the one that found the end, or
+-- the one that failed. Of what they brought, each line was answered in order, as it is said of the
+-- end. Nothing was read behind that.
+pub record Heard (had has : SourceView) (old new : Talk) : Type 0 where
+  pub pages : List (List ℕ)
+  pub are_pages : ArePages (Some []) pages
+  pub read : Consumes had.remaining has.remaining (bytes_of pages)
   pub end : End
-  pub is_end : IsEnd end (rest_from (Some []) bytes) has ended failed read_fault write_fault spent
-
--- All reads were made, where they are counted.
-abbrev pub AllMade : ℕ → ℕ → Type 0
-AllMade old new = old + 16777216 ≤ 2 ^ 63 → new ≡ old + 16777216
+  pub ends : has.ends ≡ ends_at end
+  pub faults : has.faults ≡ read_faults_at end
+  pub reads : has.reads ≡ length pages + ends_at end + read_faults_at end
+  pub is_end : IsEnd end (bytes_of pages) has old new
 
 -- A session has joined, was answered each line that was read, and has left.
-pub record Attended (had has old new : Option (List ℕ)) (read_fault write_fault : Bool)
-    (spent : Type 0) (gone : SeatView) : Type 0 where
+pub record Attended (had has : SourceView) (old new : SinkView) (before after : Option (List Call))
+    (gone : SeatView) : Type 0 where
   pub joined : SeatView
   pub entered : Joined joined
   pub stayed : SeatView
-  pub heard : Heard had has joined stayed old new read_fault write_fault spent
+  pub heard : Heard had has (record { seat = joined; sink = old; calls = before })
+      (record { seat = stayed; sink = new; calls = after })
   pub left : (gone ≡ stayed) ⊎ Gained stayed Leave gone

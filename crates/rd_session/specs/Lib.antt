@@ -1,5 +1,6 @@
 -- What the contracts of a session speak of.
 pub mod BuffersView
+pub mod Calls
 pub mod Lines
 pub mod Replies
 pub mod Answers

@@ -1,13 +1,21 @@
 //! What is called before and after each answer.
 
-/// What a session calls at each of its lines. Nothing is locked then.
-pub trait Gate {
-    /// A line was read, and is about to be answered. Lines are counted from 1 on.
-    fn before(&self, who: u32, line: u64);
+ghost use Rattle.std.specs.Prelude.{[], ◌∷◌, Option, List};
+ghost use Rattle.rd_session.specs.Calls.{Adds, After, Before, Call};
 
-    /// The line was answered, unless the sink has failed. What isn't written of the answer yet is
-    /// written before the session reads again.
-    fn after(&self, who: u32, line: u64);
+/// What a session calls at each of its lines. Nothing is locked then. Lines are counted from 1 on;
+/// each of both is called once for a line, with its number, and in the order of lines.
+pub trait Gate {
+    /// What was called of it, in order, where that is known.
+    ghost calls: { Self → Option (List Call) };
+
+    /// A line was read, and is about to be answered.
+    fn before(&mut self, who: u32, line: u64)
+        ensures { Adds (calls self.old) (calls self.new) (Before who line ∷ []) };
+
+    /// The answer to the line is out: a write has taken all of it.
+    fn after(&mut self, who: u32, line: u64)
+        ensures { Adds (calls self.old) (calls self.new) (After who line ∷ []) };
 }
 
 /// A gate that does nothing.
@@ -15,7 +23,11 @@ pub trait Gate {
 pub struct NoGate;
 
 impl Gate for NoGate {
-    fn before(&self, _who: u32, _line: u64) {}
+    ghost use Rattle.std.specs.Prelude.{None};
 
-    fn after(&self, _who: u32, _line: u64) {}
+    ghost calls = { λ gate. None };
+
+    fn before(&mut self, _who: u32, _line: u64) {}
+
+    fn after(&mut self, _who: u32, _line: u64) {}
 }

@@ -7,3 +7,4 @@ pub mod lines;
 mod pending;
 pub mod render;
 pub mod session;
+mod telling;

@@ -1,7 +1,8 @@
 //! Lines from a source, without memory for each.
 
-ghost use Rattle.std.specs.Prelude.{◌≡◌, ◌^◌, ◌+◌, ◌-◌, ◌<◌, ◌≤◌, [], length, take, drop, true};
-ghost use Rattle.std.specs.Prelude.{IfOk, OnErr, OnOk};
+ghost use Rattle.std.specs.Prelude.{◌≡◌, ◌+◌, ◌-◌, ◌<◌, ◌≤◌, [], length, take, drop};
+ghost use Rattle.std.specs.Prelude.{IfOk, OnErr};
+ghost use Rattle.rd_ends.specs.Ends.{CountsReads, ends_after, faults_after};
 ghost use Rattle.std.specs.List.{position_or_len};
 ghost use Rattle.std.specs.Io.KnownBytes.{IsAtEnd, Keeps};
 ghost use Rattle.rd_session.specs.Lines.{AddsRead, is_feed, front_of, without_return};
@@ -108,17 +109,19 @@ impl Lines {
     /// none come only at the end of the input. An `Err` is the source's, and leaves the bytes as
     /// they were.
     pub(crate) fn read_from<S: Source>(&mut self, source: &mut S) -> Result<usize, ReadFault>
-        requires { length self.old ≤ 1024 }
-        ensures ok { IfOk result
-            (AddsRead self.old self.new (S.remaining source.old) (S.remaining source.new)) }
-        ensures end { IfOk result (λ count. count ≡ 0 → IsAtEnd (S.remaining source.new)) }
+        requires held { length self.old ≤ 1024 }
+        requires counts { CountsReads (S.seen source.old) }
+        ensures ok { IfOk result (AddsRead self.old self.new
+            (S.seen source.old).remaining (S.seen source.new).remaining) }
+        ensures within { length self.new ≤ 65536 }
+        ensures end { IfOk result (λ count. count ≡ 0 → IsAtEnd (S.seen source.new).remaining) }
         ensures err { OnErr result (self.new ≡ self.old) }
         ensures err_source { OnErr result
-            (Keeps (S.remaining source.old) (S.remaining source.new)) }
-        ensures failed { OnErr result (S.failed source.new ≡ true) }
-        ensures counted { S.reads source.old < 2 ^ 63
-            → S.reads source.new ≡ S.reads source.old + 1 }
-        ensures bound { S.reads source.new ≤ S.reads source.old + 1 }
+            (Keeps (S.seen source.old).remaining (S.seen source.new).remaining) }
+        ensures reads { (S.seen source.new).reads ≡ (S.seen source.old).reads + 1 }
+        ensures ends { (S.seen source.new).ends ≡ ends_after (S.seen source.old).ends result }
+        ensures faults { (S.seen source.new).faults
+            ≡ faults_after (S.seen source.old).faults result }
     {
         move_to_front(&mut self.buffer, self.start, self.end);
         self.end -= self.start;
@@ -148,18 +151,19 @@ fn move_to_front(buffer: &mut [u8], start: usize, end: usize)
 
 // Reads once, after the first `end` bytes, which stay.
 fn read_after<S: Source>(source: &mut S, buffer: &mut [u8], end: usize) -> Result<usize, ReadFault>
-    requires { end < length buffer.old }
+    requires end { end < length buffer.old }
+    requires counts { CountsReads (S.seen source.old) }
     ensures ok { IfOk result (λ count.
         AddsRead (take end buffer.old) (take (end + count) buffer.new)
-        (S.remaining source.old) (S.remaining source.new) count) }
+        (S.seen source.old).remaining (S.seen source.new).remaining count) }
     ensures within { IfOk result (λ count. end + count ≤ length buffer.old) }
-    ensures end { IfOk result (λ count. count ≡ 0 → IsAtEnd (S.remaining source.new)) }
-    ensures err { OnErr result (Keeps (S.remaining source.old) (S.remaining source.new)) }
-    ensures failed { OnErr result (S.failed source.new ≡ true) }
+    ensures end { IfOk result (λ count. count ≡ 0 → IsAtEnd (S.seen source.new).remaining) }
+    ensures err { OnErr result
+        (Keeps (S.seen source.old).remaining (S.seen source.new).remaining) }
     ensures kept { take end buffer.new ≡ take end buffer.old }
-    ensures counted { S.reads source.old < 2 ^ 63
-        → S.reads source.new ≡ S.reads source.old + 1 }
-    ensures bound { S.reads source.new ≤ S.reads source.old + 1 }
+    ensures reads { (S.seen source.new).reads ≡ (S.seen source.old).reads + 1 }
+    ensures ends { (S.seen source.new).ends ≡ ends_after (S.seen source.old).ends result }
+    ensures faults { (S.seen source.new).faults ≡ faults_after (S.seen source.old).faults result }
 {
     let (_, room) = buffer.split_at_mut(end);
     source.read(room)

@@ -1,13 +1,12 @@
 //! Answers that are yet to be written.
 
-ghost use Rattle.std.specs.Prelude.{◌≡◌, ◌+◌, ◌≤◌, [], length, true, IfOk, OnErr, OnOk};
+ghost use Rattle.std.specs.Prelude.{◌≡◌, ◌+◌, ◌++◌, ◌^◌, ◌<◌, ◌≤◌, ◌↔◌, [], length};
+ghost use Rattle.std.specs.Prelude.{IfOk, IsTrue, OnOk};
+ghost use Rattle.std.specs.Io.KnownBytes.{Appends};
+ghost use Rattle.rd_ends.specs.Ends.{Says, faults_after};
 ghost use Rattle.rd_reply.specs.Replies.{line_of, reply_text};
-ghost use Rattle.rd_session.specs.Replies.{refusal_line, reply_line};
-ghost use Rattle.rd_session.specs.Gathering.{Tells};
 
-use rd_desk::reply::Reply;
 use rd_ends::ends::{Sink, WriteFault};
-use rd_refusal::refusal::Refusal;
 use rd_reply::reply::{MAX_REPLY, Reply as Short, append_reply};
 use std::alloc::{AllocError, Global};
 use std::marker::Model;
@@ -15,59 +14,99 @@ use std::marker::Model;
 // For how many bytes there is room.
 const ROOM: usize = 65_536;
 
-/// Answers that are yet to be written, with room for a reply in a few words at the least. After an
-/// `Err` of the sink they are of no use.
+/// Answers that are yet to be written, with room for 65,536 bytes at the least. It counts the lines
+/// that were begun, and those whose answers are out. After an `Err` of the sink the answers are of
+/// no use.
 #[derive(Drop)]
 pub(crate) struct Pending {
     bytes: Vec<u8>,
+    begun: u64,
+    out: u64,
 }
 
 impl Model for Pending {
     ghost use Rattle.std.specs.Prelude.{◌≤◌, vec_capacity};
-    ghost use Rattle.rd_reply.specs.declared.reply.TheConstants.{MAX_REPLY};
     ghost use Rattle.rd_session.specs.BuffersView.{PendingView};
 
     ghost Value = { PendingView };
 
-    ghost view = { λ p. record { bytes = p.bytes.items; capacity = vec_capacity p.bytes } };
+    ghost view = { λ p. record {
+      bytes = p.bytes.items;
+      capacity = vec_capacity p.bytes;
+      begun = p.begun;
+      out = p.out;
+    } };
 
-    ghost invariant = { λ p. MAX_REPLY ≤ vec_capacity p.bytes };
+    ghost invariant = { λ p. 65536 ≤ vec_capacity p.bytes };
 }
 
 impl Pending {
-    /// No answers, with room for 65,536 bytes. An `Err` says that there is no memory for it.
+    /// No answers, and no lines. An `Err` says that there is no memory for them.
     pub(crate) fn new(alloc: Global) -> Result<Pending, AllocError>
-        ensures empty { IfOk result (λ pending. pending.bytes ≡ []) }
-        ensures room { IfOk result (λ pending. 65536 ≤ pending.capacity) }
+        ensures { IfOk result (λ pending. pending.bytes ≡ []) }
     {
         Ok(Pending {
             bytes: Vec::with_capacity(alloc, ROOM)?,
+            begun: 0,
+            out: 0,
         })
     }
 
-    /// Drops them all.
+    /// Begins anew: no answers, and no lines.
     pub(crate) fn clear(&mut self)
-        ensures empty { self.new.bytes ≡ [] }
-        ensures room { self.new.capacity ≡ self.old.capacity }
+        ensures { self.new ≡ record self.old { bytes = []; begun = 0; out = 0 } }
     {
         self.bytes.clear();
+        self.begun = 0;
+        self.out = 0;
     }
 
-    // For how many bytes more there is room.
-    fn room(&self) -> usize
-        ensures room { result + length self.now.bytes ≡ self.now.capacity }
-        ensures takes_replies { MAX_REPLY ≤ self.now.capacity }
+    /// How many lines were begun.
+    pub(crate) fn begun(&self) -> u64
+        ensures { result ≡ self.now.begun }
     {
-        self.bytes.capacity() - self.bytes.len()
+        self.begun
+    }
+
+    /// The answers of how many lines are out.
+    pub(crate) fn out(&self) -> u64
+        ensures { result ≡ self.now.out }
+    {
+        self.out
+    }
+
+    /// One line more was begun.
+    pub(crate) fn begin(&mut self)
+        requires { self.old.begun < 2 ^ 63 }
+        ensures { self.new ≡ record self.old { begun = self.old.begun + 1 } }
+    {
+        self.begun += 1;
+    }
+
+    /// The answers of so many lines are out.
+    pub(crate) fn set_out(&mut self, out: u64)
+        ensures { self.new ≡ record self.old { out = out } }
+    {
+        self.out = out;
+    }
+
+    /// Whether there is room for so many bytes more. There is room for 65,536 where nothing is
+    /// pending.
+    pub(crate) fn fits(&self, count: usize) -> bool
+        ensures fits { IsTrue result ↔ (length self.now.bytes + count ≤ self.now.capacity) }
+        ensures room { 65536 ≤ self.now.capacity }
+    {
+        count <= self.bytes.capacity() - self.bytes.len()
     }
 
     /// Writes them all.
     pub(crate) fn send<W: Sink>(&mut self, sink: &mut W) -> Result<(), WriteFault>
-        ensures told { Tells (W.contents sink.old) (W.contents sink.new)
-            self.old.bytes self.new.bytes result [] }
-        ensures sent { OnOk result (self.new.bytes ≡ []) }
-        ensures failed { OnErr result (W.failed sink.new ≡ true) }
-        ensures room { self.new.capacity ≡ self.old.capacity }
+        requires { (W.seen sink.old).faults < 2 ^ 63 }
+        ensures says { Says (W.seen sink.old).contents (W.seen sink.new).contents
+            result self.old.bytes }
+        ensures given { Appends (W.seen sink.old).given (W.seen sink.new).given self.old.bytes }
+        ensures faults { (W.seen sink.new).faults ≡ faults_after (W.seen sink.old).faults result }
+        ensures sent { OnOk result (self.new ≡ record self.old { bytes = [] }) }
     {
         if self.bytes.is_empty() {
             return Ok(());
@@ -79,87 +118,23 @@ impl Pending {
         written
     }
 
-    /// Appends a line. Where there is no room for it those before it are written, and then the line
-    /// by itself.
-    pub(crate) fn put<W: Sink>(&mut self, sink: &mut W, line: &[u8]) -> Result<(), WriteFault>
-        ensures told { Tells (W.contents sink.old) (W.contents sink.new)
-            self.old.bytes self.new.bytes result line.now }
-        ensures failed { OnErr result (W.failed sink.new ≡ true) }
+    /// Appends a line that there is room for.
+    pub(crate) fn put(&mut self, line: &[u8])
+        requires { length self.old.bytes + length line.now ≤ self.old.capacity }
+        ensures bytes { self.new.bytes ≡ self.old.bytes ++ line.now }
+        ensures begun { self.new.begun ≡ self.old.begun }
+        ensures out { self.new.out ≡ self.old.out }
     {
-        if line.len() <= self.room() {
-            self.bytes.extend_from_slice(line).unwrap();
-            return Ok(());
-        }
-        self.send(sink)?;
-        sink.write(line)
+        self.bytes.extend_from_slice(line).unwrap();
     }
 
-    // Makes room for a reply in a few words: where there is none those before it are written.
-    fn make_room<W: Sink>(&mut self, sink: &mut W) -> Result<(), WriteFault>
-        ensures told { Tells (W.contents sink.old) (W.contents sink.new)
-            self.old.bytes self.new.bytes result [] }
-        ensures room { OnOk result (length self.new.bytes + MAX_REPLY ≤ self.new.capacity) }
-        ensures failed { OnErr result (W.failed sink.new ≡ true) }
+    /// Appends the line of a reply in a few words, which there is room for.
+    pub(crate) fn put_short(&mut self, told: Short)
+        requires { length self.old.bytes + MAX_REPLY ≤ self.old.capacity }
+        ensures bytes { self.new.bytes ≡ self.old.bytes ++ line_of (reply_text told) }
+        ensures begun { self.new.begun ≡ self.old.begun }
+        ensures out { self.new.out ≡ self.old.out }
     {
-        if MAX_REPLY <= self.room() {
-            return Ok(());
-        }
-        self.send(sink)
-    }
-
-    // Appends the line of a reply in a few words.
-    fn put_short<W: Sink>(&mut self, sink: &mut W, told: Short) -> Result<(), WriteFault>
-        ensures told { Tells (W.contents sink.old) (W.contents sink.new)
-            self.old.bytes self.new.bytes result (line_of (reply_text told)) }
-        ensures failed { OnErr result (W.failed sink.new ≡ true) }
-    {
-        self.make_room(sink)?;
         append_reply(&mut self.bytes, told);
-        Ok(())
-    }
-
-    /// Appends the line of a reply; there is no line of one to who enters or leaves.
-    pub(crate) fn put_reply<W: Sink>(
-        &mut self,
-        sink: &mut W,
-        reply: &Reply,
-    ) -> Result<(), WriteFault>
-        ensures told { Tells (W.contents sink.old) (W.contents sink.new)
-            self.old.bytes self.new.bytes result (reply_line reply.now) }
-        ensures failed { OnErr result (W.failed sink.new ≡ true) }
-    {
-        match reply {
-            Reply::Done => Ok(()),
-            Reply::Told { told } => self.put_short(sink, *told),
-            Reply::Shown { text } => self.put(sink, text.as_slice()),
-        }
-    }
-
-    /// Appends the line of a refusal.
-    pub(crate) fn put_refusal<W: Sink>(
-        &mut self,
-        sink: &mut W,
-        refusal: Refusal,
-    ) -> Result<(), WriteFault>
-        ensures told { Tells (W.contents sink.old) (W.contents sink.new)
-            self.old.bytes self.new.bytes result (refusal_line refusal) }
-        ensures failed { OnErr result (W.failed sink.new ≡ true) }
-    {
-        self.put_short(sink, Short::Refused { refusal })
-    }
-
-    /// Appends the line of a refusal, and writes them all.
-    pub(crate) fn put_last<W: Sink>(
-        &mut self,
-        sink: &mut W,
-        refusal: Refusal,
-    ) -> Result<(), WriteFault>
-        ensures told { Tells (W.contents sink.old) (W.contents sink.new)
-            self.old.bytes self.new.bytes result (refusal_line refusal) }
-        ensures sent { OnOk result (self.new.bytes ≡ []) }
-        ensures failed { OnErr result (W.failed sink.new ≡ true) }
-    {
-        self.put_refusal(sink, refusal)?;
-        self.send(sink)
     }
 }

@@ -1,7 +1,8 @@
 //! A session: it reads lines, and answers each.
 
-ghost use Rattle.std.specs.Prelude.{◌≡◌, ◌+◌, ◌≤◌, ◌⊎◌, ◌∷◌, [], None, Some};
-ghost use Rattle.std.specs.Prelude.{IfErr, OnErr, OnOk, true};
+ghost use Rattle.std.specs.Prelude.{◌≡◌, ◌+◌, ◌^◌, ◌<◌, ◌≤◌, ◌⊎◌, ◌∷◌, [], None, Some, length};
+ghost use Rattle.std.specs.Prelude.{IfErr, OnErr, OnOk};
+ghost use Rattle.rd_ends.specs.Ends.{IsUnread, faults_after};
 ghost use Rattle.rd_text.specs.Words.{words_of};
 ghost use Rattle.rd_command.specs.Commands.{command_of};
 ghost use Rattle.rd_desk.specs.declared.entry.Event.TheVariants.{Leave};
@@ -9,14 +10,17 @@ ghost use Rattle.rd_hall.specs.SeatView.{SeatView};
 ghost use Rattle.rd_hall.specs.Seats.{Gained};
 ghost use Rattle.rd_session.specs.Lines.{Whole, Long, front_of, last_of, lines_from, rest_from};
 ghost use Rattle.rd_session.specs.declared.lines.Front.TheVariants.{Part};
-ghost use Rattle.rd_session.specs.Replies.{TooLong, refusal_of};
-ghost use Rattle.rd_session.specs.Gathering.{Answered, Breaks, Converses, Stops};
-ghost use Rattle.rd_session.specs.Hearing.{AllMade, Heard};
+ghost use Rattle.rd_session.specs.Replies.{refusal_of};
+ghost use Rattle.rd_session.specs.Gathering.{Answered, Begins, BreaksAmid, GoesOn, HearsMore};
+ghost use Rattle.rd_session.specs.Gathering.{IsFlushed, IsLost, SaysAll, Stops, spot};
+ghost use Rattle.rd_session.specs.Hearing.{Heard};
+ghost use Rattle.rd_reply.specs.declared.reply.TheConstants.{MAX_REPLY};
 
 use crate::buffers::Buffers;
 use crate::gate::Gate;
 use crate::lines::{Front, Lines};
 use crate::pending::Pending;
+use crate::telling::{flush, tell};
 use rd_command::command::{Command, parse_line};
 use rd_desk::desk::NotServed;
 use rd_ends::ends::{Sink, Source, WriteFault};
@@ -24,6 +28,7 @@ use rd_hall::hall::Hall;
 use rd_hall::seat::{Gone, Seat};
 use rd_hall::setup::Setup;
 use rd_refusal::refusal::Refusal;
+use rd_reply::reply::{MAX_REPLY, Reply as Short};
 use std::sync::Wait;
 
 /// How often a session reads at the most.
@@ -38,12 +43,11 @@ pub enum Ended {
     WriteFault,
 }
 
-// Whom a session asks, and what it calls at its lines.
+// Whom a session asks.
 #[derive_where(Clone, Copy)]
-struct Host<'a, R: Wait, L: Setup, G: Gate> {
+struct Host<'a, R: Wait, L: Setup> {
     rt: &'a R,
     hall: &'a Hall<L>,
-    gate: &'a G,
 }
 
 // The refusal that says why a command wasn't served.
@@ -57,116 +61,228 @@ fn refusal_of(error: &NotServed) -> Refusal
     }
 }
 
-// Asks the hall, and answers its reply, or why the command wasn't served.
-fn ask<L: Setup, W: Sink>(
-    rt: &impl Wait,
-    hall: &Hall<L>,
+// Writes all answers.
+fn finish<G: Gate, W: Sink>(
+    gate: &mut G,
+    who: u32,
+    pending: &mut Pending,
+    sink: &mut W,
+) -> Result<(), WriteFault>
+    requires out { pending.old.out ≤ pending.old.begun }
+    requires counts { (W.seen sink.old).faults ≡ 0 }
+    ensures flushed { OnOk result (IsFlushed who pending.old.begun (W.seen sink.old)
+        (G.calls gate.old) pending.old (W.seen sink.new) (G.calls gate.new) pending.new) }
+    ensures pending { OnOk result (pending.new
+        ≡ record pending.old { bytes = []; out = pending.old.begun }) }
+    ensures lost { OnErr result (IsLost who (W.seen sink.old) (G.calls gate.old) pending.old
+        (W.seen sink.new) (G.calls gate.new)) }
+    ensures faults { (W.seen sink.new).faults ≡ faults_after (W.seen sink.old).faults result }
+{
+    flush(gate, who, pending.begun(), pending, sink)
+}
+
+// Makes room for a reply in a few words: where there is none the answers before it are written.
+fn make_room<G: Gate, W: Sink>(
+    gate: &mut G,
+    who: u32,
+    pending: &mut Pending,
+    sink: &mut W,
+) -> Result<(), WriteFault>
+    requires out { pending.old.out ≤ pending.old.begun }
+    requires counts { (W.seen sink.old).faults ≡ 0 }
+    ensures kept { OnOk result (GoesOn who (W.seen sink.old) (G.calls gate.old) pending.old
+        (W.seen sink.new) (G.calls gate.new) pending.new) }
+    ensures room { OnOk result (length pending.new.bytes + MAX_REPLY ≤ pending.new.capacity) }
+    ensures begun { OnOk result (pending.new.begun ≡ pending.old.begun) }
+    ensures out { OnOk result (pending.new.out ≤ pending.new.begun) }
+    ensures lost { OnErr result (IsLost who (W.seen sink.old) (G.calls gate.old) pending.old
+        (W.seen sink.new) (G.calls gate.new)) }
+    ensures faults { (W.seen sink.new).faults ≡ faults_after (W.seen sink.old).faults result }
+{
+    if pending.fits(MAX_REPLY) {
+        return Ok(());
+    }
+    finish(gate, who, pending, sink)
+}
+
+// Begins a line: makes room for a reply in a few words, and calls the gate. Where answers before it
+// can't be written, the line isn't begun.
+fn begin<G: Gate, W: Sink>(
+    gate: &mut G,
+    who: u32,
+    pending: &mut Pending,
+    sink: &mut W,
+) -> Result<(), WriteFault>
+    requires out { pending.old.out ≤ pending.old.begun }
+    requires begun { pending.old.begun < 2 ^ 63 }
+    requires counts { (W.seen sink.old).faults ≡ 0 }
+    ensures begins { OnOk result (Begins who (W.seen sink.old) (G.calls gate.old) pending.old
+        (W.seen sink.new) (G.calls gate.new) pending.new) }
+    ensures room { OnOk result (length pending.new.bytes + MAX_REPLY ≤ pending.new.capacity) }
+    ensures begun { OnOk result (pending.new.begun ≡ pending.old.begun + 1) }
+    ensures out { OnOk result (pending.new.out < pending.new.begun) }
+    ensures lost { OnErr result (IsLost who (W.seen sink.old) (G.calls gate.old) pending.old
+        (W.seen sink.new) (G.calls gate.new)) }
+    ensures faults { (W.seen sink.new).faults ≡ faults_after (W.seen sink.old).faults result }
+{
+    make_room(gate, who, pending, sink)?;
+    pending.begin();
+    gate.before(who, pending.begun());
+    Ok(())
+}
+
+// Asks the hall, and tells its reply, or why the command wasn't served.
+fn ask<R: Wait, L: Setup, G: Gate, W: Sink>(
+    host: &Host<'_, R, L>,
+    gate: &mut G,
     seat: Seat<L>,
     line: &[u8],
     command: &Command<'_>,
     pending: &mut Pending,
     sink: &mut W,
 ) -> (Seat<L>, Result<(), WriteFault>)
-    requires { command_of (words_of line.now) ≡ Some command.now }
-    ensures answered { Answered (Whole line.now) seat.session result.0.session
-        (W.contents sink.old) (W.contents sink.new) pending.old.bytes pending.new.bytes result.1 }
-    ensures failed { OnErr result.1 (W.failed sink.new ≡ true) }
-{
-    let (seat, served) = hall.ask(rt, seat, command);
-    match served {
-        Ok(()) => {
-            let told = pending.put_reply(sink, &seat.last().entry.reply);
-            (seat, told)
-        }
-        Err(error) => (seat, pending.put_refusal(sink, refusal_of(&error))),
-    }
-}
-
-// Answers a line.
-fn answer<L: Setup, W: Sink>(
-    rt: &impl Wait,
-    hall: &Hall<L>,
-    seat: Seat<L>,
-    line: &[u8],
-    pending: &mut Pending,
-    sink: &mut W,
-) -> (Seat<L>, Result<(), WriteFault>)
-    ensures answered { Answered (Whole line.now) seat.session result.0.session
-        (W.contents sink.old) (W.contents sink.new) pending.old.bytes pending.new.bytes result.1 }
-    ensures failed { OnErr result.1 (W.failed sink.new ≡ true) }
-{
-    match parse_line(line) {
-        Ok(command) => ask(rt, hall, seat, line, &command, pending, sink),
-        Err(_) => (seat, pending.put_refusal(sink, Refusal::Syntax)),
-    }
-}
-
-// Answers a line between the two calls of the gate.
-fn answer_at<R: Wait, L: Setup, G: Gate, W: Sink>(
-    host: &Host<'_, R, L, G>,
-    seat: Seat<L>,
-    number: &mut u64,
-    line: &[u8],
-    pending: &mut Pending,
-    sink: &mut W,
-) -> (Seat<L>, Result<(), WriteFault>)
-    ensures answered { Answered (Whole line.now) seat.session result.0.session
-        (W.contents sink.old) (W.contents sink.new) pending.old.bytes pending.new.bytes result.1 }
-    ensures failed { OnErr result.1 (W.failed sink.new ≡ true) }
+    requires command { command_of (words_of line.now) ≡ Some command.now }
+    requires room { length pending.old.bytes + MAX_REPLY ≤ pending.old.capacity }
+    requires out { pending.old.out < pending.old.begun }
+    requires counts { (W.seen sink.old).faults ≡ 0 }
+    ensures answered { Answered seat.session.who (Whole line.now) seat.session result.0.session
+        (W.seen sink.old) (G.calls gate.old) pending.old (W.seen sink.new) (G.calls gate.new)
+        pending.new result.1 }
+    ensures begun { OnOk result.1 (pending.new.begun ≡ pending.old.begun) }
+    ensures out { OnOk result.1 (pending.new.out ≤ pending.new.begun) }
+    ensures faults { (W.seen sink.new).faults ≡ faults_after (W.seen sink.old).faults result.1 }
 {
     let who = seat.who();
-    *number = number.saturating_add(1);
-    host.gate.before(who, *number);
-    let (seat, told) = answer(host.rt, host.hall, seat, line, pending, sink);
-    host.gate.after(who, *number);
-    (seat, told)
+    let (seat, served) = host.hall.ask(host.rt, seat, command);
+    match served {
+        Ok(()) => {
+            let told = tell(gate, who, pending, sink, &seat.last().entry.reply);
+            (seat, told)
+        }
+        Err(error) => {
+            let refusal = refusal_of(&error);
+            pending.put_short(Short::Refused { refusal });
+            (seat, Ok(()))
+        }
+    }
+}
+
+// Answers a line that was begun.
+fn answer<R: Wait, L: Setup, G: Gate, W: Sink>(
+    host: &Host<'_, R, L>,
+    gate: &mut G,
+    seat: Seat<L>,
+    line: &[u8],
+    pending: &mut Pending,
+    sink: &mut W,
+) -> (Seat<L>, Result<(), WriteFault>)
+    requires room { length pending.old.bytes + MAX_REPLY ≤ pending.old.capacity }
+    requires out { pending.old.out < pending.old.begun }
+    requires counts { (W.seen sink.old).faults ≡ 0 }
+    ensures answered { Answered seat.session.who (Whole line.now) seat.session result.0.session
+        (W.seen sink.old) (G.calls gate.old) pending.old (W.seen sink.new) (G.calls gate.new)
+        pending.new result.1 }
+    ensures begun { OnOk result.1 (pending.new.begun ≡ pending.old.begun) }
+    ensures out { OnOk result.1 (pending.new.out ≤ pending.new.begun) }
+    ensures faults { (W.seen sink.new).faults ≡ faults_after (W.seen sink.old).faults result.1 }
+{
+    match parse_line(line) {
+        Ok(command) => ask(host, gate, seat, line, &command, pending, sink),
+        Err(_) => {
+            let refusal = Refusal::Syntax;
+            pending.put_short(Short::Refused { refusal });
+            (seat, Ok(()))
+        }
+    }
+}
+
+// Begins a line, and answers it.
+fn answer_line<R: Wait, L: Setup, G: Gate, W: Sink>(
+    host: &Host<'_, R, L>,
+    gate: &mut G,
+    seat: Seat<L>,
+    line: &[u8],
+    pending: &mut Pending,
+    sink: &mut W,
+) -> (Seat<L>, Result<(), WriteFault>)
+    requires out { pending.old.out ≤ pending.old.begun }
+    requires begun { pending.old.begun < 2 ^ 63 }
+    requires counts { (W.seen sink.old).faults ≡ 0 }
+    ensures more { OnOk result.1 (HearsMore (Whole line.now ∷ [])
+        (spot seat.session (W.seen sink.old) (G.calls gate.old) pending.old)
+        (spot result.0.session (W.seen sink.new) (G.calls gate.new) pending.new)) }
+    ensures breaks { OnErr result.1 (BreaksAmid (Whole line.now ∷ [])
+        (spot seat.session (W.seen sink.old) (G.calls gate.old) pending.old)
+        (spot result.0.session (W.seen sink.new) (G.calls gate.new) pending.new).talk) }
+    ensures who { result.0.session.who ≡ seat.session.who }
+    ensures begun { OnOk result.1 (pending.new.begun ≡ pending.old.begun + 1) }
+    ensures out { OnOk result.1 (pending.new.out ≤ pending.new.begun) }
+    ensures faults { (W.seen sink.new).faults ≡ faults_after (W.seen sink.old).faults result.1 }
+{
+    match begin(gate, seat.who(), pending, sink) {
+        Ok(()) => answer(host, gate, seat, line, pending, sink),
+        Err(fault) => (seat, Err(fault)),
+    }
 }
 
 // Answers a line that is too long, and writes all answers.
-fn answer_long<L: Setup, W: Sink>(
+fn answer_long<L: Setup, G: Gate, W: Sink>(
+    gate: &mut G,
     seat: &Seat<L>,
-    gate: &impl Gate,
-    number: &mut u64,
     pending: &mut Pending,
     sink: &mut W,
-) -> Ended
-    ensures { Stops result (Long ∷ []) seat.now.session seat.now.session (W.contents sink.old)
-        (W.contents sink.new) pending.old.bytes None (W.failed sink.new) }
+) -> Result<(), WriteFault>
+    requires out { pending.old.out ≤ pending.old.begun }
+    requires begun { pending.old.begun < 2 ^ 63 }
+    requires counts { (W.seen sink.old).faults ≡ 0 }
+    ensures said { OnOk result (SaysAll (Long ∷ [])
+        (spot seat.now.session (W.seen sink.old) (G.calls gate.old) pending.old)
+        (spot seat.now.session (W.seen sink.new) (G.calls gate.new) pending.new).talk) }
+    ensures breaks { OnErr result (BreaksAmid (Long ∷ [])
+        (spot seat.now.session (W.seen sink.old) (G.calls gate.old) pending.old)
+        (spot seat.now.session (W.seen sink.new) (G.calls gate.new) pending.new).talk) }
+    ensures faults { (W.seen sink.new).faults ≡ faults_after (W.seen sink.old).faults result }
 {
-    *number = number.saturating_add(1);
-    gate.before(seat.who(), *number);
-    let told = pending.put_last(sink, Refusal::LineTooLong);
-    gate.after(seat.who(), *number);
-    match told {
-        Ok(()) => Ended::LineTooLong,
-        Err(WriteFault) => Ended::WriteFault,
-    }
+    let who = seat.who();
+    begin(gate, who, pending, sink)?;
+    let refusal = Refusal::LineTooLong;
+    pending.put_short(Short::Refused { refusal });
+    finish(gate, who, pending, sink)
 }
 
 // Answers all whole lines that were read, and writes the answers.
 fn answer_lines<R: Wait, L: Setup, G: Gate, W: Sink>(
-    host: &Host<'_, R, L, G>,
+    host: &Host<'_, R, L>,
+    gate: &mut G,
     seat: Seat<L>,
-    number: &mut u64,
     lines: &mut Lines,
     pending: &mut Pending,
     sink: &mut W,
 ) -> (Seat<L>, Result<(), Ended>)
-    ensures more { OnOk result.1 (Converses (lines_from (Some []) lines.old) seat.session
-        result.0.session (W.contents sink.old) (W.contents sink.new) pending.old.bytes []) }
+    requires out { pending.old.out ≤ pending.old.begun }
+    requires begun { pending.old.begun + length lines.old < 2 ^ 63 }
+    requires counts { (W.seen sink.old).faults ≡ 0 }
+    ensures more { OnOk result.1 (HearsMore (lines_from (Some []) lines.old)
+        (spot seat.session (W.seen sink.old) (G.calls gate.old) pending.old)
+        (spot result.0.session (W.seen sink.new) (G.calls gate.new) pending.new)) }
     ensures rest { OnOk result.1 (rest_from (Some []) lines.old ≡ Some lines.new) }
     ensures part { OnOk result.1 (front_of lines.new ≡ Part) }
-    ensures sent { OnOk result.1 (pending.new.bytes ≡ []) }
+    ensures who { result.0.session.who ≡ seat.session.who }
+    ensures sent { OnOk result.1 (pending.new.out ≡ pending.new.begun) }
+    ensures begun { OnOk result.1
+        (pending.new.begun ≤ pending.old.begun + length lines.old) }
+    ensures faults { OnOk result.1 ((W.seen sink.new).faults ≡ 0) }
     ensures stops { IfErr result.1 (λ why. Stops why (lines_from (Some []) lines.old)
-        seat.session result.0.session (W.contents sink.old) (W.contents sink.new)
-        pending.old.bytes (rest_from (Some []) lines.old) (W.failed sink.new)) }
+        (spot seat.session (W.seen sink.old) (G.calls gate.old) pending.old)
+        (spot result.0.session (W.seen sink.new) (G.calls gate.new) pending.new).talk
+        (rest_from (Some []) lines.old)) }
 {
     let mut seat = seat;
     loop {
         match lines.front() {
             Front::Line { len } => {
                 let line = lines.line(len);
-                let (next, told) = answer_at(host, seat, number, line, pending, sink);
+                let (next, told) = answer_line(host, gate, seat, line, pending, sink);
                 seat = next;
                 match told {
                     Ok(()) => lines.advance(len + 1),
@@ -174,12 +290,13 @@ fn answer_lines<R: Wait, L: Setup, G: Gate, W: Sink>(
                 }
             }
             Front::TooLong => {
-                let why = answer_long(&seat, host.gate, number, pending, sink);
-                return (seat, Err(why));
+                return match answer_long(gate, &seat, pending, sink) {
+                    Ok(()) => (seat, Err(Ended::LineTooLong)),
+                    Err(WriteFault) => (seat, Err(Ended::WriteFault)),
+                };
             }
             Front::Part => {
-                let sent = pending.send(sink);
-                return match sent {
+                return match finish(gate, seat.who(), pending, sink) {
                     Ok(()) => (seat, Ok(())),
                     Err(WriteFault) => (seat, Err(Ended::WriteFault)),
                 };
@@ -191,27 +308,30 @@ fn answer_lines<R: Wait, L: Setup, G: Gate, W: Sink>(
 // At the end of the input, answers what stands behind the last LF, if there is something, and
 // writes the answer.
 fn answer_rest<R: Wait, L: Setup, G: Gate, W: Sink>(
-    host: &Host<'_, R, L, G>,
+    host: &Host<'_, R, L>,
+    gate: &mut G,
     seat: Seat<L>,
-    number: &mut u64,
     rest: &[u8],
     pending: &mut Pending,
     sink: &mut W,
 ) -> (Seat<L>, Result<(), WriteFault>)
-    requires { pending.old.bytes ≡ [] }
-    ensures ok { OnOk result.1 (Converses (last_of (Some rest.now)) seat.session
-        result.0.session (W.contents sink.old) (W.contents sink.new) [] []) }
-    ensures err { OnErr result.1 (Breaks (last_of (Some rest.now)) seat.session
-        result.0.session (W.contents sink.old) (W.contents sink.new) []) }
-    ensures failed { OnErr result.1 (W.failed sink.new ≡ true) }
+    requires out { pending.old.out ≡ pending.old.begun }
+    requires begun { pending.old.begun < 2 ^ 63 }
+    requires counts { (W.seen sink.old).faults ≡ 0 }
+    ensures said { OnOk result.1 (SaysAll (last_of (Some rest.now))
+        (spot seat.session (W.seen sink.old) (G.calls gate.old) pending.old)
+        (spot result.0.session (W.seen sink.new) (G.calls gate.new) pending.new).talk) }
+    ensures breaks { OnErr result.1 (BreaksAmid (last_of (Some rest.now))
+        (spot seat.session (W.seen sink.old) (G.calls gate.old) pending.old)
+        (spot result.0.session (W.seen sink.new) (G.calls gate.new) pending.new).talk) }
 {
     if rest.is_empty() {
         return (seat, Ok(()));
     }
-    let (seat, told) = answer_at(host, seat, number, rest, pending, sink);
+    let (seat, told) = answer_line(host, gate, seat, rest, pending, sink);
     match told {
         Ok(()) => {
-            let sent = pending.send(sink);
+            let sent = finish(gate, seat.who(), pending, sink);
             (seat, sent)
         }
         Err(fault) => (seat, Err(fault)),
@@ -220,7 +340,8 @@ fn answer_rest<R: Wait, L: Setup, G: Gate, W: Sink>(
 
 // Reads and answers until an end.
 fn listen<R: Wait, L: Setup, G: Gate, S: Source, W: Sink>(
-    host: &Host<'_, R, L, G>,
+    host: &Host<'_, R, L>,
+    gate: &mut G,
     source: &mut S,
     sink: &mut W,
     seat: Seat<L>,
@@ -228,24 +349,25 @@ fn listen<R: Wait, L: Setup, G: Gate, S: Source, W: Sink>(
     pending: &mut Pending,
 ) -> Seat<L>
     requires held { lines.old ≡ [] }
-    requires pending { pending.old.bytes ≡ [] }
-    ensures heard { Heard (S.remaining source.old) (S.remaining source.new) seat.session
-        result.session (W.contents sink.old) (W.contents sink.new) (S.failed source.new)
-        (W.failed sink.new) (AllMade (S.reads source.old) (S.reads source.new)) }
-    ensures reads { S.reads source.new ≤ S.reads source.old + 16777216 }
+    requires pending { (pending.old.bytes ≡ []) × (pending.old.begun ≡ 0)
+        × (pending.old.out ≡ 0) }
+    requires unread { IsUnread (S.seen source.old) }
+    requires unwritten { (W.seen sink.old).faults ≡ 0 }
+    ensures heard { Heard (S.seen source.old) (S.seen source.new)
+        (record { seat = seat.session; sink = W.seen sink.old; calls = G.calls gate.old })
+        (record { seat = result.session; sink = W.seen sink.new; calls = G.calls gate.new }) }
+    ensures reads { (S.seen source.new).reads ≤ 16777216 }
 {
     let mut seat = seat;
-    let mut number = 0;
     for _turn in 0..MAX_READS {
         let Ok(count) = lines.read_from(source) else {
             return seat;
         };
         if count == 0 {
-            let rest = lines.rest();
-            let (seat, _) = answer_rest(host, seat, &mut number, rest, pending, sink);
+            let (seat, _) = answer_rest(host, gate, seat, lines.rest(), pending, sink);
             return seat;
         }
-        let (next, told) = answer_lines(host, seat, &mut number, lines, pending, sink);
+        let (next, told) = answer_lines(host, gate, seat, lines, pending, sink);
         seat = next;
         if let Err(_why) = told {
             return seat;
@@ -255,7 +377,8 @@ fn listen<R: Wait, L: Setup, G: Gate, S: Source, W: Sink>(
 }
 
 /// Reads lines and answers each, in order, until the end of the input, a fault at either end, a
-/// line that is too long, or `MAX_READS` calls of `read`. Then it leaves.
+/// line that is too long, or `MAX_READS` calls of `read`. Then it leaves. Nothing was read of the
+/// source yet, and no write to the sink has failed.
 ///
 /// A line ends with LF. One CR before that is no part of it, and what stands behind the last LF is
 /// a line too once the input has ended. A line that is no command is answered `no Syntax`, one of
@@ -263,26 +386,33 @@ fn listen<R: Wait, L: Setup, G: Gate, S: Source, W: Sink>(
 /// other line is asked of the hall, and its answer is the reply in the receipt; `no HistoryFull`,
 /// `no NoMemory` or `no Broken` where there is none. Answers are gathered in the buffers, and are
 /// written before the session reads again. What the buffers held is dropped at the beginning.
-pub fn session<L: Setup, S: Source, W: Sink>(
+///
+/// Behind a line that is too long, a fault or the end of the input nothing more is read, and behind
+/// a write that has failed no line is asked. The gate is called before each line that is answered,
+/// and after it once its answer is written.
+pub fn session<L: Setup, S: Source, W: Sink, G: Gate>(
     rt: &impl Wait,
     source: &mut S,
     sink: &mut W,
     hall: &Hall<L>,
     seat: Seat<L>,
-    gate: &impl Gate,
+    gate: &mut G,
     buffers: &mut Buffers,
 ) -> Gone<L>
-    ensures heard { (stayed : SeatView) × Heard (S.remaining source.old) (S.remaining source.new)
-        seat.session stayed (W.contents sink.old) (W.contents sink.new) (S.failed source.new)
-        (W.failed sink.new) (AllMade (S.reads source.old) (S.reads source.new))
+    requires unread { IsUnread (S.seen source.old) }
+    requires unwritten { (W.seen sink.old).faults ≡ 0 }
+    ensures heard { (stayed : SeatView) × Heard (S.seen source.old) (S.seen source.new)
+        (record { seat = seat.session; sink = W.seen sink.old; calls = G.calls gate.old })
+        (record { seat = stayed; sink = W.seen sink.new; calls = G.calls gate.new })
         × ((result ≡ stayed) ⊎ Gained stayed Leave result) }
-    ensures reads { S.reads source.new ≤ S.reads source.old + 16777216 }
+    ensures reads { (S.seen source.new).reads ≤ 16777216 }
 {
     buffers.lines.clear();
     buffers.pending.clear();
-    let host = Host { rt, hall, gate };
+    let host = Host { rt, hall };
     let seat = listen(
         &host,
+        gate,
         source,
         sink,
         seat,

@@ -1,39 +1,49 @@
 -- The goals of listen that the check left open.
-use Rattle.std.proofs.Common.{◌≡◌, ◌<◌, arith, rules}
-use Rattle.rd_ends.proofs.Offered.{Keeps-same}
-use Rattle.rd_session.specs.Hearing.{ReadFailed, AllReads}
-use Rattle.rd_session.proofs.HearingLaws.{Heard-end, Heard-now, Heard-stops, Hears-more, Hears-new}
+use Rattle.std.proofs.Common.{◌∙◌, ◌≡◌, ◌+◌, ◌<◌, ◌≤◌, length, refl, arith, rules}
+use Rattle.rd_session.proofs.GatheringLaws.{Talking-new}
+use Rattle.rd_session.proofs.HearingLaws.{Heard-ended, Heard-failed, Heard-spent, Heard-stops, Hears-more, Hears-new, Read-of, held_short}
 use Rattle.rd_session.proofs.session.listen.Goals as goal
 
 pub loop-turn-init : goal.loop-turn-init
 loop-turn-init g c = record {
-  hears = Hears-new _ _ _ _ c.requires.held;
-  pending = c.requires.pending;
-  reads = omega arith;
-  made = λ within. omega arith;
+  hears = Hears-new _ _ _ _ c.requires.unread c.requires.held (Talking-new _ c.args.pending.now c.requires.pending.0 c.requires.pending.1 c.requires.pending.2) refl;
+  out = omega (arith, c.requires.pending.1, c.requires.pending.2);
+  begun = omega (arith, c.requires.pending.1);
+  faults = c.requires.unwritten;
+  reads = c.requires.unread.reads;
 }
 
 pub returns-in_default-clause-heard : goal.returns-in_default-clause-heard
 returns-in_default-clause-heard g c =
-    Heard-now ReadFailed _ _ _ _ _ _ _ _ _ _ _ c.loop-turn.invariant.hears c.in_default.ensures.err_source (λ bytes. c.in_default.ensures.failed)
+    Heard-failed _ _ _ _ _ _ c.loop-turn.invariant.hears c.loop-turn.invariant.out c.in_default.ensures.err_source c.in_default.ensures.reads c.in_default.ensures.ends c.in_default.ensures.faults
 
 pub returns-then-count-eq0-clause-heard : goal.returns-then-count-eq0-clause-heard
 returns-then-count-eq0-clause-heard g c =
     let none : c.in-Ok.count ≡ 0 = search rules in
-    Heard-end c.answer_rest-seat.result.1 _ _ _ _ _ _ _ _ _ _ _ _ _ _ _ _ c.loop-turn.invariant.hears c.in-Ok.ensures.ok none (c.in-Ok.ensures.end none) c.rest-rest.ensures c.answer_rest-seat.ensures.ok c.answer_rest-seat.ensures.err c.answer_rest-seat.ensures.failed
+    Heard-ended c.answer_rest-seat.result.1 _ _ _ _ _ _ _ _ _ c.in-Ok.count c.loop-turn.invariant.hears c.in-Ok.ensures.ok none c.in-Ok.ensures.reads c.in-Ok.ensures.ends c.in-Ok.ensures.faults
+    (c.in-Ok.ensures.end none) c.rest.ensures c.answer_rest-seat.ensures.said c.answer_rest-seat.ensures.breaks
 
 pub returns-in-Err-clause-heard : goal.returns-in-Err-clause-heard
 returns-in-Err-clause-heard g c =
-    Heard-stops c.in-Err._why _ _ _ _ _ _ _ _ _ _ _ _ _ _ _ _ c.loop-turn.invariant.hears c.in-Ok.ensures.ok c.loop-turn.invariant.pending (rw c.in-Err.is at c.answer_lines-next.ensures.stops)
+    let some : 0 < c.in-Ok.count = search rules in
+    let read = Read-of _ _ _ _ _ _ _ c.in-Ok.count c.loop-turn.invariant.hears c.in-Ok.ensures.ok some c.in-Ok.ensures.reads c.in-Ok.ensures.ends c.in-Ok.ensures.faults in
+    Heard-stops c.in-Err._why _ _ _ _ _ _ _ read (rw c.in-Err.is at c.answer_lines-next.ensures.stops)
 
 pub loop-turn-preserved : goal.loop-turn-preserved
-loop-turn-preserved g c = record {
-  hears = Hears-more _ _ _ _ _ _ _ _ _ _ _ _ _ _ c.loop-turn.invariant.hears c.in-Ok.ensures.ok c.loop-turn.invariant.pending (rw c.in_default-told.is at c.answer_lines-next.ensures.more) (rw c.in_default-told.is at c.answer_lines-next.ensures.rest) (rw c.in_default-told.is at c.answer_lines-next.ensures.part);
-  pending = rw c.in_default-told.is at c.answer_lines-next.ensures.sent;
-  reads = omega (arith, c.read_from.ensures.bound, c.loop-turn.invariant.reads);
-  made = λ within. let before = c.loop-turn.invariant.made within in let turn : c.loop-turn._turn < 16777216 = omega arith in let one = c.read_from.ensures.counted (omega (arith, before, within, turn)) in omega (arith, one, before);
-}
+loop-turn-preserved g c =
+    let some : 0 < c.in-Ok.count = search rules in
+    let read = Read-of _ _ _ _ _ _ _ c.in-Ok.count c.loop-turn.invariant.hears c.in-Ok.ensures.ok some c.in-Ok.ensures.reads c.in-Ok.ensures.ends c.in-Ok.ensures.faults in
+    let begun = rw c.in_default-told.is at c.answer_lines-next.ensures.begun in
+    record {
+      hears = Hears-more _ _ _ _ _ _ _ _ read (rw c.in_default-told.is at c.answer_lines-next.ensures.more) c.answer_lines-next.ensures.who (rw c.in_default-told.is at c.answer_lines-next.ensures.rest)
+          (rw c.in_default-told.is at c.answer_lines-next.ensures.part);
+      out = rw c.in_default-told.is at c.answer_lines-next.ensures.sent;
+      begun = omega (arith, begun, c.loop-turn.invariant.begun, c.in-Ok.ensures.within);
+      faults = rw c.in_default-told.is at c.answer_lines-next.ensures.faults;
+      reads = omega (arith, c.in-Ok.ensures.reads, c.loop-turn.invariant.reads);
+    }
 
 pub returns-clause-heard : goal.returns-clause-heard
 returns-clause-heard g c =
-    Heard-now AllReads _ _ _ _ _ _ _ _ _ _ _ c.loop-turn.invariant.hears (Keeps-same _) (λ bytes within. let made = c.loop-turn.invariant.made (omega (arith, within)) in omega arith)
+    let spent : (g.S.Source.seen c.loop-turn.source).reads ≡ 16777216 = omega (arith, c.loop-turn-test.false, c.loop-turn.auto._turn-end, c.loop-turn.invariant.reads) in
+    Heard-spent _ _ _ _ _ c.loop-turn.invariant.hears c.loop-turn.invariant.out spent

@@ -1,12 +1,16 @@
 -- What holds at each turn of listen's loop.
-use Rattle.std.proofs.Common.{◌≡◌, ◌+◌, ◌^◌, ◌≤◌, []}
+use Rattle.std.proofs.Common.{◌≡◌, ◌*◌, ◌≤◌}
+use Rattle.rd_session.specs.Gathering.{spot}
 use Rattle.rd_session.proofs.HearingLaws.{Hears}
 use Rattle.rd_session.proofs.session.listen.Given as goal
 
 abbrev pub invariant-loop-turn : goal.invariant-loop-turn
 invariant-loop-turn g l = record {
-  hears : Hears (g.S.Source.remaining l.fn.source) (g.S.Source.remaining l.source) l.fn.seat.session l.seat.session (g.W.Sink.contents l.fn.sink) (g.W.Sink.contents l.sink) l.lines;
-  pending : l.pending.bytes ≡ [];
-  reads : g.S.Source.reads l.source ≤ g.S.Source.reads l.fn.source + l._turn;
-  made : g.S.Source.reads l.fn.source + 16777216 ≤ 2 ^ 63 → g.S.Source.reads l.source ≡ g.S.Source.reads l.fn.source + l._turn;
+  hears : Hears (g.S.Source.seen l.fn.source) (g.S.Source.seen l.source)
+      (record { seat = l.fn.seat.session; sink = g.W.Sink.seen l.fn.sink; calls = g.G.Gate.calls l.fn.gate })
+      (spot l.seat.session (g.W.Sink.seen l.sink) (g.G.Gate.calls l.gate) l.pending) l.lines;
+  out : l.pending.out ≡ l.pending.begun;
+  begun : l.pending.begun ≤ 65536 * l._turn;
+  faults : (g.W.Sink.seen l.sink).faults ≡ 0;
+  reads : (g.S.Source.seen l.source).reads ≡ l._turn;
 }

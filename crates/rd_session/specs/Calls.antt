@@ -1,0 +1,35 @@
+-- What a session calls of its gate.
+use Rattle.std.specs.Prelude.{ℕ, ◌≡◌, ◌+◌, ◌≤◌, List, [], ◌∷◌, ◌++◌, Option, Some, None}
+
+-- of this session, before or after that line
+pub data Call : Type 0 where
+  Before : ℕ → ℕ → Call
+  After : ℕ → ℕ → Call
+
+-- These were called behind those, where that is known.
+abbrev pub Adds : Option (List Call) → Option (List Call) → List Call → Type 0
+Adds None new more = Unit {0}
+Adds (Some old) None more = ⊥
+Adds (Some old) (Some new) more = new ≡ old ++ more
+
+-- how many lines were begun, and of how many of these the answer is out
+pub record Progress : Type 0 where
+  pub begun : ℕ
+  pub out : ℕ
+
+-- The calls lead from here to there. A line is begun behind the one before it, and its answer is out
+-- behind the answer before it, once it was begun: so each of both is called once for a line.
+abbrev pub LeadTo : ℕ → List Call → Progress → Progress → Type 0
+LeadTo who [] from to = from ≡ to
+LeadTo who (Before session line ∷ calls) from to =
+    (session ≡ who) × (line ≡ from.begun + 1)
+    × LeadTo who calls (record { begun = line; out = from.out }) to
+LeadTo who (After session line ∷ calls) from to =
+    (session ≡ who) × (line ≡ from.out + 1) × (line ≤ from.begun)
+    × LeadTo who calls (record { begun = from.begun; out = line }) to
+
+-- From the beginning on so many lines were begun, and the answers of so many of them are out.
+pub record Called (who : ℕ) (old new : Option (List Call)) (begun out : ℕ) : Type 0 where
+  pub calls : List Call
+  pub added : Adds old new calls
+  pub lead : LeadTo who calls (record { begun = 0; out = 0 }) (record { begun = begun; out = out })
