@@ -22,7 +22,7 @@ pub enum Which {
     Twice,
 }
 
-// Makes it. `Ok(None)` says that there is no memory for it.
+// Makes it. `Err(None)` says that there is no memory for it.
 fn try_to_make(alloc: Global, which: Which) -> Result<App, Option<Wrong>> {
     match which {
         Which::Builtin => match App::builtin(alloc) {
@@ -32,7 +32,14 @@ fn try_to_make(alloc: Global, which: Which) -> Result<App, Option<Wrong>> {
         Which::Twice => match read_app(alloc, TWICE.as_bytes()) {
             Ok(app) => Ok(app),
             Err(AppError::Memory) => Err(None),
-            Err(_) => Err(Some(Wrong::Application)),
+            Err(
+                AppError::NotJson
+                | AppError::Shape
+                | AppError::Limit
+                | AppError::Name
+                | AppError::Instr
+                | AppError::OverwriteLength,
+            ) => Err(Some(Wrong::Application)),
         },
     }
 }

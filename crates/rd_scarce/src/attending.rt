@@ -90,7 +90,7 @@ struct Lines<'a, R: Wait, L: Setup> {
 }
 
 impl<R: Wait, L: Setup> Lines<'_, R, L> {
-    // Looks behind the lock, where nothing has changed since the read before, if a line was refused.
+    // Looks behind the lock. Where a line was refused, nothing has changed since the read before.
     fn look(&mut self) {
         let before = self.before;
         let after = self.host.hall.look(self.host.rt);

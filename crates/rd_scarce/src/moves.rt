@@ -243,8 +243,8 @@ fn make_boot(alloc: Global, app: &Program, refused: &mut Refused) -> Result<Stat
     Err(Wrong::RefusedTwice { at: At::Copy })
 }
 
-/// The run on a timeline of its own: so many moves are done at the end. Where making the timeline is
-/// refused it is tried again, with an application that is made anew.
+/// The run on a timeline of its own: so many moves are done at the end. Where the timeline is
+/// refused, it is made again, with an application that is made anew.
 pub fn go_both_ways(alloc: Global, refused: &mut Refused) -> Result<usize, Wrong> {
     for _ in 0..TRIES {
         let (program, _names) = make(alloc, Which::Twice, refused)?.split();

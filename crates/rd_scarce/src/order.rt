@@ -53,8 +53,8 @@ impl Order {
 /// How many bytes of orders are read at the most.
 pub const ROOM: usize = 256;
 
-/// Reads text to its end, or as much as there is room for. `None` where a read fails, or where it is
-/// no text.
+/// Reads text to its end, or as much as there is room for. `None` where a read fails, or where what
+/// was read is no text.
 pub fn read_text<'a, R: Read>(reader: &mut R, room: &'a mut [u8; ROOM]) -> Option<&'a str> {
     let mut end = 0;
     for _turn in 0..ROOM {
