@@ -1,6 +1,7 @@
 //! Sessions over connections.
 #![tactic(auto)]
 
-pub mod caller;
+mod caller;
+mod crew;
 pub mod net;
 mod table;

@@ -5,6 +5,7 @@ ghost use Rattle.rd_hall.specs.Seats.{Joined};
 ghost use Rattle.rd_net.specs.Attending.{AttendedOver};
 
 use crate::caller::{Caller, hang_up, turn_away};
+use crate::crew::Crew;
 use crate::table::{Table, Visit};
 use rd_desk::desk::EnterError;
 use rd_ends::over::Over;
@@ -14,11 +15,11 @@ use rd_hall::setup::Setup;
 use rd_session::buffers::Buffers;
 use rd_session::gate::Gate;
 use rd_session::session::session;
-use std::alloc::Global;
+use std::alloc::{AllocError, Global};
 use std::io::ErrorKind;
 use std::net::{TcpListener, TcpStream};
 use std::sync::Wait;
-use std::thread::Threads;
+use std::thread::{JoinHandle, SpawnError, Threads};
 use std::{io, thread};
 
 /// What came of the connections.
@@ -57,9 +58,9 @@ impl<L: Setup> Served<L> {
 /// closed, so that a connection beyond them is refused by the system. Ends when all have ended. A
 /// connection that isn't let in is told why: `no Full`, `no HistoryFull` or `no NoMemory`, the last
 /// also where there is no thread for it. Where a connection can't be accepted or has no thread, the
-/// next is tried once a session has ended, if one is there. The room for all sessions is made
-/// first: where there is no memory for it, none is accepted, and there are as many faults as
-/// passes.
+/// next is tried once a session has ended and its thread was joined, if one is there. The room for
+/// all sessions is made first: where there is no memory for it, none is accepted, and there are as
+/// many faults as passes.
 pub fn serve_net<L: Setup + Send + Sync, R: Threads + Wait + Sync, G: Gate + Copy + Send + Sync>(
     rt: &R,
     alloc: Global,
@@ -69,46 +70,78 @@ pub fn serve_net<L: Setup + Send + Sync, R: Threads + Wait + Sync, G: Gate + Cop
     gate: G,
 ) -> Served<L> {
     let count = passes.len();
-    let Ok(gone) = Vec::with_capacity(alloc, count) else {
+    let Ok((table, crew)) = prepare(alloc, count) else {
         return Served {
             gone: Vec::new(alloc),
             faults: u32::try_from(count).unwrap_or(u32::MAX),
         };
     };
-    let table = Table::new(Served { gone, faults: 0 });
     let shared = &table;
     thread::scope(thread::scope_env(), rt, |scope| {
+        let mut crew = crew;
         for pass in passes {
-            let stream = match listener.accept() {
-                Ok((stream, _)) => stream,
-                Err(error) => {
-                    skip(rt, shared, &error);
-                    continue;
-                }
+            let Some(stream) = accept(rt, &listener, shared, &mut crew) else {
+                continue;
             };
             shared.begin(rt);
+            let number = crew.next();
             let caller = Caller::new(stream);
             let spawned = scope.spawn(move || serve_caller(
-                rt, alloc, caller, hall, pass, gate, shared,
+                rt, alloc, caller, hall, pass, gate, shared, number,
             ));
-            if spawned.is_err() {
-                // (dropped, the connection is told so)
-                drop(spawned);
-                shared.end(rt, Visit::Refused);
-                shared.await_end(rt);
-            }
+            settle(rt, shared, &mut crew, spawned);
         }
         drop(listener);
     });
     table.into_served()
 }
 
-// A connection that couldn't be accepted. Where that is no matter of its own, but descriptors or
-// memory are short, a session's end is waited for.
-fn skip<L: Setup>(rt: &impl Wait, table: &Table<L>, error: &io::Error) {
-    table.fail(rt);
-    if error.kind() != ErrorKind::ConnectionAborted {
-        table.await_end(rt);
+// Room for so many sessions, and for their threads.
+fn prepare<L: Setup>(alloc: Global, count: usize) -> Result<(Table<L>, Crew), AllocError> {
+    let table = Table::new(alloc, count)?;
+    let crew = Crew::new(alloc, count)?;
+    Ok((table, crew))
+}
+
+// The next connection, or none where it can't be accepted. Where that is no matter of its own, but
+// descriptors or memory are short, a session's end is waited for.
+fn accept<L: Setup, R: Threads + Wait>(
+    rt: &R,
+    listener: &TcpListener,
+    table: &Table<L>,
+    crew: &mut Crew,
+) -> Option<TcpStream> {
+    let accepted = listener.accept();
+    crew.join_ended(rt, table);
+    match accepted {
+        Ok((stream, _)) => Some(stream),
+        Err(error) => {
+            table.fail(rt);
+            if error.kind() != ErrorKind::ConnectionAborted {
+                table.await_end(rt);
+                crew.join_ended(rt, table);
+            }
+            None
+        }
+    }
+}
+
+// Keeps the thread that serves a connection. Where there is none the connection is told so, since
+// what was to serve it is dropped, and a session's end is waited for.
+fn settle<L: Setup, R: Threads + Wait, F: Drop>(
+    rt: &R,
+    table: &Table<L>,
+    crew: &mut Crew,
+    spawned: Result<JoinHandle<()>, SpawnError<F>>,
+) {
+    match spawned {
+        Ok(thread) => crew.add(thread),
+        Err(refused) => {
+            drop(refused);
+            table.cancel(rt);
+            table.await_end(rt);
+            crew.join_ended(rt, table);
+        }
     }
 }
 
@@ -121,11 +154,12 @@ fn serve_caller<L: Setup, R: Wait, G: Gate + Copy>(
     pass: Pass<L>,
     gate: G,
     table: &Table<L>,
+    number: usize,
 ) {
     let stream = caller.into_stream();
     let visit = visit(rt, alloc, &stream, hall, pass, gate);
     drop(stream);
-    table.end(rt, visit);
+    table.end(rt, number, visit);
 }
 
 // Lets a connection in, serves its session, and ends it.

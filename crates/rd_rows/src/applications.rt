@@ -100,11 +100,14 @@ const ROWS: [Row; 6] = [
     },
 ];
 
+// An application is the one that its file spells: names kind by kind, sizes at their ends, spaces
+// and block times.
 #[test]
 fn rows(rt: HostRuntime) -> Result<(), Fail> {
     assert_rows(&rt, &ROWS)
 }
 
+// What is said of each fault of an application.
 #[test]
 fn texts_of_faults(rt: HostRuntime) -> Result<(), Fail> {
     for (fault, want) in [

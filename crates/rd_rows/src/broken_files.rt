@@ -78,6 +78,7 @@ fn nested(rt: HostRuntime) -> Result<(), Fail> {
     Ok(())
 }
 
+// A file that is JSON and no application is refused by its first fault.
 #[test]
 fn damaged(rt: HostRuntime) -> Result<(), Fail> {
     assert_refused(&rt, &DAMAGED)

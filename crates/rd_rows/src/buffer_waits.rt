@@ -271,6 +271,7 @@ const ROWS: [Row; 11] = [
     },
 ];
 
+// Who waits at a buffer, and what wakes a reader or a writer, is as written.
 #[test]
 fn rows(rt: HostRuntime) -> Result<(), Fail> {
     assert_rows(&rt, &ROWS)

@@ -214,6 +214,7 @@ const ROWS: [Row; 9] = [
     },
 ];
 
+// Each call of a stream buffer is the list's: bytes come out in the order in which they went in.
 #[test]
 fn rows(rt: HostRuntime) -> Result<(), Fail> {
     assert_rows(&rt, &ROWS)

@@ -108,16 +108,19 @@ const OF_PHASES: [Row; 2] = [
     },
 ];
 
+// A condition of an object holds exactly where it says so of the state.
 #[test]
 fn of_objects(rt: HostRuntime) -> Result<(), Fail> {
     assert_rows(&rt, &OF_OBJECTS)
 }
 
+// And so does one of a task, and of the tick.
 #[test]
 fn of_tasks(rt: HostRuntime) -> Result<(), Fail> {
     assert_rows(&rt, &OF_TASKS)
 }
 
+// And one of a task's phase.
 #[test]
 fn of_phases(rt: HostRuntime) -> Result<(), Fail> {
     assert_rows(&rt, &OF_PHASES)

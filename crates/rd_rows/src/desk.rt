@@ -170,6 +170,7 @@ const THE_WHEEL: [Asked; 5] = [
     },
 ];
 
+// Who takes the wheel keeps moves from the others, who look as they like.
 #[test]
 fn the_wheel(rt: HostRuntime) -> Result<(), Fail> {
     let mut desk = open(&rt, 100)?;
@@ -263,6 +264,7 @@ const HELD: [Asked; 16] = [
     },
 ];
 
+// What the wheel refuses, and what it doesn't.
 #[test]
 fn held(rt: HostRuntime) -> Result<(), Fail> {
     let mut desk = open(&rt, 100)?;
@@ -325,6 +327,7 @@ const OWN_WATCHES: [Asked; 10] = [
     },
 ];
 
+// A watch is its own session's.
 #[test]
 fn own_watches(rt: HostRuntime) -> Result<(), Fail> {
     let mut desk = open(&rt, 100)?;
@@ -387,6 +390,7 @@ fn depart_and_enter<H: AllocGlobal + Abort>(rt: &H, desk: &mut Desk) -> Result<(
     assert_asked(rt, desk, asked)
 }
 
+// Who has left has neither wheel nor watches, and no number comes twice.
 #[test]
 fn departures(rt: HostRuntime) -> Result<(), Fail> {
     let mut desk = open(&rt, 100)?;
@@ -413,6 +417,7 @@ fn enter_64_times(rt: &impl Abort, desk: &mut Desk) {
     assert_same(rt, desk.entries(), 65);
 }
 
+// At most 64 sessions enter in all.
 #[test]
 fn joins(rt: HostRuntime) -> Result<(), Fail> {
     let mut desk = open(&rt, 1_000)?;
@@ -462,6 +467,7 @@ fn fill_two_places(rt: &impl Abort, desk: &mut Desk) {
     assert_same(rt, desk.entries(), 2);
 }
 
+// A history that is full lets nobody in and serves nothing, and has a place for each departure.
 #[test]
 fn two_places(rt: HostRuntime) -> Result<(), Fail> {
     let mut desk = open(&rt, 2)?;

@@ -64,6 +64,7 @@ const OF_TASKS: [Row; 4] = [
     },
 ];
 
+// An edit of a task leaves exactly the state that it says, or is refused and changes nothing.
 #[test]
 fn of_tasks(rt: HostRuntime) -> Result<(), Fail> {
     assert_rows(&rt, &OF_TASKS)
@@ -108,6 +109,7 @@ const OF_OBJECTS: [Row; 3] = [
     },
 ];
 
+// So does one of an object.
 #[test]
 fn of_objects(rt: HostRuntime) -> Result<(), Fail> {
     assert_rows(&rt, &OF_OBJECTS)

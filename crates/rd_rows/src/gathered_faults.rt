@@ -108,8 +108,8 @@ fn lose<L: Setup, H: Wait + Abort + AllocGlobal>(
     (gone, outcome)
 }
 
-// The lines that were asked are those whose answers the writes were given, and at the most one whose
-// view had no room. Answers whether a write has failed.
+// The lines that were asked are those whose answers the writes were given, and at the most one
+// whose view had no room. Answers whether a write has failed.
 fn lose_a_write<L: Setup, H: Wait + Abort + AllocGlobal>(
     rt: &H,
     blank: Blank,

@@ -302,6 +302,7 @@ const ROWS: [Row; 11] = [
     },
 ];
 
+// Each call of an event group is as written: whom bits meet, and what is cleared behind them.
 #[test]
 fn rows(rt: HostRuntime) -> Result<(), Fail> {
     assert_rows(&rt, &ROWS)

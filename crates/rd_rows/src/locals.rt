@@ -67,6 +67,7 @@ const ROWS: [Row; 3] = [
     },
 ];
 
+// What a task does with its own registers and data is as written.
 #[test]
 fn rows(rt: HostRuntime) -> Result<(), Fail> {
     assert_rows(&rt, &ROWS)

@@ -258,6 +258,7 @@ fn joined(alloc: Global, pieces: &[&str]) -> Result<String, AllocError> {
     Ok(text)
 }
 
+// Messages come out whole and in the order in which they went in.
 #[test]
 fn rows(rt: HostRuntime) -> Result<(), Fail> {
     assert_rows(&rt, &ROWS)

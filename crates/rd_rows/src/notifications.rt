@@ -300,6 +300,7 @@ const ROWS: [Row; 15] = [
     },
 ];
 
+// Each call that notifies a task, or looks at an entry, is as written.
 #[test]
 fn rows(rt: HostRuntime) -> Result<(), Fail> {
     assert_rows(&rt, &ROWS)

@@ -137,18 +137,21 @@ const MISSING_FILES: [&[&str]; 3] = [
     &["run", "--app", "."],
 ];
 
+// Words that spell no command line have status 2, and nothing is run.
 #[test]
 fn bad_command_line(rt: HostRuntime) -> Result<(), Fail> {
     let errors = "rdbg: bad command line\n";
     assert_runs(&rt, &BAD_COMMAND_LINES, "step 0\n", 2, "", errors)
 }
 
+// With no words the built-in application is run, and settings at their limits are settings.
 #[test]
 fn run_is_the_default(rt: HostRuntime) -> Result<(), Fail> {
     let replies = "ok at 1\nok at 0\n";
     assert_runs(&rt, &DEFAULTS, "step 0\nback 1\n", 0, replies, "")
 }
 
+// No more moves are done at a time than the setting says.
 #[test]
 fn moves_are_limited(rt: HostRuntime) -> Result<(), Fail> {
     let commands = "step 0\nstep 0\nback 1\nstep 0\n";
@@ -156,6 +159,7 @@ fn moves_are_limited(rt: HostRuntime) -> Result<(), Fail> {
     assert_runs(&rt, &ONE_MOVE, commands, 0, replies, "")
 }
 
+// Which files can't be read.
 #[test]
 fn missing_file(rt: HostRuntime) -> Result<(), Fail> {
     let errors = "rdbg: cannot read the file\n";
@@ -193,6 +197,7 @@ Options:
   -h, --help             Print help
 ";
 
+// Whether `help` as a word is help, and the text of help.
 #[test]
 fn help(rt: HostRuntime) -> Result<(), Fail> {
     assert_runs(&rt, &ASKS_FOR_HELP, "step 0\n", 0, HELP, "")?;

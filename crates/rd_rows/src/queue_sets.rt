@@ -258,6 +258,7 @@ const ROWS: [Row; 11] = [
     },
 ];
 
+// Handles come by sends into members and go by selects.
 #[test]
 fn rows(rt: HostRuntime) -> Result<(), Fail> {
     assert_rows(&rt, &ROWS)

@@ -155,6 +155,7 @@ const ROWS: [Row; 7] = [
     },
 ];
 
+// Each call of a queue is the list's.
 #[test]
 fn rows(rt: HostRuntime) -> Result<(), Fail> {
     assert_rows(&rt, &ROWS)

@@ -237,6 +237,7 @@ const REFUSED_BUFFER_CALLS: [Refused; 29] = [
     },
 ];
 
+// An application of buffers is refused by its first fault.
 #[test]
 fn refused_buffers(rt: HostRuntime) -> Result<(), Fail> {
     assert_refused(&rt, &REFUSED_STREAMS)?;

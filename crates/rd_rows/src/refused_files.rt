@@ -300,6 +300,7 @@ const REFUSED_NOTIFICATIONS: [Refused; 23] = [
     },
 ];
 
+// An application is refused by its first fault, and the program says which.
 #[test]
 fn refused_files(rt: HostRuntime) -> Result<(), Fail> {
     assert_refused(&rt, &REFUSED_FILES)?;

@@ -87,6 +87,7 @@ fn nothing(rt: HostRuntime) {
     );
 }
 
+// A reply that is written by itself is its line to the last byte, or a front of it.
 #[test]
 fn few_words(rt: HostRuntime) {
     let told = Short::Done { at: 3 };
@@ -104,6 +105,7 @@ fn look(rt: &(impl AllocGlobal + Abort), desk: &mut Desk) {
     assert_line(rt, &receipt.entry.reply, line, "c");
 }
 
+// So is a view.
 #[test]
 fn view(rt: HostRuntime) -> Result<(), Fail> {
     let mut desk = open(&rt, 100)?;

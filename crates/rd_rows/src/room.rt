@@ -118,6 +118,7 @@ fn entries_of_one<L: Setup, H: Abort + AllocGlobal>(
     }
 }
 
+// The target lent is the state that the moves not undone give.
 #[test]
 fn target_of_a_room(rt: HostRuntime) -> Result<(), Fail> {
     let app = App::builtin(rt.alloc())?;

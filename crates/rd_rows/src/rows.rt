@@ -158,6 +158,7 @@ where
     );
 }
 
+// All lines that were read are answered, in their order, in one piece and byte by byte.
 #[test]
 fn rows(rt: HostRuntime) {
     for session in &SESSIONS {
@@ -230,6 +231,7 @@ where
     Ok(())
 }
 
+// A line of more than 1,024 bytes, its CR among them, is answered once, and is the last.
 #[test]
 fn long_lines(rt: HostRuntime) -> Result<(), Fail> {
     for line in &LONG_LINES {
@@ -260,6 +262,7 @@ fn many_lines(rt: HostRuntime) -> Result<(), Fail> {
     Ok(())
 }
 
+// Answers are written with one write for what one read gave.
 #[test]
 fn one_write_for_a_read(rt: HostRuntime) -> Result<(), Fail> {
     let alloc = rt.alloc();

@@ -77,6 +77,7 @@ const FORWARD: [Row; 5] = [
     },
 ];
 
+// A run makes the moves of the written choice, all of them or none.
 #[test]
 fn forward(rt: HostRuntime) -> Result<(), Fail> {
     assert_rows(&rt, &FORWARD)
@@ -134,6 +135,7 @@ const REDO: [Row; 5] = [
     },
 ];
 
+// Moves that were taken back are made again as they were, until the next new one.
 #[test]
 fn redo(rt: HostRuntime) -> Result<(), Fail> {
     assert_rows(&rt, &REDO)
@@ -176,11 +178,13 @@ const UNTIL: [Row; 4] = [
     },
 ];
 
+// A run stops at the first place where its condition holds, and a way back at the last earlier one.
 #[test]
 fn until(rt: HostRuntime) -> Result<(), Fail> {
     assert_rows(&rt, &UNTIL)
 }
 
+// A run that is refused leaves target, moves done and moves undone.
 #[test]
 fn refused_run_leaves_nothing(rt: HostRuntime) -> Result<(), Fail> {
     let commands = "forward 2\nback 1\nforward 5\nshow moves\nuntil tick = 9 5\nshow moves\n\

@@ -48,6 +48,7 @@ const SENTENCES: [(Refusal, &str); 17] = [
     (Refusal::Full, "as many sessions have joined as may"),
 ];
 
+// What is said of each refusal.
 #[test]
 fn refusals(rt: HostRuntime) -> Result<(), Fail> {
     for (refusal, want) in SENTENCES {

@@ -49,6 +49,7 @@ fn assert_all_shown<H: AllocGlobal + Abort>(rt: &H, machine: &Machine) -> Result
     assert_shown(rt, machine, &Bound::ShowCores, line)
 }
 
+// What a command shows of the target is the line of the thing that it names.
 #[test]
 fn at_boot(rt: HostRuntime) -> Result<(), Fail> {
     let app = App::builtin(rt.alloc())?;

@@ -81,6 +81,7 @@ fn interrupted_reads(rt: HostRuntime) -> Result<(), Fail> {
     Ok(())
 }
 
+// No answer is kept back.
 #[test]
 fn answers_are_flushed(rt: HostRuntime) -> Result<(), Fail> {
     let mut whole = Source::new(b"step 0\nshow queue q1\n");

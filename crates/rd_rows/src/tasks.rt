@@ -162,6 +162,7 @@ const ROWS: [Row; 8] = [
     },
 ];
 
+// Who runs where, and who wakes whom, is as written for any number of cores.
 #[test]
 fn rows(rt: HostRuntime) -> Result<(), Fail> {
     assert_rows(&rt, &ROWS)

@@ -182,12 +182,12 @@ fn enter<L: Setup, H: Wait + Abort + Clock>(
 }
 
 // Joins, answers lines, and leaves. All answers have passed the gate by then.
-fn attend<L: Setup, H: Wait + Abort + Clock>(
-    rt: &H,
+fn attend<'a, L: Setup, H: Wait + Abort + Clock>(
+    rt: &'a H,
     alloc: Global,
     hall: &Hall<L>,
     pass: Pass<L>,
-    marks: &Marks,
+    marks: &'a Marks,
     at: At,
     client: Client<'_>,
 ) -> Option<(Gone<L>, Vec<u8>)> {

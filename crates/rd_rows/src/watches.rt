@@ -88,6 +88,7 @@ const ROWS: [Row; 7] = [
     },
 ];
 
+// Watches are numbered and kept as written, and the wheel of one session holds nobody up.
 #[test]
 fn watches_and_the_wheel(rt: HostRuntime) -> Result<(), Fail> {
     assert_rows(&rt, &ROWS)

@@ -7,7 +7,7 @@ ghost use Rattle.rd_text.specs.Words.{words_of};
 ghost use Rattle.rd_command.specs.Commands.{command_of};
 ghost use Rattle.rd_desk.specs.declared.entry.Event.TheVariants.{Leave};
 ghost use Rattle.rd_hall.specs.SeatView.{SeatView};
-ghost use Rattle.rd_hall.specs.Seats.{Gained};
+ghost use Rattle.rd_hall.specs.Seats.{Finds, Gained, LetsGo};
 ghost use Rattle.rd_session.specs.Lines.{Whole, Long, front_of, last_of, lines_from, rest_from};
 ghost use Rattle.rd_session.specs.declared.lines.Front.TheVariants.{Part};
 ghost use Rattle.rd_session.specs.Replies.{refusal_of};
@@ -404,7 +404,8 @@ pub fn session<L: Setup, S: Source, W: Sink, G: Gate>(
     ensures heard { (stayed : SeatView) × Heard (S.seen source.old) (S.seen source.new)
         (record { seat = seat.session; sink = W.seen sink.old; calls = G.calls gate.old })
         (record { seat = stayed; sink = W.seen sink.new; calls = G.calls gate.new })
-        × ((result ≡ stayed) ⊎ Gained stayed Leave result) }
+        × ((result ≡ stayed) ⊎ Gained stayed Leave result)
+        × Finds L.app L.most_moves L.most_entries stayed.share (λ d. LetsGo d stayed result) }
     ensures reads { (S.seen source.new).reads ≤ 16777216 }
 {
     buffers.lines.clear();

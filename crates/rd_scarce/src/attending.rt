@@ -1,0 +1,204 @@
+//! A session over memory: it reads the lines of a run, and reads each again that was refused.
+
+ghost use Rattle.std.specs.Prelude.{◌+◌, ◌≤◌, length, vec_capacity, vec_len};
+
+use crate::before::Host;
+use crate::refused::{At, Refused, TRIES};
+use crate::rows::{RUNS, Row};
+use crate::sitting::join;
+use crate::wrong::Wrong;
+use rd_ends::over::Over;
+use rd_hall::look::Look;
+use rd_hall::seat::{Gone, Pass};
+use rd_hall::setup::Setup;
+use rd_session::buffers::Buffers;
+use rd_session::gate::NoGate;
+use rd_session::session::session;
+use std::alloc::Global;
+use std::cell::Cell;
+use std::io;
+use std::io::{Read, Write};
+use std::sync::Wait;
+
+// What a line is answered that was refused for want of memory.
+const REFUSED: &[u8] = b"no NoMemory\n";
+
+// How far a session has come: how many rows were answered, how often a line was refused, and what
+// was wrong first.
+#[derive(Drop)]
+struct Progress {
+    answered: Cell<usize>,
+    refused: Cell<u32>,
+    wrong: Cell<Option<Wrong>>,
+}
+
+impl Progress {
+    fn new() -> Progress {
+        Progress {
+            answered: Cell::new(0),
+            refused: Cell::new(0),
+            wrong: Cell::new(None),
+        }
+    }
+
+    // The row whose line is to be answered next. None where something was wrong.
+    fn row(&self) -> Option<Row> {
+        if self.wrong.get().is_some() {
+            return None;
+        }
+        RUNS.get(self.answered.get()).copied()
+    }
+
+    // The row was answered.
+    fn answer(&self) {
+        self.answered.set(self.answered.get().saturating_add(1));
+    }
+
+    fn fail(&self, wrong: Wrong) {
+        if self.wrong.get().is_none() {
+            self.wrong.set(Some(wrong));
+        }
+    }
+
+    // A line was refused once more.
+    fn refuse(&self) {
+        let times = self.refused.get().saturating_add(1);
+        self.refused.set(times);
+        if times as usize >= TRIES {
+            self.fail(Wrong::RefusedTwice { at: At::Ask });
+        }
+    }
+
+    // How it ended.
+    fn end(&self) -> Result<(), Wrong> {
+        match self.wrong.get() {
+            Some(wrong) => Err(wrong),
+            None if self.answered.get() < RUNS.len() => Err(Wrong::Ended),
+            None => Ok(()),
+        }
+    }
+}
+
+// Gives the line of the next row, with its LF, and nothing once all rows were answered. What stood
+// behind the lock at the read before must stand there still, where that line was refused.
+#[derive(Drop)]
+struct Lines<'a, R: Wait, L: Setup> {
+    host: Host<'a, R, L>,
+    progress: &'a Progress,
+    refused: u32,
+    before: Option<Look>,
+}
+
+impl<R: Wait, L: Setup> Lines<'_, R, L> {
+    // Looks behind the lock. Where a line was refused, nothing has changed since the read before.
+    fn look(&mut self) {
+        let before = self.before;
+        let after = self.host.hall.look(self.host.rt);
+        let times = self.progress.refused.get();
+        let was_refused = times != self.refused;
+        self.before = Some(after);
+        self.refused = times;
+        if let Some(before) = before {
+            if was_refused && before != after {
+                let at = At::Ask;
+                self.progress.fail(Wrong::Behind { at, before, after });
+            }
+        }
+    }
+}
+
+// Puts a line at the front of the room, with its LF, and answers its length; nothing where there is
+// no room.
+fn put_line(room: &mut [u8], line: &[u8]) -> usize
+    ensures { result ≤ length room.new }
+{
+    if line.len() >= room.len() {
+        return 0;
+    }
+    room[..line.len()].copy_from_slice(line);
+    room[line.len()] = b'\n';
+    line.len() + 1
+}
+
+impl<R: Wait, L: Setup> Read for Lines<'_, R, L> {
+    fn read(&mut self, room: &mut [u8]) -> io::Result<usize> {
+        self.look();
+        match self.progress.row() {
+            Some(row) => Ok(put_line(room, row.line.as_bytes())),
+            None => Ok(0),
+        }
+    }
+}
+
+// Takes the answer to one line a write: the row's reply, or that there is no memory.
+#[derive(Drop)]
+struct Answers<'a> {
+    progress: &'a Progress,
+}
+
+impl Write for Answers<'_> {
+    fn write(&mut self, bytes: &[u8]) -> io::Result<usize> {
+        match self.progress.row() {
+            Some(row) if bytes == row.reply.as_bytes() => self.progress.answer(),
+            Some(_) if bytes == REFUSED => self.progress.refuse(),
+            Some(row) => self.progress.fail(Wrong::Reply { line: row.line }),
+            None => self.progress.fail(Wrong::Ended),
+        }
+        Ok(bytes.len())
+    }
+
+    fn flush(&mut self) -> io::Result<()> {
+        Ok(())
+    }
+}
+
+// The memory of a session, taken again where it was refused.
+fn make_buffers(alloc: Global, refused: &mut Refused) -> Result<Buffers, Wrong> {
+    for _ in 0..TRIES {
+        match Buffers::new(alloc) {
+            Ok(buffers) => return Ok(buffers),
+            Err(_) => refused.note(At::Making),
+        }
+    }
+    Err(Wrong::RefusedTwice { at: At::Making })
+}
+
+/// A session joins, reads the lines of `runs_to_a_condition`, answers them, and leaves. A line that
+/// is refused is answered so, and is the next one that it reads.
+pub fn attend<R: Wait, L: Setup>(
+    host: Host<'_, R, L>,
+    pass: Pass<L>,
+    gones: &mut Vec<Gone<L>>,
+    refused: &mut Refused,
+) -> Result<(), Wrong>
+    requires { vec_len gones.old + 1 ≤ vec_capacity gones.old }
+{
+    let mut buffers = make_buffers(host.alloc, refused)?;
+    let progress = Progress::new();
+    let mut source = Over::new(Lines {
+        host,
+        progress: &progress,
+        refused: 0,
+        before: None,
+    });
+    let mut sink = Over::new(Answers {
+        progress: &progress,
+    });
+    match join(host, pass, refused) {
+        Ok(seat) => {
+            let gone = session(
+                host.rt,
+                &mut source,
+                &mut sink,
+                host.hall,
+                seat,
+                &mut NoGate,
+                &mut buffers,
+            );
+            gones.push_reserved(gone);
+            refused.note_all(At::Ask, progress.refused.get());
+            progress.end()
+        }
+        Err(wrong) => Err(wrong),
+    }
+}

@@ -1,0 +1,74 @@
+//! Runs of the debugger in which a growth can be refused: whoever starts it has one allocation fail
+//! (`ci/refused`), and each run shows that the refusal has changed nothing.
+#![tactic(auto)]
+
+mod applications;
+mod attending;
+mod before;
+mod hall;
+mod moves;
+mod order;
+mod refused;
+mod rows;
+mod sitting;
+mod told;
+mod wrong;
+
+use crate::hall::{Sitting, sit};
+use crate::moves::go_both_ways;
+use crate::order::{Order, ROOM, Run, read_text};
+use crate::refused::Refused;
+use crate::wrong::Wrong;
+use std::alloc::{AllocGlobal, Global};
+use std::process::ExitCode;
+use std::sync::Wait;
+
+// Makes so many allocations, and drops them.
+fn waste(alloc: Global, count: usize) {
+    for _ in 0..count {
+        let _: Result<Vec<u8>, _> = Vec::with_capacity(alloc, 1);
+    }
+}
+
+// Does a run: at its end so many entries are in the history, or so many moves are done.
+fn run<H: Wait + AllocGlobal>(rt: &H, run: Run, refused: &mut Refused) -> Result<usize, Wrong> {
+    match run {
+        Run::Hall => sit(rt, rt.alloc(), Sitting::Alone, refused),
+        Run::Wheel => sit(rt, rt.alloc(), Sitting::Both, refused),
+        Run::Session => sit(rt, rt.alloc(), Sitting::Session, refused),
+        Run::Timeline => go_both_ways(rt.alloc(), refused),
+    }
+}
+
+// Does what is ordered, and says how it ended. Answers whether all was as it must be.
+fn obey<H: Wait + AllocGlobal + Print>(rt: &H, order: Order) -> bool {
+    let mut refused = Refused::none();
+    waste(rt.alloc(), order.wasted);
+    let ended = run(rt, order.run, &mut refused);
+    let _ = match ended {
+        Ok(end) => println!(rt; "{}: {end} at the end, {refused}", order.run),
+        Err(wrong) => println!(rt; "{}: wrong: {wrong}, {refused}", order.run),
+    };
+    ended.is_ok()
+}
+
+// Does all that is ordered, a line each. Answers whether all was as it must be.
+fn obey_all<H: Wait + AllocGlobal + Print>(rt: &H, text: &str) -> bool {
+    let mut all_well = true;
+    for line in text.lines() {
+        all_well = match Order::read(line) {
+            Some(order) => obey(rt, order) && all_well,
+            None => false,
+        };
+    }
+    all_well
+}
+
+fn main(rt: HostRuntime) -> ExitCode {
+    let mut room = [0; ROOM];
+    let all_well = match read_text(&mut rt.stdin(), &mut room) {
+        Some(text) => obey_all(&rt, text),
+        None => false,
+    };
+    ExitCode::from(if all_well { 0 } else { 1 })
+}

@@ -1,0 +1,158 @@
+//! Seats: joining and asking, again where memory was refused.
+
+use crate::before::{Before, Host};
+use crate::refused::{At, Refused, TRIES};
+use crate::rows::{Row, Who};
+use crate::told::is_told;
+use crate::wrong::Wrong;
+use rd_command::command::{Command, parse_line};
+use rd_desk::desk::{EnterError, NotServed};
+use rd_hall::seat::{Pass, Seat};
+use rd_hall::setup::Setup;
+use std::sync::Wait;
+
+/// A session joins. Where memory is refused nothing has changed, and it joins again, with the pass
+/// that was given back.
+pub fn join<R: Wait, L: Setup>(
+    host: Host<'_, R, L>,
+    pass: Pass<L>,
+    refused: &mut Refused,
+) -> Result<Seat<L>, Wrong> {
+    let before = Before::of(host, refused)?;
+    let mut pass = pass;
+    for _ in 0..TRIES {
+        match host.hall.join(host.rt, pass) {
+            Ok(seat) => return Ok(seat),
+            Err((back, error)) => {
+                pass = back;
+                match error {
+                    EnterError::NoMemory => refused.note(At::Join),
+                    EnterError::Full | EnterError::HistoryFull { .. } => {
+                        return Err(Wrong::Refusal { at: At::Join });
+                    }
+                }
+                before.stands(host, At::Join)?;
+            }
+        }
+    }
+    Err(Wrong::RefusedTwice { at: At::Join })
+}
+
+// The seat's last reply is this one.
+fn judge<L: Setup>(seat: &Seat<L>, row: Row) -> Result<(), Wrong> {
+    if is_told(&seat.last().entry.reply, row.reply) {
+        Ok(())
+    } else {
+        Err(Wrong::Reply { line: row.line })
+    }
+}
+
+// A command wasn't served: for want of memory, and nothing has changed.
+fn note_refusal<R: Wait, L: Setup>(
+    host: Host<'_, R, L>,
+    before: &Before,
+    error: &NotServed,
+    refused: &mut Refused,
+) -> Result<(), Wrong> {
+    match error {
+        NotServed::NoMemory => refused.note(At::Ask),
+        NotServed::HistoryFull { .. } | NotServed::Broken => {
+            return Err(Wrong::Refusal { at: At::Ask });
+        }
+    }
+    before.stands(host, At::Ask)
+}
+
+// Asks a command until it is served.
+fn ask_command<R: Wait, L: Setup>(
+    host: Host<'_, R, L>,
+    seat: Seat<L>,
+    command: &Command<'_>,
+    before: &Before,
+    refused: &mut Refused,
+) -> (Seat<L>, Result<(), Wrong>) {
+    let mut seat = seat;
+    for _ in 0..TRIES {
+        let (next, served) = host.hall.ask(host.rt, seat, command);
+        seat = next;
+        let Err(error) = served else {
+            return (seat, Ok(()));
+        };
+        let noted = note_refusal(host, before, &error, refused);
+        if noted.is_err() {
+            return (seat, noted);
+        }
+    }
+    (seat, Err(Wrong::RefusedTwice { at: At::Ask }))
+}
+
+/// A session asks a row's line, and is answered its reply. Where memory is refused nothing has
+/// changed, and it asks again.
+pub fn ask<R: Wait, L: Setup>(
+    host: Host<'_, R, L>,
+    seat: Seat<L>,
+    row: Row,
+    refused: &mut Refused,
+) -> (Seat<L>, Result<(), Wrong>) {
+    let Ok(command) = parse_line(row.line.as_bytes()) else {
+        return (seat, Err(Wrong::Line { line: row.line }));
+    };
+    let before = match Before::of(host, refused) {
+        Ok(before) => before,
+        Err(wrong) => return (seat, Err(wrong)),
+    };
+    let (seat, asked) = ask_command(host, seat, &command, &before, refused);
+    if asked.is_err() {
+        return (seat, asked);
+    }
+    let told = judge(&seat, row);
+    (seat, told)
+}
+
+/// A session asks all this.
+pub fn ask_all<R: Wait, L: Setup>(
+    host: Host<'_, R, L>,
+    seat: Seat<L>,
+    rows: &[Row],
+    refused: &mut Refused,
+) -> (Seat<L>, Result<(), Wrong>) {
+    let mut seat = seat;
+    for row in rows {
+        let (next, told) = ask(host, seat, *row, refused);
+        seat = next;
+        if told.is_err() {
+            return (seat, told);
+        }
+    }
+    (seat, Ok(()))
+}
+
+/// Two sessions ask all this, in turn.
+pub fn ask_in_turn<R: Wait, L: Setup>(
+    host: Host<'_, R, L>,
+    first: Seat<L>,
+    second: Seat<L>,
+    rows: &[Row],
+    refused: &mut Refused,
+) -> (Seat<L>, Seat<L>, Result<(), Wrong>) {
+    let mut first = first;
+    let mut second = second;
+    for row in rows {
+        let told = match row.who {
+            Who::First => {
+                let (next, told) = ask(host, first, *row, refused);
+                first = next;
+                told
+            }
+            Who::Second => {
+                let (next, told) = ask(host, second, *row, refused);
+                second = next;
+                told
+            }
+        };
+        if told.is_err() {
+            return (first, second, told);
+        }
+    }
+    (first, second, Ok(()))
+}
