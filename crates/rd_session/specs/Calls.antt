@@ -17,8 +17,8 @@ pub record Progress : Type 0 where
   pub begun : ℕ
   pub out : ℕ
 
--- The calls lead from here to there. A line is begun behind the one before it, and its answer is out
--- behind the answer before it, once it was begun: so each of both is called once for a line.
+-- The calls lead from here to there. A line is begun behind the one before it, and its answer is
+-- out behind the answer before it, once it was begun: so each of both is called once for a line.
 abbrev pub LeadTo : ℕ → List Call → Progress → Progress → Type 0
 LeadTo who [] from to = from ≡ to
 LeadTo who (Before session line ∷ calls) from to =
