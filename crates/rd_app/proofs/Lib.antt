@@ -1,2 +1,4 @@
 -- The lemmas of this crate.
 mod BuiltinLaws
+mod ProfileLaws
+pub mod Offered

@@ -3,9 +3,10 @@ use Rattle.std.specs.Prelude.{ℕ, ◌≡◌, ◌-◌, ◌^◌, ◌<◌, ◌≤�
 use Rattle.std.specs.Prelude.{List, [], length, map, slice_index_or, All, Option, None, Some}
 use Rattle.rd_bytes.specs.declared.bytes.TheConstants.{MAX_BYTES}
 use Rattle.rd_notify.specs.declared.entries.TheConstants.{MAX_ENTRIES}
-use Rattle.rd_app.specs.declared.app.TheConstants.{MAX_CODE, MAX_CORES, MAX_PRIORITY, MAX_TASKS}
+use Rattle.rd_app.specs.declared.app.TheConstants.{MAX_CODE, MAX_PRIORITY, MAX_TASKS}
 use Rattle.rd_app.specs.declared.instr.TheConstants.{REGISTERS}
 use Rattle.rd_app.specs.declared.objects.QueueShape.{QueueShape}
+use Rattle.rd_app.specs.declared.profile.Profile.{Profile}
 use Rattle.rd_app.specs.declared.instr.Operand.{Operand}
 use Rattle.rd_app.specs.declared.instr.Operand.TheVariants.{Number, Register}
 use Rattle.rd_app.specs.declared.instr.Instr.{Instr}
@@ -33,8 +34,10 @@ use Rattle.rd_stream.specs.declared.side.Side.{Side}
 use Rattle.rd_stream.specs.declared.side.Side.TheVariants.{Reader, Writer}
 use Rattle.rd_app.specs.TaskScript.{TaskScript}
 use Rattle.rd_app.specs.Objects.{AreObjects, ObjectShapes, shape_at}
+use Rattle.rd_app.specs.Profiles.{max_cores}
 
 pub record Application : Type 0 where
+  pub profile : Profile
   pub cores : ℕ
   pub entries : ℕ
   pub tick : ℕ
@@ -249,7 +252,7 @@ pub record IsScript (app : Application) (script : TaskScript) : Type 0 where
 
 pub record IsApplication (app : Application) : Type 0 where
   pub some_cores : 0 < app.cores
-  pub few_cores : app.cores ≤ MAX_CORES
+  pub few_cores : app.cores ≤ max_cores app.profile
   pub some_entries : 0 < app.entries
   pub few_entries : app.entries ≤ MAX_ENTRIES
   pub tick : app.tick < 2 ^ 32

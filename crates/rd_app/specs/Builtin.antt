@@ -5,6 +5,7 @@ use Rattle.rd_app.specs.declared.instr.Operand.TheVariants.{Number}
 use Rattle.rd_app.specs.declared.instr.Instr.TheVariants.{Local, Queue}
 use Rattle.rd_app.specs.declared.instr.LocalInstr.TheVariants.{Data, End}
 use Rattle.rd_app.specs.declared.instr.QueueCall.TheVariants.{Send}
+use Rattle.rd_app.specs.declared.profile.Profile.TheVariants.{One}
 use Rattle.rd_queue.specs.declared.end.End.TheVariants.{Back}
 use Rattle.rd_app.specs.Application.{Application}
 use Rattle.rd_app.specs.Objects.{no_shapes}
@@ -21,6 +22,7 @@ builtin_code =
 
 abbrev pub builtin : Application
 builtin = record {
+  profile = One;
   cores = 1;
   entries = 1;
   tick = 0;

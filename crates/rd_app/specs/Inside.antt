@@ -5,6 +5,7 @@ use Rattle.rd_app.specs.Objects.{objects_view}
 
 abbrev pub application_of : Parts → Application
 application_of parts = record {
+  profile = parts.profile;
   cores = parts.cores;
   entries = parts.entries;
   tick = parts.tick;

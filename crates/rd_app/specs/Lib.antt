@@ -2,6 +2,7 @@
 pub mod TaskScript
 pub mod QueueSetShapeView
 pub mod Objects
+pub mod Profiles
 pub mod Application
 pub mod Inside
 pub mod Builtin

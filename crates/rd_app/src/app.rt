@@ -7,17 +7,16 @@ ghost use Rattle.rd_app.specs.Application.{IsApplication, IsWithin, code_of, pri
 ghost use Rattle.rd_app.specs.Builtin.{builtin, builtin_code};
 ghost use Rattle.rd_app.specs.Inside.{application_of};
 ghost use Rattle.rd_app.specs.Objects.{objects_view};
+ghost use Rattle.rd_app.specs.Profiles.{max_cores};
 
 use crate::both::both;
 use crate::instr::{Instr, LocalInstr, Operand, QueueCall};
 use crate::objects::{ObjectShapes, QueueShape};
+use crate::profile::Profile;
 use rd_bytes::bytes::Bytes;
 use rd_queue::end::End;
 use std::alloc::{AllocError, Global};
 use std::marker::Model;
-
-/// How many cores an application has at the most (`configNUMBER_OF_CORES`).
-pub const MAX_CORES: usize = 8;
 
 /// How many tasks an application has at the most.
 pub const MAX_TASKS: usize = 32;
@@ -55,7 +54,9 @@ impl Model for Script {
 /// What a program is made of.
 #[derive(Drop)]
 pub struct Parts {
-    /// How many cores there are, 1 to 8.
+    /// The profile.
+    pub profile: Profile,
+    /// How many cores there are, from 1 to the most of the profile.
     pub cores: usize,
     /// How many notification entries each task has, 1 to 4.
     pub entries: usize,
@@ -175,6 +176,7 @@ impl Program {
         let queues = vec![in alloc; queue]?;
         let tasks = builtin_tasks(alloc)?;
         let parts = Parts {
+            profile: Profile::One,
             cores: 1,
             entries: 1,
             tick: 0,
@@ -240,7 +242,7 @@ impl Program {
 
 /// The limits of applications, as numbers.
 pub fn limits_of_applications()
-    ensures cores { MAX_CORES ≡ 8 }
+    ensures cores { max_cores Profile.One ≡ 8 }
     ensures tasks { MAX_TASKS ≡ 32 }
     ensures priority { MAX_PRIORITY ≡ 31 }
     ensures code { MAX_CODE ≡ 256 }

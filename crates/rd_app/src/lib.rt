@@ -6,3 +6,4 @@ pub mod app;
 pub mod both;
 pub mod instr;
 pub mod objects;
+pub mod profile;

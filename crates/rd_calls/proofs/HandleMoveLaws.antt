@@ -11,7 +11,7 @@ use Rattle.rd_queue_calls.proofs.Offered.{handles_woken_all}
 use Rattle.rd_refusal.specs.declared.refusal.Refusal.TheVariants as refusal
 use Rattle.rd_edits.specs.Edits.{edited, is_good_edit}
 use Rattle.rd_edits.proofs.Offered.{edited-handles}
-use Rattle.rd_calls.specs.declared.moves.Move.TheVariants as move
+use Rattle.rd_moves.specs.declared.moves.Move.TheVariants as move
 use Rattle.rd_calls.specs.HandleMoves.{HandlesGoByMoves, handles_run}
 use Rattle.rd_calls.proofs.InstrLaws.{handles_performed-is}
 use Rattle.rd_calls.specs.Step.{core_step, last_tick, next_instr, step_of_core, tick_step}

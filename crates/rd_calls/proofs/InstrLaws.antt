@@ -13,7 +13,7 @@ use Rattle.rd_state.specs.Snapshot.{Snapshot, task_at, core_at, with_task}
 use Rattle.rd_kernel.proofs.Offered.{IsFree, free_in_run}
 use Rattle.rd_state.specs.Valid.{EntriesFitCall, HoldersFitCall, IsValid, PhaseFitsCall, place_of_call, seats_to_run}
 use Rattle.rd_state.specs.Objects.{AreShaped}
-use Rattle.rd_group_calls.proofs.Offered.{IsBesideGroups, IsConsistent-group_call, group_call-beside, group_call-tick}
+use Rattle.rd_group_calls.proofs.Offered.{IsConsistent-group_call, group_call-beside, group_call-tick}
 use Rattle.rd_group_calls.specs.GroupCalls.{group_outcome}
 use Rattle.rd_state.proofs.Offered.{group_count_shaped, message_count_shaped, queue_count_shaped, queue_set_count_shaped, stream_count_shaped}
 use Rattle.rd_calls.specs.Local.{unpacked}

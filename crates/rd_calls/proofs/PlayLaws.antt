@@ -32,7 +32,6 @@ use Rattle.rd_state.specs.Objects.{no_message_buffer, no_queue, no_stream}
 use Rattle.rd_stream.specs.MessageSnapshot.{MessageSnapshot}
 use Rattle.rd_stream.specs.Messages.{bytes_held}
 use Rattle.rd_stream.specs.StreamSnapshot.{StreamSnapshot}
-use Rattle.rd_state.specs.PackedChanges.{all_packed}
 use Rattle.rd_state.specs.Change.{Change}
 use Rattle.rd_state.specs.Change.{weight_of}
 use Rattle.rd_state.specs.Edit.{Base, Edit, GivesUp, GoesOn, Reaches, added, begun_at, capacity_of, room_for}
@@ -41,20 +40,20 @@ use Rattle.rd_state.specs.Sizes.{IsSized}
 use Rattle.rd_state.specs.Snapshot.{Snapshot, core_at, queue_at}
 use Rattle.rd_state.specs.Undoing.{undone, CanUndo}
 use Rattle.rd_state.specs.Valid.{IsValid}
-use Rattle.rd_calls.specs.declared.moves.Move.{Move}
-use Rattle.rd_calls.specs.declared.moves.Move.TheVariants.{Core, Tick}
-use Rattle.rd_calls.specs.declared.moves.Move.TheVariants as move
+use Rattle.rd_moves.specs.Moves.{PlainMove}
+use Rattle.rd_moves.specs.declared.moves.Move.TheVariants.{Core, Tick}
+use Rattle.rd_moves.specs.declared.moves.Move.TheVariants as move
 use Rattle.rd_calls.specs.Step.{core_step, dropped_by_instr, dropped_by_move, dropped_by_task, instr_cost, last_tick, next_instr, record_limit, step, step_of_core, tick_step}
 use Rattle.rd_calls.specs.Step.{IsPlayed, LeavesSettled}
-use Rattle.rd_calls.specs.declared.play.TheConstants.{MAX_RECORD_BYTES}
+use Rattle.rd_calls.specs.declared.play.TheConstants.{CHANGES_BESIDES, CHANGES_PER_CORE, CHANGES_PER_TASK, DROPPED_BYTES, MAX_RECORD_BYTES, MAX_RECORD_WEIGHT, SAVED_BYTES}
 use Rattle.rd_edits.proofs.Offered.{IsValid-edited, edited-settled}
-use Rattle.rd_edits.specs.declared.edit.Edit as edits
-use Rattle.rd_edits.specs.declared.edit.Edit.TheVariants as edit
-use Rattle.rd_edits.specs.Edits.{edit_cost, edited, is_good_edit, IsEditOf}
+use Rattle.rd_moves.specs.declared.edit.Edit.TheVariants as edit
+use Rattle.rd_edits.specs.Edits.{edit_cost, edited, is_good_edit}
+use Rattle.rd_moves.specs.Edits.{IsEditOf, PlainEdit}
 use Rattle.rd_calls.proofs.StepLaws.{IsSettled-step, IsSettled-tick, IsValid-step, IsValid-tick}
 
 -- The items that a move drops are those of one queue at the most.
-dropped_by_few : (s : Snapshot) (queue : ℕ) (call : QueueCall) → IsSized s → dropped_by s queue call ≤ 4096
+dropped_by_few : (s : Snapshot) (queue : ℕ) (call : QueueCall) → IsSized s → dropped_by s queue call ≤ DROPPED_BYTES
 dropped_by_few s queue (Send end wait) sized = omega arith
 dropped_by_few s queue (Receive wait) sized = omega arith
 dropped_by_few s queue (Peek wait) sized = omega arith
@@ -68,7 +67,7 @@ dropped_by_few s queue Spaces sized = omega arith
 dropped_by_few s queue (AddToSet queue_set) sized = omega arith
 dropped_by_few s queue (RemoveFromSet queue_set) sized = omega arith
 
-dropped_by_stream_few : (s : Snapshot) (stream : ℕ) (call : StreamCall) → IsSized s → dropped_by_stream_call s stream call ≤ 4096
+dropped_by_stream_few : (s : Snapshot) (stream : ℕ) (call : StreamCall) → IsSized s → dropped_by_stream_call s stream call ≤ DROPPED_BYTES
 dropped_by_stream_few s stream (on_stream.Write wait) sized = omega arith
 dropped_by_stream_few s stream (on_stream.Read room wait) sized = omega arith
 dropped_by_stream_few s stream on_stream.Reset sized =
@@ -81,7 +80,7 @@ dropped_by_stream_few s stream (on_stream.SetTrigger trigger) sized = omega arit
 dropped_by_stream_few s stream on_stream.Count sized = omega arith
 dropped_by_stream_few s stream on_stream.Spaces sized = omega arith
 
-dropped_by_message_few : (s : Snapshot) (message : ℕ) (call : MessageCall) → IsSized s → dropped_by_message_call s message call ≤ 4096
+dropped_by_message_few : (s : Snapshot) (message : ℕ) (call : MessageCall) → IsSized s → dropped_by_message_call s message call ≤ DROPPED_BYTES
 dropped_by_message_few s message (on_message.Write wait) sized = omega arith
 dropped_by_message_few s message (on_message.Read room wait) sized = omega arith
 dropped_by_message_few s message on_message.Reset sized =
@@ -93,7 +92,7 @@ dropped_by_message_few s message on_message.Reset sized =
 dropped_by_message_few s message on_message.Spaces sized = omega arith
 dropped_by_message_few s message on_message.NextLength sized = omega arith
 
-dropped_by_instr_few : (s : Snapshot) (instr : Instr) → IsSized s → dropped_by_instr s instr ≤ 4096
+dropped_by_instr_few : (s : Snapshot) (instr : Instr) → IsSized s → dropped_by_instr s instr ≤ DROPPED_BYTES
 dropped_by_instr_few s (Local instr) sized = omega arith
 dropped_by_instr_few s (Queue queue call) sized = dropped_by_few s queue call sized
 dropped_by_instr_few s (QueueSet queue_set call) sized = omega arith
@@ -102,35 +101,35 @@ dropped_by_instr_few s (Message message call) sized = dropped_by_message_few s m
 dropped_by_instr_few s (Group group call) sized = omega arith
 dropped_by_instr_few s (Notify call) sized = omega arith
 
-dropped_by_task_few : (app : Application) (s : Snapshot) (running : Option ℕ) → IsSized s → dropped_by_task app s running ≤ 4096
+dropped_by_task_few : (app : Application) (s : Snapshot) (running : Option ℕ) → IsSized s → dropped_by_task app s running ≤ DROPPED_BYTES
 dropped_by_task_few app s None sized = omega arith
 dropped_by_task_few app s (Some task) sized = dropped_by_instr_few s (next_instr app s task) sized
 
-pub dropped_few : (app : Application) (s : Snapshot) (move : Move) → IsSized s → dropped_by_move app s move ≤ 4096
+pub dropped_few : (app : Application) (s : Snapshot) (move : PlainMove) → IsSized s → dropped_by_move app s move ≤ DROPPED_BYTES
 dropped_few app s (Core core) sized = dropped_by_task_few app s (core_at s core) sized
 dropped_few app s Tick sized = omega arith
 dropped_few app s (move.Edit edit) sized = omega arith
 
-most_is_few : (app : Application) (s : Snapshot) (move : Move) → IsSized s → record_limit app s move ≤ 4800
+most_is_few : (app : Application) (s : Snapshot) (move : PlainMove) → IsSized s → record_limit app s move ≤ MAX_RECORD_WEIGHT
 most_is_few app s move sized = omega (arith, dropped_few app s move sized, sized.tasks.few, sized.scheduling.few_cores)
 
 -- Whatever the move, its record has room in so many bytes.
-pub record_has_room : (app : Application) (s : Snapshot) (move : Move) → IsSized s → room_for (record_limit app s move) ≤ MAX_RECORD_BYTES
+pub record_has_room : (app : Application) (s : Snapshot) (move : PlainMove) → IsSized s → room_for (record_limit app s move) ≤ MAX_RECORD_BYTES
 record_has_room app s move sized = omega (arith, most_is_few app s move sized)
 
 -- The record of a move has few changes.
-pub played_few : (app : Application) (s s' : Snapshot) (move : Move) (changes : List Change) → IsSized s → IsPlayed app s move s' changes → length changes < 65536
+pub played_few : (app : Application) (s s' : Snapshot) (move : PlainMove) (changes : List Change) → IsSized s → IsPlayed app s move s' changes → length changes < 65536
 played_few app s s' move changes sized played = omega (arith, length-weight-le changes, played.small, most_is_few app s move sized)
 
 -- where a move leads, and at what cost
-pub record Leads (app : Application) (s : Snapshot) (move : Move) (target : Snapshot) (cost : ℕ) : Type 0 where
+pub record Leads (app : Application) (s : Snapshot) (move : PlainMove) (target : Snapshot) (cost : ℕ) : Type 0 where
   pub step : step app s move ≡ Ok target
   pub few : cost ≤ record_limit app s move
-  pub most_few : record_limit app s move ≤ 4800
+  pub most_few : record_limit app s move ≤ MAX_RECORD_WEIGHT
   pub valid : (s' : Snapshot) → s' ≡ target → IsSized s' → IsValid app s'
   pub settled : (s' : Snapshot) → s' ≡ target → LeavesSettled app s move s'
 
-goes_on : (app : Application) (s s' : Snapshot) (move : Move) (target : Snapshot) (cost : ℕ) (begun made : Edit) (before changes : List Change) (room : ℕ)
+goes_on : (app : Application) (s s' : Snapshot) (move : PlainMove) (target : Snapshot) (cost : ℕ) (begun made : Edit) (before changes : List Change) (room : ℕ)
     → begun ≡ begun_at s before room → Leads app s move target cost → IsSized s' → Reaches begun made target cost → s' ≡ made.now → GoesOn made changes
     → IsPlayed app s move s' (added before changes)
 goes_on app s s' move target cost begun made before changes room is leads sized comes now goes =
@@ -162,7 +161,7 @@ goes_on app s s' move target cost begun made before changes room is leads sized 
     }
 
 -- the same, seen by what the move returns
-pub IsPlayed-from : {T E : Type 0} (r : Result T E) (app : Application) (s s' : Snapshot) (move : Move) (target : Snapshot) (cost : ℕ) (begun made : Edit)
+pub IsPlayed-from : {T E : Type 0} (r : Result T E) (app : Application) (s s' : Snapshot) (move : PlainMove) (target : Snapshot) (cost : ℕ) (begun made : Edit)
     (before changes : List Change) (room : ℕ) → begun ≡ begun_at s before room → Leads app s move target cost → IsSized s'
     → OnOk r (Reaches begun made target cost) → OnOk r (s' ≡ made.now) → OnOk r (GoesOn made changes)
     → OnOk r (IsPlayed app s move s' (added before changes))
@@ -228,7 +227,7 @@ Leads-core app s core task limits valid there e = record {
   step = ap (step_of_core app s core) e;
   few =
       let P : Option ℕ → Type 0 = λ running. instr_cost s (next_instr app s task) + 1 + 3 * length s.cores
-      ≤ 4 * length s.tasks + 6 * length s.cores + 16 + 512 + dropped_by_task app s running in
+      ≤ CHANGES_PER_TASK * length s.tasks + CHANGES_PER_CORE * length s.cores + CHANGES_BESIDES + SAVED_BYTES + dropped_by_task app s running in
       let here : P (Some task) = omega (arith, instr_cost_few s (next_instr app s task)) in
       subst P (sym e) here;
   most_few = most_is_few app s (Core core) valid.in_limits.sized;
@@ -247,7 +246,7 @@ Leads-tick app s limits valid later =
       settled = λ s' is. IsSettled-tick app s s' limits valid is;
     }
 
-edit_cost_few : (edit : edits.Edit) → edit_cost edit ≤ 300
+edit_cost_few : (edit : PlainEdit) → edit_cost edit ≤ 300
 edit_cost_few (edit.Register task register value) = omega arith
 edit_cost_few (edit.Data task bytes) = omega arith
 edit_cost_few (edit.Pc task pc) = omega arith
@@ -256,7 +255,7 @@ edit_cost_few (edit.Bits group bits) = omega arith
 edit_cost_few (edit.Item queue index bytes) = omega arith
 edit_cost_few (edit.Byte stream index value) = omega arith
 
-pub Leads-edit : (app : Application) (s : Snapshot) (edit : edits.Edit) → IsValid app s → IsEditOf app edit → is_good_edit app s edit ≡ true
+pub Leads-edit : (app : Application) (s : Snapshot) (edit : PlainEdit) → IsValid app s → IsEditOf app edit → is_good_edit app s edit ≡ true
     → Leads app s (move.Edit edit) (edited s edit) (edit_cost edit)
 Leads-edit app s edit valid named good = record {
   step = rw good refl;
@@ -274,7 +273,7 @@ grows-from r target cost begun made =
     [ Ok x ↦ λ f g. f.grows | Err y ↦ λ f g. g.grows ]
 
 -- the room that was short, where the move gave up
-pub short-from : {T E : Type 0} (r : Result T E) (app : Application) (s : Snapshot) (move : Move) (target : Snapshot) (cost room : ℕ) (begun made : Edit)
+pub short-from : {T E : Type 0} (r : Result T E) (app : Application) (s : Snapshot) (move : PlainMove) (target : Snapshot) (cost room : ℕ) (begun made : Edit)
     → begun.room ≡ room → Leads app s move target cost → OnErr r (GivesUp begun made cost) → OnErr r (room < room_for (record_limit app s move))
 short-from r app s move target cost room begun made same leads =
     elim r as (λ q. OnErr q (GivesUp begun made cost) → OnErr q (room < room_for (record_limit app s move)))

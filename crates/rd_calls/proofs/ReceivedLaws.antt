@@ -33,8 +33,8 @@ use Rattle.rd_notify_calls.specs.NotifyCalls.{entry_closed, entry_opened, notify
 use Rattle.rd_refusal.specs.declared.refusal.Refusal.TheVariants as refusal
 use Rattle.rd_edits.specs.Edits.{edited, is_good_edit}
 use Rattle.rd_edits.proofs.Offered.{edited-entry_state}
-use Rattle.rd_calls.specs.declared.moves.Move.TheVariants.{Core, Tick}
-use Rattle.rd_calls.specs.declared.moves.Move.TheVariants as move
+use Rattle.rd_moves.specs.declared.moves.Move.TheVariants.{Core, Tick}
+use Rattle.rd_moves.specs.declared.moves.Move.TheVariants as move
 use Rattle.rd_kernel.specs.Waking.{due_below, operand_value, woken_all}
 use Rattle.rd_refusal.specs.declared.refusal.Refusal.TheVariants.{TickLimit}
 use Rattle.rd_calls.specs.Received.{ReceivedStays, call_looks_at, is_entry, looks_at}

@@ -43,13 +43,13 @@ use Rattle.rd_stream_calls.specs.StreamCalls.{stream_outcome}
 use Rattle.rd_stream_calls.proofs.Offered.{HasNoMore, IsBelow, message_call-sleeps, stream_call-sleeps}
 use Rattle.rd_group_calls.proofs.Offered.{group_call-sleeps}
 use Rattle.rd_group_calls.specs.GroupCalls.{group_outcome}
-use Rattle.rd_calls.specs.declared.moves.Move.{Move as AnyMove}
+use Rattle.rd_moves.specs.Moves.{PlainMove as AnyMove}
 use Rattle.rd_refusal.specs.declared.refusal.Refusal.TheVariants as refusal
-use Rattle.rd_edits.specs.declared.edit.Edit.{Edit}
-use Rattle.rd_edits.specs.declared.edit.Edit.TheVariants as edit
+use Rattle.rd_moves.specs.Edits.{PlainEdit}
+use Rattle.rd_moves.specs.declared.edit.Edit.TheVariants as edit
 use Rattle.rd_edits.specs.Edits.{edited, is_good_edit}
-use Rattle.rd_calls.specs.declared.moves.Move.TheVariants.{Core, Tick}
-use Rattle.rd_calls.specs.declared.moves.Move.TheVariants as any_move
+use Rattle.rd_moves.specs.declared.moves.Move.TheVariants.{Core, Tick}
+use Rattle.rd_moves.specs.declared.moves.Move.TheVariants as any_move
 use Rattle.rd_calls.specs.Local.{local_step, unpacked}
 use Rattle.rd_calls.specs.Received.{is_entry}
 use Rattle.rd_calls.specs.Sleeping.{ReadersSleep, SleepsOn, call_notifies_first, edits_task, is_disturbed, notifies_first}
@@ -193,7 +193,7 @@ task_apart of task apart same =
     let one : nat_eq of task ≡ true = grind (arith, nat_tests, same) in
     false≢true (sym apart ∙ one)
 
-edited_sleeps : (s : Snapshot) (edit : Edit) (task : ℕ) → edits_task edit task ≡ false → Sleeps task s (edited s edit)
+edited_sleeps : (s : Snapshot) (edit : PlainEdit) (task : ℕ) → edits_task edit task ≡ false → Sleeps task s (edited s edit)
 edited_sleeps s (edit.Register of register value) task apart =
     Sleeps-other s task of (record (task_at s of) { registers = set (task_at s of).registers register value }) (task_apart of task apart)
 edited_sleeps s (edit.Data of bytes) task apart = Sleeps-other s task of (record (task_at s of) { bytes = bytes }) (task_apart of task apart)
@@ -203,7 +203,7 @@ edited_sleeps s (edit.Bits group bits) task apart = refl
 edited_sleeps s (edit.Item queue index bytes) task apart = refl
 edited_sleeps s (edit.Byte stream index value) task apart = refl
 
-edit_sleeps : (app : Application) (s s' : Snapshot) (edit : Edit) (task : ℕ) → step app s (any_move.Edit edit) ≡ Ok s' → edits_task edit task ≡ false
+edit_sleeps : (app : Application) (s s' : Snapshot) (edit : PlainEdit) (task : ℕ) → step app s (any_move.Edit edit) ≡ Ok s' → edits_task edit task ≡ false
     → Sleeps task s s'
 edit_sleeps app s s' edit task made apart =
     elim (is_good_edit app s edit) as (λ b. cond b (Ok (edited s edit)) (Err refusal.BadEdit) ≡ Ok s' → Sleeps task s s') [

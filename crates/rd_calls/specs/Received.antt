@@ -10,8 +10,8 @@ use Rattle.rd_app.specs.declared.instr.NotifyCall.TheVariants.{ClearState, Clear
 use Rattle.rd_app.specs.Application.{Application, side_of_message_call, side_of_stream_call}
 use Rattle.rd_state.specs.Snapshot.{Snapshot, core_at}
 use Rattle.rd_kernel.specs.Tasks.{entry_at}
-use Rattle.rd_calls.specs.declared.moves.Move.{Move}
-use Rattle.rd_calls.specs.declared.moves.Move.TheVariants.{Core, Edit, Tick}
+use Rattle.rd_moves.specs.Moves.{PlainMove}
+use Rattle.rd_moves.specs.declared.moves.Move.TheVariants.{Core, Edit, Tick}
 use Rattle.rd_calls.specs.Step.{next_instr, step}
 
 -- Is it that entry of that task?
@@ -43,7 +43,7 @@ looks_at task (instr.Group group call) target index = false
 looks_at task (instr.Notify call) target index = call_looks_at task call target index
 
 -- a move, by the instruction of its core's task; ticks and edits look at none
-abbrev pub move_looks_at : Application → Snapshot → Move → ℕ → ℕ → Bool
+abbrev pub move_looks_at : Application → Snapshot → PlainMove → ℕ → ℕ → Bool
 move_looks_at app s (Core core) target index =
     option_map_or (λ task. looks_at task (next_instr app s task) target index) (core_at s core)
     false
@@ -53,7 +53,7 @@ move_looks_at app s (Edit edit) target index = false
 -- Whatever move is made: an entry that has received still has, unless the move looks at it.
 abbrev pub ReceivedStays : Type 0
 ReceivedStays =
-    (app : Application) (s s' : Snapshot) (move : Move) (target index : ℕ)
+    (app : Application) (s s' : Snapshot) (move : PlainMove) (target index : ℕ)
     → step app s move ≡ Ok s' → (entry_at s target index).state ≡ Received
     → move_looks_at app s move target index ≡ false
     → (entry_at s' target index).state ≡ Received

@@ -15,10 +15,10 @@ use Rattle.rd_state.specs.Phases.{waits_at}
 use Rattle.rd_state.specs.Snapshot.{Snapshot, core_at, message_at, stream_at, task_at}
 use Rattle.rd_state.specs.Valid.{IsValid}
 use Rattle.rd_kernel.specs.Waking.{is_due}
-use Rattle.rd_edits.specs.declared.edit.Edit.{Edit}
-use Rattle.rd_edits.specs.declared.edit.Edit.TheVariants as edit
-use Rattle.rd_calls.specs.declared.moves.Move.{Move}
-use Rattle.rd_calls.specs.declared.moves.Move.TheVariants as move
+use Rattle.rd_moves.specs.Edits.{PlainEdit}
+use Rattle.rd_moves.specs.declared.edit.Edit.TheVariants as edit
+use Rattle.rd_moves.specs.Moves.{PlainMove}
+use Rattle.rd_moves.specs.declared.moves.Move.TheVariants as move
 use Rattle.rd_calls.specs.Received.{is_entry}
 use Rattle.rd_calls.specs.Step.{next_instr, step}
 
@@ -42,7 +42,7 @@ notifies_first (instr.Group group call) task = false
 notifies_first (instr.Notify call) task = call_notifies_first call task
 
 -- Does an edit change what a task has besides its entries?
-abbrev pub edits_task : Edit → ℕ → Bool
+abbrev pub edits_task : PlainEdit → ℕ → Bool
 edits_task (edit.Register of register value) task = nat_eq of task
 edits_task (edit.Data of bytes) task = nat_eq of task
 edits_task (edit.Pc of pc) task = nat_eq of task
@@ -53,7 +53,7 @@ edits_task (edit.Byte stream index value) task = false
 
 -- Does a move disturb a task otherwise than through its buffer: by a notification of its entry 0,
 -- by the tick at which its time is up, or by an edit?
-abbrev pub is_disturbed : Application → Snapshot → Move → ℕ → Bool
+abbrev pub is_disturbed : Application → Snapshot → PlainMove → ℕ → Bool
 is_disturbed app s (move.Core core) task =
     option_map_or (λ running. notifies_first (next_instr app s running) task) (core_at s core) false
 is_disturbed app s move.Tick task = is_due (s.tick + 1) (task_at s task).phase
@@ -69,12 +69,12 @@ SleepsOn s s' task =
 -- through each move after which fewer bytes than the trigger level are there. One that waits as the
 -- reader of a message buffer does, through each move after which there are no more messages.
 pub record ReadersSleep : Type 0 where
-  pub of_streams : (app : Application) (s s' : Snapshot) (move : Move) (task stream : ℕ)
+  pub of_streams : (app : Application) (s s' : Snapshot) (move : PlainMove) (task stream : ℕ)
       → IsValid app s → step app s move ≡ Ok s' → task < length s.tasks
       → waits_at (task_at s task).phase ≡ Some (sort.Held (Stream stream Reader))
       → length (stream_at s' stream).bytes < (stream_at s' stream).trigger
       → is_disturbed app s move task ≡ false → SleepsOn s s' task
-  pub of_messages : (app : Application) (s s' : Snapshot) (move : Move) (task message : ℕ)
+  pub of_messages : (app : Application) (s s' : Snapshot) (move : PlainMove) (task message : ℕ)
       → IsValid app s → step app s move ≡ Ok s' → task < length s.tasks
       → waits_at (task_at s task).phase ≡ Some (sort.Held (Message message Reader))
       → length (message_at s' message).messages ≤ length (message_at s message).messages

@@ -23,6 +23,8 @@ use Rattle.rd_state.specs.Snapshot.{Snapshot, task_at, core_at}
 use Rattle.rd_state.specs.Undoing.{undone, CanUndo}
 use Rattle.rd_state.specs.Valid.{IsValid}
 use Rattle.rd_calls.specs.Local.{local_cost, local_step, NamesLocalParts}
+use Rattle.rd_calls.specs.declared.play.TheConstants.{CHANGES_PER_TASK, CHANGES_PER_CORE}
+use Rattle.rd_calls.specs.declared.play.TheConstants.{CHANGES_BESIDES, SAVED_BYTES}
 use Rattle.rd_kernel.specs.Costs.{ending_cost}
 use Rattle.rd_kernel.specs.Outcomes.{concluded}
 use Rattle.rd_kernel.specs.Waking.{timed_out}
@@ -34,11 +36,11 @@ use Rattle.rd_stream_calls.specs.MessageCalls.{dropped_by_message_call, message_
 use Rattle.rd_stream_calls.specs.MessageCalls.{message_outcome}
 use Rattle.rd_stream_calls.specs.StreamCalls.{dropped_by_stream_call, stream_call_cost}
 use Rattle.rd_stream_calls.specs.StreamCalls.{stream_outcome}
-use Rattle.rd_edits.specs.declared.edit.Edit.{Edit}
-use Rattle.rd_edits.specs.Edits.{edited, is_good_edit, IsEditOf}
-use Rattle.rd_calls.specs.declared.moves.Move.{Move}
-use Rattle.rd_calls.specs.declared.moves.Move.TheVariants.{Core, Tick}
-use Rattle.rd_calls.specs.declared.moves.Move.TheVariants as move
+use Rattle.rd_moves.specs.Edits.{PlainEdit}
+use Rattle.rd_edits.specs.Edits.{edited, is_good_edit}
+use Rattle.rd_moves.specs.Moves.{PlainMove}
+use Rattle.rd_moves.specs.declared.moves.Move.TheVariants.{Core, Tick}
+use Rattle.rd_moves.specs.declared.moves.Move.TheVariants as move
 
 -- the state after an instruction of the task on a core
 abbrev pub performed : List ℕ → Snapshot → ℕ → ℕ → Instr → Snapshot
@@ -102,28 +104,22 @@ abbrev pub step_of_tick : Application → Snapshot → Result Snapshot Refusal
 step_of_tick app s = if nat_lt s.tick last_tick then Ok (tick_step app s) else Err TickLimit
 
 -- An edit that can't be made is refused.
-abbrev pub step_of_edit : Application → Snapshot → Edit → Result Snapshot Refusal
+abbrev pub step_of_edit : Application → Snapshot → PlainEdit → Result Snapshot Refusal
 step_of_edit app s edit = if is_good_edit app s edit then Ok (edited s edit) else Err BadEdit
 
 -- the state after a move, or why there is none
-abbrev pub step : Application → Snapshot → Move → Result Snapshot Refusal
+abbrev pub step : Application → Snapshot → PlainMove → Result Snapshot Refusal
 step app s (Core core) = step_of_core app s core (core_at s core)
 step app s Tick = step_of_tick app s
 step app s (move.Edit edit) = step_of_edit app s edit
 
--- The move names what the application has.
-abbrev pub IsMoveOf : Application → Move → Type 0
-IsMoveOf app (Core core) = core < app.cores
-IsMoveOf app Tick = Unit {0}
-IsMoveOf app (move.Edit edit) = IsEditOf app edit
-
 -- The move that a run makes next: of the first busy core
 -- from the turn on, or a tick where there is none.
-abbrev pub move_from : ℕ → Option ℕ → Move
+abbrev pub move_from : ℕ → Option ℕ → PlainMove
 move_from turn None = Tick
 move_from turn (Some ahead) = Core (turn + ahead)
 
-abbrev pub policy_of : Snapshot → Move
+abbrev pub policy_of : Snapshot → PlainMove
 policy_of s = move_from s.turn (position is_some (drop s.turn s.cores))
 
 -- the bytes that an instruction drops, which only a call does that resets an object, and those that
@@ -141,24 +137,26 @@ abbrev pub dropped_by_task : Application → Snapshot → Option ℕ → ℕ
 dropped_by_task app s None = 0
 dropped_by_task app s (Some task) = dropped_by_instr s (next_instr app s task)
 
-abbrev pub dropped_by_move : Application → Snapshot → Move → ℕ
+abbrev pub dropped_by_move : Application → Snapshot → PlainMove → ℕ
 dropped_by_move app s (Core core) = dropped_by_task app s (core_at s core)
 dropped_by_move app s Tick = 0
 dropped_by_move app s (move.Edit edit) = 0
 
 -- The weight that the record of a move has at the most: only the numbers of tasks and cores enter,
--- apart from the bytes of one task's data and one item, and those that a reset drops.
-abbrev pub record_limit : Application → Snapshot → Move → ℕ
+-- apart from the bytes of one task's data, as many that go between it and an object, and those that
+-- a reset drops.
+abbrev pub record_limit : Application → Snapshot → PlainMove → ℕ
 record_limit app s move =
-    4 * length s.tasks + 6 * length s.cores + 16 + 512 + dropped_by_move app s move
+    CHANGES_PER_TASK * length s.tasks + CHANGES_PER_CORE * length s.cores + CHANGES_BESIDES
+    + SAVED_BYTES + dropped_by_move app s move
 
 -- The record of a move is small.
-abbrev pub IsSmall : Application → Snapshot → Move → List Change → Type 0
+abbrev pub IsSmall : Application → Snapshot → PlainMove → List Change → Type 0
 IsSmall app s move changes = weight_of changes ≤ record_limit app s move
 
 -- Nothing is left to schedule after a move. An edit schedules nothing: it leaves nothing to
 -- schedule where nothing was.
-abbrev pub LeavesSettled : Application → Snapshot → Move → Snapshot → Type 0
+abbrev pub LeavesSettled : Application → Snapshot → PlainMove → Snapshot → Type 0
 LeavesSettled app s (Core core) s' = IsSettled (priorities_of app) s'
 LeavesSettled app s Tick s' = IsSettled (priorities_of app) s'
 LeavesSettled app s (move.Edit edit) s' =
@@ -166,7 +164,7 @@ LeavesSettled app s (move.Edit edit) s' =
 
 -- What a move leaves: the written state, valid and with nothing left to schedule, and few changes,
 -- which lead back from there.
-pub record IsPlayed (app : Application) (s : Snapshot) (move : Move) (s' : Snapshot)
+pub record IsPlayed (app : Application) (s : Snapshot) (move : PlainMove) (s' : Snapshot)
     (changes : List Change) : Type 0 where
   pub step : step app s move ≡ Ok s'
   pub leads_back : undone s' changes ≡ s
@@ -178,7 +176,7 @@ pub record IsPlayed (app : Application) (s : Snapshot) (move : Move) (s' : Snaps
 
 -- What a function answers that makes a move after others, and records it: it is made, and its
 -- record stands behind theirs, or there is no memory for it, and nothing has changed.
-pub record Plays (app : Application) (move : Move) (old new : editing.Edit)
+pub record Plays (app : Application) (move : PlainMove) (old new : editing.Edit)
     (made : Result (Unit {0}) NoMemory) : Type 0 where
   pub before : OnOk made (take (length old.changes) new.changes ≡ old.changes)
   pub played : OnOk made (IsPlayed app old.now move new.now (added old.changes new.changes))

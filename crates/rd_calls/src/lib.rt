@@ -3,7 +3,6 @@
 
 pub mod laws;
 mod local;
-pub mod moves;
 mod perform;
 pub mod play;
 pub mod policy;

@@ -1,6 +1,6 @@
 //! Moves, made whole or not at all.
 
-ghost use Rattle.std.specs.Prelude.{◌≡◌, ◌↔◌, ◌<◌, ◌≤◌, ◌⊎◌, length, take, Ok, Err};
+ghost use Rattle.std.specs.Prelude.{◌≡◌, ◌↔◌, ◌+◌, ◌*◌, ◌<◌, ◌≤◌, ◌⊎◌, length, take, Ok, Err};
 ghost use Rattle.std.specs.Prelude.{None, Some, true, IfErr, IfOk, IfSome};
 ghost use Rattle.std.specs.Prelude.{IsErrOf, IsOk, OnErr, OnOk};
 ghost use Rattle.rd_state.specs.Edit.{added, capacity_of, room_for, GoesOn};
@@ -11,17 +11,24 @@ ghost use Rattle.rd_state.specs.Undoing.{undone, CanUndo};
 ghost use Rattle.rd_state.specs.Valid.{IsValid};
 ghost use Rattle.rd_kernel.specs.Outcomes.{IsCalling};
 ghost use Rattle.rd_kernel.specs.Waking.{FirstTriesWait};
-ghost use Rattle.rd_edits.specs.Edits.{is_good_edit, IsEditOf};
-ghost use Rattle.rd_calls.specs.Step.{last_tick, record_limit, step, IsMoveOf, IsPlayed};
+ghost use Rattle.rd_edits.specs.Edits.{is_good_edit};
+ghost use Rattle.rd_moves.specs.Edits.{IsEditOf};
+ghost use Rattle.rd_calls.specs.Step.{last_tick, record_limit, step, IsPlayed};
+ghost use Rattle.rd_moves.specs.Moves.{IsMoveOf};
 ghost use Rattle.rd_calls.specs.Step.{IsSmall, LeavesSettled, Plays};
 
-use crate::moves::Move;
 use crate::perform::move_core;
 use crate::tick::move_tick;
-use rd_app::app::Program;
+use rd_app::app::{MAX_TASKS, Program};
+use rd_app::profile::MAX_CORES;
+use rd_bytes::bytes::MAX_BYTES;
 use rd_bytes::no_memory::NoMemory;
-use rd_edits::edit::Edit;
+use rd_edits::edit::{is_good, make};
 use rd_kernel::calling::caller_on;
+use rd_moves::edit::Edit;
+use rd_moves::moves::Move;
+use rd_queue::item::MAX_ITEM_SIZE;
+use rd_queue::queue::MAX_ITEMS;
 use rd_refusal::refusal::Refusal;
 use rd_state::editing::Editing;
 use rd_state::state::State;
@@ -29,8 +36,36 @@ use rd_state::undo::Undo;
 use std::alloc::Global;
 use std::mem;
 
+/// How many changes a move makes at the most for each task, which it may wake.
+pub const CHANGES_PER_TASK: usize = 4;
+
+/// How many for each core, whose task may be another then.
+pub const CHANGES_PER_CORE: usize = 6;
+
+/// How many besides, of the task that moves and of the object that it calls.
+pub const CHANGES_BESIDES: usize = 16;
+
+/// How many bytes its changes save at the most, but for what a reset drops: a task's data from
+/// before, and as many bytes that go between the data and an object.
+pub const SAVED_BYTES: usize = 2 * MAX_BYTES;
+
+/// How many bytes a reset drops at the most: the items of a queue, of which no other object has
+/// more.
+pub const DROPPED_BYTES: usize = MAX_ITEMS * MAX_ITEM_SIZE;
+
+/// How much the record of a move weighs at the most: its changes, and the bytes that they save.
+pub const MAX_RECORD_WEIGHT: usize = CHANGES_PER_TASK * MAX_TASKS
+    + CHANGES_PER_CORE * MAX_CORES
+    + CHANGES_BESIDES
+    + SAVED_BYTES
+    + DROPPED_BYTES;
+
+/// For how many bytes of a record each change counts, and each byte that is saved: a change takes
+/// no more than 15 and those that it saves.
+pub const BYTES_PER_WEIGHT: usize = 16;
+
 /// How many bytes the record of a move takes at the most.
-pub const MAX_RECORD_BYTES: usize = 76_800;
+pub const MAX_RECORD_BYTES: usize = BYTES_PER_WEIGHT * MAX_RECORD_WEIGHT;
 
 // Ends a move. Where memory ran out half-way, what was done of it is undone.
 fn finish(editing: &mut Editing, made: Result<(), NoMemory>) -> Result<(), NoMemory>
@@ -83,7 +118,7 @@ fn play_edit(editing: &mut Editing, app: &Program, edit: &Edit) -> Result<(), No
     ensures { Plays app.now (Move.Edit edit.now) editing.old editing.new result }
 {
     editing.begin();
-    let made = edit.make(app, editing);
+    let made = make(edit, app, editing);
     finish(editing, made)
 }
 
@@ -98,7 +133,7 @@ pub fn why_not(app: &Program, state: &State, action: &Move) -> Option<Refusal>
     match action {
         Move::Core { core } if state.core(*core).is_none() => Some(Refusal::NoTask),
         Move::Tick if state.tick() == u32::MAX => Some(Refusal::TickLimit),
-        Move::Edit { edit } if !edit.is_good(app, state) => Some(Refusal::BadEdit),
+        Move::Edit { edit } if !is_good(edit, app, state) => Some(Refusal::BadEdit),
         Move::Core { .. } | Move::Tick | Move::Edit { .. } => None,
     }
 }
@@ -138,7 +173,7 @@ pub fn play_on(editing: &mut Editing, app: &Program, action: &Move) -> Result<()
         }
         Move::Tick if editing.state().tick() == u32::MAX => Err(Refusal::TickLimit),
         Move::Tick => play_tick(editing, app).map_err(Refusal::from),
-        Move::Edit { edit } if !edit.is_good(app, editing.state()) => Err(Refusal::BadEdit),
+        Move::Edit { edit } if !is_good(edit, app, editing.state()) => Err(Refusal::BadEdit),
         Move::Edit { edit } => play_edit(editing, app, edit).map_err(Refusal::from),
     }
 }
@@ -182,6 +217,13 @@ pub fn play(alloc: Global, state: &mut State, app: &Program, action: Move) -> Re
         }
     }
 }
+
+/// How many bytes the record of a move takes at the most, as a number: 64 for each task that there
+/// may be, 96 for each core, and 73,984 besides.
+pub fn limits_of_records()
+    ensures bytes { MAX_RECORD_BYTES ≡ 76800 }
+    ensures grows { MAX_RECORD_BYTES ≡ 64 * MAX_TASKS + 96 * MAX_CORES + 73984 }
+{}
 
 /// A call that is tried for the first time waits exactly where
 /// its block time isn't 0, if it can't be done.

@@ -2,7 +2,7 @@
 ghost use Rattle.std.specs.Prelude.{◌≡◌, position, is_some};
 ghost use Rattle.rd_calls.specs.Step.{policy_of};
 
-use crate::moves::Move;
+use rd_moves::moves::Move;
 use rd_state::state::State;
 
 // How far ahead the first busy core is, if one is.

@@ -11,7 +11,10 @@ use Rattle.rd_names.specs.Apps.{AppView, AreAsMany}
 use Rattle.rd_names.specs.Names.{names_of}
 use Rattle.rd_condition.specs.declared.condition.Condition.{Condition}
 use Rattle.rd_condition.specs.Conditions.{IsConditionOf}
+use Rattle.rd_moves.specs.declared.request.Search.{Search}
+use Rattle.rd_moves.specs.Requests.{IsRequestOf}
 use Rattle.rd_command.specs.declared.binding.Bound.{Bound}
+use Rattle.rd_command.specs.declared.binding.Bound.TheVariants as bound
 use Rattle.rd_command.specs.declared.keyword.AmountKeyword.{AmountKeyword}
 use Rattle.rd_command.specs.declared.keyword.AmountKeyword.TheVariants as compared
 use Rattle.rd_command.specs.declared.keyword.ConditionKeyword.{ConditionKeyword}
@@ -19,14 +22,19 @@ use Rattle.rd_command.specs.declared.keyword.ConditionKeyword.TheVariants.{Compa
 use Rattle.rd_command.specs.declared.keyword.EditKeyword.{EditKeyword}
 use Rattle.rd_command.specs.declared.keyword.EditKeyword.TheVariants as poked
 use Rattle.rd_command.specs.declared.keyword.Keyword.{Keyword}
-use Rattle.rd_command.specs.declared.keyword.Keyword.TheVariants.{Step, Tick, Back, Forward, Redo, Until, UntilWatch, BackUntil, BackUntilWatch, Poke, TakeWheel, GiveWheel, Watch, Unwatch, Show, ShowCores, ShowMoves, ShowWheel, ShowWatches}
+use Rattle.rd_command.specs.declared.keyword.Keyword.TheVariants.{Ask, AskByWatch, TakeWheel, GiveWheel, Watch, Unwatch, Show, Look}
+use Rattle.rd_command.specs.declared.keyword.RequestKeyword.{RequestKeyword}
+use Rattle.rd_command.specs.declared.keyword.RequestKeyword.TheVariants as asked
+use Rattle.rd_command.specs.declared.keyword.SearchKeyword.{SearchKeyword}
+use Rattle.rd_command.specs.declared.keyword.SearchKeyword.TheVariants as sought
+use Rattle.rd_command.specs.declared.view.View.TheVariants.{Thing, Overview}
 use Rattle.rd_command.specs.declared.keyword.Parameter.{Parameter}
 use Rattle.rd_command.specs.declared.keyword.Parameter.TheVariants.{Core, Count, Register, Index, Number, Data, Operator, Phase, Name}
 use Rattle.rd_command.specs.declared.keyword.Parameter.TheVariants as parameter
-use Rattle.rd_command.specs.Bindings.{IsBoundOf, IsWatch, Known, Reading, after_word, bound_made, bound_of, bound_with, condition_made, known_of, made_of, next_condition, next_keyword, next_value, number_below, number_named, value_of}
+use Rattle.rd_command.specs.Bindings.{IsBoundOf, IsWatch, Known, Reading, after_word, bound_by, bound_of, by_watch, condition_made, known_of, made_by, made_from, made_of, next_condition, next_keyword, next_value, number_below, number_named, value_of}
 use Rattle.rd_command.specs.Commands.{CommandView}
 use Rattle.rd_command.specs.Forms.{watch_number, watch_of}
-use Rattle.rd_command.specs.Keywords.{ConditionRow, Makes, MakesBound, Operands, Plain, Row, Spelled, Value, WithCondition, Written, condition_keyword_of, condition_row, row_of}
+use Rattle.rd_command.specs.Keywords.{ConditionRow, Makes, MakesFrom, Operands, Plain, Row, Spelled, Value, WithCondition, Written, condition_keyword_of, condition_row, request_row, search_row, thing_row, unwatch_row, watch_row}
 use Rattle.rd_command.proofs.Steps.{mapped, option_if, some_if, then_some}
 
 -- what an operand of that kind may stand for
@@ -156,15 +164,16 @@ condition_there app reading found there same e =
 
 -- ---- commands
 
-abbrev OperandsGood : AppView → (operands : Operands) → MakesBound operands → Type 0
-OperandsGood app (Plain parameters) make = MakesGood (known_of app) Bound (IsBoundOf app) parameters make
-OperandsGood app (WithCondition parameters) make =
-    (condition : Condition) → IsConditionOf app.runs condition → MakesGood (known_of app) Bound (IsBoundOf app) parameters (make condition)
+-- Whatever the operands of a row stand for in the application, what they make is good.
+abbrev OperandsGood : AppView → (Made : Type 0) → (Made → Type 0) → (operands : Operands) → MakesFrom Made operands → Type 0
+OperandsGood app Made Good (Plain parameters) make = MakesGood (known_of app) Made Good parameters make
+OperandsGood app Made Good (WithCondition parameters) make =
+    (condition : Condition) → IsConditionOf app.runs condition → MakesGood (known_of app) Made Good parameters (make condition)
 
-abbrev RowGood : AppView → Row → Type 0
-RowGood app (Spelled verb more operands make) = OperandsGood app operands make
+abbrev RowGood : {Made : Type 0} → AppView → (Made → Type 0) → Row Made → Type 0
+RowGood {Made} app Good (Spelled spelling make) = OperandsGood app Made Good spelling.operands make
 
-poke_good : (app : AppView) → AreThere app → (k : EditKeyword) → RowGood app (row_of (Poke k))
+poke_good : (app : AppView) → AreThere app → (k : EditKeyword) → RowGood app (IsRequestOf app.runs) (request_row (asked.Poke k))
 poke_good app there poked.Register = λ task named register few value _. (task_there app there task named, few)
 poke_good app there poked.Data = λ task named bytes _. task_there app there task named
 poke_good app there poked.Pc = λ task named pc _. task_there app there task named
@@ -173,46 +182,66 @@ poke_good app there poked.Bits = λ group named bits _. group_there app there gr
 poke_good app there poked.Item = λ queue named index _ bytes _. queue_there app there queue named
 poke_good app there poked.Byte = λ stream named index _ value _. stream_there app there stream named
 
-row_good : (app : AppView) → AreThere app → (k : Keyword) → RowGood app (row_of k)
-row_good app there Step = λ core few. few
-row_good app there Tick = tt
-row_good app there Back = λ count _. tt
-row_good app there Forward = λ count _. tt
-row_good app there Redo = λ count _. tt
-row_good app there Until = λ condition holds count _. holds
-row_good app there UntilWatch = λ watch few count _. few
-row_good app there BackUntil = λ condition holds. holds
-row_good app there BackUntilWatch = λ watch few. few
-row_good app there (Poke k) = poke_good app there k
-row_good app there TakeWheel = tt
-row_good app there GiveWheel = tt
-row_good app there Watch = λ condition holds. holds
-row_good app there Unwatch = λ number _. tt
-row_good app there (Show kind) = λ number named. named
-row_good app there ShowCores = tt
-row_good app there ShowMoves = tt
-row_good app there ShowWheel = tt
-row_good app there ShowWatches = tt
+request_good : (app : AppView) → AreThere app → (k : RequestKeyword) → RowGood app (IsRequestOf app.runs) (request_row k)
+request_good app there asked.Step = λ core few. few
+request_good app there asked.Tick = tt
+request_good app there asked.Back = λ count _. tt
+request_good app there asked.Forward = λ count _. tt
+request_good app there asked.Redo = λ count _. tt
+request_good app there asked.Until = λ condition holds count _. holds
+request_good app there asked.BackUntil = λ condition holds. holds
+request_good app there (asked.Poke k) = poke_good app there k
 
-bound_good : (app : AppView) (operands : Operands) (make : MakesBound operands) (reading : Reading) (made : Bound) → AreThere app → known_of app ≡ reading.known
-    → OperandsGood app operands make → bound_with operands make reading ≡ Some made → IsBoundOf app made
-bound_good app (Plain parameters) make reading made there same good e =
-    let found = mapped (λ made. made.0) (made_of Bound parameters make reading) made e in
-    subst (IsBoundOf app) found.2 (made_good (known_of app) Bound (IsBoundOf app) parameters make reading found.0 same good found.1).0
-bound_good app (WithCondition parameters) make reading made there same good e =
+search_good : (app : AppView) → (k : SearchKeyword) → RowGood app (λ (found : ℕ × Search). IsWatch found.0) (search_row k)
+search_good app sought.Until = λ watch few count _. few
+search_good app sought.BackUntil = λ watch few. few
+
+from_good : (app : AppView) (Made : Type 0) (Good : Made → Type 0) (operands : Operands) (make : MakesFrom Made operands) (reading : Reading) (made : Made)
+    → AreThere app → known_of app ≡ reading.known → OperandsGood app Made Good operands make → made_from Made operands make reading ≡ Some made → Good made
+from_good app Made Good (Plain parameters) make reading made there same good e =
+    let found = mapped (λ made. made.0) (made_of Made parameters make reading) made e in
+    subst Good found.2 (made_good (known_of app) Made Good parameters make reading found.0 same good found.1).0
+from_good app Made Good (WithCondition parameters) make reading made there same good e =
     let found =
-    then_some (λ found. option_map (λ made. made.0) (made_of Bound parameters (make found.0) found.1)) (next_condition reading) made e in
+    then_some (λ found. option_map (λ made. made.0) (made_of Made parameters (make found.0) found.1)) (next_condition reading) made e in
     let holds = condition_there app reading found.0 there same found.1 in
-    let last = mapped (λ made. made.0) (made_of Bound parameters (make found.0.0) found.0.1) made found.2 in
-    subst (IsBoundOf app) last.2
-    (made_good (known_of app) Bound (IsBoundOf app) parameters (make found.0.0) found.0.1 last.0 holds.1 (good found.0.0 holds.0) last.1).0
+    let last = mapped (λ made. made.0) (made_of Made parameters (make found.0.0) found.0.1) made found.2 in
+    subst Good last.2 (made_good (known_of app) Made Good parameters (make found.0.0) found.0.1 last.0 holds.1 (good found.0.0 holds.0) last.1).0
 
-row_bound : (app : AppView) (of : Row) (reading : Reading) (made : Bound) → AreThere app → known_of app ≡ reading.known → RowGood app of
-    → bound_made of reading ≡ Some made → IsBoundOf app made
-row_bound app (Spelled verb more operands make) reading made there same good e = bound_good app operands make reading made there same good e
+row_made : {Made : Type 0} (app : AppView) (Good : Made → Type 0) (of : Row Made) (reading : Reading) (made : Made) → AreThere app → known_of app ≡ reading.known
+    → RowGood app Good of → made_by of reading ≡ Some made → Good made
+row_made {Made} app Good (Spelled spelling make) reading made there same good e = from_good app Made Good spelling.operands make reading made there same good e
+
+-- What a row makes is good, and so is what is bound by it.
+effect_good : {Made : Type 0} (app : AppView) (Good : Made → Type 0) (does : Made → Bound) (of : Row Made) (reading : Reading) (made : Bound) → AreThere app
+    → known_of app ≡ reading.known → RowGood app Good of → ((found : Made) → Good found → IsBoundOf app (does found))
+    → option_map does (made_by of reading) ≡ Some made → IsBoundOf app made
+effect_good app Good does of reading made there same good follows e =
+    let found = mapped does (made_by of reading) made e in
+    subst (IsBoundOf app) found.2 (follows found.0 (row_made app Good of reading found.0 there same good found.1))
+
+keyword_good : (app : AppView) (k : Keyword) (reading : Reading) (made : Bound) → AreThere app → known_of app ≡ reading.known → bound_by k reading ≡ Some made
+    → IsBoundOf app made
+keyword_good app (Ask k) reading made there same e =
+    effect_good app (IsRequestOf app.runs) (λ request. bound.Asks request) (request_row k) reading made there same (request_good app there k) (λ request good. good) e
+keyword_good app (AskByWatch k) reading made there same e =
+    effect_good app (λ (found : ℕ × Search). IsWatch found.0) by_watch (search_row k) reading made there same (search_good app k) (λ found good. good) e
+keyword_good app TakeWheel reading made there same e = let is : bound.TakesWheel ≡ made = cc in subst (IsBoundOf app) is tt
+keyword_good app GiveWheel reading made there same e = let is : bound.GivesWheel ≡ made = cc in subst (IsBoundOf app) is tt
+keyword_good app Watch reading made there same e =
+    effect_good app (IsConditionOf app.runs) (λ condition. bound.Keeps condition) watch_row reading made there same (λ condition holds. holds) (λ condition good. good) e
+keyword_good app Unwatch reading made there same e =
+    effect_good app (λ number. Unit {0}) (λ number. bound.Drops number) unwatch_row reading made there same (λ number _. tt) (λ number _. tt) e
+keyword_good app (Show kind) reading made there same e =
+    effect_good app (λ number. number < length (names_of kind app.names)) (λ number. bound.Looks (Thing kind number)) (thing_row kind) reading made there same
+    (λ number named. named) (λ number good. good) e
+keyword_good app (Look of) reading made there same e = let is : bound.Looks (Overview of) ≡ made = cc in subst (IsBoundOf app) is tt
+
+pub bound_is_there : (app : AppView) (command : CommandView) (made : Bound) → AreAsMany app.runs app.names → bound_of app command ≡ Some made → IsBoundOf app made
+bound_is_there app command made there e =
+    keyword_good app command.keyword (record { known = known_of app; words = command.operands }) made there refl e
 
 pub bound_there : {Fault : Type 0} (app : AppView) (command : CommandView) (result : Result Bound Fault) → AreAsMany app.runs app.names
     → result_ok result ≡ bound_of app command → IfOk result (IsBoundOf app)
-bound_there app command (Ok made) there e =
-    row_bound app (row_of command.keyword) (record { known = known_of app; words = command.operands }) made there refl (row_good app there command.keyword) (sym e)
+bound_there app command (Ok made) there e = bound_is_there app command made there (sym e)
 bound_there app command (Err fault) there e = tt

@@ -16,13 +16,19 @@ use Rattle.rd_command.specs.declared.keyword.ConditionKeyword.TheVariants.{Compa
 use Rattle.rd_command.specs.declared.keyword.EditKeyword.{EditKeyword}
 use Rattle.rd_command.specs.declared.keyword.EditKeyword.TheVariants as poked
 use Rattle.rd_command.specs.declared.keyword.Keyword.{Keyword}
-use Rattle.rd_command.specs.declared.keyword.Keyword.TheVariants.{Step, Tick, Back, Forward, Redo, Until, UntilWatch, BackUntil, BackUntilWatch, Poke, TakeWheel, GiveWheel, Watch, Unwatch, Show, ShowCores, ShowMoves, ShowWheel, ShowWatches}
+use Rattle.rd_command.specs.declared.keyword.Keyword.TheVariants.{Ask, AskByWatch, TakeWheel, GiveWheel, Watch, Unwatch, Show, Look}
+use Rattle.rd_command.specs.declared.keyword.RequestKeyword.{RequestKeyword}
+use Rattle.rd_command.specs.declared.keyword.RequestKeyword.TheVariants as asked
+use Rattle.rd_command.specs.declared.keyword.SearchKeyword.{SearchKeyword}
+use Rattle.rd_command.specs.declared.keyword.SearchKeyword.TheVariants as sought
+use Rattle.rd_command.specs.declared.view.Overview.{Overview}
+use Rattle.rd_command.specs.declared.view.Overview.TheVariants as overview
 use Rattle.rd_command.specs.declared.keyword.Parameter.{Parameter}
 use Rattle.rd_command.specs.declared.keyword.Parameter.TheVariants.{Count}
 use Rattle.rd_command.specs.declared.keyword.Parameter.TheVariants as parameter
 use Rattle.rd_command.specs.Commands.{AreFormed, AreOperands, CommandView, FindsWhatIsSpelled, NoLineIsTwoCommands, Spells, command_among, command_from, command_of, command_spelled}
 use Rattle.rd_command.specs.Forms.{after_condition, after_texts, after_words, are_operands, is_all, is_formed, watch_number, watch_of}
-use Rattle.rd_command.specs.Keywords.{Operands, Plain, WithCondition, Row, Spelled, condition_keyword_of, condition_keywords, condition_row, keywords, more_of, operands_of, parameters_of, row_of, text_of, verb_of}
+use Rattle.rd_command.specs.Keywords.{Operands, Plain, WithCondition, Spelling, condition_keyword_of, condition_keywords, condition_row, keywords, parameters_of, spelling_of, text_of}
 use Rattle.rd_command.proofs.Steps.{first_is, option_if, some_if, then_some, then_some_is}
 
 same_bytes : (xs ys : List ℕ) → bytes_eq xs ys ≡ true → xs ≡ ys
@@ -100,26 +106,26 @@ found_takes verb more operands k words command e =
     subst (λ (command : CommandView). (command.keyword ≡ k) × (words ≡ more ++ command.operands) × AreOperands operands command.operands) formed.1
     (refl, texts_taken more words left.0 left.1, operands_take operands left.0 formed.0)
 
-row_takes : (of : Row) (k : Keyword) (first : List ℕ) (words : List (List ℕ)) (command : CommandView) → command_spelled of k first words ≡ Some command
-    → (command.keyword ≡ k) × (first ∷ words ≡ verb_of of ∷ (more_of of ++ command.operands)) × AreOperands (operands_of of) command.operands
-row_takes (Spelled verb more operands make) k first words command e =
+spelling_takes : (of : Spelling) (k : Keyword) (first : List ℕ) (words : List (List ℕ)) (command : CommandView) → command_spelled of k first words ≡ Some command
+    → (command.keyword ≡ k) × (first ∷ words ≡ of.verb ∷ (of.more ++ command.operands)) × AreOperands of.operands command.operands
+spelling_takes of k first words command e =
     let found =
-    option_if (bytes_eq first verb)
-    (option_and_then (λ left. cond (are_operands operands left) (Some (record { keyword = k; operands = left })) None) (after_texts more words)) command e in
-    let taken = found_takes verb more operands k words command found.1 in (
+    option_if (bytes_eq first of.verb)
+    (option_and_then (λ left. cond (are_operands of.operands left) (Some (record { keyword = k; operands = left })) None) (after_texts of.more words)) command e in
+    let taken = found_takes of.verb of.more of.operands k words command found.1 in (
       taken.0,
-      ap (λ (first : List ℕ). first ∷ words) (same_bytes first verb found.0) ∙ ap (λ (words : List (List ℕ)). verb ∷ words) taken.1,
+      ap (λ (first : List ℕ). first ∷ words) (same_bytes first of.verb found.0) ∙ ap (λ (words : List (List ℕ)). of.verb ∷ words) taken.1,
       taken.2,
     )
 
-spelled_takes : (k : Keyword) (first : List ℕ) (words : List (List ℕ)) (command : CommandView) → command_spelled (row_of k) k first words ≡ Some command
+spelled_takes : (k : Keyword) (first : List ℕ) (words : List (List ℕ)) (command : CommandView) → command_spelled (spelling_of k) k first words ≡ Some command
     → Spells (first ∷ words) command
 spelled_takes k first words command e =
-    let taken = row_takes (row_of k) k first words command e in
+    let taken = spelling_takes (spelling_of k) k first words command e in
     let same : k ≡ command.keyword = sym taken.0 in
     record {
-      written = subst (λ (k : Keyword). first ∷ words ≡ verb_of (row_of k) ∷ (more_of (row_of k) ++ command.operands)) same taken.1;
-      formed = subst (λ (k : Keyword). AreOperands (operands_of (row_of k)) command.operands) same taken.2;
+      written = subst (λ (k : Keyword). first ∷ words ≡ (spelling_of k).verb ∷ ((spelling_of k).more ++ command.operands)) same taken.1;
+      formed = subst (λ (k : Keyword). AreOperands (spelling_of k).operands command.operands) same taken.2;
     }
 
 either_takes : (spelled others : Option CommandView) (command : CommandView) (Good : CommandView → Type 0)
@@ -132,7 +138,7 @@ among_takes : (others : List Keyword) (first : List ℕ) (words : List (List ℕ
     → Spells (first ∷ words) command
 among_takes [] first words command e = absurd cc
 among_takes (k ∷ others) first words command e =
-    either_takes (command_spelled (row_of k) k first words) (command_among others first words) command (Spells (first ∷ words))
+    either_takes (command_spelled (spelling_of k) k first words) (command_among others first words) command (Spells (first ∷ words))
     (λ found is. spelled_takes k first words found is) (among_takes others first words command) e
 
 pub command_takes : (words : List (List ℕ)) (command : CommandView) → command_of words ≡ Some command → Spells words command
@@ -173,28 +179,43 @@ operands_again (WithCondition parameters) words h =
     ∙ ap (λ after. is_all (option_and_then (after_words parameters) after)) found
     ∙ ap is_all (sym (words_then own parameters h.1) ∙ formed_again (own ++ parameters) h.1 h.3)
 
+-- the command of a keyword with these operands
+abbrev spoken : Keyword → List (List ℕ) → CommandView
+spoken k left = record { keyword = k; operands = left }
+
 -- no keyword of a command is written as another
 abbrev IsFound : Keyword → Type 0
 IsFound k =
-    (left : List (List ℕ)) → are_operands (operands_of (row_of k)) left ≡ true
-    → command_among keywords (verb_of (row_of k)) (more_of (row_of k) ++ left) ≡ Some (record { keyword = k; operands = left })
+    (left : List (List ℕ)) → are_operands (spelling_of k).operands left ≡ true
+    → command_among keywords (spelling_of k).verb ((spelling_of k).more ++ left) ≡ Some (spoken k left)
 
-poke_again : (k : EditKeyword) → IsFound (Poke k)
-poke_again poked.Register = λ left formed. first_is (are_operands (operands_of (row_of (Poke poked.Register))) left) (record { keyword = Poke poked.Register; operands = left }) _ formed
-poke_again poked.Data = λ left formed. first_is (are_operands (operands_of (row_of (Poke poked.Data))) left) (record { keyword = Poke poked.Data; operands = left }) _ formed
-poke_again poked.Pc = λ left formed. first_is (are_operands (operands_of (row_of (Poke poked.Pc))) left) (record { keyword = Poke poked.Pc; operands = left }) _ formed
-poke_again poked.Value = λ left formed. first_is (are_operands (operands_of (row_of (Poke poked.Value))) left) (record { keyword = Poke poked.Value; operands = left }) _ formed
-poke_again poked.Bits = λ left formed. first_is (are_operands (operands_of (row_of (Poke poked.Bits))) left) (record { keyword = Poke poked.Bits; operands = left }) _ formed
-poke_again poked.Item = λ left formed. first_is (are_operands (operands_of (row_of (Poke poked.Item))) left) (record { keyword = Poke poked.Item; operands = left }) _ formed
-poke_again poked.Byte = λ left formed. first_is (are_operands (operands_of (row_of (Poke poked.Byte))) left) (record { keyword = Poke poked.Byte; operands = left }) _ formed
+-- its keyword is the first with these words
+found_first : (k : Keyword) (left : List (List ℕ)) (other : Option CommandView) → are_operands (spelling_of k).operands left ≡ true
+    → option_or (cond (are_operands (spelling_of k).operands left) (Some (spoken k left)) None) other ≡ Some (spoken k left)
+found_first k left other formed = first_is (are_operands (spelling_of k).operands left) (spoken k left) other formed
+
+poke_again : (k : EditKeyword) → IsFound (Ask (asked.Poke k))
+poke_again poked.Register = λ left formed. found_first (Ask (asked.Poke poked.Register)) left _ formed
+poke_again poked.Data = λ left formed. found_first (Ask (asked.Poke poked.Data)) left _ formed
+poke_again poked.Pc = λ left formed. found_first (Ask (asked.Poke poked.Pc)) left _ formed
+poke_again poked.Value = λ left formed. found_first (Ask (asked.Poke poked.Value)) left _ formed
+poke_again poked.Bits = λ left formed. found_first (Ask (asked.Poke poked.Bits)) left _ formed
+poke_again poked.Item = λ left formed. found_first (Ask (asked.Poke poked.Item)) left _ formed
+poke_again poked.Byte = λ left formed. found_first (Ask (asked.Poke poked.Byte)) left _ formed
 
 show_again : (k : Kind) → IsFound (Show k)
-show_again kind.Queue = λ left formed. first_is (are_operands (operands_of (row_of (Show kind.Queue))) left) (record { keyword = Show kind.Queue; operands = left }) _ formed
-show_again kind.QueueSet = λ left formed. first_is (are_operands (operands_of (row_of (Show kind.QueueSet))) left) (record { keyword = Show kind.QueueSet; operands = left }) _ formed
-show_again kind.Stream = λ left formed. first_is (are_operands (operands_of (row_of (Show kind.Stream))) left) (record { keyword = Show kind.Stream; operands = left }) _ formed
-show_again kind.Message = λ left formed. first_is (are_operands (operands_of (row_of (Show kind.Message))) left) (record { keyword = Show kind.Message; operands = left }) _ formed
-show_again kind.Group = λ left formed. first_is (are_operands (operands_of (row_of (Show kind.Group))) left) (record { keyword = Show kind.Group; operands = left }) _ formed
-show_again kind.Task = λ left formed. first_is (are_operands (operands_of (row_of (Show kind.Task))) left) (record { keyword = Show kind.Task; operands = left }) _ formed
+show_again kind.Queue = λ left formed. found_first (Show kind.Queue) left _ formed
+show_again kind.QueueSet = λ left formed. found_first (Show kind.QueueSet) left _ formed
+show_again kind.Stream = λ left formed. found_first (Show kind.Stream) left _ formed
+show_again kind.Message = λ left formed. found_first (Show kind.Message) left _ formed
+show_again kind.Group = λ left formed. found_first (Show kind.Group) left _ formed
+show_again kind.Task = λ left formed. found_first (Show kind.Task) left _ formed
+
+look_again : (k : Overview) → IsFound (Look k)
+look_again overview.Cores = λ left formed. found_first (Look overview.Cores) left _ formed
+look_again overview.Moves = λ left formed. found_first (Look overview.Moves) left _ formed
+look_again overview.Wheel = λ left formed. found_first (Look overview.Wheel) left _ formed
+look_again overview.Watches = λ left formed. found_first (Look overview.Watches) left _ formed
 
 -- a watch is no condition, since no keyword of a condition begins with w
 watch_is_no_condition : (word : List ℕ) → is_some (watch_of word) ≡ true → condition_keyword_of word ≡ None
@@ -233,41 +254,43 @@ second_is true b x y other e f = absurd cc
 second_is false true x y other e f = refl
 second_is false false x y other e f = absurd cc
 
-until_watch_again : IsFound UntilWatch
-until_watch_again left formed =
-    second_is (are_operands (operands_of (row_of Until)) left) (are_operands (operands_of (row_of UntilWatch)) left)
-    (record { keyword = Until; operands = left }) (record { keyword = UntilWatch; operands = left }) _ (watch_left (Count ∷ []) (Count ∷ []) left formed) formed
+-- one that is sought by a watch is the second, behind that which is sought by a condition
+found_second : (k other : Keyword) (left : List (List ℕ)) (others : Option CommandView) → are_operands (spelling_of other).operands left ≡ false
+    → are_operands (spelling_of k).operands left ≡ true
+    → option_or (cond (are_operands (spelling_of other).operands left) (Some (spoken other left)) None)
+    (option_or (cond (are_operands (spelling_of k).operands left) (Some (spoken k left)) None) others)
+    ≡ Some (spoken k left)
+found_second k other left others not_other formed =
+    second_is (are_operands (spelling_of other).operands left) (are_operands (spelling_of k).operands left) (spoken other left) (spoken k left) others not_other formed
 
-back_until_watch_again : IsFound BackUntilWatch
-back_until_watch_again left formed =
-    second_is (are_operands (operands_of (row_of BackUntil)) left) (are_operands (operands_of (row_of BackUntilWatch)) left)
-    (record { keyword = BackUntil; operands = left }) (record { keyword = BackUntilWatch; operands = left }) _ (watch_left [] [] left formed) formed
+request_again : (k : RequestKeyword) → IsFound (Ask k)
+request_again asked.Step = λ left formed. found_first (Ask asked.Step) left _ formed
+request_again asked.Tick = λ left formed. found_first (Ask asked.Tick) left _ formed
+request_again asked.Back = λ left formed. found_first (Ask asked.Back) left _ formed
+request_again asked.Forward = λ left formed. found_first (Ask asked.Forward) left _ formed
+request_again asked.Redo = λ left formed. found_first (Ask asked.Redo) left _ formed
+request_again asked.Until = λ left formed. found_first (Ask asked.Until) left _ formed
+request_again asked.BackUntil = λ left formed. found_first (Ask asked.BackUntil) left _ formed
+request_again (asked.Poke k) = poke_again k
+
+search_again : (k : SearchKeyword) → IsFound (AskByWatch k)
+search_again sought.Until = λ left formed. found_second (AskByWatch sought.Until) (Ask asked.Until) left _ (watch_left (Count ∷ []) (Count ∷ []) left formed) formed
+search_again sought.BackUntil = λ left formed. found_second (AskByWatch sought.BackUntil) (Ask asked.BackUntil) left _ (watch_left [] [] left formed) formed
 
 keyword_again : (k : Keyword) → IsFound k
-keyword_again Step = λ left formed. first_is (are_operands (operands_of (row_of Step)) left) (record { keyword = Step; operands = left }) _ formed
-keyword_again Tick = λ left formed. first_is (are_operands (operands_of (row_of Tick)) left) (record { keyword = Tick; operands = left }) _ formed
-keyword_again Back = λ left formed. first_is (are_operands (operands_of (row_of Back)) left) (record { keyword = Back; operands = left }) _ formed
-keyword_again Forward = λ left formed. first_is (are_operands (operands_of (row_of Forward)) left) (record { keyword = Forward; operands = left }) _ formed
-keyword_again Redo = λ left formed. first_is (are_operands (operands_of (row_of Redo)) left) (record { keyword = Redo; operands = left }) _ formed
-keyword_again Until = λ left formed. first_is (are_operands (operands_of (row_of Until)) left) (record { keyword = Until; operands = left }) _ formed
-keyword_again UntilWatch = until_watch_again
-keyword_again BackUntil = λ left formed. first_is (are_operands (operands_of (row_of BackUntil)) left) (record { keyword = BackUntil; operands = left }) _ formed
-keyword_again BackUntilWatch = back_until_watch_again
-keyword_again (Poke k) = poke_again k
-keyword_again TakeWheel = λ left formed. first_is (are_operands (operands_of (row_of TakeWheel)) left) (record { keyword = TakeWheel; operands = left }) _ formed
-keyword_again GiveWheel = λ left formed. first_is (are_operands (operands_of (row_of GiveWheel)) left) (record { keyword = GiveWheel; operands = left }) _ formed
-keyword_again Watch = λ left formed. first_is (are_operands (operands_of (row_of Watch)) left) (record { keyword = Watch; operands = left }) _ formed
-keyword_again Unwatch = λ left formed. first_is (are_operands (operands_of (row_of Unwatch)) left) (record { keyword = Unwatch; operands = left }) _ formed
+keyword_again (Ask k) = request_again k
+keyword_again (AskByWatch k) = search_again k
+keyword_again TakeWheel = λ left formed. found_first TakeWheel left _ formed
+keyword_again GiveWheel = λ left formed. found_first GiveWheel left _ formed
+keyword_again Watch = λ left formed. found_first Watch left _ formed
+keyword_again Unwatch = λ left formed. found_first Unwatch left _ formed
 keyword_again (Show k) = show_again k
-keyword_again ShowCores = λ left formed. first_is (are_operands (operands_of (row_of ShowCores)) left) (record { keyword = ShowCores; operands = left }) _ formed
-keyword_again ShowMoves = λ left formed. first_is (are_operands (operands_of (row_of ShowMoves)) left) (record { keyword = ShowMoves; operands = left }) _ formed
-keyword_again ShowWheel = λ left formed. first_is (are_operands (operands_of (row_of ShowWheel)) left) (record { keyword = ShowWheel; operands = left }) _ formed
-keyword_again ShowWatches = λ left formed. first_is (are_operands (operands_of (row_of ShowWatches)) left) (record { keyword = ShowWatches; operands = left }) _ formed
+keyword_again (Look k) = look_again k
 
 pub command_again : (words : List (List ℕ)) (command : CommandView) → Spells words command → command_of words ≡ Some command
 unfolding command_from
 command_again words command h =
-    ap command_of h.written ∙ keyword_again command.keyword command.operands (operands_again (operands_of (row_of command.keyword)) command.operands h.formed)
+    ap command_of h.written ∙ keyword_again command.keyword command.operands (operands_again (spelling_of command.keyword).operands command.operands h.formed)
 
 pub what_is_spelled_is_found : FindsWhatIsSpelled
 what_is_spelled_is_found words command = (command_takes words command, command_again words command)

@@ -1,9 +1,9 @@
 -- The lemmas of this crate.
 pub mod BindingLaws
 pub mod CommandLaws
+pub mod EffectLaws
 pub mod FormLaws
 pub mod Steps
 pub mod TableLaws
 pub mod ThereLaws
-pub mod KeywordLaws
 pub mod Offered

@@ -9,9 +9,9 @@ use Rattle.std.proofs.lemmas.Slice.Eq.{bytes_eq-Decides}
 use Rattle.rd_command.specs.declared.keyword.ConditionKeyword.{ConditionKeyword}
 use Rattle.rd_command.specs.declared.keyword.Keyword.{Keyword}
 use Rattle.rd_command.specs.declared.keyword.Parameter.{Parameter}
-use Rattle.rd_command.specs.Commands.{CommandView, command_among, command_spelled, command_with}
+use Rattle.rd_command.specs.Commands.{CommandView, command_among, command_spelled}
 use Rattle.rd_command.specs.Forms.{are_operands}
-use Rattle.rd_command.specs.Keywords.{Operands, Row, Spelled, condition_row, keywords, more_of, operands_of, parameters_of, row_of, text_of, verb_of}
+use Rattle.rd_command.specs.Keywords.{Operands, Spelling, condition_row, keywords, parameters_of, spelling_of, text_of}
 use Rattle.rd_command.specs.Tables.{Alone, Longer, Verb, command_alone, command_behind, command_by_verb, command_longer, command_with_second, conditions_of, first_condition}
 
 -- what the table of conditions has at a word
@@ -54,7 +54,7 @@ abbrev Flat : Type 0
 Flat = List ℕ × List (List ℕ) × Operands × Keyword
 
 abbrev command_in : Flat → List ℕ → List (List ℕ) → Option CommandView
-command_in row first words = command_with row.0 row.1 row.2 row.3 first words
+command_in row first words = command_spelled (record { verb = row.0; more = row.1; operands = row.2 }) row.3 first words
 
 abbrev first_command : List Flat → List ℕ → List (List ℕ) → Option CommandView
 first_command [] first words = None
@@ -71,7 +71,7 @@ flat [] = []
 flat (verb ∷ others) = flat_alone verb.0 verb.1 ++ (flat_longer verb.0 verb.2 ++ flat others)
 
 abbrev rows_of : List Keyword → List Flat
-rows_of keywords = map (λ k. (verb_of (row_of k), more_of (row_of k), operands_of (row_of k), k)) keywords
+rows_of keywords = map (λ k. ((spelling_of k).verb, (spelling_of k).more, (spelling_of k).operands, k)) keywords
 
 -- ---- and with those of one first word together
 
@@ -80,15 +80,15 @@ with_words [] operands k verb = (verb.0, (operands, k) ∷ verb.1, verb.2)
 with_words (second ∷ more) operands k verb = (verb.0, verb.1, (second, operands, k) ∷ verb.2)
 
 -- the keyword before those that have its first word, if these come next
-abbrev joined : Row → Keyword → List Verb → List Verb
-joined (Spelled word more operands make) k [] = with_words more operands k (word, [], []) ∷ []
-joined (Spelled word more operands make) k (verb ∷ others) =
-    if bytes_eq word verb.0 then with_words more operands k verb ∷ others
-    else with_words more operands k (word, [], []) ∷ verb ∷ others
+abbrev joined : Spelling → Keyword → List Verb → List Verb
+joined of k [] = with_words of.more of.operands k (of.verb, [], []) ∷ []
+joined of k (verb ∷ others) =
+    if bytes_eq of.verb verb.0 then with_words of.more of.operands k verb ∷ others
+    else with_words of.more of.operands k (of.verb, [], []) ∷ verb ∷ others
 
 abbrev pub verbs_of : List Keyword → List Verb
 verbs_of [] = []
-verbs_of (k ∷ others) = joined (row_of k) k (verbs_of others)
+verbs_of (k ∷ others) = joined (spelling_of k) k (verbs_of others)
 
 -- does none of these begin with the word?
 abbrev is_new : List ℕ → List Verb → Bool
@@ -100,16 +100,11 @@ are_distinct [] = true
 are_distinct (verb ∷ others) = if is_new verb.0 others then are_distinct others else false
 
 -- a row for each keyword is found as its definition has it
-row_found : (k : Keyword) (of : Row) (first : List ℕ) (words : List (List ℕ))
-    → command_in (verb_of of, more_of of, operands_of of, k) first words ≡ command_spelled of k first words
-row_found k (Spelled verb more operands make) first words = refl
-
 keyword_found : (first : List ℕ) (words : List (List ℕ)) (others : List Keyword)
     → first_command (rows_of others) first words ≡ command_among others first words
 keyword_found first words [] = refl
 keyword_found first words (k ∷ others) =
-    ap (λ found. option_or found (first_command (rows_of others) first words)) (row_found k (row_of k) first words)
-    ∙ ap (option_or (command_spelled (row_of k) k first words)) (keyword_found first words others)
+    ap (option_or (command_spelled (spelling_of k) k first words)) (keyword_found first words others)
 
 -- rows, and then others
 or_or : {X : Type 0} (a b c : Option X) → option_or (option_or a b) c ≡ option_or a (option_or b c)

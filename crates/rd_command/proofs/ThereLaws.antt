@@ -8,13 +8,18 @@ use Rattle.rd_text.specs.Words.{is_name}
 use Rattle.rd_names.specs.Names.{names_of}
 use Rattle.rd_condition.specs.declared.condition.Condition.{Condition}
 use Rattle.rd_command.specs.declared.binding.Bound.{Bound}
+use Rattle.rd_command.specs.declared.binding.Bound.TheVariants as bound
 use Rattle.rd_command.specs.declared.keyword.ConditionKeyword.{ConditionKeyword}
+use Rattle.rd_command.specs.declared.keyword.Keyword.{Keyword}
+use Rattle.rd_command.specs.declared.keyword.Keyword.TheVariants.{Ask, AskByWatch, TakeWheel, GiveWheel, Unwatch, Show, Look}
+use Rattle.rd_command.specs.declared.keyword.Keyword.TheVariants as keyword
+use Rattle.rd_command.specs.declared.view.View.TheVariants.{Thing}
 use Rattle.rd_command.specs.declared.keyword.Parameter.{Parameter}
 use Rattle.rd_command.specs.declared.keyword.Parameter.TheVariants.{Core, Count, Register, Index, Number, Data, Operator, Phase, Watch, Name}
-use Rattle.rd_command.specs.Bindings.{Known, Reading, are_there, are_there_with, bound_in, bound_made, bound_with, condition_made, has_all, has_operands, is_there, made_of, next_condition, next_keyword, next_value, number_named, value_of}
+use Rattle.rd_command.specs.Bindings.{Known, Reading, are_there, are_there_with, bound_by, bound_in, by_watch, condition_made, has_all, has_operands, is_there, made_by, made_from, made_of, next_condition, next_keyword, next_value, number_named, value_of}
 use Rattle.rd_command.specs.Commands.{AreFormed, AreOperands, CommandView, Spells}
 use Rattle.rd_command.specs.Forms.{is_formed}
-use Rattle.rd_command.specs.Keywords.{ConditionRow, Makes, MakesBound, Operands, Plain, Row, Spelled, Value, WithCondition, Written, condition_row, operands_of, parameters_of, row_of, text_of}
+use Rattle.rd_command.specs.Keywords.{ConditionRow, Makes, MakesFrom, Operands, Plain, Row, Spelled, Value, WithCondition, Written, condition_row, parameters_of, request_row, search_row, spelling_in, spelling_of, text_of, thing_row, unwatch_row, watch_row}
 use Rattle.rd_command.proofs.CommandLaws.{condition_again}
 
 reading : Known → List (List ℕ) → Reading
@@ -68,8 +73,8 @@ made_there known Made Last next (parameter ∷ parameters) others make words goe
 -- ---- commands
 
 -- the words of no more operands
-nothing_more : (known : Known) → GoesOn known Bound Bound (λ (made : Bound × Reading). Some made.0) []
-nothing_more known made words h = refl
+nothing_more : (known : Known) (Made : Type 0) → GoesOn known Made Made (λ (made : Made × Reading). Some made.0) []
+nothing_more known Made made words h = refl
 
 mapped_then : {X Y : Type 0} (f : X → Y) (o : Option X) → option_map f o ≡ option_and_then (λ x. Some (f x)) o
 mapped_then f (Some x) = refl
@@ -79,51 +84,71 @@ no_others : (parameters : List Parameter) → parameters ++ [] ≡ parameters
 no_others [] = refl
 no_others (parameter ∷ parameters) = ap (λ (others : List Parameter). parameter ∷ others) (no_others parameters)
 
-last_there : (known : Known) (parameters : List Parameter) (make : Makes Bound parameters) (words : List (List ℕ)) → AreFormed parameters words
-    → is_some (option_map (λ (made : Bound × Reading). made.0) (made_of Bound parameters make (reading known words))) ≡ are_there known parameters words
-last_there known parameters make words h =
-    ap is_some (mapped_then (λ (made : Bound × Reading). made.0) (made_of Bound parameters make (reading known words)))
-    ∙ made_there known Bound Bound (λ (made : Bound × Reading). Some made.0) parameters [] make words (nothing_more known)
+last_there : (known : Known) (Made : Type 0) (parameters : List Parameter) (make : Makes Made parameters) (words : List (List ℕ)) → AreFormed parameters words
+    → is_some (option_map (λ (made : Made × Reading). made.0) (made_of Made parameters make (reading known words))) ≡ are_there known parameters words
+last_there known Made parameters make words h =
+    ap is_some (mapped_then (λ (made : Made × Reading). made.0) (made_of Made parameters make (reading known words)))
+    ∙ made_there known Made Made (λ (made : Made × Reading). Some made.0) parameters [] make words (nothing_more known Made)
     (subst (λ (parameters : List Parameter). AreFormed parameters words) (sym (no_others parameters)) h)
     ∙ ap (λ (parameters : List Parameter). are_there known parameters words) (no_others parameters)
 
-row_there : (known : Known) (parameters : List Parameter) (make : Condition → Makes Bound parameters) (of : ConditionRow) (words : List (List ℕ))
-    → AreFormed (parameters_of of ++ parameters) words
-    → is_some (option_and_then (λ (found : Condition × Reading). option_map (λ (made : Bound × Reading). made.0) (made_of Bound parameters (make found.0) found.1)) (condition_made of (reading known words)))
-    ≡ are_there known (parameters_of of ++ parameters) words
-row_there known parameters make (Written text own condition) words h =
-    made_there known Condition Bound (λ (found : Condition × Reading). option_map (λ (made : Bound × Reading). made.0) (made_of Bound parameters (make found.0) found.1)) own parameters condition words
-    (λ found left formed. last_there known parameters (make found) left formed) h
+-- what is made behind a condition
+abbrev behind : (Made : Type 0) (parameters : List Parameter) → (Condition → Makes Made parameters) → Condition × Reading → Option Made
+behind Made parameters make found = option_map (λ (made : Made × Reading). made.0) (made_of Made parameters (make found.0) found.1)
 
-condition_there : (known : Known) (parameters : List Parameter) (make : Condition → Makes Bound parameters) (k : ConditionKeyword) (words : List (List ℕ))
+row_there : (known : Known) (Made : Type 0) (parameters : List Parameter) (make : Condition → Makes Made parameters) (of : ConditionRow) (words : List (List ℕ))
+    → AreFormed (parameters_of of ++ parameters) words
+    → is_some (option_and_then (behind Made parameters make) (condition_made of (reading known words))) ≡ are_there known (parameters_of of ++ parameters) words
+row_there known Made parameters make (Written text own condition) words h =
+    made_there known Condition Made (behind Made parameters make) own parameters condition words
+    (λ found left formed. last_there known Made parameters (make found) left formed) h
+
+condition_there : (known : Known) (Made : Type 0) (parameters : List Parameter) (make : Condition → Makes Made parameters) (k : ConditionKeyword) (words : List (List ℕ))
     → AreFormed (parameters_of (condition_row k) ++ parameters) words
-    → is_some
-    (option_and_then (λ (found : Condition × Reading). option_map (λ (made : Bound × Reading). made.0) (made_of Bound parameters (make found.0) found.1))
-    (next_condition (reading known (text_of (condition_row k) ∷ words))))
+    → is_some (option_and_then (behind Made parameters make) (next_condition (reading known (text_of (condition_row k) ∷ words))))
     ≡ are_there_with known parameters (text_of (condition_row k) ∷ words)
 unfolding next_keyword reading
-condition_there known parameters make k words h =
+condition_there known Made parameters make k words h =
     ap
     (λ (found : Option ConditionKeyword).
     is_some
-    (option_and_then (λ (found : Condition × Reading). option_map (λ (made : Bound × Reading). made.0) (made_of Bound parameters (make found.0) found.1))
+    (option_and_then (behind Made parameters make)
     (option_and_then (λ (next : ConditionKeyword × Reading). condition_made (condition_row next.0) next.1) (option_map (λ keyword. (keyword, reading known words)) found))))
     (condition_again k)
-    ∙ row_there known parameters make (condition_row k) words h
+    ∙ row_there known Made parameters make (condition_row k) words h
     ∙ sym (ap (λ (found : Option ConditionKeyword). option_map_or (λ keyword. are_there known (parameters_of (condition_row keyword) ++ parameters) words) found true) (condition_again k))
 
-operands_there : (known : Known) (operands : Operands) (make : MakesBound operands) (words : List (List ℕ)) → AreOperands operands words
-    → is_some (bound_with operands make (reading known words)) ≡ has_operands known operands words
-operands_there known (Plain parameters) make words h = last_there known parameters make words h
-operands_there known (WithCondition parameters) make words h =
-    ap (λ words. is_some (bound_with (WithCondition parameters) make (reading known words))) h.2 ∙ condition_there known parameters make h.0 h.1 h.3
+operands_there : (known : Known) (Made : Type 0) (operands : Operands) (make : MakesFrom Made operands) (words : List (List ℕ)) → AreOperands operands words
+    → is_some (made_from Made operands make (reading known words)) ≡ has_operands known operands words
+operands_there known Made (Plain parameters) make words h = last_there known Made parameters make words h
+operands_there known Made (WithCondition parameters) make words h =
+    ap (λ words. is_some (made_from Made (WithCondition parameters) make (reading known words))) h.2 ∙ condition_there known Made parameters make h.0 h.1 h.3
     ∙ ap (are_there_with known parameters) (sym h.2)
 
-command_there : (known : Known) (of : Row) (words : List (List ℕ)) → AreOperands (operands_of of) words
-    → is_some (bound_made of (reading known words)) ≡ has_operands known (operands_of of) words
-command_there known (Spelled verb more operands make) words h = operands_there known operands make words h
+row_made : {Made : Type 0} (known : Known) (of : Row Made) (words : List (List ℕ)) → AreOperands (spelling_in of).operands words
+    → is_some (made_by of (reading known words)) ≡ has_operands known (spelling_in of).operands words
+row_made {Made} known (Spelled spelling make) words h = operands_there known Made spelling.operands make words h
+
+is_some_mapped : {X Y : Type 0} (f : X → Y) (o : Option X) → is_some (option_map f o) ≡ is_some o
+is_some_mapped f (Some x) = refl
+is_some_mapped f None = refl
+
+effect_there : {Made : Type 0} (known : Known) (does : Made → Bound) (of : Row Made) (words : List (List ℕ)) → AreOperands (spelling_in of).operands words
+    → is_some (option_map does (made_by of (reading known words))) ≡ has_operands known (spelling_in of).operands words
+effect_there known does of words h = is_some_mapped does (made_by of (reading known words)) ∙ row_made known of words h
+
+keyword_there : (known : Known) (k : Keyword) (words : List (List ℕ)) → AreOperands (spelling_of k).operands words
+    → is_some (bound_by k (reading known words)) ≡ has_operands known (spelling_of k).operands words
+keyword_there known (Ask k) words h = effect_there known (λ request. bound.Asks request) (request_row k) words h
+keyword_there known (AskByWatch k) words h = effect_there known by_watch (search_row k) words h
+keyword_there known TakeWheel words h = refl
+keyword_there known GiveWheel words h = refl
+keyword_there known keyword.Watch words h = effect_there known (λ condition. bound.Keeps condition) watch_row words h
+keyword_there known Unwatch words h = effect_there known (λ number. bound.Drops number) unwatch_row words h
+keyword_there known (Show kind) words h = effect_there known (λ number. bound.Looks (Thing kind number)) (thing_row kind) words h
+keyword_there known (Look of) words h = refl
 
 pub bound_exactly : (known : Known) (command : CommandView) (bound : Option Bound) → bound ≡ bound_in known command → (words : List (List ℕ))
     → Spells words command → is_some bound ≡ has_all known command
 unfolding reading
-bound_exactly known command bound is words h = ap is_some is ∙ command_there known (row_of command.keyword) command.operands h.formed
+bound_exactly known command bound is words h = ap is_some is ∙ keyword_there known command.keyword command.operands h.formed

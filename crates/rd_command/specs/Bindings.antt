@@ -12,28 +12,30 @@ use Rattle.rd_names.specs.Apps.{AppView}
 use Rattle.rd_names.specs.Names.{NamesView, names_of}
 use Rattle.rd_condition.specs.declared.condition.Condition.{Condition}
 use Rattle.rd_condition.specs.Conditions.{IsConditionOf}
-use Rattle.rd_edits.specs.Edits.{IsEditOf}
-use Rattle.rd_edits.specs.declared.edit.Edit.{Edit}
-use Rattle.rd_edits.specs.declared.edit.Edit.TheVariants as edit
+use Rattle.rd_moves.specs.declared.request.Search.{Search}
+use Rattle.rd_moves.specs.Requests.{IsRequestOf}
 use Rattle.rd_command.specs.declared.binding.Bound.{Bound}
 use Rattle.rd_command.specs.declared.binding.Bound.TheVariants as bound
 use Rattle.rd_command.specs.declared.binding.TheConstants.{MAX_WATCHES}
 use Rattle.rd_command.specs.declared.binding.Unknown.{Unknown}
 use Rattle.rd_command.specs.declared.keyword.ConditionKeyword.{ConditionKeyword}
-use Rattle.rd_command.specs.declared.keyword.EditKeyword.{EditKeyword}
-use Rattle.rd_command.specs.declared.keyword.EditKeyword.TheVariants as poked
 use Rattle.rd_command.specs.declared.keyword.Keyword.{Keyword}
+use Rattle.rd_command.specs.declared.keyword.Keyword.TheVariants.{Ask, AskByWatch, TakeWheel}
+use Rattle.rd_command.specs.declared.keyword.Keyword.TheVariants.{GiveWheel, Unwatch, Show, Look}
 use Rattle.rd_command.specs.declared.keyword.Keyword.TheVariants as keyword
 use Rattle.rd_command.specs.declared.keyword.Parameter.{Parameter}
 use Rattle.rd_command.specs.declared.keyword.Parameter.TheVariants.{Core, Count, Register, Index}
 use Rattle.rd_command.specs.declared.keyword.Parameter.TheVariants.{Number, Data, Operator}
 use Rattle.rd_command.specs.declared.keyword.Parameter.TheVariants.{Phase, Watch, Name}
+use Rattle.rd_command.specs.declared.view.View.{View}
+use Rattle.rd_command.specs.declared.view.View.TheVariants.{Thing, Overview}
 use Rattle.rd_command.specs.Commands.{CommandView}
 use Rattle.rd_command.specs.Forms.{count_of, operator_of, phase_of, watch_of}
-use Rattle.rd_command.specs.Keywords.{Makes, MakesBound, Value, Written, ConditionRow}
+use Rattle.rd_command.specs.Keywords.{Makes, MakesFrom, Value, Written, ConditionRow}
 use Rattle.rd_command.specs.Keywords.{Operands, Plain, WithCondition, Row, Spelled}
-use Rattle.rd_command.specs.Keywords.{condition_keyword_of, condition_row, operands_of}
-use Rattle.rd_command.specs.Keywords.{parameters_of, row_of}
+use Rattle.rd_command.specs.Keywords.{condition_keyword_of, condition_row, parameters_of}
+use Rattle.rd_command.specs.Keywords.{request_row, search_row, spelling_of, thing_row, unwatch_row}
+use Rattle.rd_command.specs.Keywords.{watch_row, Wheel, Taken, Given, Needed, Free}
 
 -- ---- what a command is bound to
 
@@ -41,59 +43,30 @@ use Rattle.rd_command.specs.Keywords.{parameters_of, row_of}
 abbrev pub IsWatch : ℕ → Type 0
 IsWatch watch = watch < MAX_WATCHES
 
+-- The application has the thing that is shown.
+abbrev pub IsViewOf : NamesView → View → Type 0
+IsViewOf names (Thing kind number) = number < length (names_of kind names)
+IsViewOf names (Overview of) = Unit {0}
+
 -- The application has what the command names. (That a count is one says its type.)
 abbrev pub IsBoundOf : AppView → Bound → Type 0
-IsBoundOf app (bound.Step core) = core < app.runs.cores
-IsBoundOf app bound.Tick = Unit {0}
-IsBoundOf app (bound.Forward count) = Unit {0}
-IsBoundOf app (bound.Redo count) = Unit {0}
-IsBoundOf app (bound.Back count) = Unit {0}
-IsBoundOf app (bound.Until condition count) = IsConditionOf app.runs condition
-IsBoundOf app (bound.UntilWatch watch count) = IsWatch watch
-IsBoundOf app (bound.BackUntil condition) = IsConditionOf app.runs condition
-IsBoundOf app (bound.BackUntilWatch watch) = IsWatch watch
-IsBoundOf app (bound.Poke edit) = IsEditOf app.runs edit
-IsBoundOf app bound.TakeWheel = Unit {0}
-IsBoundOf app bound.GiveWheel = Unit {0}
-IsBoundOf app (bound.Watch condition) = IsConditionOf app.runs condition
-IsBoundOf app (bound.Unwatch number) = Unit {0}
-IsBoundOf app (bound.Show kind number) = number < length (names_of kind app.names)
-IsBoundOf app bound.ShowCores = Unit {0}
-IsBoundOf app bound.ShowMoves = Unit {0}
-IsBoundOf app bound.ShowWheel = Unit {0}
-IsBoundOf app bound.ShowWatches = Unit {0}
+IsBoundOf app (bound.Asks request) = IsRequestOf app.runs request
+IsBoundOf app (bound.AsksByWatch watch search) = IsWatch watch
+IsBoundOf app bound.TakesWheel = Unit {0}
+IsBoundOf app bound.GivesWheel = Unit {0}
+IsBoundOf app (bound.Keeps condition) = IsConditionOf app.runs condition
+IsBoundOf app (bound.Drops number) = Unit {0}
+IsBoundOf app (bound.Looks view) = IsViewOf app.names view
 
--- the keyword of an edit
-abbrev pub edit_keyword_of : Edit → EditKeyword
-edit_keyword_of (edit.Register task register value) = poked.Register
-edit_keyword_of (edit.Data task bytes) = poked.Data
-edit_keyword_of (edit.Pc task pc) = poked.Pc
-edit_keyword_of (edit.Value task index value) = poked.Value
-edit_keyword_of (edit.Bits group bits) = poked.Bits
-edit_keyword_of (edit.Item queue index bytes) = poked.Item
-edit_keyword_of (edit.Byte stream index value) = poked.Byte
-
--- the keyword of the command that was bound
-abbrev pub keyword_of : Bound → Keyword
-keyword_of (bound.Step core) = keyword.Step
-keyword_of bound.Tick = keyword.Tick
-keyword_of (bound.Forward count) = keyword.Forward
-keyword_of (bound.Redo count) = keyword.Redo
-keyword_of (bound.Back count) = keyword.Back
-keyword_of (bound.Until condition count) = keyword.Until
-keyword_of (bound.UntilWatch watch count) = keyword.UntilWatch
-keyword_of (bound.BackUntil condition) = keyword.BackUntil
-keyword_of (bound.BackUntilWatch watch) = keyword.BackUntilWatch
-keyword_of (bound.Poke edit) = keyword.Poke (edit_keyword_of edit)
-keyword_of bound.TakeWheel = keyword.TakeWheel
-keyword_of bound.GiveWheel = keyword.GiveWheel
-keyword_of (bound.Watch condition) = keyword.Watch
-keyword_of (bound.Unwatch number) = keyword.Unwatch
-keyword_of (bound.Show kind number) = keyword.Show kind
-keyword_of bound.ShowCores = keyword.ShowCores
-keyword_of bound.ShowMoves = keyword.ShowMoves
-keyword_of bound.ShowWheel = keyword.ShowWheel
-keyword_of bound.ShowWatches = keyword.ShowWatches
+-- what it has to do with the wheel
+abbrev pub wheel_for : Bound → Wheel
+wheel_for (bound.Asks request) = Needed
+wheel_for (bound.AsksByWatch watch search) = Needed
+wheel_for bound.TakesWheel = Taken
+wheel_for bound.GivesWheel = Given
+wheel_for (bound.Keeps condition) = Free
+wheel_for (bound.Drops number) = Free
+wheel_for (bound.Looks view) = Free
 
 -- ---- what is known of an application when a command is bound
 
@@ -108,6 +81,12 @@ made_known names cores entries = record { names = names; cores = cores; entries 
 
 abbrev pub known_of : AppView → Known
 known_of app = made_known app.names app.runs.cores app.runs.entries
+
+-- a line, the command that it is, and what is known of the application that this is bound in
+pub record OrderView : Type 0 where
+  pub line : List ℕ
+  pub command : CommandView
+  pub known : Known
 
 -- ---- what a word stands for
 
@@ -184,21 +163,40 @@ next_condition reading =
     option_and_then (λ next. condition_made (condition_row next.0) next.1) (next_keyword reading)
 
 -- what the operands make, if each stands for something
-abbrev pub bound_with : (operands : Operands) → MakesBound operands → Reading → Option Bound
-bound_with (Plain parameters) make reading =
-    option_map (λ made. made.0) (made_of Bound parameters make reading)
-bound_with (WithCondition parameters) make reading =
+abbrev pub made_from : (Made : Type 0) → (operands : Operands) → MakesFrom Made operands → Reading
+    → Option Made
+made_from Made (Plain parameters) make reading =
+    option_map (λ made. made.0) (made_of Made parameters make reading)
+made_from Made (WithCondition parameters) make reading =
     option_and_then
-    (λ found. option_map (λ made. made.0) (made_of Bound parameters (make found.0) found.1))
+    (λ found. option_map (λ made. made.0) (made_of Made parameters (make found.0) found.1))
     (next_condition reading)
 
-abbrev pub bound_made : Row → Reading → Option Bound
-bound_made (Spelled verb more operands make) reading = bound_with operands make reading
+abbrev pub made_by : {Made : Type 0} → Row Made → Reading → Option Made
+made_by {Made} (Spelled spelling make) reading = made_from Made spelling.operands make reading
+
+-- what such a search asks for
+abbrev pub by_watch : ℕ × Search → Bound
+by_watch found = bound.AsksByWatch found.0 found.1
+
+-- what a command of this keyword does, with these operands
+abbrev pub bound_by : Keyword → Reading → Option Bound
+bound_by (Ask of) reading =
+    option_map (λ request. bound.Asks request) (made_by (request_row of) reading)
+bound_by (AskByWatch of) reading = option_map by_watch (made_by (search_row of) reading)
+bound_by TakeWheel reading = Some bound.TakesWheel
+bound_by GiveWheel reading = Some bound.GivesWheel
+bound_by keyword.Watch reading =
+    option_map (λ condition. bound.Keeps condition) (made_by watch_row reading)
+bound_by Unwatch reading = option_map (λ number. bound.Drops number) (made_by unwatch_row reading)
+bound_by (Show kind) reading =
+    option_map (λ number. bound.Looks (Thing kind number)) (made_by (thing_row kind) reading)
+bound_by (Look of) reading = Some (bound.Looks (Overview of))
 
 -- what the command is bound to, if the application has all that it names
 abbrev pub bound_in : Known → CommandView → Option Bound
 bound_in known command =
-    bound_made (row_of command.keyword) (record { known = known; words = command.operands })
+    bound_by command.keyword (record { known = known; words = command.operands })
 
 abbrev pub bound_of : AppView → CommandView → Option Bound
 bound_of app command = bound_in (known_of app) command
@@ -239,4 +237,4 @@ has_operands known (WithCondition parameters) words = are_there_with known param
 
 -- has the application all that the command names?
 abbrev pub has_all : Known → CommandView → Bool
-has_all known command = has_operands known (operands_of (row_of command.keyword)) command.operands
+has_all known command = has_operands known (spelling_of command.keyword).operands command.operands

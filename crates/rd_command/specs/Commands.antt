@@ -7,9 +7,8 @@ use Rattle.rd_command.specs.declared.keyword.ConditionKeyword.{ConditionKeyword}
 use Rattle.rd_command.specs.declared.keyword.Keyword.{Keyword}
 use Rattle.rd_command.specs.declared.keyword.Parameter.{Parameter}
 use Rattle.rd_command.specs.Forms.{after_texts, are_operands, is_formed}
-use Rattle.rd_command.specs.Keywords.{Operands, Plain, WithCondition, Row, Spelled, keywords}
-use Rattle.rd_command.specs.Keywords.{condition_row, more_of, operands_of, parameters_of, row_of}
-use Rattle.rd_command.specs.Keywords.{text_of, verb_of}
+use Rattle.rd_command.specs.Keywords.{Operands, Plain, WithCondition, Spelling, condition_row}
+use Rattle.rd_command.specs.Keywords.{keywords, parameters_of, spelling_of, text_of}
 
 -- a command: its keyword, and the words of its operands
 pub record CommandView : Type 0 where
@@ -39,9 +38,9 @@ AreOperands (WithCondition parameters) words =
 
 -- The words are the command's: those of its keyword, and then its operands.
 pub record Spells (words : List (List ℕ)) (command : CommandView) : Type 0 where
-  pub written : words
-      ≡ verb_of (row_of command.keyword) ∷ (more_of (row_of command.keyword) ++ command.operands)
-  pub formed : AreOperands (operands_of (row_of command.keyword)) command.operands
+  pub written : words ≡ (spelling_of command.keyword).verb
+      ∷ ((spelling_of command.keyword).more ++ command.operands)
+  pub formed : AreOperands (spelling_of command.keyword).operands command.operands
 
 -- No words spell two commands.
 abbrev pub NoLineIsTwoCommands : Type 0
@@ -55,27 +54,22 @@ NoLineIsTwoCommands =
 
 -- the command with a keyword that is written so, if the words, of which the first stands apart, are
 -- the keyword's and then its operands
-abbrev pub command_with : List ℕ → List (List ℕ) → Operands → Keyword → List ℕ → List (List ℕ)
-    → Option CommandView
-command_with verb more operands keyword first words =
-    if bytes_eq first verb
+abbrev pub command_spelled : Spelling → Keyword → List ℕ → List (List ℕ) → Option CommandView
+command_spelled spelling keyword first words =
+    if bytes_eq first spelling.verb
     then option_and_then
     (λ left.
-    if are_operands operands left
+    if are_operands spelling.operands left
     then Some (record { keyword = keyword; operands = left })
     else None)
-    (after_texts more words)
+    (after_texts spelling.more words)
     else None
-
-abbrev pub command_spelled : Row → Keyword → List ℕ → List (List ℕ) → Option CommandView
-command_spelled (Spelled verb more operands make) keyword first words =
-    command_with verb more operands keyword first words
 
 -- the command with the first of these keywords that the words are spelled with
 abbrev pub command_among : List Keyword → List ℕ → List (List ℕ) → Option CommandView
 command_among [] first words = None
 command_among (keyword ∷ others) first words =
-    option_or (command_spelled (row_of keyword) keyword first words)
+    option_or (command_spelled (spelling_of keyword) keyword first words)
     (command_among others first words)
 
 -- the command that words spell, of which the first stands apart, if they do

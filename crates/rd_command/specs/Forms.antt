@@ -12,7 +12,7 @@ use Rattle.rd_command.specs.declared.keyword.Parameter.{Parameter}
 use Rattle.rd_command.specs.declared.keyword.Parameter.TheVariants.{Core, Count, Register, Index}
 use Rattle.rd_command.specs.declared.keyword.Parameter.TheVariants.{Number, Data, Operator}
 use Rattle.rd_command.specs.declared.keyword.Parameter.TheVariants.{Phase, Watch, Name}
-use Rattle.rd_command.specs.Counts.{count_in}
+use Rattle.rd_moves.specs.Counts.{count_in}
 use Rattle.rd_command.specs.Keywords.{Operands, Plain, WithCondition}
 use Rattle.rd_command.specs.Keywords.{condition_keyword_of, condition_row, parameters_of}
 

@@ -10,9 +10,13 @@ use Rattle.rd_condition.specs.declared.condition.Comparison as comparisons
 use Rattle.rd_condition.specs.declared.condition.Condition as conditions
 use Rattle.rd_condition.specs.declared.condition.Condition.TheVariants as condition
 use Rattle.rd_condition.specs.declared.condition.PhaseName as phases
-use Rattle.rd_edits.specs.declared.edit.Edit.TheVariants as edit
-use Rattle.rd_command.specs.declared.binding.Bound as bounds
-use Rattle.rd_command.specs.declared.binding.Bound.TheVariants as bound
+use Rattle.rd_moves.specs.declared.edit.Edit.TheVariants as edit
+use Rattle.rd_moves.specs.declared.moves.Move.TheVariants as move
+use Rattle.rd_moves.specs.declared.request.Request.TheVariants as request
+use Rattle.rd_moves.specs.declared.request.Search.{Search}
+use Rattle.rd_moves.specs.declared.request.Search.TheVariants as search
+use Rattle.rd_moves.specs.Edits.{PlainEdit}
+use Rattle.rd_moves.specs.Requests.{PlainRequest}
 use Rattle.rd_command.specs.declared.keyword.Parameter.{Parameter}
 use Rattle.rd_command.specs.declared.keyword.Parameter.TheVariants.{Core, Count, Register, Index}
 use Rattle.rd_command.specs.declared.keyword.Parameter.TheVariants.{Number, Data, Operator}
@@ -25,13 +29,15 @@ use Rattle.rd_command.specs.declared.keyword.ConditionKeyword.TheVariants.{Compa
 use Rattle.rd_command.specs.declared.keyword.EditKeyword.{EditKeyword}
 use Rattle.rd_command.specs.declared.keyword.EditKeyword.TheVariants as poked
 use Rattle.rd_command.specs.declared.keyword.Keyword.{Keyword}
-use Rattle.rd_command.specs.declared.keyword.Keyword.TheVariants.{Step, Tick, Back, Forward, Redo}
-use Rattle.rd_command.specs.declared.keyword.Keyword.TheVariants.{Until, BackUntil, Poke, Show}
-use Rattle.rd_command.specs.declared.keyword.Keyword.TheVariants.{UntilWatch, BackUntilWatch}
-use Rattle.rd_command.specs.declared.keyword.Keyword.TheVariants.{TakeWheel, GiveWheel}
-use Rattle.rd_command.specs.declared.keyword.Keyword.TheVariants.{Watch, Unwatch}
-use Rattle.rd_command.specs.declared.keyword.Keyword.TheVariants.{ShowCores, ShowMoves, ShowWheel}
-use Rattle.rd_command.specs.declared.keyword.Keyword.TheVariants.{ShowWatches}
+use Rattle.rd_command.specs.declared.keyword.Keyword.TheVariants.{Ask, AskByWatch, TakeWheel}
+use Rattle.rd_command.specs.declared.keyword.Keyword.TheVariants.{GiveWheel, Watch, Unwatch, Show}
+use Rattle.rd_command.specs.declared.keyword.Keyword.TheVariants.{Look}
+use Rattle.rd_command.specs.declared.keyword.RequestKeyword.{RequestKeyword}
+use Rattle.rd_command.specs.declared.keyword.RequestKeyword.TheVariants as asked
+use Rattle.rd_command.specs.declared.keyword.SearchKeyword.{SearchKeyword}
+use Rattle.rd_command.specs.declared.keyword.SearchKeyword.TheVariants as sought
+use Rattle.rd_command.specs.declared.view.Overview.{Overview}
+use Rattle.rd_command.specs.declared.view.Overview.TheVariants as overview
 
 -- what a word stands for; a name is that of the thing with this number
 abbrev pub Value : Parameter → Type 0
@@ -135,47 +141,91 @@ pub data Operands : Type 0 where
   Plain : List Parameter → Operands
   WithCondition : List Parameter → Operands
 
--- the command for each choice of values
-abbrev pub MakesBound : Operands → Type 0
-MakesBound (Plain parameters) = Makes bounds.Bound parameters
-MakesBound (WithCondition parameters) = conditions.Condition → Makes bounds.Bound parameters
+-- one of these for each choice of values, maybe after a condition
+abbrev pub MakesFrom : Type 0 → Operands → Type 0
+MakesFrom Made (Plain parameters) = Makes Made parameters
+MakesFrom Made (WithCondition parameters) = conditions.Condition → Makes Made parameters
 
--- how a command is written: its first word, its other words, its operands, and what they make
-pub data Row : Type 0 where
-  Spelled : List ℕ → List (List ℕ) → (operands : Operands) → MakesBound operands → Row
+-- how a command is written: its first word, its other words, and its operands
+pub record Spelling : Type 0 where
+  pub verb : List ℕ
+  pub more : List (List ℕ)
+  pub operands : Operands
 
-abbrev pub verb_of : Row → List ℕ
-verb_of (Spelled verb more operands make) = verb
+-- the same, with what the operands make
+pub data Row (Made : Type 0) : Type 0 where
+  Spelled : (spelling : Spelling) → MakesFrom Made spelling.operands → Row Made
 
-abbrev pub more_of : Row → List (List ℕ)
-more_of (Spelled verb more operands make) = more
+abbrev pub spelling_in : {Made : Type 0} → Row Made → Spelling
+spelling_in (Spelled spelling make) = spelling
 
-abbrev pub operands_of : Row → Operands
-operands_of (Spelled verb more operands make) = operands
+abbrev spelled : List ℕ → List (List ℕ) → Operands → Spelling
+spelled verb more operands = record { verb = verb; more = more; operands = operands }
 
 -- an edit is asked for by `poke` and a second word
-abbrev pub edit_row : EditKeyword → Row
+abbrev poked_by : List ℕ → List Parameter → Spelling
+poked_by word parameters = spelled (codes "poke") (word ∷ []) (Plain parameters)
+
+-- an edit, as a request
+abbrev pub poke : PlainEdit → PlainRequest
+poke edit = request.Go (move.Edit edit)
+
+abbrev pub edit_row : EditKeyword → Row PlainRequest
 edit_row poked.Register =
-    Spelled (codes "poke") (codes "reg" ∷ []) (Plain (task_name ∷ Register ∷ Number ∷ []))
-    (λ task register value. bound.Poke (edit.Register task register value))
+    Spelled (poked_by (codes "reg") (task_name ∷ Register ∷ Number ∷ []))
+    (λ task register value. poke (edit.Register task register value))
 edit_row poked.Data =
-    Spelled (codes "poke") (codes "data" ∷ []) (Plain (task_name ∷ Data ∷ []))
-    (λ task bytes. bound.Poke (edit.Data task bytes))
+    Spelled (poked_by (codes "data") (task_name ∷ Data ∷ []))
+    (λ task bytes. poke (edit.Data task bytes))
 edit_row poked.Pc =
-    Spelled (codes "poke") (codes "pc" ∷ []) (Plain (task_name ∷ Number ∷ []))
-    (λ task pc. bound.Poke (edit.Pc task pc))
+    Spelled (poked_by (codes "pc") (task_name ∷ Number ∷ [])) (λ task pc. poke (edit.Pc task pc))
 edit_row poked.Value =
-    Spelled (codes "poke") (codes "note" ∷ []) (Plain (task_name ∷ Index ∷ Number ∷ []))
-    (λ task index value. bound.Poke (edit.Value task index value))
+    Spelled (poked_by (codes "note") (task_name ∷ Index ∷ Number ∷ []))
+    (λ task index value. poke (edit.Value task index value))
 edit_row poked.Bits =
-    Spelled (codes "poke") (codes "group" ∷ []) (Plain (group_name ∷ Number ∷ []))
-    (λ group bits. bound.Poke (edit.Bits group bits))
+    Spelled (poked_by (codes "group") (group_name ∷ Number ∷ []))
+    (λ group bits. poke (edit.Bits group bits))
 edit_row poked.Item =
-    Spelled (codes "poke") (codes "item" ∷ []) (Plain (queue_name ∷ Number ∷ Data ∷ []))
-    (λ queue index bytes. bound.Poke (edit.Item queue index bytes))
+    Spelled (poked_by (codes "item") (queue_name ∷ Number ∷ Data ∷ []))
+    (λ queue index bytes. poke (edit.Item queue index bytes))
 edit_row poked.Byte =
-    Spelled (codes "poke") (codes "byte" ∷ []) (Plain (stream_name ∷ Number ∷ Number ∷ []))
-    (λ stream index value. bound.Poke (edit.Byte stream index value))
+    Spelled (poked_by (codes "byte") (stream_name ∷ Number ∷ Number ∷ []))
+    (λ stream index value. poke (edit.Byte stream index value))
+
+-- what asks the timeline
+abbrev pub request_row : RequestKeyword → Row PlainRequest
+request_row asked.Step =
+    Spelled (spelled (codes "step") [] (Plain (Core ∷ []))) (λ core. request.Go (move.Core core))
+request_row asked.Tick = Spelled (spelled (codes "tick") [] (Plain [])) (request.Go move.Tick)
+request_row asked.Back =
+    Spelled (spelled (codes "back") [] (Plain (Count ∷ []))) (λ count. request.Back count)
+request_row asked.Forward =
+    Spelled (spelled (codes "forward") [] (Plain (Count ∷ []))) (λ count. request.Forward count)
+request_row asked.Redo =
+    Spelled (spelled (codes "redo") [] (Plain (Count ∷ []))) (λ count. request.Redo count)
+request_row asked.Until =
+    Spelled (spelled (codes "until") [] (WithCondition (Count ∷ [])))
+    (λ condition count. request.Until condition count)
+request_row asked.BackUntil =
+    Spelled (spelled (codes "back") (codes "until" ∷ []) (WithCondition []))
+    (λ condition. request.BackUntil condition)
+request_row (asked.Poke of) = edit_row of
+
+-- what asks it by a watch: the watch, and what is looked for
+abbrev pub search_row : SearchKeyword → Row (ℕ × Search)
+search_row sought.Until =
+    Spelled (spelled (codes "until") [] (Plain (parameter.Watch ∷ Count ∷ [])))
+    (λ watch count. (watch, search.Until count))
+search_row sought.BackUntil =
+    Spelled (spelled (codes "back") (codes "until" ∷ []) (Plain (parameter.Watch ∷ [])))
+    (λ watch. (watch, search.BackUntil))
+
+-- the condition that is kept, and the number of the watch that is dropped
+abbrev pub watch_row : Row conditions.Condition
+watch_row = Spelled (spelled (codes "watch") [] (WithCondition [])) (λ condition. condition)
+
+abbrev pub unwatch_row : Row ℕ
+unwatch_row = Spelled (spelled (codes "unwatch") [] (Plain (Number ∷ []))) (λ number. number)
 
 -- the word of a kind
 abbrev pub word_of_kind : Kind → List ℕ
@@ -186,72 +236,74 @@ word_of_kind kind.Message = codes "message"
 word_of_kind kind.Group = codes "group"
 word_of_kind kind.Task = codes "task"
 
--- a thing is shown by `show`, the word of its kind and its name
-abbrev pub view_row : Kind → Row
-view_row kind =
-    Spelled (codes "show") (word_of_kind kind ∷ []) (Plain (Name kind ∷ []))
-    (λ number. bound.Show kind number)
+-- a thing is shown by `show`, the word of its kind and its name: this is its number
+abbrev pub thing_row : Kind → Row ℕ
+thing_row kind =
+    Spelled (spelled (codes "show") (word_of_kind kind ∷ []) (Plain (Name kind ∷ [])))
+    (λ number. number)
 
-abbrev pub row_of : Keyword → Row
-row_of Step = Spelled (codes "step") [] (Plain (Core ∷ [])) (λ core. bound.Step core)
-row_of Tick = Spelled (codes "tick") [] (Plain []) bound.Tick
-row_of Back = Spelled (codes "back") [] (Plain (Count ∷ [])) (λ count. bound.Back count)
-row_of Forward = Spelled (codes "forward") [] (Plain (Count ∷ [])) (λ count. bound.Forward count)
-row_of Redo = Spelled (codes "redo") [] (Plain (Count ∷ [])) (λ count. bound.Redo count)
-row_of Until =
-    Spelled (codes "until") [] (WithCondition (Count ∷ []))
-    (λ condition count. bound.Until condition count)
-row_of UntilWatch =
-    Spelled (codes "until") [] (Plain (parameter.Watch ∷ Count ∷ []))
-    (λ watch count. bound.UntilWatch watch count)
-row_of BackUntil =
-    Spelled (codes "back") (codes "until" ∷ []) (WithCondition [])
-    (λ condition. bound.BackUntil condition)
-row_of BackUntilWatch =
-    Spelled (codes "back") (codes "until" ∷ []) (Plain (parameter.Watch ∷ []))
-    (λ watch. bound.BackUntilWatch watch)
-row_of (Poke of) = edit_row of
-row_of TakeWheel = Spelled (codes "wheel") (codes "take" ∷ []) (Plain []) bound.TakeWheel
-row_of GiveWheel = Spelled (codes "wheel") (codes "give" ∷ []) (Plain []) bound.GiveWheel
-row_of Watch = Spelled (codes "watch") [] (WithCondition []) (λ condition. bound.Watch condition)
-row_of Unwatch = Spelled (codes "unwatch") [] (Plain (Number ∷ [])) (λ number. bound.Unwatch number)
-row_of (Show kind) = view_row kind
-row_of ShowCores = Spelled (codes "show") (codes "cores" ∷ []) (Plain []) bound.ShowCores
-row_of ShowMoves = Spelled (codes "show") (codes "moves" ∷ []) (Plain []) bound.ShowMoves
-row_of ShowWheel = Spelled (codes "show") (codes "wheel" ∷ []) (Plain []) bound.ShowWheel
-row_of ShowWatches = Spelled (codes "show") (codes "watches" ∷ []) (Plain []) bound.ShowWatches
+-- the word of what names nothing
+abbrev pub word_of_overview : Overview → List ℕ
+word_of_overview overview.Cores = codes "cores"
+word_of_overview overview.Moves = codes "moves"
+word_of_overview overview.Wheel = codes "wheel"
+word_of_overview overview.Watches = codes "watches"
 
--- Is a command refused while another session has the wheel? Those that make moves or take them back
--- are, and to take the wheel.
+-- two words, and no operands
+abbrev two_words : List ℕ → List ℕ → Spelling
+two_words verb second = spelled verb (second ∷ []) (Plain [])
+
+abbrev pub spelling_of : Keyword → Spelling
+spelling_of (Ask of) = spelling_in (request_row of)
+spelling_of (AskByWatch of) = spelling_in (search_row of)
+spelling_of TakeWheel = two_words (codes "wheel") (codes "take")
+spelling_of GiveWheel = two_words (codes "wheel") (codes "give")
+spelling_of Watch = spelling_in watch_row
+spelling_of Unwatch = spelling_in unwatch_row
+spelling_of (Show kind) = spelling_in (thing_row kind)
+spelling_of (Look of) = two_words (codes "show") (word_of_overview of)
+
+-- what a command has to do with the wheel: it takes it, it gives it, it is refused while another
+-- session has it, or nothing of these
+pub data Wheel : Type 0 where
+  Taken : Wheel
+  Given : Wheel
+  Needed : Wheel
+  Free : Wheel
+
+-- What asks the timeline needs the wheel.
+abbrev pub wheel_of : Keyword → Wheel
+wheel_of (Ask of) = Needed
+wheel_of (AskByWatch of) = Needed
+wheel_of TakeWheel = Taken
+wheel_of GiveWheel = Given
+wheel_of Watch = Free
+wheel_of Unwatch = Free
+wheel_of (Show kind) = Free
+wheel_of (Look of) = Free
+
+-- Is a command refused while another session has the wheel? To take it is, too.
+abbrev pub is_needed : Wheel → Bool
+is_needed Taken = true
+is_needed Given = false
+is_needed Needed = true
+is_needed Free = false
+
 abbrev pub needs_wheel : Keyword → Bool
-needs_wheel Step = true
-needs_wheel Tick = true
-needs_wheel Back = true
-needs_wheel Forward = true
-needs_wheel Redo = true
-needs_wheel Until = true
-needs_wheel UntilWatch = true
-needs_wheel BackUntil = true
-needs_wheel BackUntilWatch = true
-needs_wheel (Poke of) = true
-needs_wheel TakeWheel = true
-needs_wheel GiveWheel = false
-needs_wheel Watch = false
-needs_wheel Unwatch = false
-needs_wheel (Show kind) = false
-needs_wheel ShowCores = false
-needs_wheel ShowMoves = false
-needs_wheel ShowWheel = false
-needs_wheel ShowWatches = false
+needs_wheel keyword = is_needed (wheel_of keyword)
 
+-- The keywords, those of one first word behind each other. What a word alone is comes first, and a
+-- condition before a watch.
 abbrev pub keywords : List Keyword
 keywords =
-    Step ∷ Tick ∷ Back ∷ BackUntil ∷ BackUntilWatch ∷ Forward
+    Ask asked.Step ∷ Ask asked.Tick ∷ Ask asked.Back
+    ∷ Ask asked.BackUntil ∷ AskByWatch sought.BackUntil ∷ Ask asked.Forward
     ∷ Show kind.Task ∷ Show kind.Queue ∷ Show kind.QueueSet ∷ Show kind.Stream
     ∷ Show kind.Message ∷ Show kind.Group
-    ∷ ShowCores ∷ ShowMoves ∷ ShowWheel ∷ ShowWatches
-    ∷ Redo ∷ Until ∷ UntilWatch
-    ∷ Poke poked.Register ∷ Poke poked.Data ∷ Poke poked.Pc ∷ Poke poked.Value
-    ∷ Poke poked.Bits ∷ Poke poked.Item ∷ Poke poked.Byte
+    ∷ Look overview.Cores ∷ Look overview.Moves ∷ Look overview.Wheel ∷ Look overview.Watches
+    ∷ Ask asked.Redo ∷ Ask asked.Until ∷ AskByWatch sought.Until
+    ∷ Ask (asked.Poke poked.Register) ∷ Ask (asked.Poke poked.Data) ∷ Ask (asked.Poke poked.Pc)
+    ∷ Ask (asked.Poke poked.Value) ∷ Ask (asked.Poke poked.Bits) ∷ Ask (asked.Poke poked.Item)
+    ∷ Ask (asked.Poke poked.Byte)
     ∷ TakeWheel ∷ GiveWheel ∷ Watch ∷ Unwatch
     ∷ []

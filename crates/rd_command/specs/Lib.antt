@@ -1,8 +1,7 @@
 -- What the contracts of this crate cite.
 pub mod Bindings
 pub mod Commands
-pub mod Counts
+pub mod Digits
 pub mod Forms
 pub mod Keywords
 pub mod Tables
-pub mod Pokes

@@ -1,24 +1,30 @@
 //! Commands with what they name looked up in an application.
 
-ghost use Rattle.std.specs.Prelude.{◌≡◌, ℕ, List, [], ◌∷◌, IfOk, is_some};
+ghost use Rattle.std.specs.Prelude.{◌≡◌, ℕ, List, [], ◌∷◌, IfOk, is_some, option_map};
 ghost use Rattle.std.specs.Result.{result_ok};
 ghost use Rattle.rd_condition.specs.declared.condition.Condition as conditions;
 ghost use Rattle.rd_condition.specs.declared.condition.Condition.TheVariants as condition;
-ghost use Rattle.rd_command.specs.declared.keyword.Keyword.TheVariants as keyword;
 ghost use Rattle.rd_command.specs.declared.keyword.Parameter.TheVariants as parameter;
+ghost use Rattle.rd_command.specs.declared.keyword.RequestKeyword.TheVariants as asked;
 ghost use Rattle.rd_names.specs.Apps.{AppView, AreAsMany};
-ghost use Rattle.rd_command.specs.Bindings.{IsBoundOf, Takes, bound_in, bound_made};
-ghost use Rattle.rd_command.specs.Bindings.{known_of, made_known};
-ghost use Rattle.rd_command.specs.Bindings.{condition_made, has_all, made_of, next_condition};
+ghost use Rattle.rd_command.specs.Bindings.{IsBoundOf, Takes, bound_by, bound_in, condition_made};
+ghost use Rattle.rd_command.specs.Bindings.{has_all, known_of, made_by, made_known, made_of};
+ghost use Rattle.rd_command.specs.Bindings.{next_condition};
 ghost use Rattle.rd_command.specs.Commands.{Spells};
-ghost use Rattle.rd_command.specs.Keywords.{amount_row, edit_row, row_of};
+ghost use Rattle.rd_command.specs.Keywords.{amount_row, edit_row, poke, request_row};
+ghost use Rattle.rd_command.specs.Keywords.{search_row, watch_row};
 
 use crate::command::Command;
-use crate::count::Count;
-use crate::keyword::{AmountKeyword, ConditionKeyword, EditKeyword, Keyword};
-use crate::poke::{Parts, Poke};
+use crate::digits::Digits;
+use crate::keyword::{
+    AmountKeyword, ConditionKeyword, EditKeyword, Keyword, RequestKeyword, SearchKeyword,
+};
 use crate::reader::Reader;
+use crate::view::View;
 use rd_condition::condition::{Amount, Condition};
+use rd_moves::edit::Edit;
+use rd_moves::moves::Move;
+use rd_moves::request::{Request, Search};
 use rd_names::names::Names;
 use rd_text::kind::Kind;
 use thiserror::Error;
@@ -26,49 +32,25 @@ use thiserror::Error;
 /// How many watches a session has at the most. They are numbered from 0.
 pub const MAX_WATCHES: usize = 16;
 
-/// A command whose names are numbers, and whose cores, registers and notification entries are
+/// What a command does, its names being numbers, and its cores, registers and notification entries
 /// there. The number of a watch in place of a condition is 0 to 15. Whether the session has such a
 /// watch is not asked here.
 #[derive(Drop)]
 pub enum Bound<'a> {
-    /// `step N`: the move of this core.
-    Step { core: usize },
-    /// `tick`: a tick passes.
-    Tick,
-    /// `forward COUNT`: so many moves of the policy.
-    Forward { count: Count },
-    /// `redo COUNT`: so many of the moves that were taken back are made again.
-    Redo { count: Count },
-    /// `back COUNT`: so many of the last moves are taken back.
-    Back { count: Count },
-    /// `until COND COUNT`: moves of the policy until the condition holds, at most so many.
-    Until { condition: Condition, count: Count },
-    /// `until wN COUNT`: the same until the condition of the session's watch holds.
-    UntilWatch { watch: usize, count: Count },
-    /// `back until COND`: back to the last place before this one where the condition held.
-    BackUntil { condition: Condition },
-    /// `back until wN`: the same of the condition of the session's watch.
-    BackUntilWatch { watch: usize },
-    /// `poke ..`: something is changed by hand.
-    Poke { edit: Poke<'a> },
-    /// `wheel take`: nobody but the session makes moves from now on.
-    TakeWheel,
-    /// `wheel give`: everybody may make moves again.
-    GiveWheel,
-    /// `watch COND`: the session keeps the condition.
-    Watch { condition: Condition },
-    /// `unwatch N`: the session drops its watch with this number.
-    Unwatch { number: usize },
-    /// `show KIND NAME`: the thing of that kind with this number.
-    Show { kind: Kind, number: usize },
-    /// `show cores`: who runs, who is ready, the tick and the turn.
-    ShowCores,
-    /// `show moves`: how many moves were made, and how many of them taken back.
-    ShowMoves,
-    /// `show wheel`: which session has the wheel.
-    ShowWheel,
-    /// `show watches`: which of the session's watches hold.
-    ShowWatches,
+    /// It asks the timeline: moves are made, taken back or made again.
+    Asks { request: Request<Digits<'a>> },
+    /// It asks the timeline to search for the condition of the session's watch with that number.
+    AsksByWatch { watch: usize, search: Search },
+    /// Nobody but the session makes moves from now on.
+    TakesWheel,
+    /// Everybody may make moves again.
+    GivesWheel,
+    /// The session keeps the condition.
+    Keeps { condition: Condition },
+    /// The session drops its watch with this number.
+    Drops { number: usize },
+    /// It is shown something.
+    Looks { view: View },
 }
 
 /// The application has no core, register, notification entry or name like this.
@@ -146,109 +128,147 @@ fn read_condition(reader: &mut Reader<'_, '_>) -> Result<Condition, Unknown>
 }
 
 // The edit of such a keyword, of the words after it.
-fn poke<'a>(keyword: EditKeyword, reader: &mut Reader<'_, 'a>) -> Result<Bound<'a>, Unknown>
-    ensures { result_ok result ≡ bound_made (edit_row keyword) reader.old }
+fn read_edit<'a>(
+    keyword: EditKeyword,
+    reader: &mut Reader<'_, 'a>,
+) -> Result<Edit<Digits<'a>>, Unknown>
+    ensures { option_map poke (result_ok result) ≡ made_by (edit_row keyword) reader.old }
 {
-    let parts = match keyword {
-        EditKeyword::Register => Parts::Register {
+    Ok(match keyword {
+        EditKeyword::Register => Edit::Register {
             task: reader.named(Kind::Task)?,
             register: reader.register()?,
             value: reader.number()?,
         },
-        EditKeyword::Data => Parts::Data {
+        EditKeyword::Data => Edit::Data {
             task: reader.named(Kind::Task)?,
-            digits: reader.data()?,
+            bytes: reader.data()?,
         },
-        EditKeyword::Pc => Parts::Pc {
+        EditKeyword::Pc => Edit::Pc {
             task: reader.named(Kind::Task)?,
             pc: reader.number()? as usize,
         },
-        EditKeyword::Value => Parts::Value {
+        EditKeyword::Value => Edit::Value {
             task: reader.named(Kind::Task)?,
             index: reader.index()?,
             value: reader.number()?,
         },
-        EditKeyword::Bits => Parts::Bits {
+        EditKeyword::Bits => Edit::Bits {
             group: reader.named(Kind::Group)?,
             bits: reader.number()?,
         },
-        EditKeyword::Item => Parts::Item {
+        EditKeyword::Item => Edit::Item {
             queue: reader.named(Kind::Queue)?,
             index: reader.number()? as usize,
-            digits: reader.data()?,
+            bytes: reader.data()?,
         },
-        EditKeyword::Byte => Parts::Byte {
+        EditKeyword::Byte => Edit::Byte {
             stream: reader.named(Kind::Stream)?,
             index: reader.number()? as usize,
             value: reader.number()?,
         },
-    };
-    Ok(Bound::Poke {
-        edit: Poke::new(parts),
     })
 }
 
-// The command `until`, of the words after that.
-fn read_until<'a>(reader: &mut Reader<'_, 'a>) -> Result<Bound<'a>, Unknown>
-    ensures { result_ok result ≡ bound_made (row_of keyword.Until) reader.old }
+// The request `until`, of the words after that.
+fn read_until<'a>(reader: &mut Reader<'_, 'a>) -> Result<Request<Digits<'a>>, Unknown>
+    ensures { result_ok result ≡ made_by (request_row asked.Until) reader.old }
 {
     let condition = read_condition(reader)?;
     let count = reader.count()?;
-    Ok(Bound::Until { condition, count })
+    Ok(Request::Until { condition, count })
 }
 
-// The command `until` with a watch, of the words after that.
-fn read_until_watch<'a>(reader: &mut Reader<'_, 'a>) -> Result<Bound<'a>, Unknown>
-    ensures { result_ok result ≡ bound_made (row_of keyword.UntilWatch) reader.old }
-{
-    let watch = reader.watch()?;
-    let count = reader.count()?;
-    Ok(Bound::UntilWatch { watch, count })
-}
-
-// The command of a keyword and of its operands.
-fn read_bound<'a>(keyword: Keyword, reader: &mut Reader<'_, 'a>) -> Result<Bound<'a>, Unknown>
-    ensures { result_ok result ≡ bound_made (row_of keyword) reader.old }
+// The request of such a keyword, of the words after it.
+fn read_request<'a>(
+    keyword: RequestKeyword,
+    reader: &mut Reader<'_, 'a>,
+) -> Result<Request<Digits<'a>>, Unknown>
+    ensures { result_ok result ≡ made_by (request_row keyword) reader.old }
 {
     match keyword {
-        Keyword::Step => Ok(Bound::Step {
-            core: reader.core()?,
-        }),
-        Keyword::Tick => Ok(Bound::Tick),
-        Keyword::Back => Ok(Bound::Back {
+        RequestKeyword::Step => {
+            let core = reader.core()?;
+            Ok(Request::Go {
+                action: Move::Core { core },
+            })
+        }
+        RequestKeyword::Tick => Ok(Request::Go { action: Move::Tick }),
+        RequestKeyword::Back => Ok(Request::Back {
             count: reader.count()?,
         }),
-        Keyword::Forward => Ok(Bound::Forward {
+        RequestKeyword::Forward => Ok(Request::Forward {
             count: reader.count()?,
         }),
-        Keyword::Redo => Ok(Bound::Redo {
+        RequestKeyword::Redo => Ok(Request::Redo {
             count: reader.count()?,
         }),
-        Keyword::Until => read_until(reader),
-        Keyword::UntilWatch => read_until_watch(reader),
-        Keyword::BackUntil => Ok(Bound::BackUntil {
+        RequestKeyword::Until => read_until(reader),
+        RequestKeyword::BackUntil => Ok(Request::BackUntil {
             condition: read_condition(reader)?,
         }),
-        Keyword::BackUntilWatch => Ok(Bound::BackUntilWatch {
-            watch: reader.watch()?,
+        RequestKeyword::Poke(keyword) => {
+            let edit = read_edit(keyword, reader)?;
+            Ok(Request::Go {
+                action: Move::Edit { edit },
+            })
+        }
+    }
+}
+
+// The watch of such a keyword, and what is looked for by it, of the words after it.
+fn read_search(
+    keyword: SearchKeyword,
+    reader: &mut Reader<'_, '_>,
+) -> Result<(usize, Search), Unknown>
+    ensures { result_ok result ≡ made_by (search_row keyword) reader.old }
+{
+    let watch = reader.watch()?;
+    match keyword {
+        SearchKeyword::Until => {
+            let count = reader.count()?;
+            Ok((watch, Search::Until { count }))
+        }
+        SearchKeyword::BackUntil => Ok((watch, Search::BackUntil)),
+    }
+}
+
+// The condition that the session is to keep.
+fn read_watch(reader: &mut Reader<'_, '_>) -> Result<Condition, Unknown>
+    ensures { result_ok result ≡ made_by watch_row reader.old }
+{
+    read_condition(reader)
+}
+
+// What a command of this keyword does, of its operands.
+fn read_bound<'a>(keyword: Keyword, reader: &mut Reader<'_, 'a>) -> Result<Bound<'a>, Unknown>
+    ensures { result_ok result ≡ bound_by keyword reader.old }
+{
+    match keyword {
+        Keyword::Ask(keyword) => Ok(Bound::Asks {
+            request: read_request(keyword, reader)?,
         }),
-        Keyword::Poke(keyword) => poke(keyword, reader),
-        Keyword::TakeWheel => Ok(Bound::TakeWheel),
-        Keyword::GiveWheel => Ok(Bound::GiveWheel),
-        Keyword::Watch => Ok(Bound::Watch {
-            condition: read_condition(reader)?,
+        Keyword::AskByWatch(keyword) => {
+            let (watch, search) = read_search(keyword, reader)?;
+            Ok(Bound::AsksByWatch { watch, search })
+        }
+        Keyword::TakeWheel => Ok(Bound::TakesWheel),
+        Keyword::GiveWheel => Ok(Bound::GivesWheel),
+        Keyword::Watch => Ok(Bound::Keeps {
+            condition: read_watch(reader)?,
         }),
-        Keyword::Unwatch => Ok(Bound::Unwatch {
+        Keyword::Unwatch => Ok(Bound::Drops {
             number: reader.number()? as usize,
         }),
-        Keyword::Show(kind) => Ok(Bound::Show {
-            kind,
-            number: reader.named(kind)?,
+        Keyword::Show(kind) => {
+            let number = reader.named(kind)?;
+            Ok(Bound::Looks {
+                view: View::Thing { kind, number },
+            })
+        }
+        Keyword::Look(of) => Ok(Bound::Looks {
+            view: View::Overview { of },
         }),
-        Keyword::ShowCores => Ok(Bound::ShowCores),
-        Keyword::ShowMoves => Ok(Bound::ShowMoves),
-        Keyword::ShowWheel => Ok(Bound::ShowWheel),
-        Keyword::ShowWatches => Ok(Bound::ShowWatches),
     }
 }
 

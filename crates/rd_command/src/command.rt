@@ -5,7 +5,7 @@ ghost use Rattle.std.specs.Result.{result_ok};
 ghost use Rattle.rd_text.specs.Words.{words_of};
 ghost use Rattle.rd_command.specs.Commands.{AreOperands, CommandView, Spells, command_from};
 ghost use Rattle.rd_command.specs.Commands.{command_of};
-ghost use Rattle.rd_command.specs.Keywords.{needs_wheel, operands_of, row_of};
+ghost use Rattle.rd_command.specs.Keywords.{needs_wheel, spelling_of};
 ghost use Rattle.rd_command.specs.Tables.{alone_view, longer_view, verb_view, verbs_view};
 ghost use Rattle.rd_command.specs.Tables.{command_alone, command_behind, command_by_verb};
 ghost use Rattle.rd_command.specs.Tables.{command_longer, command_with_second};
@@ -81,7 +81,7 @@ impl<'a> Command<'a> {
     /// What holds of every command: the words of its operands have the forms that its keyword asks
     /// for, that of a count the form of one.
     pub fn keeps(&self)
-        ensures { AreOperands (operands_of (row_of self.now.keyword)) self.now.operands }
+        ensures { AreOperands (spelling_of self.now.keyword).operands self.now.operands }
     {
         let _ = &self.line;
     }

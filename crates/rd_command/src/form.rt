@@ -1,7 +1,6 @@
 //! The forms of the words of a command, whatever they name.
 
 ghost use Rattle.std.specs.Prelude.{◌≡◌};
-ghost use Rattle.rd_command.specs.declared.keyword.Parameter.TheVariants.{Data};
 ghost use Rattle.rd_command.specs.Forms.{count_of, operator_of, phase_of, is_formed};
 ghost use Rattle.rd_command.specs.Forms.{watch_number, watch_of};
 ghost use Rattle.rd_command.specs.Forms.{after_words, after_condition};
@@ -9,10 +8,11 @@ ghost use Rattle.rd_command.specs.Forms.{are_operands, is_all};
 ghost use Rattle.rd_command.specs.Tables.{operands_view};
 
 use crate::binding::MAX_WATCHES;
-use crate::count::Count;
+use crate::digits::is_data;
 use crate::keyword::{Operands, Parameter, condition_keyword_of};
 use rd_condition::condition::{Comparison, PhaseName};
-use rd_text::words::{Words, bytes, is_name, number};
+use rd_moves::count::Count;
+use rd_text::words::{Words, is_name, number};
 
 /// A number of moves: 1 to 1,000,000.
 pub(crate) fn count_of(word: &[u8]) -> Option<Count>
@@ -66,13 +66,6 @@ pub(crate) fn phase_of(word: &[u8]) -> Option<PhaseName>
         b"failed" => Some(PhaseName::Failed),
         _ => None,
     }
-}
-
-/// Whether a word is bytes. (By itself, since a check of any other form would clear room for them.)
-pub(crate) fn is_data(word: &[u8]) -> bool
-    ensures { result ≡ is_formed Data word.now }
-{
-    bytes(word).is_some()
 }
 
 // Whether a word has the form of such an operand. (Inlined, as `are_operands`: most lines are moves

@@ -5,8 +5,9 @@ ghost use Rattle.rd_command.specs.Keywords.{condition_keyword_of, condition_row,
 ghost use Rattle.rd_command.specs.Keywords.{parameters_of};
 ghost use Rattle.rd_command.specs.Tables.{first_condition, conditions_view};
 
+use crate::view::Overview;
 use ConditionKeyword::Compares;
-use Keyword::{Poke, Show};
+use Keyword::{Ask, AskByWatch, Look, Show};
 use Operands::{Plain, WithCondition};
 use rd_text::kind::Kind;
 
@@ -56,56 +57,60 @@ pub enum EditKeyword {
     Byte,
 }
 
-/// What a command does, as its first words say.
+/// What a request of the timeline is, as its first words say.
 #[derive(Clone, Copy)]
-pub enum Keyword {
+pub enum RequestKeyword {
     Step,
     Tick,
     Back,
     Forward,
     Redo,
     Until,
-    UntilWatch,
     BackUntil,
-    BackUntilWatch,
     Poke(EditKeyword),
+}
+
+/// What is looked for by a watch.
+#[derive(Clone, Copy)]
+pub enum SearchKeyword {
+    Until,
+    BackUntil,
+}
+
+/// What a command does, as its first words say.
+#[derive(Clone, Copy)]
+pub enum Keyword {
+    /// It asks the timeline.
+    Ask(RequestKeyword),
+    /// It asks the timeline by a watch of the session.
+    AskByWatch(SearchKeyword),
+    /// It takes the wheel.
     TakeWheel,
+    /// It gives the wheel.
     GiveWheel,
+    /// The session keeps a condition.
     Watch,
+    /// The session drops a watch.
     Unwatch,
+    /// It shows a thing of that kind.
     Show(Kind),
-    ShowCores,
-    ShowMoves,
-    ShowWheel,
-    ShowWatches,
+    /// It shows what names nothing.
+    Look(Overview),
 }
 
 impl Keyword {
-    /// Whether a command is refused while another session has the wheel: one that makes moves or
-    /// takes them back, and one that takes the wheel.
+    /// Whether a command is refused while another session has the wheel: one that asks the
+    /// timeline, and one that takes the wheel.
     pub(crate) fn needs_wheel(self) -> bool
         ensures { result ≡ needs_wheel self }
     {
         match self {
-            Keyword::Step
-            | Keyword::Tick
-            | Keyword::Back
-            | Keyword::Forward
-            | Keyword::Redo
-            | Keyword::Until
-            | Keyword::UntilWatch
-            | Keyword::BackUntil
-            | Keyword::BackUntilWatch
-            | Keyword::Poke(_)
-            | Keyword::TakeWheel => true,
+            Keyword::Ask(_) | Keyword::AskByWatch(_) | Keyword::TakeWheel => true,
             Keyword::GiveWheel
             | Keyword::Watch
             | Keyword::Unwatch
             | Keyword::Show(_)
-            | Keyword::ShowCores
-            | Keyword::ShowMoves
-            | Keyword::ShowWheel
-            | Keyword::ShowWatches => false,
+            | Keyword::Look(_) => false,
         }
     }
 }
@@ -171,17 +176,25 @@ pub(crate) type Verb<'a> = (&'a str, &'a [Alone<'a>], &'a [Longer<'a>]);
 
 /// Each keyword of a command, by its first word. What is asked for most comes first.
 pub(crate) static KEYWORDS: [Verb<'static>; 11] = [
-    ("step", &[(Plain(&[CORE]), Keyword::Step)], &[]),
-    ("tick", &[(Plain(&[]), Keyword::Tick)], &[]),
+    ("step", &[(Plain(&[CORE]), Ask(RequestKeyword::Step))], &[]),
+    ("tick", &[(Plain(&[]), Ask(RequestKeyword::Tick))], &[]),
     (
         "back",
-        &[(Plain(&[COUNT]), Keyword::Back)],
+        &[(Plain(&[COUNT]), Ask(RequestKeyword::Back))],
         &[
-            ("until", WithCondition(&[]), Keyword::BackUntil),
-            ("until", Plain(&[WATCH]), Keyword::BackUntilWatch),
+            ("until", WithCondition(&[]), Ask(RequestKeyword::BackUntil)),
+            (
+                "until",
+                Plain(&[WATCH]),
+                AskByWatch(SearchKeyword::BackUntil),
+            ),
         ],
     ),
-    ("forward", &[(Plain(&[COUNT]), Keyword::Forward)], &[]),
+    (
+        "forward",
+        &[(Plain(&[COUNT]), Ask(RequestKeyword::Forward))],
+        &[],
+    ),
     (
         "show",
         &[],
@@ -192,18 +205,18 @@ pub(crate) static KEYWORDS: [Verb<'static>; 11] = [
             ("stream", Plain(&[STREAM]), Show(Kind::Stream)),
             ("message", Plain(&[MESSAGE]), Show(Kind::Message)),
             ("group", Plain(&[GROUP]), Show(Kind::Group)),
-            ("cores", Plain(&[]), Keyword::ShowCores),
-            ("moves", Plain(&[]), Keyword::ShowMoves),
-            ("wheel", Plain(&[]), Keyword::ShowWheel),
-            ("watches", Plain(&[]), Keyword::ShowWatches),
+            ("cores", Plain(&[]), Look(Overview::Cores)),
+            ("moves", Plain(&[]), Look(Overview::Moves)),
+            ("wheel", Plain(&[]), Look(Overview::Wheel)),
+            ("watches", Plain(&[]), Look(Overview::Watches)),
         ],
     ),
-    ("redo", &[(Plain(&[COUNT]), Keyword::Redo)], &[]),
+    ("redo", &[(Plain(&[COUNT]), Ask(RequestKeyword::Redo))], &[]),
     (
         "until",
         &[
-            (WithCondition(&[COUNT]), Keyword::Until),
-            (Plain(&[WATCH, COUNT]), Keyword::UntilWatch),
+            (WithCondition(&[COUNT]), Ask(RequestKeyword::Until)),
+            (Plain(&[WATCH, COUNT]), AskByWatch(SearchKeyword::Until)),
         ],
         &[],
     ),
@@ -214,25 +227,37 @@ pub(crate) static KEYWORDS: [Verb<'static>; 11] = [
             (
                 "reg",
                 Plain(&[TASK, REGISTER, NUMBER]),
-                Poke(EditKeyword::Register),
+                Ask(RequestKeyword::Poke(EditKeyword::Register)),
             ),
-            ("data", Plain(&[TASK, DATA]), Poke(EditKeyword::Data)),
-            ("pc", Plain(&[TASK, NUMBER]), Poke(EditKeyword::Pc)),
+            (
+                "data",
+                Plain(&[TASK, DATA]),
+                Ask(RequestKeyword::Poke(EditKeyword::Data)),
+            ),
+            (
+                "pc",
+                Plain(&[TASK, NUMBER]),
+                Ask(RequestKeyword::Poke(EditKeyword::Pc)),
+            ),
             (
                 "note",
                 Plain(&[TASK, INDEX, NUMBER]),
-                Poke(EditKeyword::Value),
+                Ask(RequestKeyword::Poke(EditKeyword::Value)),
             ),
-            ("group", Plain(&[GROUP, NUMBER]), Poke(EditKeyword::Bits)),
+            (
+                "group",
+                Plain(&[GROUP, NUMBER]),
+                Ask(RequestKeyword::Poke(EditKeyword::Bits)),
+            ),
             (
                 "item",
                 Plain(&[QUEUE, NUMBER, DATA]),
-                Poke(EditKeyword::Item),
+                Ask(RequestKeyword::Poke(EditKeyword::Item)),
             ),
             (
                 "byte",
                 Plain(&[STREAM, NUMBER, NUMBER]),
-                Poke(EditKeyword::Byte),
+                Ask(RequestKeyword::Poke(EditKeyword::Byte)),
             ),
         ],
     ),

@@ -3,9 +3,10 @@
 
 pub mod binding;
 pub mod command;
-pub mod count;
+pub mod digits;
 mod form;
 pub mod keyword;
 pub mod laws;
-pub mod poke;
+pub mod order;
 mod reader;
+pub mod view;

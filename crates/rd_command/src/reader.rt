@@ -7,12 +7,12 @@ ghost use Rattle.rd_command.specs.Bindings.{Takes, next_keyword, next_value};
 ghost use Rattle.rd_command.specs.Bindings.{made_known, number_below, number_named};
 
 use crate::binding::Unknown;
-use crate::count::Count;
+use crate::digits::Digits;
 use crate::form::{count_of, operator_of, phase_of, watch_of};
 use crate::keyword::{ConditionKeyword, condition_keyword_of};
-use crate::poke::Digits;
 use rd_app::instr::REGISTERS;
 use rd_condition::condition::{Comparison, PhaseName};
+use rd_moves::count::Count;
 use rd_names::names::Names;
 use rd_text::kind::Kind;
 use rd_text::words::{Words, name, number};

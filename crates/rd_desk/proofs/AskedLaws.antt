@@ -3,7 +3,7 @@ use Rattle.std.proofs.Common.{◌≡◌, ◌↔◌, ◌∙◌, ℕ, List, ◌∷
 use Rattle.std.specs.Prelude.{IsSome, IsTrue, Option, None, Some, Bool, unwrap_or}
 use Rattle.rd_text.specs.Words.{words_of}
 use Rattle.rd_command.specs.Commands.{CommandView, FindsWhatIsSpelled, command_of}
-use Rattle.rd_command.specs.Keywords.{more_of, row_of, verb_of}
+use Rattle.rd_command.specs.Keywords.{spelling_of}
 use Rattle.rd_desk.specs.Asked.{asked_by, no_command}
 
 -- a line that is a command's asks for it
@@ -17,7 +17,7 @@ same_words words others a b law one other same =
     let written = ((law words a).0 one).written in
     let other_written = ((law others b).0 other).written in
     written
-    ∙ ap (λ (c : CommandView). verb_of (row_of c.keyword) ∷ (more_of (row_of c.keyword) ++ c.operands)) same
+    ∙ ap (λ (c : CommandView). (spelling_of c.keyword).verb ∷ ((spelling_of c.keyword).more ++ c.operands)) same
     ∙ sym other_written
 
 same_command : (words others : List (List ℕ)) (a b : CommandView) → command_of words ≡ Some a → command_of others ≡ Some b → words ≡ others → a ≡ b

@@ -1,9 +1,9 @@
 -- The lemmas of this crate.
-pub mod AskingLaws
 pub mod SessionLaws
 pub mod AskedLaws
 pub mod HistoryLaws
 pub mod MachineLaws
+pub mod CommandedLaws
 pub mod DeskLaws
 pub mod ViewLaws
 pub mod NameLaws

@@ -1,12 +1,12 @@
 -- A command that is kept by its line.
 use Rattle.std.specs.Prelude.{ℕ, List, [], unwrap_or}
 use Rattle.rd_text.specs.Words.{words_of}
-use Rattle.rd_command.specs.declared.keyword.Keyword.TheVariants.{Tick}
+use Rattle.rd_command.specs.declared.keyword.Keyword.TheVariants.{GiveWheel}
 use Rattle.rd_command.specs.Commands.{CommandView, command_of}
 
 -- what a line that is no command stands for; none is kept
 abbrev pub no_command : CommandView
-no_command = record { keyword = Tick; operands = [] }
+no_command = record { keyword = GiveWheel; operands = [] }
 
 -- the command that the line is
 abbrev pub asked_by : List ℕ → CommandView

@@ -3,7 +3,7 @@ use Rattle.std.specs.Prelude.{ℕ, ◌≡◌, ◌+◌, ◌≤◌, List, [], ◌�
 use Rattle.rd_app.specs.Application.{Application}
 use Rattle.rd_state.specs.Change.{Change}
 use Rattle.rd_state.specs.Snapshot.{Snapshot}
-use Rattle.rd_calls.specs.declared.moves.Move.{Move}
+use Rattle.rd_moves.specs.Moves.{PlainMove}
 use Rattle.rd_timeline.specs.History.{state_after, CanRewind, Retraces}
 use Rattle.rd_desk.specs.declared.entry.Entry.{Entry}
 use Rattle.rd_desk.specs.declared.entry.Event.{Event}
@@ -33,7 +33,7 @@ used d = length d.history + present_count d.debugger.sessions
 
 -- There is a record for each of these moves. Going back from the state by the last ones, as many as
 -- one likes, can be done, and gives the whole state that the moves before them gave.
-pub record LeadsBack (app : Application) (moves : List Move) (s : Snapshot) : Type 0 where
+pub record LeadsBack (app : Application) (moves : List PlainMove) (s : Snapshot) : Type 0 where
   pub records : List (List Change)
   pub each : length records ≡ length moves
   pub can : CanRewind s records

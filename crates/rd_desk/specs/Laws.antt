@@ -1,8 +1,8 @@
 -- What one may count on, whatever is asked by whom.
 use Rattle.std.specs.Prelude.{ℕ, ◌≡◌, ◌≢◌, ◌<◌, List, None, Ok, length, slice_get}
 use Rattle.rd_refusal.specs.declared.refusal.Refusal.{Refusal}
-use Rattle.rd_calls.specs.declared.moves.Move.{Move}
-use Rattle.rd_timeline.specs.declared.runs.Request.TheVariants.{Go, Back}
+use Rattle.rd_moves.specs.Moves.{PlainMove}
+use Rattle.rd_moves.specs.declared.request.Request.TheVariants.{Go, Back}
 use Rattle.rd_timeline.specs.History.{state_after}
 use Rattle.rd_command.specs.Commands.{CommandView}
 use Rattle.rd_reply.specs.declared.reply.Reply.TheVariants as short
@@ -31,7 +31,7 @@ RefusedCommandsChangeNothing =
 -- Taking back a move that was made, an edit among them, gives back the whole target before it.
 abbrev pub BackGivesTheTargetBack : Type 0
 BackGivesTheTargetBack =
-    (d : Debugger) (move : Move) (at : ℕ) → IsMade d
+    (d : Debugger) (move : PlainMove) (at : ℕ) → IsMade d
     → reply_to_request d (Go move) ≡ Told (short.Done at)
     → target_of (after_request (after_request d (Go move)) (Back 1)) ≡ target_of d
 

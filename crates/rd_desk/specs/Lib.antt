@@ -4,7 +4,6 @@ pub mod SessionsInside
 pub mod TallyView
 pub mod Asked
 pub mod Debugger
-pub mod Asking
 pub mod Views
 pub mod Serving
 pub mod MachineInside

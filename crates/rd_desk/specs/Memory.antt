@@ -5,39 +5,43 @@ use Rattle.rd_command.specs.Bindings.{bound_of}
 use Rattle.rd_command.specs.Commands.{CommandView}
 use Rattle.rd_command.specs.declared.binding.Bound.{Bound}
 use Rattle.rd_command.specs.declared.binding.Bound.TheVariants as bound
+use Rattle.rd_moves.specs.declared.request.Search.{Search}
+use Rattle.rd_moves.specs.declared.request.Search.TheVariants as search
+use Rattle.rd_timeline.specs.Runs.{may_make_moves}
 use Rattle.rd_desk.specs.Debugger.{Debugger}
 use Rattle.rd_desk.specs.declared.asked.TheConstants.{INLINE_BYTES}
 use Rattle.rd_desk.specs.DeskView.{RoomedDesk}
-use Rattle.rd_desk.specs.Serving.{held_by}
+use Rattle.rd_desk.specs.declared.reply.Reply.{Reply}
+use Rattle.rd_desk.specs.declared.reply.Reply.TheVariants.{Done, Told, Shown}
+use Rattle.rd_desk.specs.Serving.{held_by, view_of}
 use Rattle.rd_desk.specs.Sessions.{present_count}
 
+-- Is the reply a text?
+abbrev pub is_text : Reply → Bool
+is_text Done = false
+is_text (Told told) = false
+is_text (Shown text) = true
+
+-- Does what is looked for make moves?
+abbrev pub makes_moves : Search → Bool
+makes_moves (search.Until count) = true
+makes_moves search.BackUntil = false
+
 -- Does it make moves, or a text that is shown?
-abbrev pub needs_memory : Bound → Bool
-needs_memory (bound.Step core) = true
-needs_memory bound.Tick = true
-needs_memory (bound.Forward count) = true
-needs_memory (bound.Redo count) = true
-needs_memory (bound.Back count) = false
-needs_memory (bound.Until condition count) = true
-needs_memory (bound.UntilWatch watch count) = true
-needs_memory (bound.BackUntil condition) = false
-needs_memory (bound.BackUntilWatch watch) = false
-needs_memory (bound.Poke edit) = true
-needs_memory bound.TakeWheel = false
-needs_memory bound.GiveWheel = false
-needs_memory (bound.Watch condition) = false
-needs_memory (bound.Unwatch number) = false
-needs_memory (bound.Show kind number) = true
-needs_memory bound.ShowCores = true
-needs_memory bound.ShowMoves = false
-needs_memory bound.ShowWheel = false
-needs_memory bound.ShowWatches = true
+abbrev pub needs_memory : Debugger → ℕ → Bound → Bool
+needs_memory d who (bound.Asks request) = may_make_moves request
+needs_memory d who (bound.AsksByWatch watch search) = makes_moves search
+needs_memory d who bound.TakesWheel = false
+needs_memory d who bound.GivesWheel = false
+needs_memory d who (bound.Keeps condition) = false
+needs_memory d who (bound.Drops number) = false
+needs_memory d who (bound.Looks view) = is_text (view_of d who view)
 
 -- No other session has the wheel that the command needs, it names what is there, and it makes moves
 -- or a text.
 pub record NeedsMemory (d : Debugger) (who : ℕ) (command : CommandView) : Type 0 where
   pub free : held_by d who command ≡ None
-  pub needs : IsSomeAnd (bound_of d.app command) (λ bound. needs_memory bound ≡ true)
+  pub needs : IsSomeAnd (bound_of d.app command) (λ bound. needs_memory d who bound ≡ true)
 
 -- There is no room for the entry of a command with this line, beside those that are kept for
 -- departures, or the line is longer than one that a receipt has in place.

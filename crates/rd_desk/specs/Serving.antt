@@ -4,26 +4,32 @@ use Rattle.std.specs.Prelude.{Bool, List, Option, None, Some}
 use Rattle.rd_refusal.specs.declared.refusal.Refusal.{Refusal}
 use Rattle.rd_refusal.specs.declared.refusal.Refusal.TheVariants.{Held, NoSuch, NoWatch, NotHolder}
 use Rattle.rd_refusal.specs.declared.refusal.Refusal.TheVariants.{WatchesFull}
-use Rattle.rd_calls.specs.declared.moves.Move.TheVariants as move
 use Rattle.rd_condition.specs.declared.condition.Condition.{Condition}
-use Rattle.rd_timeline.specs.declared.runs.Request.{Request}
-use Rattle.rd_timeline.specs.declared.runs.Request.TheVariants as request
+use Rattle.rd_moves.specs.declared.request.Search.{Search}
+use Rattle.rd_moves.specs.Requests.{PlainRequest, request_for}
+use Rattle.rd_timeline.specs.Answers.{answer_to}
+use Rattle.rd_names.specs.Names.{NamesView}
+use Rattle.rd_state.specs.Snapshot.{Snapshot}
 use Rattle.rd_timeline.specs.Runs.{answered}
+use Rattle.rd_timeline.specs.Runs as runs
 use Rattle.rd_command.specs.Bindings.{bound_of}
 use Rattle.rd_command.specs.Commands.{CommandView}
 use Rattle.rd_command.specs.Keywords.{needs_wheel}
 use Rattle.rd_command.specs.declared.binding.Bound.{Bound}
 use Rattle.rd_command.specs.declared.binding.Bound.TheVariants as bound
+use Rattle.rd_command.specs.declared.view.Overview.{Overview}
+use Rattle.rd_command.specs.declared.view.Overview.TheVariants as overview
+use Rattle.rd_command.specs.declared.view.View.{View}
+use Rattle.rd_command.specs.declared.view.View.TheVariants as view
 use Rattle.rd_reply.specs.declared.reply.Reply.TheVariants.{Holder, Moves, Refused, Watch, Wheel}
-use Rattle.rd_reply.specs.Replies.{cores_text, line_of, watches_text}
+use Rattle.rd_reply.specs.Replies.{answer_reply, cores_text, line_of, watches_text}
 use Rattle.rd_desk.specs.declared.entry.Event.{Event}
 use Rattle.rd_desk.specs.declared.entry.Event.TheVariants.{Enter, Ask, Leave}
 use Rattle.rd_desk.specs.declared.reply.Reply.{Reply}
 use Rattle.rd_desk.specs.declared.reply.Reply.TheVariants.{Done, Told, Shown}
-use Rattle.rd_desk.specs.Asking.{request_reply}
 use Rattle.rd_desk.specs.Debugger.{Debugger, freed, is_holder, other_holder, own_watches, target_of}
 use Rattle.rd_desk.specs.Debugger.{watching}
-use Rattle.rd_desk.specs.Sessions.{IsPresent, joined, watch_at, without}
+use Rattle.rd_desk.specs.Sessions.{IsPresent, WatchesView, joined, watch_at, without}
 use Rattle.rd_desk.specs.Views.{view_text, watches_shown}
 
 abbrev pub refused : Refusal → Reply
@@ -36,20 +42,21 @@ shown text = Shown (line_of text)
 -- ---- moves
 
 -- what a request of the timeline makes of the debugger, and its reply
-abbrev pub after_request : Debugger → Request → Debugger
+abbrev pub after_request : Debugger → PlainRequest → Debugger
 after_request d request = record d { moves = answered d.app.runs d.most_moves d.moves request }
 
-abbrev pub reply_to_request : Debugger → Request → Reply
-reply_to_request d request = Told (request_reply d.app.runs d.most_moves d.moves request)
+abbrev pub reply_to_request : Debugger → PlainRequest → Reply
+reply_to_request d request =
+    Told (answer_reply (answer_to d.app.runs d.most_moves d.moves request))
 
--- the same of a request with the condition of a watch, if there is that watch
-abbrev pub after_watched : Debugger → Option Condition → (Condition → Request) → Debugger
-after_watched d None make = d
-after_watched d (Some condition) make = after_request d (make condition)
+-- the same of a search for the condition of a watch, if there is that watch
+abbrev pub after_search : Debugger → Option Condition → Search → Debugger
+after_search d None search = d
+after_search d (Some condition) search = after_request d (request_for search condition)
 
-abbrev pub reply_to_watched : Debugger → Option Condition → (Condition → Request) → Reply
-reply_to_watched d None make = refused NoWatch
-reply_to_watched d (Some condition) make = reply_to_request d (make condition)
+abbrev pub reply_to_search : Debugger → Option Condition → Search → Reply
+reply_to_search d None search = refused NoWatch
+reply_to_search d (Some condition) search = reply_to_request d (request_for search condition)
 
 -- ---- the wheel
 
@@ -78,67 +85,54 @@ abbrev pub reply_to_dropped : ℕ → Option Condition → Reply
 reply_to_dropped number None = refused NoWatch
 reply_to_dropped number (Some condition) = Told (Watch number)
 
--- ---- commands, each by what it is bound to
+-- ---- views
+
+-- what is shown of these names, this target, the moves, the wheel, and a session's own watches,
+-- where a view names nothing
+abbrev pub overview_in : NamesView → Snapshot → runs.Moves → Option ℕ → WatchesView → Overview
+    → Reply
+overview_in names s moves wheel watches overview.Cores = shown (cores_text names s)
+overview_in names s moves wheel watches overview.Moves =
+    Told (Moves (length moves.done) (length moves.undone))
+overview_in names s moves wheel watches overview.Wheel = Told (Holder wheel)
+overview_in names s moves wheel watches overview.Watches =
+    shown (watches_text (watches_shown s watches))
+
+abbrev pub overview_of : Debugger → ℕ → Overview → Reply
+overview_of d who of =
+    overview_in d.app.names (target_of d) d.moves d.wheel (own_watches d who) of
+
+abbrev pub view_of : Debugger → ℕ → View → Reply
+view_of d who (view.Thing kind number) = shown (view_text d.app.names (target_of d) kind number)
+view_of d who (view.Overview of) = overview_of d who of
+
+-- ---- commands, each by what it does
 
 -- what a command of this session makes of the debugger
 abbrev pub after_bound : Debugger → ℕ → Bound → Debugger
-after_bound d who (bound.Step core) = after_request d (request.Go (move.Core core))
-after_bound d who bound.Tick = after_request d (request.Go move.Tick)
-after_bound d who (bound.Forward count) = after_request d (request.Forward count)
-after_bound d who (bound.Redo count) = after_request d (request.Redo count)
-after_bound d who (bound.Back count) = after_request d (request.Back count)
-after_bound d who (bound.Until condition count) = after_request d (request.Until condition count)
-after_bound d who (bound.UntilWatch watch count) =
-    after_watched d (watch_at (own_watches d who) watch)
-    (λ condition. request.Until condition count)
-after_bound d who (bound.BackUntil condition) = after_request d (request.BackUntil condition)
-after_bound d who (bound.BackUntilWatch watch) =
-    after_watched d (watch_at (own_watches d who) watch) (λ condition. request.BackUntil condition)
-after_bound d who (bound.Poke edit) = after_request d (request.Go (move.Edit edit))
-after_bound d who bound.TakeWheel = record d { wheel = Some who }
-after_bound d who bound.GiveWheel = record d { wheel = freed d.wheel who }
-after_bound d who (bound.Watch condition) =
+after_bound d who (bound.Asks request) = after_request d request
+after_bound d who (bound.AsksByWatch watch search) =
+    after_search d (watch_at (own_watches d who) watch) search
+after_bound d who bound.TakesWheel = record d { wheel = Some who }
+after_bound d who bound.GivesWheel = record d { wheel = freed d.wheel who }
+after_bound d who (bound.Keeps condition) =
     after_kept d who condition (position is_none (own_watches d who))
-after_bound d who (bound.Unwatch number) =
+after_bound d who (bound.Drops number) =
     after_dropped d who number (watch_at (own_watches d who) number)
-after_bound d who (bound.Show kind number) = d
-after_bound d who bound.ShowCores = d
-after_bound d who bound.ShowMoves = d
-after_bound d who bound.ShowWheel = d
-after_bound d who bound.ShowWatches = d
+after_bound d who (bound.Looks view) = d
 
 -- its reply
 abbrev pub reply_to_bound : Debugger → ℕ → Bound → Reply
-reply_to_bound d who (bound.Step core) = reply_to_request d (request.Go (move.Core core))
-reply_to_bound d who bound.Tick = reply_to_request d (request.Go move.Tick)
-reply_to_bound d who (bound.Forward count) = reply_to_request d (request.Forward count)
-reply_to_bound d who (bound.Redo count) = reply_to_request d (request.Redo count)
-reply_to_bound d who (bound.Back count) = reply_to_request d (request.Back count)
-reply_to_bound d who (bound.Until condition count) =
-    reply_to_request d (request.Until condition count)
-reply_to_bound d who (bound.UntilWatch watch count) =
-    reply_to_watched d (watch_at (own_watches d who) watch)
-    (λ condition. request.Until condition count)
-reply_to_bound d who (bound.BackUntil condition) =
-    reply_to_request d (request.BackUntil condition)
-reply_to_bound d who (bound.BackUntilWatch watch) =
-    reply_to_watched d (watch_at (own_watches d who) watch)
-    (λ condition. request.BackUntil condition)
-reply_to_bound d who (bound.Poke edit) = reply_to_request d (request.Go (move.Edit edit))
-reply_to_bound d who bound.TakeWheel = Told Wheel
-reply_to_bound d who bound.GiveWheel = reply_to_giver (is_holder d.wheel who)
-reply_to_bound d who (bound.Watch condition) =
+reply_to_bound d who (bound.Asks request) = reply_to_request d request
+reply_to_bound d who (bound.AsksByWatch watch search) =
+    reply_to_search d (watch_at (own_watches d who) watch) search
+reply_to_bound d who bound.TakesWheel = Told Wheel
+reply_to_bound d who bound.GivesWheel = reply_to_giver (is_holder d.wheel who)
+reply_to_bound d who (bound.Keeps condition) =
     reply_to_kept (position is_none (own_watches d who))
-reply_to_bound d who (bound.Unwatch number) =
+reply_to_bound d who (bound.Drops number) =
     reply_to_dropped number (watch_at (own_watches d who) number)
-reply_to_bound d who (bound.Show kind number) =
-    shown (view_text d.app.names (target_of d) kind number)
-reply_to_bound d who bound.ShowCores = shown (cores_text d.app.names (target_of d))
-reply_to_bound d who bound.ShowMoves =
-    Told (Moves (length d.moves.done) (length d.moves.undone))
-reply_to_bound d who bound.ShowWheel = Told (Holder d.wheel)
-reply_to_bound d who bound.ShowWatches =
-    shown (watches_text (watches_shown (target_of d) (own_watches d who)))
+reply_to_bound d who (bound.Looks view) = view_of d who view
 
 -- A command of this session, which names what is there, was done: this is the debugger after it,
 -- and the reply.

@@ -1,8 +1,8 @@
 -- Who has the wheel, as the history alone tells.
 use Rattle.std.specs.Prelude.{ℕ, Bool, true, false, if◌then◌else◌, List, [], ◌∷◌}
 use Rattle.std.specs.Prelude.{Option, None, Some}
-use Rattle.rd_command.specs.declared.keyword.Keyword.{Keyword}
-use Rattle.rd_command.specs.declared.keyword.Keyword.TheVariants.{TakeWheel}
+use Rattle.rd_command.specs.Keywords.{wheel_of, Taken, Given, Needed, Free}
+use Rattle.rd_command.specs.Keywords as keywords
 use Rattle.rd_reply.specs.declared.reply.Reply.TheVariants.{Wheel}
 use Rattle.rd_desk.specs.declared.entry.Entry.{Entry}
 use Rattle.rd_desk.specs.declared.entry.Event.{Event}
@@ -16,16 +16,18 @@ abbrev pub is_wheel : Reply → Bool
 is_wheel (Told Wheel) = true
 is_wheel other = false
 
--- who has the wheel once a session has taken it, or else given it
-abbrev pub taker : ℕ → Keyword → Option ℕ
-taker who TakeWheel = Some who
-taker who other = None
+-- who has the wheel behind a command with this reply, by what it has to do with the wheel
+abbrev pub holder_behind : Option ℕ → ℕ → keywords.Wheel → Reply → Option ℕ
+holder_behind holder who Taken reply = if is_wheel reply then Some who else holder
+holder_behind holder who Given reply = if is_wheel reply then None else holder
+holder_behind holder who Needed reply = holder
+holder_behind holder who Free reply = holder
 
 -- who has the wheel behind an event with this reply, where that one had it before
 abbrev pub holder_by : Option ℕ → ℕ → Event → Reply → Option ℕ
 holder_by holder who Enter reply = holder
 holder_by holder who (Ask command) reply =
-    if is_wheel reply then taker who command.keyword else holder
+    holder_behind holder who (wheel_of command.keyword) reply
 holder_by holder who Leave reply = freed holder who
 
 -- the last who took the wheel, and neither gave it nor left

@@ -1,11 +1,8 @@
 //! The sequential debugger with its history.
 
 ghost use Rattle.std.specs.Prelude.{◌≡◌, ◌≢◌, ◌↔◌, ◌+◌, ◌<◌, ◌≤◌, ◌∷◌, ◌++◌, [], length};
-ghost use Rattle.std.specs.Prelude.{IfErr, IfOk, IsErrOf, IsTrue, OnErr, OnOk, Some};
-ghost use Rattle.std.specs.Result.{result_ok};
-ghost use Rattle.rd_text.specs.Words.{words_of};
-ghost use Rattle.rd_command.specs.Bindings.{bound_of};
-ghost use Rattle.rd_command.specs.Commands.{command_of};
+ghost use Rattle.std.specs.Prelude.{IfErr, IfOk, IsErrOf, IsTrue, OnErr, OnOk};
+ghost use Rattle.rd_command.specs.Bindings.{known_of};
 ghost use Rattle.rd_desk.specs.declared.entry.Event.TheVariants.{Enter, Ask, Leave};
 ghost use Rattle.rd_desk.specs.Debugger.{opening, target_of};
 ghost use Rattle.rd_desk.specs.DeskView.{entry_of, used, Does, IsKept};
@@ -26,8 +23,7 @@ use crate::sessions::MAX_JOINS;
 use crate::tally::Tally;
 use rd_app::app::Program;
 use rd_bytes::no_memory::NoMemory;
-use rd_command::binding::{Bound, Unknown};
-use rd_command::command::Command;
+use rd_command::order::Order;
 use rd_names::app::App;
 use rd_names::names::Names;
 use rd_state::state::State;
@@ -293,35 +289,28 @@ impl Desk {
         }
     }
 
-    /// Serves a command of a session that is present, with the line that it was read from, and what
-    /// `bind` made of it for the application of this desk. `HistoryFull` where no place is free,
-    /// else `NoMemory` where a growth was refused: for the entry, for the copy of a line of more
-    /// than 24 bytes, for the records of moves or for the text of a view. A command with a line of
-    /// at most 24 bytes that makes no move, shows no text and finds room for its entry is never
-    /// refused for memory. A refusal changes nothing. All other refusals are replies, and take a
-    /// place in the history.
-    pub fn serve(
-        &mut self,
-        who: u32,
-        line: &[u8],
-        command: &Command<'_>,
-        bound: &Result<Bound<'_>, Unknown>,
-    ) -> Result<Receipt, NotServed>
+    /// Serves a command of a session that is present, which was bound for the application of this
+    /// desk. `HistoryFull` where no place is free, else `NoMemory` where a growth was refused: for
+    /// the entry, for the copy of a line of more than 24 bytes, for the records of moves or for the
+    /// text of a view. A command with a line of at most 24 bytes that makes no move, shows no text
+    /// and finds room for its entry is never refused for memory. A refusal changes nothing. All
+    /// other refusals are replies, and take a place in the history.
+    pub fn serve(&mut self, who: u32, order: &Order<'_, '_>) -> Result<Receipt, NotServed>
         requires there { IsPresent self.old.desk.debugger.sessions who }
-        requires line { command_of (words_of line.now) ≡ Some command.now }
-        requires bound { result_ok bound.now ≡ bound_of self.old.desk.debugger.app command.now }
-        ensures ok { IfOk result (Does self.old.desk who (Ask command.now) self.new.desk) }
+        requires application { order.now.known ≡ known_of self.old.desk.debugger.app }
+        ensures ok { IfOk result (Does self.old.desk who (Ask order.now.command) self.new.desk) }
         ensures history_full { IsTrue (is_serve_full result)
             ↔ (self.old.desk.most_entries ≡ used self.old.desk) }
         ensures room { OnOk result (used self.old.desk < self.old.desk.most_entries) }
         ensures tally { IfErr result (λ error. IfServeFull error (λ tally.
             (tally ≡ tally_of self.old.desk) × (tally.limit ≡ tally.entries + tally.present))) }
         ensures no_memory { IsErrOf result NotServed.NoMemory
-            → MayLackMemory self.old who line.now command.now }
+            → MayLackMemory self.old who order.now.line order.now.command }
         ensures not_broken { IfErr result (λ error. error ≢ NotServed.Broken) }
         ensures err { OnErr result (self.new.desk ≡ self.old.desk) }
         ensures taken { IfOk result (λ receipt. TakesAtMost 1
-            (length line.now + length (reply_bytes receipt.entry.reply)) self.old self.new) }
+            (length order.now.line + length (reply_bytes receipt.entry.reply))
+            self.old self.new) }
         ensures not_taken { OnErr result (TakesAtMost 0 0 self.old self.new) }
     {
         if self.free() == 0 {
@@ -329,33 +318,29 @@ impl Desk {
                 tally: self.tally(),
             });
         }
-        self.record_command(who, line, command, bound)
+        self.record_command(who, order)
     }
 
     // Serves a command where a place is free.
-    fn record_command(
-        &mut self,
-        who: u32,
-        line: &[u8],
-        command: &Command<'_>,
-        bound: &Result<Bound<'_>, Unknown>,
-    ) -> Result<Receipt, NotServed>
+    fn record_command(&mut self, who: u32, order: &Order<'_, '_>) -> Result<Receipt, NotServed>
         requires there { IsPresent self.old.desk.debugger.sessions who }
-        requires line { command_of (words_of line.now) ≡ Some command.now }
-        requires bound { result_ok bound.now ≡ bound_of self.old.desk.debugger.app command.now }
+        requires application { order.now.known ≡ known_of self.old.desk.debugger.app }
         requires free { used self.old.desk < self.old.desk.most_entries }
-        ensures ok { IfOk result (Does self.old.desk who (Ask command.now) self.new.desk) }
+        ensures ok { IfOk result (Does self.old.desk who (Ask order.now.command) self.new.desk) }
         ensures no_memory { IfErr result (λ error. error ≡ NotServed.NoMemory) }
-        ensures lacks { OnErr result (MayLackMemory self.old who line.now command.now) }
+        ensures lacks { OnErr result
+            (MayLackMemory self.old who order.now.line order.now.command) }
         ensures err { OnErr result (self.new.desk ≡ self.old.desk) }
         ensures taken { IfOk result (λ receipt. TakesAtMost 1
-            (length line.now + length (reply_bytes receipt.entry.reply)) self.old self.new) }
+            (length order.now.line + length (reply_bytes receipt.entry.reply))
+            self.old self.new) }
         ensures not_taken { OnErr result (TakesAtMost 0 0 self.old self.new) }
     {
+        let line = order.line();
         let rows = self.machine.present() + 1;
         self.history.make_room(rows, line.len())?;
         let asked = Asked::new(self.alloc, line)?;
-        let reply = self.machine.serve(who, command, bound)?;
+        let reply = self.machine.serve(who, order)?;
         make_room_for(&mut self.history, rows, line, &reply)?;
         let place = self.history.len();
         self.history.push(who, Deed::Ask, line, &reply);

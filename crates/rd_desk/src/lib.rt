@@ -2,7 +2,6 @@
 #![tactic(auto)]
 
 pub mod asked;
-mod asking;
 pub mod desk;
 pub mod entry;
 pub mod history;

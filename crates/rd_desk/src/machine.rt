@@ -1,40 +1,36 @@
 //! The sequential debugger without its history: what each event makes of it, and what is replied.
 
 ghost use Rattle.std.specs.Prelude.{◌≡◌, ◌↔◌, ◌+◌, ◌<◌, length, slice_set, true};
-ghost use Rattle.std.specs.Prelude.{IfOk, IfSome, IsErr, IsSomeAnd, IsTrue, OnErr, Ok};
-ghost use Rattle.rd_calls.specs.declared.moves.Move.TheVariants as move;
-ghost use Rattle.std.specs.Result.{result_ok};
-ghost use Rattle.rd_command.specs.Bindings.{IsBoundOf, bound_of};
+ghost use Rattle.std.specs.Prelude.{IfOk, IfSome, IsErr, IsSome, IsTrue, OnErr, Ok};
+ghost use Rattle.rd_command.specs.Bindings.{IsBoundOf, IsViewOf, known_of};
 ghost use Rattle.rd_command.specs.declared.binding.Bound.TheVariants as bound;
 ghost use Rattle.rd_condition.specs.Conditions.{IsConditionOf};
+ghost use Rattle.rd_moves.specs.Requests.{IsRequestOf};
 ghost use Rattle.rd_timeline.specs.History.{state_after};
-ghost use Rattle.rd_timeline.specs.declared.runs.Request.TheVariants as request;
-ghost use Rattle.rd_calls.specs.Step.{IsMoveOf};
-ghost use Rattle.rd_reply.specs.declared.reply.Reply.TheVariants as short;
-ghost use Rattle.rd_reply.specs.Replies.{watches_text};
+ghost use Rattle.rd_timeline.specs.Runs.{may_make_moves};
 ghost use Rattle.rd_desk.specs.Debugger.{freed, is_holder, opening, other_holder, own_watches};
 ghost use Rattle.rd_desk.specs.Debugger.{target_of, watching};
 ghost use Rattle.rd_desk.specs.DeskView.{LeadsBack};
-ghost use Rattle.rd_desk.specs.Memory.{needs_memory, NeedsMemory};
-ghost use Rattle.rd_desk.specs.Serving.{after_request, entered, held_by, left, refused};
-ghost use Rattle.rd_desk.specs.Serving.{reply_to_request, shown, IsAnswered, IsDone};
+ghost use Rattle.rd_desk.specs.Memory.{is_text, makes_moves, needs_memory, NeedsMemory};
+ghost use Rattle.rd_desk.specs.Serving.{after_request, entered, held_by, left, overview_of};
+ghost use Rattle.rd_desk.specs.Serving.{refused, reply_to_request, shown, view_of};
+ghost use Rattle.rd_desk.specs.Serving.{IsAnswered, IsDone};
 ghost use Rattle.rd_desk.specs.Sessions.{IsPresent, present_count, watch_count};
-ghost use Rattle.rd_desk.specs.Views.{AreNamesOf, IsViewNamed, text_shown, view_asked};
-ghost use Rattle.rd_desk.specs.Views.{watches_shown};
+ghost use Rattle.rd_desk.specs.Views.{AreNamesOf, text_shown};
 
-use crate::asking;
 use crate::reply::Reply;
 use crate::sessions::{MAX_JOINS, Sessions};
 use crate::showing::{show, show_all_watches};
 use crate::text::Text;
 use rd_app::app::Program;
 use rd_bytes::no_memory::NoMemory;
-use rd_calls::moves::Move;
-use rd_command::binding::{Bound, Unknown};
+use rd_command::binding::Bound;
 use rd_command::command::Command;
-use rd_command::count::Count;
-use rd_command::poke::Poke;
+use rd_command::digits::own;
+use rd_command::order::Order;
+use rd_command::view::{Overview, View};
 use rd_condition::condition::Condition;
+use rd_moves::request::{Request, Search};
 use rd_names::app::App;
 use rd_names::names::Names;
 use rd_refusal::refusal::Refusal;
@@ -78,12 +74,6 @@ fn told(told: Short) -> Reply
     ensures { result ≡ Reply.Told told }
 {
     Reply::Told { told }
-}
-
-fn shown(text: Text) -> Reply
-    ensures { result ≡ Reply.Shown text }
-{
-    Reply::Shown { text }
 }
 
 // Another session that has the wheel, if one has.
@@ -241,137 +231,37 @@ impl Machine {
         self.sessions.leave(who);
     }
 
-    // The task on a core does one instruction.
+    // Asks the timeline.
     #[inline(never)]
-    fn step(&mut self, core: usize) -> Result<Reply, NoMemory>
-        requires { IsMoveOf self.old.app.runs (move.Core core) }
-        ensures after { IfOk result (λ reply.
-            self.new ≡ after_request self.old (request.Go (move.Core core))) }
-        ensures reply { IfOk result (λ reply.
-            reply ≡ reply_to_request self.old (request.Go (move.Core core))) }
+    fn ask(&mut self, request: &Request) -> Result<Reply, NoMemory>
+        requires { IsRequestOf self.old.app.runs request.now }
+        ensures after { IfOk result (λ reply. self.new ≡ after_request self.old request.now) }
+        ensures reply { IfOk result (λ reply. reply ≡ reply_to_request self.old request.now) }
+        ensures no_memory { OnErr result (may_make_moves request.now ≡ true) }
         ensures err { OnErr result (self.new ≡ self.old) }
     {
-        let told = asking::go(&mut self.timeline, Move::Core { core })?;
-        Ok(Reply::Told { told })
+        let answer = self.timeline.answer(request)?;
+        Ok(told(Short::of(answer)))
     }
 
-    // A tick passes.
+    // Asks the timeline to search for the condition of a watch.
     #[inline(never)]
-    fn tick(&mut self) -> Result<Reply, NoMemory>
-        requires { IsMoveOf self.old.app.runs move.Tick }
-        ensures after { IfOk result (λ reply.
-            self.new ≡ after_request self.old (request.Go move.Tick)) }
-        ensures reply { IfOk result (λ reply.
-            reply ≡ reply_to_request self.old (request.Go move.Tick)) }
-        ensures err { OnErr result (self.new ≡ self.old) }
-    {
-        let told = asking::go(&mut self.timeline, Move::Tick)?;
-        Ok(Reply::Told { told })
-    }
-
-    // Changes something by hand.
-    #[inline(never)]
-    fn poke(&mut self, edit: &Poke<'_>) -> Result<Reply, NoMemory>
-        requires { IsMoveOf self.old.app.runs (move.Edit edit.now) }
-        ensures after { IfOk result (λ reply.
-            self.new ≡ after_request self.old (request.Go (move.Edit edit.now))) }
-        ensures reply { IfOk result (λ reply.
-            reply ≡ reply_to_request self.old (request.Go (move.Edit edit.now))) }
-        ensures err { OnErr result (self.new ≡ self.old) }
-    {
-        let action = Move::Edit { edit: edit.edit() };
-        let told = asking::go(&mut self.timeline, action)?;
-        Ok(Reply::Told { told })
-    }
-
-    // Takes the last moves back.
-    #[inline(never)]
-    fn back(&mut self, count: Count) -> Reply
-        ensures after { self.new ≡ after_request self.old (request.Back count) }
-        ensures reply { result ≡ reply_to_request self.old (request.Back count) }
-    {
-        told(asking::back(&mut self.timeline, count))
-    }
-
-    // Makes so many moves by policy.
-    #[inline(never)]
-    fn forward(&mut self, count: Count) -> Result<Reply, NoMemory>
-        ensures after { IfOk result (λ reply.
-            self.new ≡ after_request self.old (request.Forward count)) }
-        ensures reply { IfOk result (λ reply.
-            reply ≡ reply_to_request self.old (request.Forward count)) }
-        ensures err { OnErr result (self.new ≡ self.old) }
-    {
-        let told = asking::forward(&mut self.timeline, count)?;
-        Ok(Reply::Told { told })
-    }
-
-    // Makes moves again that are undone.
-    #[inline(never)]
-    fn redo(&mut self, count: Count) -> Result<Reply, NoMemory>
-        ensures after { IfOk result (λ reply.
-            self.new ≡ after_request self.old (request.Redo count)) }
-        ensures reply { IfOk result (λ reply.
-            reply ≡ reply_to_request self.old (request.Redo count)) }
-        ensures err { OnErr result (self.new ≡ self.old) }
-    {
-        let told = asking::redo(&mut self.timeline, count)?;
-        Ok(Reply::Told { told })
-    }
-
-    // Makes moves by policy until a condition holds.
-    #[inline(never)]
-    fn until(&mut self, condition: Condition, count: Count) -> Result<Reply, NoMemory>
-        requires { IsConditionOf self.old.app.runs condition }
-        ensures after { IfOk result (λ reply.
-            self.new ≡ after_request self.old (request.Until condition count)) }
-        ensures reply { IfOk result (λ reply.
-            reply ≡ reply_to_request self.old (request.Until condition count)) }
-        ensures err { OnErr result (self.new ≡ self.old) }
-    {
-        let told = asking::until(&mut self.timeline, condition, count)?;
-        Ok(Reply::Told { told })
-    }
-
-    // Goes back to where a condition held.
-    #[inline(never)]
-    fn back_until(&mut self, condition: Condition) -> Reply
-        requires { IsConditionOf self.old.app.runs condition }
-        ensures after { self.new ≡ after_request self.old (request.BackUntil condition) }
-        ensures reply { result ≡ reply_to_request self.old (request.BackUntil condition) }
-    {
-        told(asking::back_until(&mut self.timeline, condition))
-    }
-
-    // Makes moves until the condition of a watch holds.
-    #[inline(never)]
-    fn until_watch(&mut self, who: u32, watch: usize, count: Count) -> Result<Reply, NoMemory>
+    fn ask_by_watch(&mut self, who: u32, watch: usize, search: Search) -> Result<Reply, NoMemory>
         requires { IsPresent self.old.sessions who }
-        ensures ok { IfOk result (IsDone self.old who (bound.UntilWatch watch count) self.new) }
+        ensures ok { IfOk result (IsDone self.old who (bound.AsksByWatch watch search) self.new) }
+        ensures no_memory { OnErr result (makes_moves search ≡ true) }
         ensures err { OnErr result (self.new ≡ self.old) }
     {
         match self.sessions.watches(who).condition(watch) {
-            Some(condition) => self.until(condition, count),
+            Some(condition) => self.ask(&search.request(condition)),
             None => Ok(refused(Refusal::NoWatch)),
-        }
-    }
-
-    // Goes back to where the condition of a watch held.
-    #[inline(never)]
-    fn back_until_watch(&mut self, who: u32, watch: usize) -> Reply
-        requires { IsPresent self.old.sessions who }
-        ensures { IsDone self.old who (bound.BackUntilWatch watch) self.new result }
-    {
-        match self.sessions.watches(who).condition(watch) {
-            Some(condition) => self.back_until(condition),
-            None => refused(Refusal::NoWatch),
         }
     }
 
     // The session takes the wheel, which no other has.
     #[inline(never)]
     fn take_wheel(&mut self, who: u32) -> Reply
-        ensures { IsDone self.old who bound.TakeWheel self.new result }
+        ensures { IsDone self.old who bound.TakesWheel self.new result }
     {
         self.wheel = Some(who);
         told(Short::Wheel)
@@ -380,7 +270,7 @@ impl Machine {
     // The session gives the wheel, if it has it.
     #[inline(never)]
     fn give_wheel(&mut self, who: u32) -> Reply
-        ensures { IsDone self.old who bound.GiveWheel self.new result }
+        ensures { IsDone self.old who bound.GivesWheel self.new result }
     {
         if is_holder(self.wheel, who) {
             self.wheel = None;
@@ -407,7 +297,7 @@ impl Machine {
     fn watch(&mut self, who: u32, condition: Condition) -> Reply
         requires there { IsPresent self.old.sessions who }
         requires named { IsConditionOf self.old.app.runs condition }
-        ensures { IsDone self.old who (bound.Watch condition) self.new result }
+        ensures { IsDone self.old who (bound.Keeps condition) self.new result }
     {
         match self.sessions.watches(who).free() {
             Some(number) => {
@@ -422,7 +312,7 @@ impl Machine {
     #[inline(never)]
     fn unwatch(&mut self, who: u32, number: usize) -> Reply
         requires { IsPresent self.old.sessions who }
-        ensures { IsDone self.old who (bound.Unwatch number) self.new result }
+        ensures { IsDone self.old who (bound.Drops number) self.new result }
     {
         if self.sessions.watches(who).condition(number).is_some() {
             self.put_watch(who, number, None);
@@ -432,68 +322,72 @@ impl Machine {
         }
     }
 
-    // How many moves are done and undone.
-    fn moves(&self) -> Reply
-        ensures { result ≡ Reply.Told
-            (short.Moves (length self.now.moves.done) (length self.now.moves.undone)) }
-    {
-        told(Short::Moves {
-            done: self.timeline.at(),
-            undone: self.timeline.left(),
-        })
-    }
-
-    // The view of the target that a command asks for.
+    // A view of the target.
     #[inline(never)]
-    fn view(&self, command: &Bound<'_>) -> Result<Reply, NoMemory>
-        requires { IsSomeAnd (view_asked command.now) (IsViewNamed self.now.app.names) }
-        ensures { IfOk result (λ reply. IfSome (view_asked command.now) (λ view.
-            reply ≡ shown (text_shown self.now.app.names (target_of self.now) view))) }
+    fn view(&self, view: View) -> Result<Reply, NoMemory>
+        requires there { IsSome (text_shown self.now.app.names (target_of self.now) view) }
+        requires named { IsViewOf self.now.app.names view }
+        ensures { IfOk result (λ reply.
+            IfSome (text_shown self.now.app.names (target_of self.now) view) (λ text.
+            reply ≡ shown text)) }
     {
         self.keeps();
-        let line = show(self.alloc, self.target(), self.names(), command)?;
-        Ok(shown(Text::new(line)))
+        let line = show(self.alloc, self.target(), self.names(), view)?;
+        Ok(Reply::Shown {
+            text: Text::new(line),
+        })
     }
 
     // The view of the session's watches.
     #[inline(never)]
     fn watches(&self, who: u32) -> Result<Reply, NoMemory>
         requires { IsPresent self.now.sessions who }
-        ensures { IfOk result (λ reply. reply ≡ shown (watches_text
-            (watches_shown (target_of self.now) (own_watches self.now who)))) }
+        ensures { IfOk result (λ reply. reply ≡ overview_of self.now who Overview.Watches) }
     {
         self.timeline.keeps();
         let watches = self.sessions.watches(who);
-        Ok(shown(show_all_watches(&self.timeline, self.alloc, watches)?))
+        let text = show_all_watches(&self.timeline, self.alloc, watches)?;
+        Ok(Reply::Shown { text })
+    }
+
+    // What the session is shown. Nothing changes.
+    fn look(&self, who: u32, view: View) -> Result<Reply, NoMemory>
+        requires there { IsPresent self.now.sessions who }
+        requires named { IsViewOf self.now.app.names view }
+        ensures ok { IfOk result (λ reply. reply ≡ view_of self.now who view) }
+        ensures no_memory { OnErr result (is_text (view_of self.now who view) ≡ true) }
+    {
+        let of = match view {
+            View::Thing { .. } => return self.view(view),
+            View::Overview { of } => of,
+        };
+        match of {
+            Overview::Cores => self.view(view),
+            Overview::Moves => Ok(told(Short::Moves {
+                done: self.timeline.at(),
+                undone: self.timeline.left(),
+            })),
+            Overview::Wheel => Ok(told(Short::Holder { holder: self.wheel })),
+            Overview::Watches => self.watches(who),
+        }
     }
 
     // Does what a command asks for.
-    fn obey(&mut self, who: u32, command: &Bound<'_>) -> Result<Reply, NoMemory>
+    fn obey(&mut self, who: u32, bound: &Bound<'_>) -> Result<Reply, NoMemory>
         requires there { IsPresent self.old.sessions who }
-        requires named { IsBoundOf self.old.app command.now }
-        ensures ok { IfOk result (IsDone self.old who command.now self.new) }
-        ensures no_memory { IsErr result → needs_memory command.now ≡ true }
+        requires named { IsBoundOf self.old.app bound.now }
+        ensures ok { IfOk result (IsDone self.old who bound.now self.new) }
+        ensures no_memory { IsErr result → needs_memory self.old who bound.now ≡ true }
         ensures err { OnErr result (self.new ≡ self.old) }
     {
-        match command {
-            Bound::Step { core } => self.step(*core),
-            Bound::Tick => self.tick(),
-            Bound::Forward { count } => self.forward(*count),
-            Bound::Redo { count } => self.redo(*count),
-            Bound::Back { count } => Ok(self.back(*count)),
-            Bound::Until { condition, count } => self.until(*condition, *count),
-            Bound::UntilWatch { watch, count } => self.until_watch(who, *watch, *count),
-            Bound::BackUntil { condition } => Ok(self.back_until(*condition)),
-            Bound::BackUntilWatch { watch } => Ok(self.back_until_watch(who, *watch)),
-            Bound::Poke { edit } => self.poke(edit),
-            Bound::TakeWheel => Ok(self.take_wheel(who)),
-            Bound::GiveWheel => Ok(self.give_wheel(who)),
-            Bound::Watch { condition } => Ok(self.watch(who, *condition)),
-            Bound::Unwatch { number } => Ok(self.unwatch(who, *number)),
-            Bound::Show { .. } | Bound::ShowCores => self.view(command),
-            Bound::ShowMoves => Ok(self.moves()),
-            Bound::ShowWheel => Ok(told(Short::Holder { holder: self.wheel })),
-            Bound::ShowWatches => self.watches(who),
+        match bound {
+            Bound::Asks { request } => self.ask(&own(request)),
+            Bound::AsksByWatch { watch, search } => self.ask_by_watch(who, *watch, *search),
+            Bound::TakesWheel => Ok(self.take_wheel(who)),
+            Bound::GivesWheel => Ok(self.give_wheel(who)),
+            Bound::Keeps { condition } => Ok(self.watch(who, *condition)),
+            Bound::Drops { number } => Ok(self.unwatch(who, *number)),
+            Bound::Looks { view } => self.look(who, *view),
         }
     }
 
@@ -513,27 +407,22 @@ impl Machine {
     /// that there is no room for a watch, that the session doesn't have the wheel that it would
     /// give, and then those of the timeline. They are replies, and change nothing. An `Err` says
     /// that there is no memory for the moves or the text that the command makes, and comes only
-    /// where it makes some; then nothing has changed either. What the command names was looked up
-    /// before, by `bind`.
-    pub fn serve(
-        &mut self,
-        who: u32,
-        command: &Command<'_>,
-        bound: &Result<Bound<'_>, Unknown>,
-    ) -> Result<Reply, NoMemory>
+    /// where it makes some; then nothing has changed either. The order was bound for this
+    /// application.
+    pub fn serve(&mut self, who: u32, order: &Order<'_, '_>) -> Result<Reply, NoMemory>
         requires there { IsPresent self.old.sessions who }
-        requires bound { result_ok bound.now ≡ bound_of self.old.app command.now }
-        ensures ok { IfOk result (IsAnswered self.old who command.now self.new) }
-        ensures no_memory { IsErr result → NeedsMemory self.old who command.now }
+        requires application { order.now.known ≡ known_of self.old.app }
+        ensures ok { IfOk result (IsAnswered self.old who order.now.command self.new) }
+        ensures no_memory { IsErr result → NeedsMemory self.old who order.now.command }
         ensures err { OnErr result (self.new ≡ self.old) }
     {
-        if let Some(holder) = self.held_by(who, command) {
+        if let Some(holder) = self.held_by(who, order.command()) {
             return Ok(refused(Refusal::Held { holder }));
         }
         let _ = &self.names;
-        match bound {
-            Ok(bound) => self.obey(who, bound),
-            Err(_) => Ok(refused(Refusal::NoSuch)),
+        match order.bound() {
+            Some(bound) => self.obey(who, bound),
+            None => Ok(refused(Refusal::NoSuch)),
         }
     }
 

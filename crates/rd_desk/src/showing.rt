@@ -1,17 +1,19 @@
 //! The lines of views.
 
-ghost use Rattle.std.specs.Prelude.{◌≡◌, ◌++◌, ◌<◌, [], length, IfOk, IfSome, IsSomeAnd, OnOk};
+ghost use Rattle.std.specs.Prelude.{◌≡◌, ◌++◌, ◌<◌, [], length, IfOk, IfSome, IsSome, OnOk};
 ghost use Rattle.rd_names.specs.Names.{names_of};
 ghost use Rattle.rd_reply.specs.Replies.{line_of, watches_text};
 ghost use Rattle.rd_desk.specs.Sessions.{AreWatchesOf};
 ghost use Rattle.rd_condition.specs.Conditions.{IsConditionOf};
-ghost use Rattle.rd_desk.specs.Views.{AreNamesOf, IsViewNamed, shown_at, text_shown, view_asked};
-ghost use Rattle.rd_desk.specs.Views.{view_text, watches_shown};
+ghost use Rattle.rd_command.specs.Bindings.{IsViewOf};
+ghost use Rattle.rd_desk.specs.Views.{AreNamesOf, shown_at, text_shown, view_text};
+ghost use Rattle.rd_desk.specs.Views.{watches_shown};
 
 use crate::text::Text;
 use crate::watches::Watches;
 use rd_bytes::no_memory::NoMemory;
-use rd_command::binding::{Bound, MAX_WATCHES};
+use rd_command::binding::MAX_WATCHES;
+use rd_command::view::{Overview, View};
 use rd_condition::condition::Condition;
 use rd_names::names::Names;
 use rd_reply::buffers::{show_message, show_stream};
@@ -56,60 +58,45 @@ fn append_thing(
     }
 }
 
-// Appends the view that a command asks for.
+// Appends a view of the target.
 fn append_view(
     state: &State,
     names: &Names,
     line: &mut Vec<u8>,
-    bound: &Bound<'_>,
+    view: View,
 ) -> Result<(), AllocError>
     requires paired { AreNamesOf state.now names.now }
-    requires view { IsSomeAnd (view_asked bound.now) (IsViewNamed names.now) }
-    ensures { OnOk result (IfSome (view_asked bound.now) (λ view.
-        line.new.items ≡ line.old.items ++ line_of (text_shown names.now state.now view))) }
+    requires there { IsSome (text_shown names.now state.now view) }
+    requires named { IsViewOf names.now view }
+    ensures { OnOk result (IfSome (text_shown names.now state.now view) (λ text.
+        line.new.items ≡ line.old.items ++ line_of text)) }
 {
-    match bound {
-        Bound::Show { kind, number } => append_thing(state, names, line, *kind, *number),
-        Bound::ShowCores => {
+    match view {
+        View::Thing { kind, number } => append_thing(state, names, line, kind, number),
+        View::Overview {
+            of: Overview::Cores,
+        } => {
             state.sizes();
             show_cores(line, names, state)
         }
-        Bound::Step { .. }
-        | Bound::Tick
-        | Bound::Forward { .. }
-        | Bound::Redo { .. }
-        | Bound::Back { .. }
-        | Bound::Until { .. }
-        | Bound::UntilWatch { .. }
-        | Bound::BackUntil { .. }
-        | Bound::BackUntilWatch { .. }
-        | Bound::Poke { .. }
-        | Bound::TakeWheel
-        | Bound::GiveWheel
-        | Bound::Watch { .. }
-        | Bound::Unwatch { .. }
-        | Bound::ShowMoves
-        | Bound::ShowWheel
-        | Bound::ShowWatches => unreachable!(),
+        View::Overview {
+            of: Overview::Moves | Overview::Wheel | Overview::Watches,
+        } => unreachable!(),
     }
 }
 
-/// The line of a view of the target, its LF included: of the thing that a command names, or of the
-/// cores. The command asks for one of these, by the number of a thing that there is, and the names
-/// are those of the state's objects and tasks. An `Err` says that there is no memory for it.
-pub fn show(
-    alloc: Global,
-    state: &State,
-    names: &Names,
-    bound: &Bound<'_>,
-) -> Result<Vec<u8>, NoMemory>
+/// The line of a view of the target, its LF included: of a thing by the number of one that there
+/// is, or of the cores. The names are those of the state's objects and tasks. An `Err` says that
+/// there is no memory for it.
+pub fn show(alloc: Global, state: &State, names: &Names, view: View) -> Result<Vec<u8>, NoMemory>
     requires paired { AreNamesOf state.now names.now }
-    requires view { IsSomeAnd (view_asked bound.now) (IsViewNamed names.now) }
-    ensures { IfOk result (λ line. IfSome (view_asked bound.now) (λ view.
-        line.items ≡ line_of (text_shown names.now state.now view))) }
+    requires there { IsSome (text_shown names.now state.now view) }
+    requires named { IsViewOf names.now view }
+    ensures { IfOk result (λ line. IfSome (text_shown names.now state.now view) (λ text.
+        line.items ≡ line_of text)) }
 {
     let mut line = Vec::with_capacity(alloc, ROOM)?;
-    append_view(state, names, &mut line, bound)?;
+    append_view(state, names, &mut line, view)?;
     Ok(line)
 }
 

@@ -15,8 +15,8 @@ use Rattle.rd_state.specs.Snapshot.{Snapshot, TaskSnapshot, group_at, items_at, 
 use Rattle.rd_state.specs.Snapshot.{with_queue, with_stream, with_task}
 use Rattle.rd_kernel.specs.Tasks.{entry_at}
 use Rattle.rd_kernel.proofs.Offered.{ContentsChange, EachStays-task, read_anyway}
-use Rattle.rd_edits.specs.declared.edit.Edit.{Edit}
-use Rattle.rd_edits.specs.declared.edit.Edit.TheVariants.{Register, Data, Pc, Value, Bits, Item, Byte}
+use Rattle.rd_moves.specs.Edits.{PlainEdit}
+use Rattle.rd_moves.specs.declared.edit.Edit.TheVariants.{Register, Data, Pc, Value, Bits, Item, Byte}
 use Rattle.rd_edits.specs.EditLaws.{EditsChangeOneThing, IsSameBut, NothingMoves, Task, Queue, Stream, Group, thing_of}
 use Rattle.rd_state.specs.Settled.{IsSettled}
 use Rattle.rd_edits.specs.Edits.{edited}
@@ -187,22 +187,22 @@ edits_change_one_thing s (Byte stream index value) =
 -- ---- in the words of crates above
 
 -- A task that isn't the edited one is as it was;
-pub edited-other_task : (s : Snapshot) (edit : Edit) (task : ℕ) → thing_of edit ≢ Task task → task_at (edited s edit) task ≡ task_at s task
+pub edited-other_task : (s : Snapshot) (edit : PlainEdit) (task : ℕ) → thing_of edit ≢ Task task → task_at (edited s edit) task ≡ task_at s task
 edited-other_task s edit task apart = (edits_change_one_thing s edit).rest.tasks task apart
 
 -- each task is in the phase that it was in,
-pub edited-phase : (s : Snapshot) (edit : Edit) (task : ℕ) → (task_at (edited s edit) task).phase ≡ (task_at s task).phase
+pub edited-phase : (s : Snapshot) (edit : PlainEdit) (task : ℕ) → (task_at (edited s edit) task).phase ≡ (task_at s task).phase
 edited-phase s edit task = (edits_change_one_thing s edit).nothing_moves.phases task
 
 -- and each entry in the state;
-pub edited-entry_state : (s : Snapshot) (edit : Edit) (task index : ℕ) → (entry_at (edited s edit) task index).state ≡ (entry_at s task index).state
+pub edited-entry_state : (s : Snapshot) (edit : PlainEdit) (task index : ℕ) → (entry_at (edited s edit) task index).state ≡ (entry_at s task index).state
 edited-entry_state s edit task index = (edits_change_one_thing s edit).nothing_moves.entries task index
 
 -- queue sets have the handles that they had;
-pub edited-handles : (s : Snapshot) (edit : Edit)
+pub edited-handles : (s : Snapshot) (edit : PlainEdit)
     → map (λ (q : QueueSetSnapshot). q.handles) (edited s edit).objects.queue_sets ≡ map (λ (q : QueueSetSnapshot). q.handles) s.objects.queue_sets
 edited-handles s edit = ap (λ (sets : List QueueSetSnapshot). map (λ (q : QueueSetSnapshot). q.handles) sets) (edits_change_one_thing s edit).rest.queue_sets
 
 -- and nothing is left to be scheduled if nothing was.
-pub edited-settled : (priorities : List ℕ) (s : Snapshot) (edit : Edit) → IsSettled priorities s → IsSettled priorities (edited s edit)
+pub edited-settled : (priorities : List ℕ) (s : Snapshot) (edit : PlainEdit) → IsSettled priorities s → IsSettled priorities (edited s edit)
 edited-settled priorities s edit settled = (edits_change_one_thing s edit).nothing_moves.settled priorities settled

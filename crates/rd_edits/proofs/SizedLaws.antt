@@ -24,9 +24,10 @@ use Rattle.rd_state.specs.Snapshot.{Snapshot, TaskSnapshot, items_at, no_task, n
 use Rattle.rd_state.proofs.Offered.{group_in_sized, queue_sized, stream_in_sized}
 use Rattle.rd_kernel.specs.Tasks.{entry_at}
 use Rattle.rd_kernel.proofs.Offered.{both}
-use Rattle.rd_edits.specs.declared.edit.Edit.{Edit}
-use Rattle.rd_edits.specs.declared.edit.Edit.TheVariants.{Register, Data, Pc, Value, Bits, Item, Byte}
-use Rattle.rd_edits.specs.Edits.{IsEditAt, IsEditOf, IsSizedEdit, edited, is_good_edit, with_byte_at, with_item_at}
+use Rattle.rd_moves.specs.Edits.{PlainEdit}
+use Rattle.rd_moves.specs.declared.edit.Edit.TheVariants.{Register, Data, Pc, Value, Bits, Item, Byte}
+use Rattle.rd_edits.specs.Edits.{IsEditAt, edited, is_good_edit, with_byte_at, with_item_at}
+use Rattle.rd_moves.specs.Edits.{IsEditOf, IsSizedEdit}
 use Rattle.rd_state.specs.Phases.{is_first}
 
 -- ---- tests of numbers
@@ -162,7 +163,7 @@ short_code app task limits there =
 sized_task : (s : Snapshot) (task : ℕ) → IsSized s → task < length s.tasks → IsSizedTask (task_at s task)
 sized_task s task sized there = All-get_or IsSizedTask s.tasks task no_task there sized.tasks.tasks
 
-pub IsSized-edited : (app : Application) (s : Snapshot) (edit : Edit) → IsApplication app → IsSizedEdit edit → IsEditOf app edit → IsEditAt s edit
+pub IsSized-edited : (app : Application) (s : Snapshot) (edit : PlainEdit) → IsApplication app → IsSizedEdit edit → IsEditOf app edit → IsEditAt s edit
     → is_good_edit app s edit ≡ true → IsSized s → IsSized (edited s edit)
 IsSized-edited app s (Register task register value) limits small named there good sized =
     let x = task_at s task in

@@ -17,7 +17,7 @@ use Rattle.rd_state.specs.Sizes.{IsSizedTask}
 use Rattle.rd_state.specs.Snapshot.{Snapshot, TaskSnapshot, group_at, items_at, no_task, queue_at, stream_at, task_at, with_task}
 use Rattle.rd_kernel.specs.Tasks.{entry_at}
 use Rattle.rd_kernel.proofs.Offered.{EachStays-task, both, task_now}
-use Rattle.rd_edits.specs.declared.edit.Edit.TheVariants.{Register, Data, Pc, Value, Bits, Item, Byte}
+use Rattle.rd_moves.specs.declared.edit.Edit.TheVariants.{Register, Data, Pc, Value, Bits, Item, Byte}
 use Rattle.rd_edits.specs.EditLaws.{EditsWriteOneSpot, OfBits, OfByte, OfData, OfItem, OfPc, OfRegister, OfValue, Spot, read_at}
 use Rattle.rd_edits.specs.Edits.{edited}
 use Rattle.rd_edits.proofs.SizedLaws.{below}

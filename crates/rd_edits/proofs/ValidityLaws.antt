@@ -18,14 +18,15 @@ use Rattle.rd_state.proofs.Offered.{group_count_shaped, queue_count_shaped, stre
 use Rattle.rd_kernel.specs.Tasks.{entry_at}
 use Rattle.rd_kernel.proofs.Offered.{IsConsistent, IsConsistent-contents, IsConsistent-valid, IsConsistent-with_entry, IsConsistent-with_pc, IsConsistent-with_values}
 use Rattle.rd_kernel.proofs.Offered.{IsValid-consistent, all_have_time_left, both}
-use Rattle.rd_edits.specs.declared.edit.Edit.{Edit}
-use Rattle.rd_edits.specs.declared.edit.Edit.TheVariants.{Register, Data, Pc, Value, Bits, Item, Byte}
-use Rattle.rd_edits.specs.Edits.{IsEditAt, IsEditOf, IsSizedEdit, edited, is_good_edit}
+use Rattle.rd_moves.specs.Edits.{PlainEdit}
+use Rattle.rd_moves.specs.declared.edit.Edit.TheVariants.{Register, Data, Pc, Value, Bits, Item, Byte}
+use Rattle.rd_edits.specs.Edits.{IsEditAt, edited, is_good_edit}
+use Rattle.rd_moves.specs.Edits.{IsEditOf, IsSizedEdit}
 use Rattle.rd_edits.proofs.ContentLaws.{bits_contents, bytes_contents, items_contents}
 use Rattle.rd_edits.proofs.SizedLaws.{IsSized-edited, below}
 
 -- What an edit names of an application is there in a state of it.
-IsEditAt-consistent : (app : Application) (D : ℕ → Phase → Type 0) (s : Snapshot) (edit : Edit) → IsEditOf app edit → IsConsistent app D s → IsEditAt s edit
+IsEditAt-consistent : (app : Application) (D : ℕ → Phase → Type 0) (s : Snapshot) (edit : PlainEdit) → IsEditOf app edit → IsConsistent app D s → IsEditAt s edit
 IsEditAt-consistent app D s (Register task register value) named at = (omega (arith, named.0, at.tasks), named.1)
 IsEditAt-consistent app D s (Data task bytes) named at = omega (arith, named, at.tasks)
 IsEditAt-consistent app D s (Pc task pc) named at = omega (arith, named, at.tasks)
@@ -36,7 +37,7 @@ IsEditAt-consistent app D s (Bits group bits) named at = omega (arith, named, gr
 IsEditAt-consistent app D s (Item queue index bytes) named at = omega (arith, named, queue_count_shaped app s.objects at.shapes)
 IsEditAt-consistent app D s (Byte stream index value) named at = omega (arith, named, stream_count_shaped app s.objects at.shapes)
 
-pub IsEditAt-valid : (app : Application) (s : Snapshot) (edit : Edit) → IsValid app s → IsEditOf app edit → IsEditAt s edit
+pub IsEditAt-valid : (app : Application) (s : Snapshot) (edit : PlainEdit) → IsValid app s → IsEditOf app edit → IsEditAt s edit
 IsEditAt-valid app s edit valid named = IsEditAt-consistent app (all_have_time_left s.tick) s edit named (IsConsistent-valid app s valid)
 
 -- A task whose next call is a first try is in Run.
@@ -49,7 +50,7 @@ runs Ended e = absurd (false≢true e)
 runs (Failed cause) e = absurd (false≢true e)
 
 -- what makes a state valid, but for its sizes
-pub IsConsistent-edited : (app : Application) (D : ℕ → Phase → Type 0) (s : Snapshot) (edit : Edit) → IsEditOf app edit → is_good_edit app s edit ≡ true
+pub IsConsistent-edited : (app : Application) (D : ℕ → Phase → Type 0) (s : Snapshot) (edit : PlainEdit) → IsEditOf app edit → is_good_edit app s edit ≡ true
     → IsConsistent app D s → IsConsistent app D (edited s edit)
 IsConsistent-edited app D s (Register task register value) named good at =
     let x = task_at s task in
@@ -73,7 +74,7 @@ IsConsistent-edited app D s (Byte stream index value) named good at =
     let bytes = set (stream_at s stream).bytes index value in
     IsConsistent-contents app D s (objects_with_stream s.objects stream (with_stream_bytes (stream_at s stream) bytes)) (bytes_contents s.objects stream bytes) at
 
-pub edited-tick : (s : Snapshot) (edit : Edit) → (edited s edit).tick ≡ s.tick
+pub edited-tick : (s : Snapshot) (edit : PlainEdit) → (edited s edit).tick ≡ s.tick
 edited-tick s (Register task register value) = refl
 edited-tick s (Data task bytes) = refl
 edited-tick s (Pc task pc) = refl
@@ -83,7 +84,7 @@ edited-tick s (Item queue index bytes) = refl
 edited-tick s (Byte stream index value) = refl
 
 -- A valid state stays valid, where it keeps its sizes, as every state of the target does;
-pub IsValid-edited : (app : Application) (s : Snapshot) (edit : Edit) → IsValid app s → IsEditOf app edit → is_good_edit app s edit ≡ true
+pub IsValid-edited : (app : Application) (s : Snapshot) (edit : PlainEdit) → IsValid app s → IsEditOf app edit → is_good_edit app s edit ≡ true
     → IsSized (edited s edit) → IsValid app (edited s edit)
 IsValid-edited app s edit valid named good sized =
     let now = IsConsistent-edited app (all_have_time_left s.tick) s edit named good (IsConsistent-valid app s valid) in
@@ -91,7 +92,7 @@ IsValid-edited app s edit valid named good sized =
     (subst (λ tick. IsConsistent app (all_have_time_left tick) (edited s edit)) (sym (edited-tick s edit)) now) sized
 
 -- and it does, after an edit of the size of an edit.
-pub IsValid-edited_whole : (app : Application) (s : Snapshot) (edit : Edit) → IsApplication app → IsSizedEdit edit → IsValid app s → IsEditOf app edit
+pub IsValid-edited_whole : (app : Application) (s : Snapshot) (edit : PlainEdit) → IsApplication app → IsSizedEdit edit → IsValid app s → IsEditOf app edit
     → is_good_edit app s edit ≡ true → IsValid app (edited s edit)
 IsValid-edited_whole app s edit limits small valid named good =
     IsValid-edited app s edit valid named good

@@ -10,10 +10,11 @@ use Rattle.rd_state.specs.Snapshot.{Snapshot, group_at, items_at, queue_at, stre
 use Rattle.rd_state.specs.Valid.{IsValid}
 use Rattle.rd_state.specs.Waiting.{holder_at, waiting_at, wishes_at}
 use Rattle.rd_kernel.specs.Tasks.{entry_at, register_at}
-use Rattle.rd_edits.specs.declared.edit.Edit.{Edit}
-use Rattle.rd_edits.specs.declared.edit.Edit.TheVariants.{Register, Data, Pc, Value}
-use Rattle.rd_edits.specs.declared.edit.Edit.TheVariants.{Bits, Item, Byte}
-use Rattle.rd_edits.specs.Edits.{edited, is_good_edit, IsEditOf}
+use Rattle.rd_moves.specs.Edits.{PlainEdit}
+use Rattle.rd_moves.specs.declared.edit.Edit.TheVariants.{Register, Data, Pc, Value}
+use Rattle.rd_moves.specs.declared.edit.Edit.TheVariants.{Bits, Item, Byte}
+use Rattle.rd_edits.specs.Edits.{edited, is_good_edit}
+use Rattle.rd_moves.specs.Edits.{IsEditOf}
 
 -- a thing that edits can change
 pub data Thing : Type 0 where
@@ -23,7 +24,7 @@ pub data Thing : Type 0 where
   Group : ℕ → Thing
 
 -- the one that an edit changes
-abbrev pub thing_of : Edit → Thing
+abbrev pub thing_of : PlainEdit → Thing
 thing_of (Register task register value) = Task task
 thing_of (Data task bytes) = Task task
 thing_of (Pc task pc) = Task task
@@ -62,13 +63,13 @@ pub record NothingMoves (old new : Snapshot) : Type 0 where
   pub bytes : (stream : ℕ)
       → length (stream_at new stream).bytes ≡ length (stream_at old stream).bytes
 
-pub record ChangesOneThing (s : Snapshot) (edit : Edit) : Type 0 where
+pub record ChangesOneThing (s : Snapshot) (edit : PlainEdit) : Type 0 where
   pub rest : IsSameBut s (edited s edit) (thing_of edit)
   pub nothing_moves : NothingMoves s (edited s edit)
 
 -- whichever edit it is, at whichever state
 abbrev pub EditsChangeOneThing : Type 0
-EditsChangeOneThing = (s : Snapshot) (edit : Edit) → ChangesOneThing s edit
+EditsChangeOneThing = (s : Snapshot) (edit : PlainEdit) → ChangesOneThing s edit
 
 -- ---- what is written
 
@@ -94,7 +95,7 @@ read_at s (OfItem queue index) = slice_index_or (items_at s queue) index []
 read_at s (OfByte stream index) = slice_index (stream_at s stream).bytes index ∷ []
 
 -- the spot that an edit writes, and what it writes there
-abbrev pub spot_of : Edit → Spot
+abbrev pub spot_of : PlainEdit → Spot
 spot_of (Register task register value) = OfRegister task register
 spot_of (Data task bytes) = OfData task
 spot_of (Pc task pc) = OfPc task
@@ -103,7 +104,7 @@ spot_of (Bits group bits) = OfBits group
 spot_of (Item queue index bytes) = OfItem queue index
 spot_of (Byte stream index value) = OfByte stream index
 
-abbrev pub written_by : Edit → List ℕ
+abbrev pub written_by : PlainEdit → List ℕ
 written_by (Register task register value) = value ∷ []
 written_by (Data task bytes) = bytes
 written_by (Pc task pc) = pc ∷ []
@@ -113,11 +114,11 @@ written_by (Item queue index bytes) = bytes
 written_by (Byte stream index value) = value ∷ []
 
 -- What the edit says stands at its spot, and at each other what stood there.
-pub record WritesOneSpot (s : Snapshot) (edit : Edit) : Type 0 where
+pub record WritesOneSpot (s : Snapshot) (edit : PlainEdit) : Type 0 where
   pub written : read_at (edited s edit) (spot_of edit) ≡ written_by edit
   pub others : (spot : Spot) → spot ≢ spot_of edit → read_at (edited s edit) spot ≡ read_at s spot
 
 -- whichever edit of an application can be made, at whichever valid state
 abbrev pub EditsWriteOneSpot : Type 0
-EditsWriteOneSpot = (app : Application) (s : Snapshot) (edit : Edit) → IsValid app s
+EditsWriteOneSpot = (app : Application) (s : Snapshot) (edit : PlainEdit) → IsValid app s
     → IsEditOf app edit → is_good_edit app s edit ≡ true → WritesOneSpot s edit

@@ -13,25 +13,14 @@ use Rattle.rd_state.specs.Snapshot.{with_bits_at, with_queue, with_stream}
 use Rattle.rd_kernel.specs.Costs.{data_cost, item_cost}
 use Rattle.rd_kernel.specs.Tasks.{entry_at, with_bytes, with_entry, with_pc, with_register}
 use Rattle.rd_kernel.specs.Tasks.{HasEntry}
-use Rattle.rd_edits.specs.declared.edit.Edit.{Edit}
-use Rattle.rd_edits.specs.declared.edit.Edit.TheVariants.{Register, Data, Pc, Value}
-use Rattle.rd_edits.specs.declared.edit.Edit.TheVariants.{Bits, Item, Byte}
+use Rattle.rd_moves.specs.Edits.{PlainEdit}
+use Rattle.rd_moves.specs.declared.edit.Edit.TheVariants.{Register, Data, Pc, Value}
+use Rattle.rd_moves.specs.declared.edit.Edit.TheVariants.{Bits, Item, Byte}
 
 -- ---- what an edit names
 
--- The application has the task, with its register or its entry, or the object.
-abbrev pub IsEditOf : Application → Edit → Type 0
-IsEditOf app (Register task register value) =
-    (task < length app.tasks) × (register < REGISTERS)
-IsEditOf app (Data task bytes) = task < length app.tasks
-IsEditOf app (Pc task pc) = task < length app.tasks
-IsEditOf app (Value task index value) = (task < length app.tasks) × (index < app.entries)
-IsEditOf app (Bits group bits) = group < length app.objects.groups
-IsEditOf app (Item queue index bytes) = queue < length app.objects.queues
-IsEditOf app (Byte stream index value) = stream < length app.objects.streams
-
--- So a state of it has these.
-abbrev pub IsEditAt : Snapshot → Edit → Type 0
+-- The state has the task, with its register or its entry, or the object.
+abbrev pub IsEditAt : Snapshot → PlainEdit → Type 0
 IsEditAt s (Register task register value) = (task < length s.tasks) × (register < REGISTERS)
 IsEditAt s (Data task bytes) = task < length s.tasks
 IsEditAt s (Pc task pc) = task < length s.tasks
@@ -39,16 +28,6 @@ IsEditAt s (Value task index value) = HasEntry s task index
 IsEditAt s (Bits group bits) = group < length s.objects.groups
 IsEditAt s (Item queue index bytes) = queue < length s.objects.queues
 IsEditAt s (Byte stream index value) = stream < length s.objects.streams
-
--- What every edit keeps: a value has 32 bits, and the bytes are no more than a task's data.
-abbrev pub IsSizedEdit : Edit → Type 0
-IsSizedEdit (Register task register value) = value < 2 ^ 32
-IsSizedEdit (Data task bytes) = length bytes ≤ MAX_BYTES
-IsSizedEdit (Pc task pc) = Unit {0}
-IsSizedEdit (Value task index value) = value < 2 ^ 32
-IsSizedEdit (Bits group bits) = Unit {0}
-IsSizedEdit (Item queue index bytes) = Unit {0}
-IsSizedEdit (Byte stream index value) = Unit {0}
 
 -- ---- which edits can be made
 
@@ -67,7 +46,7 @@ is_good_byte s stream index value =
     nat_lt index (length (stream_at s stream).bytes) && nat_le value 255
 
 -- Can an edit be made? Else it is refused as a bad one.
-abbrev pub is_good_edit : Application → Snapshot → Edit → Bool
+abbrev pub is_good_edit : Application → Snapshot → PlainEdit → Bool
 is_good_edit app s (Register task register value) = true
 is_good_edit app s (Data task bytes) = true
 is_good_edit app s (Pc task pc) = is_good_pc app s task pc
@@ -95,7 +74,7 @@ with_byte_at s stream index value =
     (with_stream_bytes (stream_at s stream) (slice_set (stream_at s stream).bytes index value))
 
 -- the state after an edit
-abbrev pub edited : Snapshot → Edit → Snapshot
+abbrev pub edited : Snapshot → PlainEdit → Snapshot
 edited s (Register task register value) = with_register s task register value
 edited s (Data task bytes) = with_bytes s task bytes
 edited s (Pc task pc) = with_pc s task pc
@@ -105,7 +84,7 @@ edited s (Item queue index bytes) = with_item_at s queue index bytes
 edited s (Byte stream index value) = with_byte_at s stream index value
 
 -- what an edit takes in a record at the most: one change, and the bytes that were there
-abbrev pub edit_cost : Edit → ℕ
+abbrev pub edit_cost : PlainEdit → ℕ
 edit_cost (Register task register value) = 1
 edit_cost (Data task bytes) = data_cost
 edit_cost (Pc task pc) = 1

@@ -13,7 +13,8 @@ ghost use Rattle.rd_kernel.specs.Costs.{data_cost, item_cost};
 ghost use Rattle.rd_kernel.specs.Tasks.{entry_at, with_bytes, with_pc, HasEntry};
 ghost use Rattle.rd_edits.specs.Edits.{edit_cost, edited, is_good_byte, is_good_edit, is_good_item};
 ghost use Rattle.rd_edits.specs.Edits.{is_good_pc, with_byte_at, with_item_at};
-ghost use Rattle.rd_edits.specs.Edits.{with_value, IsEditAt, IsEditOf, IsSizedEdit};
+ghost use Rattle.rd_edits.specs.Edits.{with_value, IsEditAt};
+ghost use Rattle.rd_moves.specs.Edits.{IsEditOf, IsSizedEdit};
 
 use rd_app::app::Program;
 use rd_bytes::bytes::Bytes;
@@ -21,6 +22,7 @@ use rd_bytes::no_memory::NoMemory;
 use rd_group::group_change::GroupChange;
 use rd_group::wish::MAX_BITS;
 use rd_kernel::changes::{set_bytes, set_entry, set_pc, set_register};
+use rd_moves::edit::Edit;
 use rd_notify::entries::Entry;
 use rd_queue::change::QueueChange;
 use rd_state::change::Change;
@@ -28,55 +30,6 @@ use rd_state::editing::Editing;
 use rd_state::objects::ObjectChange;
 use rd_state::state::State;
 use rd_stream::stream_change::StreamChange;
-
-/// One thing that is changed by hand, to see what would come of it. An edit wakes nobody, schedules
-/// nothing, and leaves the turn where it is. Tasks, objects and their parts go by number, from 0.
-#[derive(Drop)]
-pub enum Edit {
-    /// `poke reg K N N`: the register, 0 to 7, becomes the value, whatever the task does.
-    Register {
-        task: usize,
-        register: usize,
-        value: u32,
-    },
-    /// `poke data K HEX`: the task's data becomes these bytes, 0 to 256 of them.
-    Data {
-        task: usize,
-        bytes: Bytes,
-    },
-    /// `poke pc K N`: the task, which has to be in Run, goes on at that instruction of its script.
-    Pc {
-        task: usize,
-        pc: usize,
-    },
-    /// `poke note K N N`: the value of the task's notification entry, 0 to 3, becomes this one. The
-    /// entry stays idle, waiting or received, unlike after `xTaskNotifyIndexed`.
-    Value {
-        task: usize,
-        index: usize,
-        value: u32,
-    },
-    /// `poke group G N`: the event group has these bits and no others, at most 2^24 - 1. Whoever
-    /// waits for them waits on, unlike after `xEventGroupSetBits`.
-    Bits {
-        group: usize,
-        bits: u32,
-    },
-    /// `poke item Q N HEX`: an item of the queue, 0 the one that is received next, becomes these
-    /// bytes, as many as each item of the queue has.
-    Item {
-        queue: usize,
-        index: usize,
-        bytes: Bytes,
-    },
-    /// `poke byte B N N`: a byte of the stream buffer, 0 the one that is read next, becomes the
-    /// value, at most 255.
-    Byte {
-        stream: usize,
-        index: usize,
-        value: u32,
-    },
-}
 
 // May a task be put at that instruction? In a call it stands at that call until it returns.
 fn is_good_pc(app: &Program, state: &State, task: usize, pc: usize) -> bool
@@ -212,154 +165,78 @@ fn set_byte(editing: &mut Editing, stream: usize, index: usize, value: u8) -> Re
     editing.change(Change::Object { change })
 }
 
-// A value has 32 bits.
-fn has_32_bits(value: u32)
-    ensures { value < 2 ^ 32 }
+// What an edit names of the application is there in its state.
+fn is_there(edit: &Edit, app: &Program, state: &State)
+    requires valid { IsValid app.now state.now }
+    requires named { IsEditOf app.now edit.now }
+    ensures { IsEditAt state.now edit.now }
 {
-    let _ = value;
+    let _ = app;
+    let _ = state;
 }
 
-// There are no more bytes than a task's data has.
-fn are_few(bytes: &Bytes)
-    ensures { length bytes.now ≤ MAX_BYTES }
+/// Whether the edit can be made. It is refused as BadEdit where a task that isn't in Run would
+/// go on elsewhere, or a task beyond its script's end; where bits are above 2^24 - 1; where
+/// there is no such item, or the bytes aren't as many as it has; where there is no such byte,
+/// or the value is above 255. A register, data and a value are never refused.
+pub fn is_good(edit: &Edit, app: &Program, state: &State) -> bool
+    requires valid { IsValid app.now state.now }
+    requires named { IsEditOf app.now edit.now }
+    ensures { result ≡ is_good_edit app.now state.now edit.now }
 {
-    bytes.as_slice();
+    is_there(edit, app, state);
+    match edit {
+        Edit::Register { .. } | Edit::Data { .. } | Edit::Value { .. } => true,
+        Edit::Pc { task, pc } => is_good_pc(app, state, *task, *pc),
+        Edit::Bits { bits, .. } => *bits <= MAX_BITS,
+        Edit::Item {
+            queue,
+            index,
+            bytes,
+        } => is_good_item(state, *queue, *index, bytes.as_slice().len()),
+        Edit::Byte {
+            stream,
+            index,
+            value,
+        } => is_good_byte(state, *stream, *index, *value),
+    }
 }
 
-// The same bytes once more.
-fn copy_of(bytes: &Bytes) -> Bytes
-    ensures { result ≡ bytes.now }
+/// Makes an edit that can be made, and records what undoes it. One that changes nothing takes
+/// no memory. `NoMemory` where there is none for the record; then the move goes no further.
+pub fn make(edit: &Edit, app: &Program, editing: &mut Editing) -> Result<(), NoMemory>
+    requires valid { IsValid app.now editing.old.now }
+    requires named { IsEditOf app.now edit.now }
+    requires good { is_good_edit app.now editing.old.now edit.now ≡ true }
+    ensures ok { OnOk result (Reaches editing.old editing.new
+        (edited editing.old.now edit.now) (edit_cost edit.now)) }
+    ensures nothing { edited editing.old.now edit.now ≡ editing.old.now → IsOk result }
+    ensures err { OnErr result (GivesUp editing.old editing.new (edit_cost edit.now)) }
 {
-    Bytes::from_slice(bytes.as_slice())
-}
-
-impl Edit {
-    /// An equal edit.
-    pub fn copy(&self) -> Edit
-        ensures { result ≡ self.now }
-    {
-        match self {
-            &Edit::Register {
-                task,
-                register,
-                value,
-            } => Edit::Register {
-                task,
-                register,
-                value,
-            },
-            Edit::Data { task, bytes } => Edit::Data {
-                task: *task,
-                bytes: copy_of(bytes),
-            },
-            &Edit::Pc { task, pc } => Edit::Pc { task, pc },
-            &Edit::Value { task, index, value } => Edit::Value { task, index, value },
-            &Edit::Bits { group, bits } => Edit::Bits { group, bits },
-            Edit::Item {
-                queue,
-                index,
-                bytes,
-            } => Edit::Item {
-                queue: *queue,
-                index: *index,
-                bytes: copy_of(bytes),
-            },
-            &Edit::Byte {
-                stream,
-                index,
-                value,
-            } => Edit::Byte {
-                stream,
-                index,
-                value,
-            },
+    is_there(edit, app, editing.state());
+    match edit {
+        Edit::Register {
+            task,
+            register,
+            value,
+        } => set_register(editing, *task, *register, *value),
+        Edit::Data { task, bytes } => set_data(editing, *task, bytes.as_slice()),
+        Edit::Pc { task, pc } => {
+            // (a script has no more instructions than it may)
+            app.code(*task);
+            go_to(editing, *task, *pc)
         }
-    }
-
-    // What every edit keeps.
-    pub(crate) fn sizes(&self)
-        ensures { IsSizedEdit self.now }
-    {
-        match self {
-            Edit::Register { value, .. } | Edit::Value { value, .. } => has_32_bits(*value),
-            Edit::Data { bytes, .. } => are_few(bytes),
-            Edit::Pc { .. } | Edit::Bits { .. } | Edit::Item { .. } | Edit::Byte { .. } => (),
-        }
-    }
-
-    // What an edit names of the application is there in its state.
-    fn is_there(&self, app: &Program, state: &State)
-        requires valid { IsValid app.now state.now }
-        requires named { IsEditOf app.now self.now }
-        ensures { IsEditAt state.now self.now }
-    {
-        let _ = app;
-        let _ = state;
-    }
-
-    /// Whether the edit can be made. It is refused as BadEdit where a task that isn't in Run would
-    /// go on elsewhere, or a task beyond its script's end; where bits are above 2^24 - 1; where
-    /// there is no such item, or the bytes aren't as many as it has; where there is no such byte,
-    /// or the value is above 255. A register, data and a value are never refused.
-    pub fn is_good(&self, app: &Program, state: &State) -> bool
-        requires valid { IsValid app.now state.now }
-        requires named { IsEditOf app.now self.now }
-        ensures { result ≡ is_good_edit app.now state.now self.now }
-    {
-        self.is_there(app, state);
-        match self {
-            Edit::Register { .. } | Edit::Data { .. } | Edit::Value { .. } => true,
-            Edit::Pc { task, pc } => is_good_pc(app, state, *task, *pc),
-            Edit::Bits { bits, .. } => *bits <= MAX_BITS,
-            Edit::Item {
-                queue,
-                index,
-                bytes,
-            } => is_good_item(state, *queue, *index, bytes.as_slice().len()),
-            Edit::Byte {
-                stream,
-                index,
-                value,
-            } => is_good_byte(state, *stream, *index, *value),
-        }
-    }
-
-    /// Makes an edit that can be made, and records what undoes it. One that changes nothing takes
-    /// no memory. `NoMemory` where there is none for the record; then the move goes no further.
-    pub fn make(&self, app: &Program, editing: &mut Editing) -> Result<(), NoMemory>
-        requires valid { IsValid app.now editing.old.now }
-        requires named { IsEditOf app.now self.now }
-        requires good { is_good_edit app.now editing.old.now self.now ≡ true }
-        ensures ok { OnOk result (Reaches editing.old editing.new
-            (edited editing.old.now self.now) (edit_cost self.now)) }
-        ensures nothing { edited editing.old.now self.now ≡ editing.old.now → IsOk result }
-        ensures err { OnErr result (GivesUp editing.old editing.new (edit_cost self.now)) }
-    {
-        self.is_there(app, editing.state());
-        match self {
-            Edit::Register {
-                task,
-                register,
-                value,
-            } => set_register(editing, *task, *register, *value),
-            Edit::Data { task, bytes } => set_data(editing, *task, bytes.as_slice()),
-            Edit::Pc { task, pc } => {
-                // (a script has no more instructions than it may)
-                app.code(*task);
-                go_to(editing, *task, *pc)
-            }
-            Edit::Value { task, index, value } => set_value(editing, *task, *index, *value),
-            Edit::Bits { group, bits } => set_bits(editing, *group, *bits),
-            Edit::Item {
-                queue,
-                index,
-                bytes,
-            } => set_item(editing, *queue, *index, bytes.as_slice()),
-            Edit::Byte {
-                stream,
-                index,
-                value,
-            } => set_byte(editing, *stream, *index, *value as u8),
-        }
+        Edit::Value { task, index, value } => set_value(editing, *task, *index, *value),
+        Edit::Bits { group, bits } => set_bits(editing, *group, *bits),
+        Edit::Item {
+            queue,
+            index,
+            bytes,
+        } => set_item(editing, *queue, *index, bytes.as_slice()),
+        Edit::Byte {
+            stream,
+            index,
+            value,
+        } => set_byte(editing, *stream, *index, *value as u8),
     }
 }

@@ -3,10 +3,11 @@
 ghost use Rattle.std.specs.Prelude.{◌≡◌, true};
 ghost use Rattle.rd_state.specs.Valid.{IsValid};
 ghost use Rattle.rd_edits.specs.EditLaws.{EditsChangeOneThing, EditsWriteOneSpot};
-ghost use Rattle.rd_edits.specs.Edits.{edited, is_good_edit, IsEditOf};
+ghost use Rattle.rd_edits.specs.Edits.{edited, is_good_edit};
+ghost use Rattle.rd_moves.specs.Edits.{IsEditOf};
 
-use crate::edit::Edit;
 use rd_app::app::Program;
+use rd_moves::edit::Edit;
 use rd_state::state::State;
 
 /// A valid state stays valid after an edit that can be made, whichever it is.

@@ -16,8 +16,8 @@ use crate::room::Room;
 use crate::seat::{Gone, Pass, Seat};
 use crate::setup::Setup;
 use rd_bytes::no_memory::NoMemory;
-use rd_command::binding::bind;
 use rd_command::command::Command;
+use rd_command::order::Order;
 use rd_desk::desk::{EnterError, NotServed};
 use rd_desk::limits::Limits;
 use rd_names::app::App;
@@ -147,11 +147,11 @@ impl<L: Setup> Hall<L> {
             TurnsAway d seat.session error)) }
     {
         let mut seat = seat;
-        let bound = bind(command, &self.names, self.cores, self.entries);
+        let order = Order::new(command, &self.names, self.cores, self.entries);
         let mut room = self.room.lock(rt);
         room.keeps();
         room.backs(&mut seat);
-        room.ask(seat, command, &bound)
+        room.ask(seat, &order)
     }
 
     /// A session leaves, under the lock, and gets the receipt of that, or none where the history

@@ -2,8 +2,7 @@
 
 ghost use Rattle.std.specs.Prelude.{◌≡◌, ◌≢◌, ◌↔◌, ◌+◌, ◌<◌, ◌≤◌, [], length, vec_len};
 ghost use Rattle.std.specs.Prelude.{Ok, IfOk, IfErr, OnOk, OnErr, IsTrue, IsOk, IsErrOf};
-ghost use Rattle.std.specs.Result.{result_ok};
-ghost use Rattle.rd_command.specs.Bindings.{bound_of};
+ghost use Rattle.rd_command.specs.Bindings.{known_of};
 ghost use Rattle.rd_desk.specs.Debugger.{opening};
 ghost use Rattle.rd_desk.specs.DeskView.{IsKept, LeadsBack, used};
 ghost use Rattle.rd_desk.specs.Legal.{IsLegal};
@@ -20,8 +19,7 @@ use crate::look::Look;
 use crate::seat::{Gone, Pass, Seat};
 use crate::setup::Setup;
 use rd_bytes::no_memory::NoMemory;
-use rd_command::binding::{Bound, Unknown};
-use rd_command::command::Command;
+use rd_command::order::Order;
 use rd_desk::desk::{Desk, EnterError, NotServed};
 use rd_desk::limits::Limits;
 use rd_desk::sessions::MAX_JOINS;
@@ -190,20 +188,15 @@ impl<L: Setup> Room<L> {
         seat.next <= self.desk.entries() && self.desk.is_present(seat.who)
     }
 
-    /// Serves a command, with what `bind` made of it for the application; the seat gets the receipt
-    /// of that. `Broken` where the history doesn't reach past the seat's last receipt, or its
-    /// session isn't present, else `NoMemory` where the seat has no room for two more receipts,
-    /// this and that of its leave, and no memory for them, else `HistoryFull` where no place is
-    /// free, else `NoMemory` where the debugger has none. A refusal changes nothing. It takes no
-    /// memory beside that of the seat and of the debugger.
-    pub fn ask(
-        &mut self,
-        seat: Seat<L>,
-        command: &Command<'_>,
-        bound: &Result<Bound<'_>, Unknown>,
-    ) -> (Seat<L>, Result<(), NotServed>)
-        requires bound { result_ok bound.now ≡ bound_of L.app command.now }
-        ensures ok { OnOk result.1 (DoesFor self.old.desk seat.session (Ask command.now)
+    /// Serves a command that was bound for the application; the seat gets the receipt of that.
+    /// `Broken` where the history doesn't reach past the seat's last receipt, or its session isn't
+    /// present, else `NoMemory` where the seat has no room for two more receipts, this and that of
+    /// its leave, and no memory for them, else `HistoryFull` where no place is free, else
+    /// `NoMemory` where the debugger has none. A refusal changes nothing. It takes no memory beside
+    /// that of the seat and of the debugger.
+    pub fn ask(&mut self, seat: Seat<L>, order: &Order<'_, '_>) -> (Seat<L>, Result<(), NotServed>)
+        requires application { order.now.known ≡ known_of L.app }
+        ensures ok { OnOk result.1 (DoesFor self.old.desk seat.session (Ask order.now.command)
             self.new.desk result.0.session) }
         ensures broken { IsErrOf result.1 NotServed.Broken
             ↔ (¬ Reaches self.old.desk seat.session) }
@@ -220,73 +213,37 @@ impl<L: Setup> Room<L> {
         ensures room_kept { OnErr result.1 (seat.room ≤ result.0.room) }
         ensures room_taken { OnOk result.1 (seat.room ≤ result.0.room + 1) }
     {
+        let mut seat = seat;
         if !self.reaches(&seat) {
             return (seat, Err(NotServed::Broken));
         }
-        self.serve(seat, command, bound)
+        let served = self.serve(&mut seat, order);
+        (seat, served)
     }
 
     // Serves a command of a seat that the history reaches past.
-    fn serve(
-        &mut self,
-        seat: Seat<L>,
-        command: &Command<'_>,
-        bound: &Result<Bound<'_>, Unknown>,
-    ) -> (Seat<L>, Result<(), NotServed>)
-        requires reaches { Reaches self.old.desk seat.session }
-        requires bound { result_ok bound.now ≡ bound_of L.app command.now }
-        ensures ok { OnOk result.1 (DoesFor self.old.desk seat.session (Ask command.now)
-            self.new.desk result.0.session) }
-        ensures not_broken { IfErr result.1 (λ error. error ≢ NotServed.Broken) }
-        ensures history_full { IsTrue (is_serve_full result.1)
-            ↔ ((self.old.desk.most_entries ≡ used self.old.desk) × (2 ≤ result.0.room)) }
-        ensures room { OnOk result.1 (used self.old.desk < self.old.desk.most_entries) }
-        ensures tally { IfErr result.1 (λ error. IfServeFull error (λ tally.
+    fn serve(&mut self, seat: &mut Seat<L>, order: &Order<'_, '_>) -> Result<(), NotServed>
+        requires reaches { Reaches self.old.desk seat.old.session }
+        requires application { order.now.known ≡ known_of L.app }
+        ensures ok { OnOk result (DoesFor self.old.desk seat.old.session
+            (Ask order.now.command) self.new.desk seat.new.session) }
+        ensures not_broken { IfErr result (λ error. error ≢ NotServed.Broken) }
+        ensures history_full { IsTrue (is_serve_full result)
+            ↔ ((self.old.desk.most_entries ≡ used self.old.desk) × (2 ≤ seat.new.room)) }
+        ensures room { OnOk result (used self.old.desk < self.old.desk.most_entries) }
+        ensures tally { IfErr result (λ error. IfServeFull error (λ tally.
             (tally ≡ tally_of self.old.desk)
             × (tally.limit ≡ tally.entries + tally.present))) }
-        ensures err { OnErr result.1
-            ((self.new ≡ self.old) × (result.0.session ≡ seat.session)) }
-        ensures room_kept { OnErr result.1 (seat.room ≤ result.0.room) }
-        ensures room_taken { OnOk result.1 (seat.room ≤ result.0.room + 1) }
+        ensures err { OnErr result
+            ((self.new ≡ self.old) × (seat.new.session ≡ seat.old.session)) }
+        ensures room_kept { OnErr result (seat.old.room ≤ seat.new.room) }
+        ensures room_taken { OnOk result (seat.old.room ≤ seat.new.room + 1) }
     {
-        let Seat {
-            who,
-            mut receipts,
-            next,
-            mut share,
-        } = seat;
-        if receipts.reserve(2).is_err() {
-            let seat = Seat {
-                who,
-                receipts,
-                next,
-                share,
-            };
-            return (seat, Err(NotServed::NoMemory));
-        }
-        match self.desk.serve(who, command.line(), command, bound) {
-            Ok(served) => {
-                self.book.add(&mut share, 1);
-                let next = self.desk.entries();
-                receipts.push_reserved(served);
-                let seat = Seat {
-                    who,
-                    receipts,
-                    next,
-                    share,
-                };
-                (seat, Ok(()))
-            }
-            Err(error) => {
-                let seat = Seat {
-                    who,
-                    receipts,
-                    next,
-                    share,
-                };
-                (seat, Err(error))
-            }
-        }
+        seat.make_room()?;
+        let served = self.desk.serve(seat.who, order)?;
+        let next = self.desk.entries();
+        seat.gain(&mut self.book, served, next);
+        Ok(())
     }
 
     /// A session leaves, and gets the receipt of that. Where the history doesn't reach past the
@@ -299,35 +256,11 @@ impl<L: Setup> Room<L> {
             → (self.new ≡ self.old) × (result ≡ seat.session) }
     {
         if !self.reaches(&seat) {
-            let Seat {
-                who,
-                receipts,
-                next,
-                share,
-            } = seat;
-            return Gone {
-                who,
-                receipts,
-                next,
-                share,
-            };
+            return seat.gone();
         }
-        let Seat {
-            who,
-            mut receipts,
-            next: _,
-            mut share,
-        } = seat;
-        let left = self.desk.depart(who);
-        self.book.add(&mut share, 1);
+        let left = self.desk.depart(seat.who);
         let next = self.desk.entries();
-        receipts.push_reserved(left);
-        Gone {
-            who,
-            receipts,
-            next,
-            share,
-        }
+        seat.leave(&mut self.book, left, next)
     }
 
     /// Ends the debugger. `Broken` where the receipts that are handed in aren't those of the

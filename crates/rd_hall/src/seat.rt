@@ -1,12 +1,13 @@
 //! The sessions of a hall: who may join, who has joined, and who has left.
 
-ghost use Rattle.std.specs.Prelude.{◌≡◌, ◌+◌, ◌-◌, ◌<◌, length, slice_get, Some};
-ghost use Rattle.rd_hall.specs.SeatView.{IsSeries, next_place};
+ghost use Rattle.std.specs.Prelude.{◌≡◌, ◌+◌, ◌-◌, ◌<◌, ◌≤◌, length, slice_get, OnErr, OnOk, Some};
+ghost use Rattle.rd_hall.specs.SeatView.{IsSeries, next_place, with_receipt};
 
 use crate::setup::Setup;
+use rd_bytes::no_memory::NoMemory;
 use rd_desk::entry::Receipt;
 use std::marker::Model;
-use std::sync::ledger::Share;
+use std::sync::ledger::{Book, Share};
 
 /// The right to join once. It may be dropped.
 #[derive(Drop)]
@@ -118,6 +119,76 @@ impl<L: Setup> Seat<L> {
         ensures room { 0 < self.now.room }
     {
         let _ = &self.who;
+    }
+}
+
+impl<L: Setup> Seat<L> {
+    // Makes room for two more receipts. An `Err` says that there is no memory for them.
+    pub(crate) fn make_room(&mut self) -> Result<(), NoMemory>
+        ensures session { self.new.session ≡ self.old.session }
+        ensures room { OnOk result (2 ≤ self.new.room) }
+        ensures kept { self.old.room ≤ self.new.room }
+        ensures short { OnErr result (self.new.room < 2) }
+    {
+        self.receipts.reserve(2)?;
+        Ok(())
+    }
+
+    // Gains a receipt, which the ledger counts. There is room for it, and for that of the leave.
+    pub(crate) fn gain(&mut self, book: &mut Book<L>, receipt: Receipt, next: usize)
+        requires who { receipt.entry.who ≡ self.old.session.who }
+        requires behind { next_place 0 self.old.session.receipts ≤ receipt.place }
+        requires next { next ≡ receipt.place + 1 }
+        requires room { 2 ≤ self.old.room }
+        ensures session { self.new.session ≡ with_receipt self.old.session receipt }
+        ensures room { self.new.room + 1 ≡ self.old.room }
+        ensures book { book.new.total ≡ book.old.total + 1 }
+    {
+        book.add(&mut self.share, 1);
+        self.receipts.push_reserved(receipt);
+        self.next = next;
+    }
+
+    // The session as one that has left, without a receipt of that.
+    pub(crate) fn gone(self) -> Gone<L>
+        ensures { result ≡ self.session }
+    {
+        let Seat {
+            who,
+            receipts,
+            next,
+            share,
+        } = self;
+        Gone {
+            who,
+            receipts,
+            next,
+            share,
+        }
+    }
+
+    // Leaves with the receipt of that, which the ledger counts. It takes no memory.
+    pub(crate) fn leave(self, book: &mut Book<L>, receipt: Receipt, next: usize) -> Gone<L>
+        requires who { receipt.entry.who ≡ self.session.who }
+        requires behind { next_place 0 self.session.receipts ≤ receipt.place }
+        requires next { next ≡ receipt.place + 1 }
+        ensures session { result ≡ with_receipt self.session receipt }
+        ensures book { book.new.total ≡ book.old.total + 1 }
+    {
+        let Seat {
+            who,
+            mut receipts,
+            next: _,
+            mut share,
+        } = self;
+        book.add(&mut share, 1);
+        receipts.push_reserved(receipt);
+        Gone {
+            who,
+            receipts,
+            next,
+            share,
+        }
     }
 }
 

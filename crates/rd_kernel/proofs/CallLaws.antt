@@ -14,7 +14,7 @@ use Rattle.rd_wait.specs.Joined.{joined}
 use Rattle.rd_state.specs.Sizes.{IsSized, IsTaskOrIdle}
 use Rattle.rd_state.specs.Snapshot.{Snapshot, TaskSnapshot, core_at, task_at, with_task}
 use Rattle.rd_state.specs.Valid.{EntriesFitCall, HoldersFitCall, IsValid, PhaseFitsCall, entry_of_call, is_ahead, is_in_list, is_on, place_of_call, seats_to_run}
-use Rattle.rd_state.specs.Valid.{is_in_group, times_in_list, times_on_cores}
+use Rattle.rd_state.specs.Valid.{is_in_group, times_in_list, times_on_cores, times_waiting_in}
 use Rattle.rd_state.specs.Waiting.{HasList, entry_of, listed_at, waiting_at, with_waiting_at}
 use Rattle.rd_state.specs.declared.phase.Listed.TheVariants.{Group}
 use Rattle.rd_group.specs.declared.wish.Wish.{Wish}
@@ -27,7 +27,7 @@ use Rattle.rd_kernel.proofs.ConsistentLaws.{HoldersFitCall-objects, IsConsistent
 use Rattle.rd_kernel.proofs.TaskListLaws.{first_waits, member_has, room_for}
 use Rattle.std.specs.Option.{option_and_then, option_to_list}
 use Rattle.rd_app.specs.declared.instr.Instr.{Instr}
-use Rattle.rd_kernel.specs.Waking.{deadline_of, is_due, may_wait, with_waiter, woken_first}
+use Rattle.rd_kernel.specs.Waking.{ReadyHasRoom, WhoWaitsLeavesRoom, deadline_of, is_due, may_wait, with_waiter, woken_first}
 use Rattle.rd_kernel.proofs.MovingLaws.{EntriesFitCall-free, HoldersFitCall-free, IsConsistent-moves, IsConsistent-task_replaced, IsFree, IsFree-objects}
 use Rattle.rd_kernel.proofs.MovingLaws.{ListGoes, ListGoes-appended, ListGoes-joined, ObjectsGo-list}
 use Rattle.rd_kernel.proofs.MovingLaws.{ObjectsGo-stay, SeatsGo-off_core, free_in_call, free_in_run, has_seat, runner_waits_nowhere}
@@ -383,6 +383,33 @@ room_beside_core app s core task valid has_core e =
     room_for s.ready (length s.tasks) task valid.in_limits.sized.scheduling.ready
     (λ t h. omega (arith, at.seated_once t h, seats_to_run-at_most_one (task_at s t).phase)) there
     (omega (arith, seats, seats_to_run-at_most_one (task_at s task).phase, times_on_cores-some s core task has_core e))
+
+-- It has room as long as somebody waits, who isn't ready,
+pub room_while_one_waits : (app : Application) (s : Snapshot) (task : ℕ) → IsValid app s → task < length s.tasks
+    → IsSome (waits_at (task_at s task).phase) → ReadyHasRoom s
+room_while_one_waits app s task valid there waits =
+    room_in_ready app (all_have_time_left s.tick) s task (IsConsistent-valid app s valid) valid.in_limits.sized there
+    (by_place (waits_at (task_at s task).phase) refl waits)
+  where
+    by_place : (o : Option Place) → waits_at (task_at s task).phase ≡ o → IsSome o → seats_to_run (task_at s task).phase ≡ 0
+    by_place None e waits = absurd (false≢true waits)
+    by_place (Some place) e waits = waiter_is_idle (task_at s task).phase place e
+
+-- so also as long as somebody stands in a list of those who wait.
+pub room_while_a_list_has_one : (app : Application) (s : Snapshot) (list : Listed) → IsValid app s → HasList s list
+    → 0 < length (waiting_at s list) → ReadyHasRoom s
+room_while_a_list_has_one app s list valid has_list some =
+    let first = first_waits (waiting_at s list) some in
+    let there = waits_is_task s list first.0 valid.in_limits.sized has_list first.1 in
+    let stands : 1 ≤ times_waiting_in list (task_at s first.0).phase = omega (arith, first.1, valid.places list first.0 there) in
+    room_in_ready app (all_have_time_left s.tick) s first.0 (IsConsistent-valid app s valid) valid.in_limits.sized there
+    (waits_idle list (task_at s first.0).phase stands)
+
+pub who_waits_leaves_room : WhoWaitsLeavesRoom
+who_waits_leaves_room app s valid = record {
+  anywhere = λ task there waits. room_while_one_waits app s task valid there waits;
+  in_lists = λ list has_list some. room_while_a_list_has_one app s list valid has_list some;
+}
 
 -- Whoever is on a core can call.
 pub calls_from : (app : Application) (s : Snapshot) (core : ℕ) (running : Option ℕ) → IsValid app s → core < length s.cores → running ≡ core_at s core

@@ -24,23 +24,15 @@ use Rattle.rd_wait.specs.Joined.{IsInOrder}
 use Rattle.rd_state.specs.Settled.{seating_of}
 use Rattle.rd_state.specs.Sizes.{IsSized}
 use Rattle.rd_state.specs.Snapshot.{Snapshot, TaskSnapshot, no_task, task_at, with_objects, with_task}
-use Rattle.rd_state.specs.Objects.{AreShaped, ObjectsSnapshot, capacity_of, no_group, no_message_buffer, no_queue, no_queue_set, no_stream, numbers_in, shape_of, shapes_in}
-use Rattle.rd_state.specs.Objects.{size_of_message_buffer, size_of_stream}
+use Rattle.rd_state.specs.Objects.{AreShaped, ObjectsSnapshot, capacity_of, no_group, no_queue, no_queue_set, numbers_in, shape_of, shapes_in}
 use Rattle.rd_state.specs.declared.phase.Held.{Held}
 use Rattle.rd_state.specs.declared.phase.Held.TheVariants.{Stream, Message}
 use Rattle.rd_app.specs.declared.instr.Instr.{Instr}
-use Rattle.rd_stream.specs.Holders.{HoldersView, holder_of, with_holder_of}
-use Rattle.rd_stream.specs.MessageSnapshot.{MessageSnapshot}
-use Rattle.rd_stream.specs.Messages.{with_message_holders}
-use Rattle.rd_stream.specs.StreamSnapshot.{StreamSnapshot}
-use Rattle.rd_stream.specs.Streams.{with_stream_holders}
-use Rattle.rd_stream.specs.declared.side.Side.{Side}
-use Rattle.rd_stream.specs.declared.side.Side.TheVariants.{Reader, Writer}
 use Rattle.rd_state.specs.Valid.{EntriesFitCall, HasTimeLeft, HoldersFitCall, HoldersFitScripts, IsValid, ListsInOrder, PhaseFitsCall, SeatedOnce, WaitsInLists}
 use Rattle.rd_state.specs.Valid.{seats_to_run}
 use Rattle.rd_state.specs.Valid.{times_in_list, times_waiting_in}
-use Rattle.rd_state.specs.Waiting.{HasList, IsHeld, IsList, held_kind, held_object, held_side, holder_in, list_kind, list_object, list_part, objects_naming}
-use Rattle.rd_state.specs.Waiting.{is_by_priority, objects_then, part_number, same_held, same_list, side_number, waiting_at, waiting_in}
+use Rattle.rd_state.specs.Waiting.{HasList, IsList, holder_in, list_kind, list_object, list_part}
+use Rattle.rd_state.specs.Waiting.{objects_then, part_number, same_list, waiting_at, waiting_in}
 use Rattle.rd_state.proofs.Offered.{SeatsKept}
 
 -- What holds of a task by itself. What is asked of its deadline is a parameter: in the middle of a tick it holds of

@@ -1,7 +1,7 @@
 -- Tasks that wait as readers and writers of buffers, how they try again and how their waiting is completed, and what that keeps of
 -- what makes a state valid.
 use Rattle.rd_state.specs.declared.phase.Place.TheVariants as sort
-use Rattle.std.proofs.Common.{◌+◌, ◌<◌, ◌∙◌, ◌∷◌, ◌≡◌, ◌≢◌, ◌≤◌, Bool, List, None, Option, Some, [], ap, arith, cond, false, get_or, inl, inr, length}
+use Rattle.std.proofs.Common.{◌<◌, ◌∙◌, ◌∷◌, ◌≡◌, ◌≢◌, ◌≤◌, Bool, List, None, Option, Some, [], ap, arith, cond, false, get_or, inl, inr, length}
 use Rattle.std.proofs.Common.{refl, set, subst, sym, true, ℕ}
 use Rattle.std.specs.Prelude.{nat_eq}
 use Rattle.std.specs.Option.{option_and_then}
@@ -15,7 +15,7 @@ use Rattle.rd_stream.specs.StreamSnapshot.{StreamSnapshot}
 use Rattle.rd_stream.specs.declared.side.Side.{Side}
 use Rattle.rd_stream.specs.declared.side.Side.TheVariants.{Reader, Writer}
 use Rattle.rd_state.specs.Sizes.{IsSized}
-use Rattle.rd_app.specs.Application.{Application, code_of, instr_at, priorities_of}
+use Rattle.rd_app.specs.Application.{Application, instr_at, priorities_of}
 use Rattle.rd_app.specs.declared.instr.Instr.{Instr}
 use Rattle.rd_app.specs.declared.instr.Operand.{Operand}
 use Rattle.rd_notify.specs.Entries.{entry_idle, entry_notified, entry_waiting, idle_entry}
@@ -29,7 +29,7 @@ use Rattle.rd_state.specs.declared.phase.Phase.{Phase}
 use Rattle.rd_state.specs.declared.phase.Phase.TheVariants.{Again, Ended, Failed, Given, Run, Wait}
 use Rattle.rd_state.specs.declared.phase.Place.{Place}
 use Rattle.rd_state.specs.Objects.{ObjectsSnapshot, message_in, no_message_buffer, no_stream, numbers_in, stream_in}
-use Rattle.rd_state.specs.Phases.{can_run, is_in_call, tries_again, waits_at, was_given}
+use Rattle.rd_state.specs.Phases.{can_run, tries_again, waits_at, was_given}
 use Rattle.rd_state.specs.Snapshot.{Snapshot, TaskSnapshot, core_at, no_task, task_at, with_objects, with_task}
 use Rattle.rd_state.specs.Valid.{EntriesFitCall, FitsCall, HoldersFitCall, PhaseFitsCall, entry_of_call, is_ahead, is_in_group, place_of_call, seats_to_run, state_of_entry, times_in_list}
 use Rattle.rd_state.specs.Waiting.{HasHeld, entry_of, held_side, holder_at, holder_in, objects_naming, with_holder}
@@ -37,16 +37,15 @@ use Rattle.rd_state.specs.declared.phase.Held.TheVariants.{Stream, Message}
 use Rattle.rd_state.specs.Objects.{AreShaped}
 use Rattle.rd_state.specs.Waiting.{IsHeld}
 use Rattle.rd_state.proofs.Offered.{message_count_shaped, message_in_sized, stream_count_shaped, stream_in_sized, times_in_list-cons}
-use Rattle.rd_kernel.specs.Holding.{CanComplete, cause_of_side, come_back, completed, completed_for, is_named, name_gone, waits_held, waits_where}
-use Rattle.rd_kernel.specs.Outcomes.{Called, IsCalling, call_returns, concluded, returned, stopped}
+use Rattle.rd_kernel.specs.Holding.{cause_of_side, come_back, completed, completed_for, is_named, name_gone, waits_held, waits_where}
+use Rattle.rd_kernel.specs.Outcomes.{call_returns, concluded, stopped}
 use Rattle.rd_kernel.specs.Tasks.{HasEntry, entry_at, with_entry}
-use Rattle.rd_kernel.specs.Telling.{if_waiting_for, is_that_entry, notified, told}
+use Rattle.rd_kernel.specs.Telling.{if_waiting_for, is_that_entry, told}
 use Rattle.rd_kernel.specs.Waking.{deadline_of, may_wait, woken_all}
-use Rattle.rd_kernel.specs.declared.outcome.Outcome.TheVariants.{Fails, Waits}
+use Rattle.rd_kernel.specs.declared.outcome.Outcome.TheVariants.{Fails}
 use Rattle.rd_kernel.specs.declared.waking.Waking.TheVariants.{TriesAgain}
 use Rattle.rd_kernel.proofs.CallLaws.{IsConsistent-returned, IsConsistent-stopped, IsConsistent-with_values, RunsInstr, free_at}
 use Rattle.rd_kernel.proofs.ConsistentLaws.{ContentsChange, IsConsistent, IsConsistent-contents, IsConsistent-valid, all_have_time_left, task_now}
-use Rattle.rd_kernel.proofs.EntryLaws.{EachStays, EachStays-task, EachStays-woken_all}
 use Rattle.rd_kernel.proofs.EntryLaws.{IsConsistent-told, IsConsistent-with_entry, StaysThere, StaysThere-told, StaysThere-with_entry, idle_of_entry}
 use Rattle.rd_kernel.proofs.HolderLaws.{HolderGoes-naming, by_held}
 use Rattle.rd_kernel.proofs.MovingLaws.{IsConsistent-moves, IsFree, IsFree-objects, ObjectsGo-holder, SeatsGo-off_core, SeatsGo-stay, free_in_run, has_seat}

@@ -24,3 +24,4 @@ pub use Rattle.rd_kernel.proofs.SleepingLaws.{runner_is_another}
 pub use Rattle.rd_kernel.proofs.GivingLaws.{IsConsistent-given, IsOn-given, IsOn-waits_in_group, room_for_all, waits_at_group}
 pub use Rattle.rd_kernel.proofs.CallLaws.{room_in_list}
 pub use Rattle.rd_kernel.proofs.EntryLaws.{EachStays-woken_all}
+pub use Rattle.rd_kernel.proofs.CallLaws.{room_while_a_list_has_one, room_while_one_waits, who_waits_leaves_room}

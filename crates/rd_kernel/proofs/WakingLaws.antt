@@ -30,7 +30,6 @@ use Rattle.rd_kernel.proofs.MovingLaws.{IsConsistent-moves, ListGoes-left, Objec
 use Rattle.rd_kernel.proofs.MovingLaws.{waiter_is_idle, waits_nowhere}
 use Rattle.rd_kernel.specs.declared.waking.Waking.{Waking}
 use Rattle.rd_kernel.specs.declared.waking.Waking.TheVariants.{IsGiven, TriesAgain}
-use Rattle.rd_notify.specs.declared.entries.Entry.{Entry}
 
 -- ---- waking
 

@@ -1,5 +1,5 @@
 -- What a kernel call does, and what becomes of its caller.
-use Rattle.std.specs.Prelude.{ℕ, ◌≡◌, ◌+◌, ◌<◌, ◌≤◌, IsSome, List, length, if◌then◌else◌}
+use Rattle.std.specs.Prelude.{ℕ, ◌≡◌, ◌+◌, ◌<◌, ◌≤◌, List, length, if◌then◌else◌}
 use Rattle.rd_app.specs.declared.instr.Operand.{Operand}
 use Rattle.rd_app.specs.Application.{Application}
 use Rattle.rd_state.specs.declared.phase.Phase.{Phase}
@@ -8,7 +8,6 @@ use Rattle.rd_state.specs.declared.phase.Listed.{Listed}
 use Rattle.rd_state.specs.declared.phase.Place.TheVariants as sort
 use Rattle.rd_state.specs.Edit.{Edit, Reaches}
 use Rattle.rd_state.specs.Sizes.{IsSizedPhase}
-use Rattle.rd_state.specs.Phases.{waits_at}
 use Rattle.rd_state.specs.Snapshot.{Snapshot, numbers_of, task_at}
 use Rattle.rd_state.specs.Objects.{Numbers}
 use Rattle.rd_state.specs.Valid.{IsValid, seats_to_run}

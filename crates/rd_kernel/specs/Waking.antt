@@ -2,7 +2,7 @@
 use Rattle.std.specs.Prelude.{ℕ, ◌≡◌, zero, suc, ◌+◌, ◌<◌, ◌≤◌, ◌++◌, ◌∷◌, ◌&&◌}
 use Rattle.std.specs.Prelude.{[], Bool, true, List, is_some}
 use Rattle.std.specs.Prelude.{length, nat_eq, nat_lt, not, position, remove, slice_get}
-use Rattle.std.specs.Prelude.{if◌then◌else◌, Option, None, Some}
+use Rattle.std.specs.Prelude.{if◌then◌else◌, IsSome, Option, None, Some}
 use Rattle.std.specs.List.{fold}
 use Rattle.std.specs.Option.{option_to_list}
 use Rattle.rd_group.specs.declared.wish.TheConstants.{MAX_BITS}
@@ -13,13 +13,13 @@ use Rattle.rd_state.specs.declared.phase.Phase.TheVariants.{Again, Given}
 use Rattle.rd_state.specs.declared.phase.Listed.{Listed}
 use Rattle.rd_state.specs.declared.phase.Place.{Place}
 use Rattle.rd_state.specs.declared.phase.Place.TheVariants as sort
-use Rattle.rd_app.specs.Application.{max_delay}
+use Rattle.rd_app.specs.Application.{Application, max_delay}
 use Rattle.rd_wait.specs.Joined.{joined}
 use Rattle.rd_state.specs.Phases.{is_first, kept_deadline, waits_at}
 use Rattle.rd_state.specs.Snapshot.{Snapshot, task_at}
 use Rattle.rd_state.specs.Objects.{ObjectsSnapshot}
-use Rattle.rd_state.specs.Valid.{is_ahead}
-use Rattle.rd_state.specs.Waiting.{objects_then, waiting_at, waiting_in, wishes_in}
+use Rattle.rd_state.specs.Valid.{is_ahead, IsValid}
+use Rattle.rd_state.specs.Waiting.{HasList, objects_then, waiting_at, waiting_in, wishes_in}
 use Rattle.rd_state.specs.Waiting.{with_waiting_at}
 use Rattle.rd_kernel.specs.declared.waking.Waking.{Waking}
 use Rattle.rd_kernel.specs.declared.waking.Waking.TheVariants.{IsGiven, TriesAgain}
@@ -76,6 +76,17 @@ left s place task = record s { objects = objects_left s.objects place task }
 -- The ready list has room for one task more.
 abbrev pub ReadyHasRoom : Snapshot → Type 0
 ReadyHasRoom s = length s.ready < length s.tasks
+
+-- It has, wherever a task waits, and wherever one stands in a list of those who wait.
+pub record WaitersLeaveRoom (s : Snapshot) : Type 0 where
+  pub anywhere : (task : ℕ) → task < length s.tasks → IsSome (waits_at (task_at s task).phase)
+      → ReadyHasRoom s
+  pub in_lists : (list : Listed) → HasList s list → 0 < length (waiting_at s list)
+      → ReadyHasRoom s
+
+-- Whoever waits isn't ready: in a valid state that leaves room to wake, whoever calls or nobody.
+abbrev pub WhoWaitsLeavesRoom : Type 0
+WhoWaitsLeavesRoom = (app : Application) (s : Snapshot) → IsValid app s → WaitersLeaveRoom s
 
 -- the phase that a waking leads to
 abbrev pub phase_woken : Waking → Phase → Phase

@@ -13,6 +13,7 @@ ghost use Rattle.rd_kernel.specs.Outcomes.{DoesCall, IsCalling, blocked, passed}
 ghost use Rattle.rd_kernel.specs.Waking.{operand_value, deadline_after, deadline_of};
 ghost use Rattle.rd_kernel.specs.Waking.{if_due, is_due, may_wait, phase_woken, ReadyHasRoom};
 ghost use Rattle.rd_kernel.specs.Waking.{left, woken, woken_all, woken_first, IsSizedWaking};
+ghost use Rattle.rd_kernel.specs.Waking.{WhoWaitsLeavesRoom};
 
 use crate::changes::set_phase;
 use crate::outcome::Outcome;
@@ -271,3 +272,9 @@ pub fn wake_if_due(editing: &mut Editing, priorities: &[u8], task: usize) -> Res
         Ok(())
     }
 }
+
+/// Whoever waits isn't ready, so that in a valid state where somebody waits the ready list has room
+/// to wake them: nobody has to call.
+pub fn who_waits_leaves_room()
+    ensures { WhoWaitsLeavesRoom }
+{}

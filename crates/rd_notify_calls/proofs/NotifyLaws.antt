@@ -3,7 +3,7 @@ use Rattle.std.proofs.Common.{◌<◌, ◌∙◌, ◌∷◌, ◌≡◌, Bool, Li
 use Rattle.rd_kernel.proofs.Offered.{AfterWaking-woken_all, EntriesStay-woken_all, same_one, task_now}
 use Rattle.rd_kernel.specs.Tasks.{HasEntry, entry_at, with_entry}
 use Rattle.rd_kernel.specs.Telling.{if_waiting_for, is_that_entry, told}
-use Rattle.rd_kernel.specs.Waking.{woken, woken_all}
+use Rattle.rd_kernel.specs.Waking.{woken_all}
 use Rattle.rd_kernel.specs.declared.waking.Waking.TheVariants.{TriesAgain}
 use Rattle.rd_notify.specs.Entries.{entry_notified, has_received, idle_entry}
 use Rattle.rd_notify.specs.declared.entries.Entry.{Entry}

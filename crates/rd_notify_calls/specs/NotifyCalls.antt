@@ -1,5 +1,5 @@
 -- What the calls do that notify a task, or look at an entry of one.
-use Rattle.std.specs.Prelude.{ℕ, ◌≡◌, ◌&&◌, Bool, true, false, List, nat_eq, not, if◌then◌else◌}
+use Rattle.std.specs.Prelude.{ℕ, ◌≡◌, ◌&&◌, true, false, List, nat_eq, not, if◌then◌else◌}
 use Rattle.rd_notify.specs.declared.action.Action.{Action}
 use Rattle.rd_notify.specs.declared.action.OnExit.{OnExit}
 use Rattle.rd_notify.specs.declared.entries.Entry.{Entry}

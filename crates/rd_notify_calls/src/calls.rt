@@ -1,15 +1,18 @@
 //! The calls that notify a task, or look at an entry of one.
 
-ghost use Rattle.std.specs.Prelude.{◌≡◌, ◌<◌, ◌&&◌, ◌^◌, false, length, nat_eq, true, IfOk};
-ghost use Rattle.std.specs.Prelude.{IsOk, OnErr, OnOk};
+ghost use Rattle.std.specs.Prelude.{ℕ, ◌≡◌, ◌<◌, ◌&&◌, ◌^◌, false, length, nat_eq, true, IfOk};
+ghost use Rattle.std.specs.Prelude.{IsOk, IsSome, OnErr, OnOk};
 ghost use Rattle.rd_app.specs.Application.{IsNotifyCall, IsOperand, priorities_of};
 ghost use Rattle.rd_notify.specs.Entries.{entry_cleared, entry_taken, has_received, is_left_alone};
 ghost use Rattle.rd_notify.specs.declared.entries.TheConstants.{MAX_ENTRIES};
 ghost use Rattle.rd_state.specs.Edit.{GivesUp, Reaches};
+ghost use Rattle.rd_state.specs.Phases.{waits_at};
+ghost use Rattle.rd_state.specs.Snapshot.{task_at};
 ghost use Rattle.rd_kernel.specs.Costs.{telling_cost};
 ghost use Rattle.rd_kernel.specs.Outcomes.{DoesCall, IsCalling};
 ghost use Rattle.rd_kernel.specs.Tasks.{entry_at, HasEntry, KeepsPc};
 ghost use Rattle.rd_kernel.specs.Telling.{notified, waits_once};
+ghost use Rattle.rd_kernel.specs.Waking.{ReadyHasRoom};
 ghost use Rattle.rd_notify_calls.specs.NotifyCalls.{answer_to, clear_state_outcome};
 ghost use Rattle.rd_notify_calls.specs.NotifyCalls.{clear_value_outcome, entry_closed};
 ghost use Rattle.rd_notify_calls.specs.NotifyCalls.{entry_opened, notify_call_cost};
@@ -36,18 +39,20 @@ fn entry_of(editing: &Editing, task: usize, index: usize) -> Entry
 }
 
 // A notification comes to an entry of a task: the entry takes it, and whoever waits for it is
-// woken, or it is left alone. Answers 1, or 0.
+// woken, or it is left alone. Answers 1, or 0. It needs no caller, only room in the ready list where
+// the task waits.
 fn notify(
     app: &Program,
     editing: &mut Editing,
-    task: usize,
     target: usize,
     index: usize,
     action: Action,
     value: u32,
 ) -> Result<u32, NoMemory>
-    requires caller { IsCalling app.now editing.old.now task }
     requires there { HasEntry editing.old.now target index }
+    requires room { IsSome (waits_at (task_at editing.old.now target).phase)
+        → ReadyHasRoom editing.old.now }
+    requires priorities { length (priorities_of app.now) ≡ length editing.old.now.tasks }
     ensures ok { OnOk result (Reaches editing.old editing.new
         (notified (priorities_of app.now) editing.old.now target index action value)
         telling_cost) }
@@ -55,10 +60,9 @@ fn notify(
         answer ≡ answer_to action (entry_at editing.old.now target index).state) }
     ensures left_alone { is_left_alone action (entry_at editing.old.now target index).state ≡ true
         → IsOk result }
-    ensures stays { OnOk result (KeepsPc editing.old.now editing.new.now task) }
+    ensures stays { OnOk result ((task : ℕ) → KeepsPc editing.old.now editing.new.now task) }
     ensures err { OnErr result (GivesUp editing.old editing.new telling_cost) }
 {
-    let _ = task;
     let entry = entry_of(editing, target, index);
     let Some(entry) = entry.notified(action, value) else {
         return Ok(0);
@@ -236,7 +240,7 @@ pub fn call_notify(
             action,
         } => {
             let value = operand_value(editing, task, value);
-            let answer = notify(app, editing, task, target, index, action, value)?;
+            let answer = notify(app, editing, target, index, action, value)?;
             Ok(Outcome::Returns(answer))
         }
         NotifyCall::Query {
@@ -247,7 +251,7 @@ pub fn call_notify(
         } => {
             let value = operand_value(editing, task, value);
             let second = entry_of(editing, target, index).value;
-            let value = notify(app, editing, task, target, index, action, value)?;
+            let value = notify(app, editing, target, index, action, value)?;
             Ok(Outcome::ReturnsBoth { value, second })
         }
         NotifyCall::Take { index, exit, wait } => take(editing, task, index, exit, wait),

@@ -4,7 +4,8 @@ ghost use Rattle.rd_state.specs.Valid.{IsValid};
 
 use crate::asserts::assert_same;
 use rd_app::app::Program;
-use rd_edits::edit::Edit;
+use rd_edits::edit::{is_good, make};
+use rd_moves::edit::Edit;
 use rd_state::editing::Editing;
 use rd_state::state::State;
 use std::test::Fail;
@@ -19,11 +20,11 @@ fn edits_and_goes_back(app: &Program, editing: &mut Editing) -> Option<(u32, u32
         register: 0,
         value: 7,
     };
-    if !edit.is_good(app, editing.state()) {
+    if !is_good(&edit, app, editing.state()) {
         return None;
     }
     editing.begin();
-    edit.make(app, editing).ok()?;
+    make(&edit, app, editing).ok()?;
     let edited = editing.state().task(0).register(0);
     editing.roll_back();
     Some((edited, editing.state().task(0).register(0)))

@@ -12,7 +12,7 @@
 
 use crate::asserts::assert_same;
 use crate::files::read;
-use rd_calls::moves::Move;
+use rd_moves::moves::Move;
 use rd_state::state::State;
 use rd_timeline::timeline::Timeline;
 use std::alloc::{AllocError, Global};

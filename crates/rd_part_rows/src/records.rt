@@ -1,14 +1,14 @@
 //! Records of moves: how many changes they have, and their weight.
 
 ghost use Rattle.std.specs.Prelude.{◌≡◌};
-ghost use Rattle.rd_calls.specs.Step.{IsMoveOf};
+ghost use Rattle.rd_moves.specs.Moves.{IsMoveOf};
 ghost use Rattle.rd_state.specs.Valid.{IsValid};
 
 use crate::asserts::assert_same;
 use crate::files::read;
 use rd_app::app::Program;
-use rd_calls::moves::Move;
 use rd_calls::play::play;
+use rd_moves::moves::Move;
 use rd_state::state::State;
 use rd_timeline::timeline::Timeline;
 use std::alloc::{AllocError, Global};

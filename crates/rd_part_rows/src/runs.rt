@@ -1,13 +1,17 @@
 //! Whole runs: lists of requests, what they leave of the moves, and what a run moves next.
 
 ghost use Rattle.std.specs.Prelude.{◌≡◌};
+ghost use Rattle.rd_moves.specs.Requests.{IsRequestOf};
 
 use crate::asserts::assert_same;
 use crate::files::read;
 use rd_app::app::Program;
-use rd_calls::moves::Move;
 use rd_calls::policy::policy;
-use rd_timeline::runs::Request;
+use rd_moves::answer::Answer;
+use rd_moves::count::Count;
+use rd_moves::moves::Move;
+use rd_moves::request::Request;
+use rd_refusal::refusal::Refusal;
 use rd_timeline::timeline::Timeline;
 use std::alloc::{AllocError, Global};
 use std::process::Abort;
@@ -19,6 +23,25 @@ fn go() -> Request
     Request::Go { action: Move::Tick }
 }
 
+fn back(rt: &impl Abort, count: u32) -> Request
+    ensures { result ≡ Request.Back count }
+{
+    let Some(count) = Count::new(count) else {
+        panic!(rt; "{count} is no count");
+    };
+    Request::Back { count }
+}
+
+// The request is answered so.
+fn assert_answer(rt: &impl Abort, timeline: &mut Timeline, request: &Request, wanted: Answer)
+    requires { IsRequestOf timeline.old.app request.now }
+{
+    let Ok(answer) = timeline.answer(request) else {
+        panic!(rt; "no memory");
+    };
+    assert!(rt; answer == wanted);
+}
+
 // So many moves are done and so many undone, and it is that tick.
 fn assert_place(rt: &impl Abort, timeline: &Timeline, done: usize, undone: usize, tick: u32) {
     assert_same(rt, timeline.at(), done);
@@ -28,15 +51,18 @@ fn assert_place(rt: &impl Abort, timeline: &Timeline, done: usize, undone: usize
 
 // With ample memory what is asked is done, but for a move beyond the limit.
 fn goes_to_the_limit(rt: &impl Abort, timeline: &mut Timeline) {
-    for _ in 0..4 {
-        assert!(rt; timeline.answer(&go()).is_ok());
+    for at in 1..=3 {
+        assert_answer(rt, timeline, &go(), Answer::Done { at });
     }
+    let refusal = Refusal::MovesFull;
+    assert_answer(rt, timeline, &go(), Answer::Refused { refusal });
     assert_place(rt, timeline, 3, 0, 3);
 }
 
 // A way back that is too long does nothing.
 fn goes_back_too_far(rt: &impl Abort, timeline: &mut Timeline) {
-    assert!(rt; timeline.answer(&Request::Back { count: 4 }).is_ok());
+    let refusal = Refusal::TooFar { done: 3 };
+    assert_answer(rt, timeline, &back(rt, 4), Answer::Refused { refusal });
     assert_place(rt, timeline, 3, 0, 3);
 }
 
@@ -47,7 +73,7 @@ fn goes_there_and_back(
     timeline: &mut Timeline,
 ) -> Result<(), AllocError> {
     let mut requests = Vec::with_capacity(alloc, 2)?;
-    requests.push_reserved(Request::Back { count: 2 });
+    requests.push_reserved(back(rt, 2));
     requests.push_reserved(go());
     assert!(rt; timeline.run(requests.as_slice()).is_ok());
     assert_place(rt, timeline, 2, 0, 2);
@@ -55,7 +81,7 @@ fn goes_there_and_back(
 }
 
 fn goes_back_once(rt: &impl Abort, timeline: &mut Timeline) {
-    assert!(rt; timeline.answer(&Request::Back { count: 1 }).is_ok());
+    assert_answer(rt, timeline, &back(rt, 1), Answer::Done { at: 1 });
     assert_place(rt, timeline, 1, 1, 1);
 }
 

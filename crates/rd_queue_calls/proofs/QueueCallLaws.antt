@@ -18,7 +18,6 @@ use Rattle.rd_queue.specs.declared.waiting_list.WaitingList.{WaitingList}
 use Rattle.rd_queue.specs.declared.waiting_list.WaitingList.TheVariants.{Receiving, Sending}
 use Rattle.rd_queue.specs.QueueSnapshot.{QueueSnapshot}
 use Rattle.rd_queue.specs.Queues.{with_items}
-use Rattle.rd_queue.specs.QueueSetSnapshot.{QueueSetSnapshot}
 use Rattle.rd_queue.specs.QueueSets.{with_handles}
 use Rattle.rd_state.specs.declared.phase.Cause.TheVariants.{SetFull}
 use Rattle.rd_state.specs.declared.phase.Held.{Held}
@@ -30,11 +29,10 @@ use Rattle.rd_state.specs.Valid.{entry_of_call, seats_to_run, times_in_list}
 use Rattle.rd_state.specs.Waiting.{HasList, holder_at, waiting_at}
 use Rattle.rd_state.proofs.Offered.{queue_sized}
 use Rattle.rd_kernel.specs.Outcomes.{call_returns, call_fails, call_passes, concluded}
-use Rattle.rd_kernel.specs.Waking.{ReadyHasRoom}
-use Rattle.rd_kernel.proofs.Offered.{IsConsistent, IsConsistent-valid, IsDone, all_have_time_left, place_there, task_now}
+use Rattle.rd_kernel.proofs.Offered.{IsConsistent, IsConsistent-valid, IsDone, all_have_time_left, task_now}
 use Rattle.rd_kernel.proofs.Offered.{RunsInstr, IsConsistent-returned_alone, IsConsistent-done, IsConsistent-failed, IsConsistent-or_blocked}
 use Rattle.rd_kernel.proofs.Offered.{IsFree, IsFree-objects, free_at}
-use Rattle.rd_kernel.proofs.Offered.{IsConsistent-returned, IsConsistent-with_values, first_waits, or_blocked-tick, waits_is_task, woken_first-tick}
+use Rattle.rd_kernel.proofs.Offered.{IsConsistent-returned, IsConsistent-with_values, or_blocked-tick, waits_is_task, woken_first-tick}
 use Rattle.rd_queue_calls.proofs.ContentsLaws.{holder_at-with_queue, holder_at-with_queue_set, IsConsistent-items, IsConsistent-queue_replaced, IsConsistent-queue_set_replaced, IsSameWaiting}
 use Rattle.rd_queue_calls.proofs.ContentsLaws.{waiting_at-with_queue, waiting_at-with_queue_set}
 use Rattle.rd_queue_calls.specs.Posts.{call_breaks, is_in_full_queue_set, is_in_no_queue_set, is_in_queue_set, posted, replaced, membership_of}

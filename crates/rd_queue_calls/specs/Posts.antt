@@ -1,10 +1,11 @@
 -- Queue sets: what an item that is put makes known, and to whom.
-use Rattle.std.specs.Prelude.{ℕ, ◌<◌, ◌++◌, ◌∷◌, [], Bool, true, false, List, Option, None, Some}
+use Rattle.std.specs.Prelude.{ℕ, ◌++◌, ◌∷◌, [], Bool, true, false, List, Option, None, Some}
 use Rattle.std.specs.Prelude.{length, nat_eq}
 use Rattle.rd_queue.specs.declared.waiting_list.WaitingList.TheVariants.{Receiving}
 use Rattle.rd_queue.specs.QueueSetSnapshot.{QueueSetSnapshot}
 use Rattle.rd_queue.specs.QueueSets.{with_handles}
 use Rattle.rd_state.specs.declared.phase.Cause.{Cause}
+use Rattle.rd_state.specs.declared.phase.Listed.{Listed}
 use Rattle.rd_state.specs.declared.phase.Listed.TheVariants.{Queue, QueueSet}
 use Rattle.rd_state.specs.Snapshot.{Snapshot, queue_at, queue_set_at, with_queue, with_queue_set}
 use Rattle.rd_kernel.specs.declared.outcome.Outcome.TheVariants.{Fails}
@@ -41,6 +42,12 @@ abbrev pub with_handle : Snapshot → ℕ → ℕ → Snapshot
 with_handle s queue_set queue =
     with_queue_set s queue_set
     (with_handles (queue_set_at s queue_set) ((queue_set_at s queue_set).handles ++ queue ∷ []))
+
+-- The list from which an item that was put into a queue wakes somebody: where the queue is in no
+-- set, of those who wait to receive it, and else of those who wait to select from its set.
+abbrev pub list_posted_to : ℕ → Option ℕ → Listed
+list_posted_to queue None = Queue queue Receiving
+list_posted_to queue (Some queue_set) = QueueSet queue_set
 
 -- An item that was put into a queue in no set wakes the first who waits to receive it. One that was
 -- put into a member makes its queue's handle the last of the set's, and wakes the first who waits

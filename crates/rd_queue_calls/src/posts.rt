@@ -5,8 +5,9 @@ ghost use Rattle.rd_app.specs.Application.{priorities_of};
 ghost use Rattle.rd_kernel.specs.Costs.{waking_cost};
 ghost use Rattle.rd_kernel.specs.Outcomes.{DoesCall};
 ghost use Rattle.rd_kernel.specs.Waking.{ReadyHasRoom};
-ghost use Rattle.rd_queue_calls.specs.Posts.{is_in_full_queue_set, posted};
+ghost use Rattle.rd_queue_calls.specs.Posts.{is_in_full_queue_set, list_posted_to, posted};
 ghost use Rattle.rd_state.specs.Edit.{GivesUp};
+ghost use Rattle.rd_state.specs.Waiting.{waiting_at};
 
 use rd_app::app::Program;
 use rd_bytes::no_memory::NoMemory;
@@ -31,8 +32,9 @@ pub fn is_in_full_queue_set(state: &State, queue_set: Option<usize>) -> bool
     }
 }
 
-/// Ends a call that has put an item into a queue: of a member the set gets a handle, and the first
-/// who waits to select is woken; else the first who waits to receive.
+/// Ends what has put an item into a queue: of a member the set gets a handle, and the first who
+/// waits to select is woken; else the first who waits to receive. It needs no caller, only room in
+/// the ready list where somebody waits there.
 pub fn post(
     app: &Program,
     editing: &mut Editing,
@@ -43,7 +45,8 @@ pub fn post(
     requires queue_set { IfSome queue_set
         (λ queue_set. queue_set < length editing.old.now.objects.queue_sets) }
     requires room { is_in_full_queue_set editing.old.now queue_set ≡ false }
-    requires ready { ReadyHasRoom editing.old.now }
+    requires ready { 0 < length (waiting_at editing.old.now (list_posted_to queue queue_set))
+        → ReadyHasRoom editing.old.now }
     requires priorities { length (priorities_of app.now) ≡ length editing.old.now.tasks }
     ensures ok { IfOk result (DoesCall editing.old editing.new
         (posted (priorities_of app.now) editing.old.now queue queue_set) (1 + waking_cost)) }

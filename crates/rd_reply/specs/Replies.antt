@@ -46,8 +46,10 @@ use Rattle.rd_stream.specs.StreamSnapshot.{StreamSnapshot}
 use Rattle.rd_reply.specs.Names.{name_at, name_or_dash}
 use Rattle.rd_reply.specs.declared.reply.Reply.{Reply}
 use Rattle.rd_reply.specs.declared.reply.Reply.TheVariants as answer
-use Rattle.rd_reply.specs.declared.reply.SearchEnd.{SearchEnd}
-use Rattle.rd_reply.specs.declared.reply.SearchEnd.TheVariants.{Met, Limit, Start}
+use Rattle.rd_moves.specs.declared.answer.Answer.{Answer}
+use Rattle.rd_moves.specs.declared.answer.Answer.TheVariants as given
+use Rattle.rd_moves.specs.declared.answer.SearchEnd.{SearchEnd}
+use Rattle.rd_moves.specs.declared.answer.SearchEnd.TheVariants.{Met, Limit, Start}
 use Rattle.rd_reply.specs.declared.watches.WatchShown.{WatchShown}
 
 -- a text and its LF
@@ -103,6 +105,12 @@ holder_text holder = codes "wheel " ++ number_or_dash holder
 -- the number of a watch that is kept now, or was dropped
 abbrev pub watch_text : ℕ → List ℕ
 watch_text number = codes "ok watch " ++ decimal number
+
+-- what is replied to a request of the timeline
+abbrev pub answer_reply : Answer → Reply
+answer_reply (given.Done at) = answer.Done at
+answer_reply (given.Ended at end) = answer.Ended at end
+answer_reply (given.Refused refusal) = answer.Refused refusal
 
 abbrev pub reply_text : Reply → List ℕ
 reply_text (answer.Done at) = done_text at

@@ -3,23 +3,14 @@
 ghost use Rattle.std.specs.Prelude.{◌≡◌, ◌+◌, ◌*◌, ◌++◌, ◌≤◌, decimal, length};
 ghost use Rattle.std.specs.Prelude.{vec_capacity, vec_len};
 ghost use Rattle.arrayvec.specs.ArrayVec.{array_vec_len};
-ghost use Rattle.rd_reply.specs.Replies.{done_text, end_text, holder_text, line_of, moves_text};
+ghost use Rattle.rd_reply.specs.Replies.{answer_reply, done_text, end_text, holder_text, line_of};
+ghost use Rattle.rd_reply.specs.Replies.{moves_text};
 ghost use Rattle.rd_reply.specs.Replies.{refusal_text, reply_text, watch_text};
 
 use arrayvec::ArrayVec;
 use itoa::Buffer;
+use rd_moves::answer::{Answer, SearchEnd};
 use rd_refusal::refusal::Refusal;
-
-/// How a search for a condition, on by policy or back, came to its end.
-#[derive(Clone, Copy, PartialEq, Eq)]
-pub enum SearchEnd {
-    /// The condition holds there.
-    Met,
-    /// It held after none of the moves, of which there may be no more.
-    Limit,
-    /// It holds at no earlier place, so that the search went back to the start.
-    Start,
-}
 
 /// What is answered to a command that makes moves or takes them back, to one that asks how many
 /// there are, to one for the wheel or a watch, or to one that is refused.
@@ -162,6 +153,17 @@ fn append_watch(line: &mut ReplyLine, number: usize)
 }
 
 impl Reply {
+    /// What is replied to a request of the timeline.
+    pub fn of(answer: Answer) -> Reply
+        ensures { result ≡ answer_reply answer }
+    {
+        match answer {
+            Answer::Done { at } => Reply::Done { at },
+            Answer::Ended { at, end } => Reply::Ended { at, end },
+            Answer::Refused { refusal } => Reply::Refused { refusal },
+        }
+    }
+
     /// The line of the reply, its LF included. It takes no memory.
     pub fn line(self) -> ReplyLine
         ensures { result.items ≡ line_of (reply_text self) }

@@ -4,8 +4,8 @@ ghost use Rattle.std.specs.Prelude.{◌≡◌};
 ghost use Rattle.rd_desk.specs.Sessions.{IsPresent};
 
 use crate::asserts::assert_same;
-use rd_command::binding::bind;
 use rd_command::command::parse_line;
+use rd_command::order::Order;
 use rd_desk::desk::{Desk, EnterError, NotServed};
 use rd_desk::entry::Receipt;
 use rd_desk::limits::Limits;
@@ -95,20 +95,32 @@ fn assert_answer<H: AllocGlobal + Abort>(
     Ok(())
 }
 
+// A session that is present asks. What the line names is looked up in a copy of the names.
+fn ask<H: AllocGlobal + Abort>(
+    rt: &H,
+    desk: &mut Desk,
+    who: u32,
+    line: &str,
+) -> Result<Receipt, NotServed>
+    requires { IsPresent desk.old.desk.debugger.sessions who }
+{
+    let Ok(command) = parse_line(line.as_bytes()) else {
+        panic!(rt; "{line} is no command");
+    };
+    let Ok(names) = desk.names().copy(rt.alloc()) else {
+        panic!(rt; "no memory");
+    };
+    let cores = desk.program().cores();
+    let entries = desk.program().entries();
+    let order = Order::new(&command, &names, cores, entries);
+    desk.serve(who, &order)
+}
+
 // The session is answered so.
 fn assert_asked<H: AllocGlobal + Abort>(rt: &H, desk: &mut Desk, asked: Asked) -> Result<(), Fail> {
     let place = desk.entries();
-    let Ok(command) = parse_line(asked.line.as_bytes()) else {
-        panic!(rt; "{} is no command", asked.line);
-    };
     assert_present(rt, desk, asked.who);
-    let bound = bind(
-        &command,
-        desk.names(),
-        desk.program().cores(),
-        desk.program().entries(),
-    );
-    match desk.serve(asked.who, command.line(), &command, &bound) {
+    match ask(rt, desk, asked.who, asked.line) {
         Ok(receipt) => {
             assert_receipt(rt, &receipt, place, asked.who);
             assert_answer(rt, &receipt, asked)
@@ -438,18 +450,9 @@ fn assert_no_way_in(rt: &impl Abort, desk: &mut Desk) {
 }
 
 // Nor is its own command served.
-fn assert_no_place(rt: &impl Abort, desk: &mut Desk) {
-    let Ok(command) = parse_line(b"tick") else {
-        panic!(rt; "no command");
-    };
+fn assert_no_place<H: AllocGlobal + Abort>(rt: &H, desk: &mut Desk) {
     assert_present(rt, desk, 1);
-    let bound = bind(
-        &command,
-        desk.names(),
-        desk.program().cores(),
-        desk.program().entries(),
-    );
-    match desk.serve(1, command.line(), &command, &bound) {
+    match ask(rt, desk, 1, "tick") {
         Ok(_receipt) => assert!(rt; false, "the history isn't full"),
         Err(refusal) => match refusal {
             NotServed::HistoryFull { tally } => assert_tally(rt, &tally, 1, 1, 2),
@@ -459,7 +462,7 @@ fn assert_no_place(rt: &impl Abort, desk: &mut Desk) {
 }
 
 // With two places one session can enter and depart, and nothing else.
-fn fill_two_places(rt: &impl Abort, desk: &mut Desk) {
+fn fill_two_places<H: AllocGlobal + Abort>(rt: &H, desk: &mut Desk) {
     assert_enters(rt, desk, 1);
     assert_no_way_in(rt, desk);
     assert_no_place(rt, desk);
@@ -477,25 +480,16 @@ fn two_places(rt: HostRuntime) -> Result<(), Fail> {
 }
 
 /// A session is served, and gets its receipt.
-pub fn serve(rt: &impl Abort, desk: &mut Desk, who: u32, line: &str) -> Receipt {
-    let Ok(command) = parse_line(line.as_bytes()) else {
-        panic!(rt; "{line} is no command");
-    };
+pub fn serve<H: AllocGlobal + Abort>(rt: &H, desk: &mut Desk, who: u32, line: &str) -> Receipt {
     assert_present(rt, desk, who);
-    let bound = bind(
-        &command,
-        desk.names(),
-        desk.program().cores(),
-        desk.program().entries(),
-    );
-    match desk.serve(who, command.line(), &command, &bound) {
+    match ask(rt, desk, who, line) {
         Ok(receipt) => receipt,
         Err(_) => panic!(rt; "{line} isn't served"),
     }
 }
 
 // A session ticks, looks at the wheel twice, in lines of other spaces, and departs.
-fn serve_three(rt: &impl Abort, desk: &mut Desk) -> (Receipt, Receipt, Receipt) {
+fn serve_three<H: AllocGlobal + Abort>(rt: &H, desk: &mut Desk) -> (Receipt, Receipt, Receipt) {
     assert_enters(rt, desk, 1);
     let ticked = serve(rt, desk, 1, "tick");
     let first = serve(rt, desk, 1, "show wheel");

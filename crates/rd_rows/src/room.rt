@@ -5,8 +5,8 @@ ghost use Rattle.rd_desk.specs.declared.sessions.TheConstants.{MAX_JOINS};
 
 use crate::asserts::assert_same;
 use crate::hall::next_pass;
-use rd_command::binding::bind;
 use rd_command::command::parse_line;
+use rd_command::order::Order;
 use rd_desk::limits::Limits;
 use rd_desk::sessions::MAX_JOINS;
 use rd_hall::room::Room;
@@ -58,8 +58,8 @@ fn ask<L: Setup>(
     let Ok(command) = parse_line(line.as_bytes()) else {
         panic!(rt; "{line} is no command");
     };
-    let bound = bind(&command, &outside.names, outside.cores, outside.entries);
-    let (seat, served) = room.ask(seat, &command, &bound);
+    let order = Order::new(&command, &outside.names, outside.cores, outside.entries);
+    let (seat, served) = room.ask(seat, &order);
     assert!(rt; served.is_ok(), "{line} isn't served");
     seat
 }

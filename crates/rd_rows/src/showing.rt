@@ -1,11 +1,13 @@
 //! Views of the target by one call, without a session.
 
-ghost use Rattle.std.specs.Prelude.{◌≡◌, IsSomeAnd};
+ghost use Rattle.std.specs.Prelude.{◌≡◌, IsSome};
+ghost use Rattle.rd_command.specs.Bindings.{IsViewOf};
 ghost use Rattle.rd_names.specs.Apps.{builtin_names};
-ghost use Rattle.rd_desk.specs.Views.{IsViewNamed, view_asked};
+ghost use Rattle.rd_desk.specs.Debugger.{target_of};
+ghost use Rattle.rd_desk.specs.Views.{text_shown};
 
 use crate::asserts::assert_same;
-use rd_command::binding::Bound;
+use rd_command::view::{Overview, View};
 use rd_desk::machine::Machine;
 use rd_desk::showing::show;
 use rd_names::app::App;
@@ -18,13 +20,14 @@ use std::test::Fail;
 fn assert_shown<H: AllocGlobal + Abort>(
     rt: &H,
     machine: &Machine,
-    bound: &Bound<'_>,
+    view: View,
     wanted: &str,
 ) -> Result<(), Fail>
-    requires { IsSomeAnd (view_asked bound.now) (IsViewNamed machine.now.app.names) }
+    requires there { IsSome (text_shown machine.now.app.names (target_of machine.now) view) }
+    requires named { IsViewOf machine.now.app.names view }
 {
     machine.keeps();
-    let line = show(rt.alloc(), machine.target(), machine.names(), bound)?;
+    let line = show(rt.alloc(), machine.target(), machine.names(), view)?;
     assert_same(rt, line.as_slice(), wanted.as_bytes());
     Ok(())
 }
@@ -33,20 +36,23 @@ fn assert_shown<H: AllocGlobal + Abort>(
 fn assert_all_shown<H: AllocGlobal + Abort>(rt: &H, machine: &Machine) -> Result<(), Fail>
     requires { machine.now.app.names ≡ builtin_names }
 {
-    let queue = Bound::Show {
+    let queue = View::Thing {
         kind: Kind::Queue,
         number: 0,
     };
     let line = "queue q0 0/2 items - recv - send - set -\n";
-    assert_shown(rt, machine, &queue, line)?;
-    let task = Bound::Show {
+    assert_shown(rt, machine, queue, line)?;
+    let task = View::Thing {
         kind: Kind::Task,
         number: 0,
     };
     let line = "task t0 core 0 pc 0 phase run regs 0,0,0,0,0,0,0,0 data - notes 0:idle\n";
-    assert_shown(rt, machine, &task, line)?;
+    assert_shown(rt, machine, task, line)?;
     let line = "cores t0 ready - tick 0 turn 0\n";
-    assert_shown(rt, machine, &Bound::ShowCores, line)
+    let cores = View::Overview {
+        of: Overview::Cores,
+    };
+    assert_shown(rt, machine, cores, line)
 }
 
 // What a command shows of the target is the line of the thing that it names.

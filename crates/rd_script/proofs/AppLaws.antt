@@ -9,8 +9,11 @@ use Rattle.serde_json.specs.Read.{read}
 use Rattle.serde_json.proofs.OnLiterals.{serde_json_on_literals}
 use Rattle.serde_json.specs.Data.{Data, number, unsigned, array, Items}
 use Rattle.serde_json.specs.Find.{get}
+use Rattle.rd_app.specs.declared.profile.Profile.{Profile}
+use Rattle.rd_app.specs.declared.profile.Profile.TheVariants.{One}
 use Rattle.rd_app.specs.Application.{IsScript}
 use Rattle.rd_app.specs.Application.{Application}
+use Rattle.rd_app.specs.Profiles.{max_cores}
 use Rattle.rd_names.specs.Apps.{AppView, AreAsMany, IsApp}
 use Rattle.rd_names.specs.Names.{NamesView, named_by}
 use Rattle.rd_names.proofs.Offered.{names_among-distinct}
@@ -22,7 +25,7 @@ use Rattle.rd_script.specs.declared.error.AppError.{AppError}
 use Rattle.rd_script.specs.declared.error.AppError.TheVariants as fault
 use Rattle.rd_script.specs.Values.{object_with, field, number_in, number_or, array_in, nothing_named, IsNumberOr}
 use Rattle.rd_script.specs.Objects.{file_keys, objects_of}
-use Rattle.rd_script.specs.File.{TaskDraft, task_of, tasks_after, scripts_after, AppDraft, draft_of, program_of, with_scripts, app_of, app_of_text, app_of_bytes, checked}
+use Rattle.rd_script.specs.File.{TaskDraft, task_of, tasks_after, scripts_after, AppDraft, draft_of, profile_in, profile_number, program_of, with_scripts, app_of, app_of_text, app_of_bytes, checked}
 use Rattle.rd_script.specs.File.{GivesFaultFirst, GivesOrNoMemory, scope_of_draft}
 use Rattle.rd_script.specs.Scope.{scope_of}
 use Rattle.rd_script.specs.Says.{Says, FileSays}
@@ -39,6 +42,14 @@ number_or_ok : (otherwise least most : ℕ) (o : Option Data) (n : ℕ) → leas
 number_or_ok otherwise least most None n low high e = let is : otherwise ≡ n = cc in (sym is, omega arith, omega arith)
 number_or_ok otherwise least most (Some d) n low high e = number_ok least most d n e
 
+-- what stands where a profile was read is its number
+profile_ok : (d : Data) (profile : Profile) → profile_in d ≡ Ok profile → d ≡ number (unsigned (profile_number profile))
+profile_ok d One e =
+    let n = bind_ok (number_in 1 1 d) _ One e in
+    let read = number_ok 1 1 d n.0 n.1 in
+    let is : n.0 ≡ 1 = omega (arith, read.1, read.2) in
+    read.0 ∙ ap (λ (n : ℕ). number (unsigned n)) is
+
 -- drafts with the names of the tasks
 abbrev drafts_of : NamedApplication → List TaskDraft → Named TaskDraft
 drafts_of app drafts = record { names = app.tasks.names; things = drafts }
@@ -50,8 +61,8 @@ pub record IsRead (d : Data) (app : NamedApplication) (profile cores tasks : Dat
   pub profile_at : field (codes "profile") d ≡ Ok profile
   pub cores_at : field (codes "cores") d ≡ Ok cores
   pub tasks_at : field (codes "tasks") d ≡ Ok tasks
-  pub one : number_in 1 1 profile ≡ Ok 1
-  pub core_count : number_in 1 8 cores ≡ Ok app.cores
+  pub profile_is : profile_in profile ≡ Ok app.profile
+  pub core_count : number_in 1 (max_cores app.profile) cores ≡ Ok app.cores
   pub entries : number_or 1 1 4 (get (codes "notes") d) ≡ Ok app.entries
   pub tick : number_or 0 0 (2 ^ 32 - 1) (get (codes "tick") d) ≡ Ok app.tick
   pub objects : objects_of d ≡ Ok app.objects
@@ -62,8 +73,8 @@ pub record IsRead (d : Data) (app : NamedApplication) (profile cores tasks : Dat
 pub read_takes : (d : Data) (app : NamedApplication) (profile cores tasks : Data) (task_items : Items) (drafts : List TaskDraft)
     → IsRead d app profile cores tasks task_items drafts → Says d app task_items × IsNamedApplication app
 read_takes d app profile cores tasks task_items drafts read =
-    let one = number_ok 1 1 profile 1 read.one in
-    let core_count = number_ok 1 8 cores app.cores read.core_count in
+    let profile_is = profile_ok profile app.profile read.profile_is in
+    let core_count = number_ok 1 (max_cores app.profile) cores app.cores read.core_count in
     let entries = number_or_ok 1 1 4 (get (codes "notes") d) app.entries (omega arith) (omega arith) read.entries in
     let tick = number_or_ok 0 0 (2 ^ 32 - 1) (get (codes "tick") d) app.tick (omega arith) (omega arith) read.tick in
     let objects = objects_take d app.objects read.objects in
@@ -81,7 +92,7 @@ read_takes d app profile cores tasks task_items drafts read =
     let within = task.scripts_in_limits app drafts app.tasks.things (record { objects = objects.1; tasks = tasks_said.1 }) taken.2.kept.are_things scripts_said in (
       record {
         keys = object_ok file_keys d tt read.keys;
-        profile_at = field_ok (codes "profile") d profile read.profile_at ∙ ap Some one.0;
+        profile_at = field_ok (codes "profile") d profile read.profile_at ∙ ap Some profile_is;
         cores_at = field_ok (codes "cores") d cores read.cores_at ∙ ap Some core_count.0;
         entries_at = entries.0;
         tick_at = tick.0;
@@ -91,7 +102,7 @@ read_takes d app profile cores tasks task_items drafts read =
       },
       record {
         some_cores = omega (arith, core_count);
-        few_cores = omega (arith, core_count);
+        few_cores = core_count.2;
         some_entries = omega (arith, entries);
         few_entries = entries.2;
         tick = omega (arith, tick);
@@ -103,12 +114,6 @@ read_takes d app profile cores tasks task_items drafts read =
       },
     )
 
-pub is_one : (d : Data) (n : ℕ) → number_in 1 1 d ≡ Ok n → number_in 1 1 d ≡ Ok 1
-is_one d n e =
-    let h = number_ok 1 1 d n e in
-    let single : n ≡ 1 = omega (arith, h.1, h.2) in
-    e ∙ ap Ok single
-
 abbrev done : {A : Type 0} → A → Result A AppError
 done x = Ok x
 
@@ -118,6 +123,7 @@ ok_is x y e = cc
 -- a draft with its scripts
 abbrev app_with : AppDraft → List TaskScript → NamedApplication
 app_with draft scripts = record {
+  profile = draft.profile;
   cores = draft.cores;
   entries = draft.entries;
   tick = draft.tick;
@@ -139,14 +145,15 @@ app_takes d app e =
     let profile = bind_ok (field (codes "profile") d) _ drafted.0 keys.2 in
     let cores = bind_ok (field (codes "cores") d) _ drafted.0 profile.2 in
     let tasks = bind_ok (field (codes "tasks") d) _ drafted.0 cores.2 in
-    let one = bind_ok (number_in 1 1 profile.0) _ drafted.0 tasks.2 in
-    let core_count = bind_ok (number_in 1 8 cores.0) _ drafted.0 one.2 in
+    let profile_is = bind_ok (profile_in profile.0) _ drafted.0 tasks.2 in
+    let core_count = bind_ok (number_in 1 (max_cores profile_is.0) cores.0) _ drafted.0 profile_is.2 in
     let entries = bind_ok (number_or 1 1 4 (get (codes "notes") d)) _ drafted.0 core_count.2 in
     let tick = bind_ok (number_or 0 0 (2 ^ 32 - 1) (get (codes "tick") d)) _ drafted.0 entries.2 in
     let objects = bind_ok (objects_of d) _ drafted.0 tick.2 in
     let task_items = bind_ok (array_in 1 32 tasks.0) _ drafted.0 objects.2 in
     let drafts = bind_ok (tasks_after nothing_named task_items.0) _ drafted.0 task_items.2 in
     let draft : AppDraft = record {
+      profile = profile_is.0;
       cores = core_count.0;
       entries = entries.0;
       tick = tick.0;
@@ -161,7 +168,7 @@ app_takes d app e =
       profile_at = profile.1;
       cores_at = cores.1;
       tasks_at = tasks.1;
-      one = is_one profile.0 one.0 one.1;
+      profile_is = profile_is.1;
       core_count = core_count.1;
       entries = entries.1;
       tick = tick.1;
@@ -180,9 +187,13 @@ number_or_again : (otherwise least most : ℕ) (o : Option Data) (n : ℕ) → I
 number_or_again otherwise least most None n h low high = ap Ok (sym h)
 number_or_again otherwise least most (Some d) n h low high = number_again least most d n h low high
 
+profile_again : (d : Data) (profile : Profile) → d ≡ number (unsigned (profile_number profile)) → profile_in d ≡ Ok profile
+profile_again d One e = ap profile_in e
+
 -- the draft of an application whose scripts are those of drafts
 abbrev draft_from : NamedApplication → List TaskDraft → AppDraft
 draft_from app drafts = record {
+  profile = app.profile;
   cores = app.cores;
   entries = app.entries;
   tick = app.tick;
@@ -199,8 +210,8 @@ draft_read d app profile cores tasks task_items drafts read =
     (then_is (field (codes "profile") d) _ profile _ read.profile_at
     (then_is (field (codes "cores") d) _ cores _ read.cores_at
     (then_is (field (codes "tasks") d) _ tasks _ read.tasks_at
-    (then_is (number_in 1 1 profile) _ 1 _ read.one
-    (then_is (number_in 1 8 cores) _ app.cores _ read.core_count
+    (then_is (profile_in profile) _ app.profile _ read.profile_is
+    (then_is (number_in 1 (max_cores app.profile) cores) _ app.cores _ read.core_count
     (then_is (number_or 1 1 4 (get (codes "notes") d)) _ app.entries _ read.entries
     (then_is (number_or 0 0 (2 ^ 32 - 1) (get (codes "tick") d)) _ app.tick _ read.tick
     (then_is (objects_of d) _ app.objects _ read.objects
@@ -220,13 +231,13 @@ app_again d app task_items says limits =
     let scripts = recursion_from_All (IsScript (runs_of app)) app.tasks.things limits.tasks in
     let split = task.tasks_split app (scope_of app) task_items app.tasks.names app.tasks.things says.tasks scripts in
     let count = (length_named task.IsDraft task_items app.tasks.names split.0 split.1).0 in
-    app_read d app (number (unsigned 1)) (number (unsigned app.cores)) (array task_items) task_items split.0 (record {
+    app_read d app (number (unsigned (profile_number app.profile))) (number (unsigned app.cores)) (array task_items) task_items split.0 (record {
       keys = object_again file_keys d says.keys;
       profile_at = field_again (codes "profile") d _ says.profile_at;
       cores_at = field_again (codes "cores") d _ says.cores_at;
       tasks_at = field_again (codes "tasks") d _ says.tasks_at;
-      one = refl;
-      core_count = limits_again 1 8 app.cores (omega (arith, limits.some_cores)) limits.few_cores;
+      profile_is = profile_again _ app.profile refl;
+      core_count = limits_again 1 (max_cores app.profile) app.cores (omega (arith, limits.some_cores)) limits.few_cores;
       entries = number_or_again 1 1 4 (get (codes "notes") d) app.entries says.entries_at (omega (arith, limits.some_entries)) limits.few_entries;
       tick = number_or_again 0 0 (2 ^ 32 - 1) (get (codes "tick") d) app.tick says.tick_at (omega arith) (omega (arith, limits.tick));
       objects = objects_again d app.objects says.objects limits.objects;

@@ -8,7 +8,7 @@ use Rattle.std.specs.Str.{bytes_eq}
 use Rattle.std.proofs.lemmas.Slice.Eq.{bytes_eq-Decides}
 use Rattle.rd_app.specs.Application.{IsOperand, IsWithin}
 use Rattle.rd_script.specs.Named.{NamedApplication, runs_of}
-use Rattle.rd_script.specs.Named.{names_in, shapes_of}
+use Rattle.rd_script.specs.Named.{names_in}
 use Rattle.rd_script.proofs.LimitLaws.{AreNamedObjects}
 use Rattle.rd_script.specs.declared.keyword.Parameter.{Parameter}
 use Rattle.rd_script.specs.declared.keyword.Parameter.TheVariants.{Register, Number, Target, Data, Time, Operand, Index, Room, Action, OnExit, WaitFor, OnMet, Name}

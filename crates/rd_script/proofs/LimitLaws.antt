@@ -1,12 +1,12 @@
 -- The limits of an application, each thing beside its name, and apart.
-use Rattle.std.proofs.Common.{◌≡◌, ℕ, ◌^◌, ◌<◌, ◌≤◌, nat_eq, length, All, ap}
+use Rattle.std.proofs.Common.{◌≡◌, ◌^◌, ◌<◌, ◌≤◌, nat_eq, length, All}
 use Rattle.std.specs.List.{IsDistinct}
 use Rattle.rd_app.specs.Application.{IsScript}
 use Rattle.rd_app.specs.Objects.{IsMessageShape, IsQueueShape, IsQueueSetShape, IsStreamShape, members_of}
+use Rattle.rd_app.specs.Profiles.{max_cores}
 use Rattle.rd_names.specs.Apps.{IsApp}
 use Rattle.rd_names.specs.Names.{AreNames}
-use Rattle.rd_script.specs.Named.{Named, NamedApplication, NamedObjects, apart, names_with, runs_of, shapes_of, together}
-use Rattle.rd_text.specs.declared.kind.Kind.{Kind}
+use Rattle.rd_script.specs.Named.{Named, NamedApplication, NamedObjects, apart, names_with, runs_of, shapes_of}
 use Rattle.rd_text.specs.declared.kind.Kind.TheVariants as kind
 use Rattle.rd_text.specs.Names.{AreDistinctNames}
 
@@ -34,7 +34,7 @@ pub record AreNamedObjects (o : NamedObjects) : Type 0 where
 
 pub record IsNamedApplication (app : NamedApplication) : Type 0 where
   pub some_cores : 0 < app.cores
-  pub few_cores : app.cores ≤ 8
+  pub few_cores : app.cores ≤ max_cores app.profile
   pub some_entries : 0 < app.entries
   pub few_entries : app.entries ≤ 4
   pub tick : app.tick < 2 ^ 32

@@ -22,6 +22,7 @@ task_drafts_view array = record {
 
 abbrev pub app_draft_view : AppDraft → file.AppDraft
 app_draft_view draft = record {
+  profile = draft.profile;
   cores = draft.cores;
   entries = draft.entries;
   tick = draft.tick;

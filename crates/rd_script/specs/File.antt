@@ -9,9 +9,12 @@ use Rattle.serde_json.specs.Events.{items_len}
 use Rattle.serde_json.specs.Find.{get, as_str}
 use Rattle.serde_json.specs.Read.{read}
 use Rattle.rd_notify.specs.declared.entries.TheConstants.{MAX_ENTRIES}
-use Rattle.rd_app.specs.declared.app.TheConstants.{MAX_CODE, MAX_CORES, MAX_PRIORITY, MAX_TASKS}
+use Rattle.rd_app.specs.declared.app.TheConstants.{MAX_CODE, MAX_PRIORITY, MAX_TASKS}
 use Rattle.rd_app.specs.declared.instr.Instr.{Instr}
+use Rattle.rd_app.specs.declared.profile.Profile.{Profile}
+use Rattle.rd_app.specs.declared.profile.Profile.TheVariants.{One}
 use Rattle.rd_app.specs.Application.{Application, is_final}
+use Rattle.rd_app.specs.Profiles.{max_cores}
 use Rattle.rd_app.specs.TaskScript.{TaskScript}
 use Rattle.rd_script.specs.declared.error.AppError.{AppError}
 use Rattle.rd_script.specs.declared.error.AppError.TheVariants as fault
@@ -93,10 +96,23 @@ scripts_after scope scripts (draft ∷ drafts) = do
   code ← instrs_of scope draft.code
   scripts_after scope (scripts ++ record { priority = draft.priority; code = code } ∷ []) drafts
 
+-- ---- the profile
+
+-- the number that stands for a profile
+abbrev pub profile_number : Profile → ℕ
+profile_number One = 1
+
+-- the profile of a number
+abbrev pub profile_in : Data → Result Profile AppError
+profile_in d = do
+  _ ← number_in 1 1 d
+  Ok One
+
 -- ---- the file
 
 -- what a file says, its scripts not read yet
 pub record AppDraft : Type 0 where
+  pub profile : Profile
   pub cores : ℕ
   pub entries : ℕ
   pub tick : ℕ
@@ -109,14 +125,15 @@ draft_of d = do
   profile ← field (codes "profile") d
   cores ← field (codes "cores") d
   tasks ← field (codes "tasks") d
-  _ ← number_in 1 1 profile
-  cores ← number_in 1 MAX_CORES cores
+  profile ← profile_in profile
+  cores ← number_in 1 (max_cores profile) cores
   entries ← number_or 1 1 MAX_ENTRIES (get (codes "notes") d)
   tick ← number_or 0 0 (2 ^ 32 - 1) (get (codes "tick") d)
   objects ← objects_of d
   tasks ← array_in 1 MAX_TASKS tasks
   tasks ← tasks_after nothing_named tasks
   Ok (record {
+    profile = profile;
     cores = cores;
     entries = entries;
     tick = tick;
@@ -134,6 +151,7 @@ abbrev pub with_scripts : AppDraft → Result NamedApplication AppError
 with_scripts draft = do
   scripts ← scripts_after (scope_of_draft draft) [] draft.tasks.things
   Ok (record {
+    profile = draft.profile;
     cores = draft.cores;
     entries = draft.entries;
     tick = draft.tick;

@@ -1,9 +1,10 @@
 -- An application as a file says it: each thing beside its name.
-use Rattle.std.specs.Prelude.{ℕ, ◌≡◌, List, [], length}
+use Rattle.std.specs.Prelude.{ℕ, List}
 use Rattle.rd_app.specs.declared.objects.GroupShape.{GroupShape}
 use Rattle.rd_app.specs.declared.objects.MessageShape.{MessageShape}
 use Rattle.rd_app.specs.declared.objects.QueueShape.{QueueShape}
 use Rattle.rd_app.specs.declared.objects.StreamShape.{StreamShape}
+use Rattle.rd_app.specs.declared.profile.Profile.{Profile}
 use Rattle.rd_app.specs.Application.{Application}
 use Rattle.rd_app.specs.Objects.{ObjectShapes}
 use Rattle.rd_app.specs.QueueSetShapeView.{QueueSetShapeView}
@@ -35,6 +36,7 @@ names_in o tasks kind.Group = o.groups.names
 names_in o tasks kind.Task = tasks
 
 pub record NamedApplication : Type 0 where
+  pub profile : Profile
   pub cores : ℕ
   pub entries : ℕ
   pub tick : ℕ
@@ -54,6 +56,7 @@ shapes_of o = record {
 
 abbrev pub runs_of : NamedApplication → Application
 runs_of app = record {
+  profile = app.profile;
   cores = app.cores;
   entries = app.entries;
   tick = app.tick;
@@ -88,6 +91,7 @@ objects_with o names = record {
 
 abbrev pub together : AppView → NamedApplication
 together app = record {
+  profile = app.runs.profile;
   cores = app.runs.cores;
   entries = app.runs.entries;
   tick = app.runs.tick;

@@ -6,7 +6,7 @@ use Rattle.serde_json.specs.Events.{items_len}
 use Rattle.serde_json.specs.Find.{get}
 use Rattle.rd_app.specs.declared.instr.Instr.{Instr}
 use Rattle.rd_app.specs.TaskScript.{TaskScript}
-use Rattle.rd_script.specs.File.{ends, task_keys}
+use Rattle.rd_script.specs.File.{ends, profile_number, task_keys}
 use Rattle.rd_names.specs.Apps.{AppView}
 use Rattle.rd_script.specs.Named.{Named, NamedApplication, together}
 use Rattle.rd_script.specs.Objects.{SaysObjects, file_keys}
@@ -49,7 +49,7 @@ AreTasks scope ds tasks =
 
 pub record Says (d : Data) (app : NamedApplication) (task_items : Items) : Type 0 where
   pub keys : is_object_with file_keys d ≡ true
-  pub profile_at : get (codes "profile") d ≡ Some (number (unsigned 1))
+  pub profile_at : get (codes "profile") d ≡ Some (number (unsigned (profile_number app.profile)))
   pub cores_at : get (codes "cores") d ≡ Some (number (unsigned app.cores))
   pub entries_at : IsNumberOr 1 (get (codes "notes") d) app.entries
   pub tick_at : IsNumberOr 0 (get (codes "tick") d) app.tick

@@ -10,7 +10,8 @@ ghost use Rattle.rd_script.specs.Draft.{app_draft_view, task_draft_view, task_dr
 ghost use Rattle.rd_script.specs.File.{GivesFaultFirst, GivesOrNoMemory, checked};
 ghost use Rattle.rd_script.specs.File.{are_texts, task_of, tasks_after};
 ghost use Rattle.rd_script.specs.File.{ends_script, instr_of_value, instrs_of, scripts_after};
-ghost use Rattle.rd_script.specs.File.{draft_of, program_of, scope_of_draft, with_scripts};
+ghost use Rattle.rd_script.specs.File.{draft_of, profile_in, program_of, scope_of_draft};
+ghost use Rattle.rd_script.specs.File.{with_scripts};
 ghost use Rattle.rd_script.specs.File.{app_of, app_of_text, app_of_bytes};
 ghost use Rattle.rd_script.specs.Named.{apart, runs_of, together};
 ghost use Rattle.rd_script.specs.Says.{FileSays};
@@ -24,9 +25,10 @@ use crate::scope::Scope;
 use crate::spelling::read_instr;
 use crate::values::{array, field, new_name, number, number_or, object_with};
 use arrayvec::ArrayVec;
-use rd_app::app::{MAX_CODE, MAX_CORES, MAX_PRIORITY, MAX_TASKS, Parts, Program, Script};
+use rd_app::app::{MAX_CODE, MAX_PRIORITY, MAX_TASKS, Parts, Program, Script};
 use rd_app::both::both;
 use rd_app::instr::Instr;
+use rd_app::profile::Profile;
 use rd_names::app::App;
 use rd_names::names::Names;
 use rd_notify::entries::MAX_ENTRIES;
@@ -87,6 +89,7 @@ fn read_tasks(values: &[Value]) -> Result<NamedArray<'_, TaskDraft<'_>, MAX_TASK
 // What a file says of an application, its scripts not read yet.
 #[derive(Drop)]
 struct AppDraft<'a> {
+    profile: Profile,
     cores: usize,
     entries: usize,
     tick: u32,
@@ -107,6 +110,14 @@ impl<'a> AppDraft<'a> {
     }
 }
 
+// The profile of a number.
+fn read_profile(value: &Value) -> Result<Profile, AppError>
+    ensures { result ≡ profile_in (view value.now) }
+{
+    number(value, 1, 1)?;
+    Ok(Profile::One)
+}
+
 #[tactic(auto, unfolding(crate::specs::File::draft_of))]
 fn read_draft(file: &Value) -> Result<AppDraft<'_>, AppError>
     ensures { Gives app_draft_view result (draft_of (view file.now)) }
@@ -115,13 +126,14 @@ fn read_draft(file: &Value) -> Result<AppDraft<'_>, AppError>
     let profile = field(file, "profile")?;
     let cores = field(file, "cores")?;
     let tasks = field(file, "tasks")?;
-    number(profile, 1, 1)?;
-    let cores = number(cores, 1, MAX_CORES as u64)? as usize;
+    let profile = read_profile(profile)?;
+    let cores = number(cores, 1, profile.max_cores() as u64)? as usize;
     let entries = number_or(file.get("notes"), 1, 1, MAX_ENTRIES as u64)? as usize;
     let tick = number_or(file.get("tick"), 0, 0, u64::from(u32::MAX))? as u32;
     let objects = read_objects(file)?;
     let tasks = read_tasks(array(tasks, 1, MAX_TASKS)?)?;
     Ok(AppDraft {
+        profile,
         cores,
         entries,
         tick,
@@ -211,6 +223,7 @@ fn keep_program(alloc: Global, draft: &AppDraft<'_>) -> Result<Program, AllocErr
     let tasks = keep_scripts(alloc, tasks, draft.scope())?;
     let objects = keep_objects(alloc, &draft.objects)?;
     let parts = Parts {
+        profile: draft.profile,
         cores: draft.cores,
         entries: draft.entries,
         tick: draft.tick,

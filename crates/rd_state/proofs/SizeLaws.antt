@@ -9,6 +9,7 @@ use Rattle.std.proofs.lemmas.List.Edits.{length-insert, length-remove}
 use Rattle.std.proofs.lemmas.List.Elements.{All-nil, All-same, All-set, All-replicate}
 use Rattle.std.proofs.lemmas.List.Sums.{prefix_len-le-length}
 use Rattle.rd_app.specs.Application.{Application, IsApplication, priorities_of}
+use Rattle.rd_app.proofs.Offered.{few_cores_of}
 use Rattle.rd_wait.specs.Joined.{joined, is_at_least}
 use Rattle.rd_wait.specs.TaskList.{TaskList}
 use Rattle.rd_wait.proofs.Offered.{All-insert, All-remove}
@@ -193,7 +194,7 @@ HasSizes-new app s n limits tick turn cores ready tasks scripts objects =
           cores =
               All-same (IsTaskOrIdle (length s.tasks.items)) s.cores.items (replicate app.cores None) cores
               (All-replicate (IsTaskOrIdle (length s.tasks.items)) app.cores None tt);
-          few_cores = omega (arith, ap length cores, length-replicate {A = Option ℕ} app.cores None, limits.few_cores);
+          few_cores = omega (arith, ap length cores, length-replicate {A = Option ℕ} app.cores None, few_cores_of app limits);
           ready =
               All-same (λ task. task < length s.tasks.items) s.ready.tasks (all_joined (priorities_of app) n) listed
               (All-all_joined (priorities_of app) n (length s.tasks.items) (omega (arith, count)));

@@ -2,8 +2,9 @@
 -- lengths are within what there is room for.
 use Rattle.std.specs.Prelude.{ℕ, ◌≡◌, ◌<◌, ◌≤◌, ◌^◌, length, All, Option, Some, None, IfSome}
 use Rattle.rd_bytes.specs.declared.bytes.TheConstants.{MAX_BYTES}
-use Rattle.rd_app.specs.declared.app.TheConstants.{MAX_CODE, MAX_CORES, MAX_TASKS}
+use Rattle.rd_app.specs.declared.app.TheConstants.{MAX_CODE, MAX_TASKS}
 use Rattle.rd_app.specs.declared.instr.TheConstants.{REGISTERS}
+use Rattle.rd_app.specs.declared.profile.TheConstants.{MAX_CORES}
 use Rattle.rd_group.specs.declared.wish.TheConstants.{MAX_BITS}
 use Rattle.rd_notify.specs.declared.entries.Entry.{Entry}
 use Rattle.rd_notify.specs.declared.entries.TheConstants.{MAX_ENTRIES}

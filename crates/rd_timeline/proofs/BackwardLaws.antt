@@ -5,7 +5,7 @@ use Rattle.std.proofs.Math.Seq.{drop-append_seam, take-add}
 use Rattle.std.proofs.lemmas.List.{append-nil, append_assoc, drop-append-le, drop-drop, length-take-le, take-append-drop, take-take}
 use Rattle.rd_app.specs.Application.{Application}
 use Rattle.rd_state.specs.Snapshot.{Snapshot}
-use Rattle.rd_calls.specs.declared.moves.Move.{Move}
+use Rattle.rd_moves.specs.Moves.{PlainMove}
 use Rattle.rd_condition.specs.declared.condition.Condition.{Condition}
 use Rattle.rd_condition.specs.Conditions.{holds}
 use Rattle.rd_timeline.specs.Course.{Course}
@@ -23,39 +23,39 @@ HasRedone-here course = record {
   done = sym (append-nil course.done);
   undone = refl;
   most_done = refl;
-  most_edits = refl;
+  most_carried = refl;
   most_bytes = refl;
 }
 
 pub HasRedone-next : (old now next : Course) (count : ℕ) → HasRedone old count now → count < length old.undone → StandsOn now next
-    → next.done ≡ now.done ++ take 1 now.undone → next.undone ≡ drop 1 now.undone → next.most_done ≡ now.most_done → next.most_edits ≡ now.most_edits
+    → next.done ≡ now.done ++ take 1 now.undone → next.undone ≡ drop 1 now.undone → next.most_done ≡ now.most_done → next.most_carried ≡ now.most_carried
     → next.most_bytes ≡ now.most_bytes → HasRedone old (count + 1) next
-HasRedone-next old now next count has less stands done undone most_done most_edits most_bytes = record {
+HasRedone-next old now next count has less stands done undone most_done most_carried most_bytes = record {
   some = omega (arith, less);
   app = stands.app ∙ has.app;
   limit = stands.limit ∙ has.limit;
   done =
-      done ∙ ap (λ (ms : List Move). ms ++ take 1 now.undone) has.done
+      done ∙ ap (λ (ms : List PlainMove). ms ++ take 1 now.undone) has.done
       ∙ append_assoc old.done (take count old.undone) (take 1 now.undone)
-      ∙ ap (λ (us : List Move). old.done ++ (take count old.undone ++ take 1 us)) has.undone
-      ∙ ap (λ (us : List Move). old.done ++ us) (sym (take-add count 1 old.undone));
+      ∙ ap (λ (us : List PlainMove). old.done ++ (take count old.undone ++ take 1 us)) has.undone
+      ∙ ap (λ (us : List PlainMove). old.done ++ us) (sym (take-add count 1 old.undone));
   undone = undone ∙ ap (drop 1) has.undone ∙ drop-drop 1 count old.undone;
   most_done = most_done ∙ has.most_done;
-  most_edits = most_edits ∙ has.most_edits;
+  most_carried = most_carried ∙ has.most_carried;
   most_bytes = most_bytes ∙ has.most_bytes;
 }
 
 -- Taken back again they are undone as before.
 pub undone_again : (old now : Course) (count : ℕ) → HasRedone old count now → drop (length old.done) now.done ++ now.undone ≡ old.undone
 undone_again old now count has =
-    ap (λ (ms : List Move). drop (length old.done) ms ++ now.undone) has.done
-    ∙ ap (λ (ms : List Move). ms ++ now.undone) (drop-append_seam old.done (take count old.undone))
-    ∙ ap (λ (us : List Move). take count old.undone ++ us) has.undone ∙ take-append-drop count old.undone
+    ap (λ (ms : List PlainMove). drop (length old.done) ms ++ now.undone) has.done
+    ∙ ap (λ (ms : List PlainMove). ms ++ now.undone) (drop-append_seam old.done (take count old.undone))
+    ∙ ap (λ (us : List PlainMove). take count old.undone ++ us) has.undone ∙ take-append-drop count old.undone
 
 -- ---- back once more
 
 -- Of the moves done all but so many are, and one more is taken back.
-pub one_back : (moves undone now : List Move) (count : ℕ) → now ≡ take (length moves - count) moves → count < length moves
+pub one_back : (moves undone now : List PlainMove) (count : ℕ) → now ≡ take (length moves - count) moves → count < length moves
     → (take (length now - 1) now ≡ take (length moves - (count + 1)) moves)
     × (drop (length now - 1) now ++ (drop (length moves - count) moves ++ undone) ≡ drop (length moves - (count + 1)) moves ++ undone)
 one_back moves undone now count is less =
@@ -66,12 +66,12 @@ one_back moves undone now count is less =
     sym (drop-append-le j (take m moves) (drop m moves) (omega (arith, length-take-le m moves (omega arith), less)))
     ∙ ap (drop j) (take-append-drop m moves) in (
       ap (λ k. take k now) len ∙ ap (take j) is ∙ take-take j m moves (omega (arith, less)),
-      ap (λ k. drop k now ++ (drop m moves ++ undone)) len ∙ ap (λ (ms : List Move). drop j ms ++ (drop m moves ++ undone)) is
-          ∙ sym (append_assoc (drop j (take m moves)) (drop m moves) undone) ∙ ap (λ (ms : List Move). ms ++ undone) later,
+      ap (λ k. drop k now ++ (drop m moves ++ undone)) len ∙ ap (λ (ms : List PlainMove). drop j ms ++ (drop m moves ++ undone)) is
+          ∙ sym (append_assoc (drop j (take m moves)) (drop m moves) undone) ∙ ap (λ (ms : List PlainMove). ms ++ undone) later,
     )
 
 -- Whether the condition holds after so many moves says where the search goes on.
-pub looked_at : (app : Application) (condition : Condition) (moves : List Move) (count : ℕ) (s : Snapshot) → state_after app (take count moves) ≡ Ok s
+pub looked_at : (app : Application) (condition : Condition) (moves : List PlainMove) (count : ℕ) (s : Snapshot) → state_after app (take count moves) ≡ Ok s
     → last_met app condition moves (suc count) ≡ cond (holds s condition) (Some count) (last_met app condition moves count)
 looked_at app condition moves count s state =
     ap (λ r. cond (holds_in condition r) (Some count) (last_met app condition moves count)) state

@@ -5,9 +5,9 @@ use Rattle.rd_app.specs.Application.{Application}
 use Rattle.rd_refusal.specs.declared.refusal.Refusal.{Refusal}
 use Rattle.rd_refusal.specs.declared.refusal.Refusal.TheVariants.{BadEdit, NoMemory, TickLimit}
 use Rattle.rd_state.specs.Snapshot.{Snapshot, core_at}
-use Rattle.rd_calls.specs.declared.moves.Move.{Move}
-use Rattle.rd_calls.specs.declared.moves.Move.TheVariants.{Core, Tick}
-use Rattle.rd_calls.specs.declared.moves.Move.TheVariants as move
+use Rattle.rd_moves.specs.Moves.{PlainMove}
+use Rattle.rd_moves.specs.declared.moves.Move.TheVariants.{Core, Tick}
+use Rattle.rd_moves.specs.declared.moves.Move.TheVariants as move
 use Rattle.rd_calls.specs.Step.{last_tick, step, step_of_core, tick_step}
 use Rattle.rd_edits.specs.Edits.{edited, is_good_edit}
 
@@ -20,7 +20,7 @@ never_if : (b : Bool) (s : Snapshot) (refusal : Refusal) → refusal ≢ NoMemor
 never_if true s refusal other is = grind (arith, is)
 never_if false s refusal other is = other (grind (arith, is))
 
-pub never_no_memory : (app : Application) (s : Snapshot) (move : Move) → step app s move ≢ Err NoMemory
+pub never_no_memory : (app : Application) (s : Snapshot) (move : PlainMove) → step app s move ≢ Err NoMemory
 never_no_memory app s (Core core) is = never_of_core app s core (core_at s core) is
 never_no_memory app s Tick is = never_if (nat_lt s.tick last_tick) (tick_step app s) TickLimit (λ same. grind (arith, same)) is
 never_no_memory app s (move.Edit edit) is = never_if (is_good_edit app s edit) (edited s edit) BadEdit (λ same. grind (arith, same)) is

@@ -13,12 +13,12 @@ use Rattle.rd_state.specs.Snapshot.{Snapshot}
 use Rattle.rd_state.specs.Undoing.{undone, CanUndo}
 use Rattle.rd_state.specs.Settled.{IsSettled}
 use Rattle.rd_state.specs.Valid.{IsValid}
-use Rattle.rd_calls.specs.declared.moves.Move.{Move}
+use Rattle.rd_moves.specs.Moves.{PlainMove}
 use Rattle.rd_calls.specs.Step.{step}
 use Rattle.rd_timeline.specs.History.{stepped, state_after, rewound, CanRewind, IsStateAfter, Retraces}
 
 -- one move more, after moves that gave a state
-pub state_after-push : (app : Application) (moves : List Move) (move : Move) (s : Snapshot) → state_after app moves ≡ Ok s
+pub state_after-push : (app : Application) (moves : List PlainMove) (move : PlainMove) (s : Snapshot) → state_after app moves ≡ Ok s
     → state_after app (moves ++ move ∷ []) ≡ step app s move
 state_after-push app moves move s e = fold_push (stepped app) (Ok (boot_of app)) moves move ∙ ap (λ r. stepped app r move) e
 
@@ -69,12 +69,12 @@ Retraces-boot app s e valid settled zero h = record { state = ap (λ (t : Snapsh
 Retraces-boot app s e valid settled (suc count) h = absurd (omega (arith, h))
 
 -- the state now is that after all moves
-pub Retraces-now : (app : Application) (moves : List Move) (records : List (List Change)) (s : Snapshot)
+pub Retraces-now : (app : Application) (moves : List PlainMove) (records : List (List Change)) (s : Snapshot)
     → length records ≡ length moves → Retraces app moves records s → IsStateAfter app moves s
 Retraces-now app moves records s same h =
-    let P : List Move → List (List Change) → Type 0 = λ ms rs. IsStateAfter app ms (rewound s rs) in
+    let P : List PlainMove → List (List Change) → Type 0 = λ ms rs. IsStateAfter app ms (rewound s rs) in
     subst (λ (rs : List (List Change)). P moves rs) (drop_all (length moves) records (omega (arith, same)))
-    (subst (λ (ms : List Move). P ms (drop (length moves) records)) (take_all (length moves) moves (omega arith)) (h (length moves) (omega arith)))
+    (subst (λ (ms : List PlainMove). P ms (drop (length moves) records)) (take_all (length moves) moves (omega arith)) (h (length moves) (omega arith)))
 
 -- what stands before the last of one more
 before_last : {X : Type 0} (count : ℕ) (xs : List X) (x : X) → count ≤ length xs → take count (xs ++ x ∷ []) ≡ take count xs
@@ -84,7 +84,7 @@ rewound-before : (count : ℕ) (records : List (List Change)) (last : List Chang
     → rewound s (drop count (records ++ last ∷ [])) ≡ rewound (undone s last) (drop count records)
 rewound-before count records last s h = ap (rewound s) (drop-append-le count records (last ∷ []) h) ∙ rewound-push s (drop count records) last
 
-pub Retraces-push : (app : Application) (moves : List Move) (records : List (List Change)) (move : Move) (last : List Change)
+pub Retraces-push : (app : Application) (moves : List PlainMove) (records : List (List Change)) (move : PlainMove) (last : List Change)
     (s s' : Snapshot) → length records ≡ length moves → Retraces app moves records s → step app s move ≡ Ok s'
     → undone s' last ≡ s → IsValid app s' → IsSettled (priorities_of app) s'
     → Retraces app (moves ++ move ∷ []) (records ++ last ∷ []) s'
@@ -95,35 +95,35 @@ Retraces-push app moves records move last s s' same h steps back valid settled c
           let before : rewound s' (drop count (records ++ last ∷ [])) ≡ rewound s (drop count records) =
           rewound-before count records last s' (omega (arith, here, same)) ∙ ap (λ (t : Snapshot). rewound t (drop count records)) back in
           subst (λ (t : Snapshot). IsStateAfter app (take count (moves ++ move ∷ [])) t) (sym before)
-          (subst (λ (ms : List Move). IsStateAfter app ms (rewound s (drop count records))) (sym (before_last count moves move here)) was)
+          (subst (λ (ms : List PlainMove). IsStateAfter app ms (rewound s (drop count records))) (sym (before_last count moves move here)) was)
       | inr at_the_end ↦
           let all = take_all count (moves ++ move ∷ []) (omega (arith, at_the_end, length_push moves move)) in
           let none = drop_all count (records ++ last ∷ []) (omega (arith, at_the_end, length_push records last, same)) in
-          subst (λ (ms : List Move). IsStateAfter app ms (rewound s' (drop count (records ++ last ∷ [])))) (sym all)
+          subst (λ (ms : List PlainMove). IsStateAfter app ms (rewound s' (drop count (records ++ last ∷ [])))) (sym all)
           (subst (λ (rs : List (List Change)). IsStateAfter app (moves ++ move ∷ []) (rewound s' rs)) (sym none)
           (record { state = state_after-push app moves move s (Retraces-now app moves records s same h).state ∙ steps; valid = valid; settled = settled }))
     ]
 
 -- Back by the records after the first m, the first m moves are retraced.
-pub Retraces-back : (app : Application) (moves : List Move) (records : List (List Change)) (s : Snapshot) (m : ℕ)
+pub Retraces-back : (app : Application) (moves : List PlainMove) (records : List (List Change)) (s : Snapshot) (m : ℕ)
     → length records ≡ length moves → m ≤ length moves → Retraces app moves records s
     → Retraces app (take m moves) (take m records) (rewound s (drop m records))
 Retraces-back app moves records s m same within h count few =
     let fewer : count ≤ m = omega (arith, few, length-take-le m moves within) in
     subst (λ (t : Snapshot). IsStateAfter app (take count (take m moves)) t) (sym (rewound-back s records m count fewer (omega (arith, within, same))))
-    (subst (λ (ms : List Move). IsStateAfter app ms (rewound s (drop count records))) (sym (take-take count m moves fewer)) (h count (omega (arith, fewer, within))))
+    (subst (λ (ms : List PlainMove). IsStateAfter app ms (rewound s (drop count records))) (sym (take-take count m moves fewer)) (h count (omega (arith, fewer, within))))
 
 -- Once a move is refused, there is no state after those behind it either.
-refused_stays : (app : Application) (refusal : Refusal) (moves : List Move) → fold (stepped app) (Err refusal) moves ≡ Err refusal
+refused_stays : (app : Application) (refusal : Refusal) (moves : List PlainMove) → fold (stepped app) (Err refusal) moves ≡ Err refusal
 refused_stays app refusal [] = refl
 refused_stays app refusal (move ∷ moves) = refused_stays app refusal moves
 
-before_is_ok : (app : Application) (r : Result Snapshot Refusal) (moves : List Move) → IsOk (fold (stepped app) r moves) → IsOk r
+before_is_ok : (app : Application) (r : Result Snapshot Refusal) (moves : List PlainMove) → IsOk (fold (stepped app) r moves) → IsOk r
 before_is_ok app (Ok s) moves is = refl
 before_is_ok app (Err refusal) moves is = sym (ap is_ok (refused_stays app refusal moves)) ∙ is
 
 -- Where moves lead on from those that were made, the first of them can be made.
-pub first_is_made : (app : Application) (done : List Move) (move : Move) (rest : List Move) (s : Snapshot) → state_after app done ≡ Ok s
+pub first_is_made : (app : Application) (done : List PlainMove) (move : PlainMove) (rest : List PlainMove) (s : Snapshot) → state_after app done ≡ Ok s
     → IsOk (state_after app (done ++ move ∷ rest)) → IsOk (step app s move)
 first_is_made app done move rest s state is =
     before_is_ok app (step app s move) rest

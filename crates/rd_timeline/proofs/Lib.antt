@@ -8,6 +8,8 @@ pub mod PolicyLaws
 pub mod BackwardLaws
 pub mod CauseLaws
 pub mod RunsLaws
+pub mod RefusedLaws
+pub mod AnswerLaws
 pub mod Offered
 pub mod WalkLaws
 pub mod Rows

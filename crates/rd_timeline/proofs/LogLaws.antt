@@ -4,7 +4,7 @@ use Rattle.std.proofs.lemmas.List.{drop-append-le, drop-drop, drop_more, length-
 use Rattle.std.proofs.Math.Seq.{get_or-append_seam}
 use Rattle.rd_app.specs.Application.{Application}
 use Rattle.rd_calls.proofs.Offered.{record_has_room}
-use Rattle.rd_calls.specs.declared.moves.Move.{Move}
+use Rattle.rd_moves.specs.Moves.{PlainMove}
 use Rattle.rd_calls.specs.declared.play.TheConstants.{MAX_RECORD_BYTES}
 use Rattle.rd_calls.specs.Step.{IsPlayed}
 use Rattle.rd_packed.specs.Records.{last_of_all, record_packed, records_packed}
@@ -19,7 +19,7 @@ use Rattle.rd_timeline.specs.LogView.{bytes_of}
 use Rattle.rd_timeline.proofs.HistoryLaws.{CanRewind-later}
 
 -- The changes of a move take no more bytes than a record may.
-pub played_short : (app : Application) (s s' : Snapshot) (move : Move) (undo : List Change) → IsSized s → IsPlayed app s move s' undo
+pub played_short : (app : Application) (s s' : Snapshot) (move : PlainMove) (undo : List Change) → IsSized s → IsPlayed app s move s' undo
     → length (all_packed undo) ≤ MAX_RECORD_BYTES
 played_short app s s' move undo sized played =
     omega (arith, weight_bounds_bytes undo, length-weight-le undo, played.small, record_has_room app s move sized)

@@ -2,3 +2,4 @@
 pub use Rattle.rd_timeline.proofs.HistoryLaws.{state_after-push}
 pub use Rattle.rd_timeline.proofs.PolicyLaws.{moves_made}
 pub use Rattle.rd_timeline.proofs.RunsLaws.{back_until_leaves, redo_leaves, redo_refused, run_leaves, run_refused}
+pub use Rattle.rd_timeline.proofs.RefusedLaws.{made_go, refused_request}

@@ -12,15 +12,16 @@ use Rattle.rd_refusal.specs.declared.refusal.Refusal.TheVariants.{MovesFull}
 use Rattle.rd_state.specs.Change.{Change}
 use Rattle.rd_state.specs.Snapshot.{Snapshot}
 use Rattle.rd_state.specs.Valid.{IsValid}
-use Rattle.rd_calls.specs.declared.moves.Move.{Move}
-use Rattle.rd_calls.specs.Step.{move_from, policy_of, step, IsMoveOf}
+use Rattle.rd_moves.specs.Moves.{PlainMove}
+use Rattle.rd_calls.specs.Step.{move_from, policy_of, step}
+use Rattle.rd_moves.specs.Moves.{IsMoveOf}
 use Rattle.rd_condition.specs.declared.condition.Condition.{Condition}
 use Rattle.rd_timeline.specs.Course.{Course, IsKept}
-use Rattle.rd_timeline.specs.Decoded.{edits_in}
+use Rattle.rd_timeline.specs.Decoded.{carried_in}
 use Rattle.rd_timeline.specs.History.{state_after}
 use Rattle.rd_timeline.specs.LogView.{bytes_of}
 use Rattle.rd_timeline.specs.Policy.{Run, Going, Met, Refused, EndsRun, IsWhyNoRun, IsWhyNotByPolicy, RunsMoreThanEver, StandsOn, meets, allowed, done_by_policy, looked_for, moves_by_policy, ran, run_from, run_on, state_by_policy, state_or}
-use Rattle.rd_timeline.proofs.DecodedLaws.{edits_in-append}
+use Rattle.rd_timeline.proofs.DecodedLaws.{carried_in-append}
 use Rattle.rd_timeline.proofs.LogLaws.{bytes_of-parts}
 
 -- A run that has ended stays as it is.
@@ -61,44 +62,44 @@ room_left course = course.limit - length course.done
 -- The most that was, once so many moves of a run were made.
 pub record IsMost (old : Course) (made : ℕ) (now : Course) : Type 0 where
   pub done : now.most_done ≡ max old.most_done (length now.done)
-  pub edits : now.most_edits ≡ old.most_edits
+  pub carried : now.most_carried ≡ old.most_carried
   pub none : made ≡ 0 → now.most_bytes ≡ old.most_bytes
   pub bytes : 0 < made → now.most_bytes ≡ max old.most_bytes (bytes_of (take (length now.done - 1) now.log))
 
 IsMost-begun : (course : Course) → IsKept course → IsMost course 0 course
 IsMost-begun course kept = record {
   done = omega (arith, kept.made.were, length-append course.done course.undone);
-  edits = refl;
+  carried = refl;
   none = λ none. refl;
   bytes = λ some. absurd (omega (arith, some));
 }
 
--- Policy chooses no edit.
-no_edit_from : (turn : ℕ) (found : Option ℕ) → edits_in (move_from turn found ∷ []) ≡ 0
-no_edit_from turn None = refl
-no_edit_from turn (Some ahead) = refl
+-- Policy chooses no move that carries something.
+none_carried_from : (turn : ℕ) (found : Option ℕ) → carried_in (move_from turn found ∷ []) ≡ 0
+none_carried_from turn None = refl
+none_carried_from turn (Some ahead) = refl
 
 pub IsMost-next : (old : Course) (made : ℕ) (now next : Course) → IsMost old made now → IsKept now
     → next.done ≡ now.done ++ policy_of now.target ∷ [] → take (length now.done) next.log ≡ now.log
-    → next.most_done ≡ max now.most_done (length next.done) → next.most_edits ≡ max now.most_edits (edits_in next.done)
+    → next.most_done ≡ max now.most_done (length next.done) → next.most_carried ≡ max now.most_carried (carried_in next.done)
     → next.most_bytes ≡ max now.most_bytes (bytes_of now.log) → IsMost old (made + 1) next
-IsMost-next old made now next most kept done log most_done most_edits most_bytes =
+IsMost-next old made now next most kept done log most_done most_carried most_bytes =
     let move = policy_of now.target in
     let one_more : length next.done ≡ length now.done + 1 = omega (arith, ap length done, length_push now.done move) in
     let before : bytes_of (take (length next.done - 1) next.log) ≡ bytes_of now.log =
     ap (λ k. bytes_of (take k next.log)) (omega (arith, one_more)) ∙ ap bytes_of log in
     let fewer : bytes_of (take (length now.done - 1) now.log) ≤ bytes_of now.log =
     omega (arith, bytes_of-parts (length now.done - 1) now.log) in
-    let edits : edits_in next.done ≡ edits_in now.done =
+    let carried : carried_in next.done ≡ carried_in now.done =
     omega (
       arith,
-      ap edits_in done,
-      edits_in-append now.done (move ∷ []),
-      no_edit_from now.target.turn (position is_some (drop now.target.turn now.target.cores)),
+      ap carried_in done,
+      carried_in-append now.done (move ∷ []),
+      none_carried_from now.target.turn (position is_some (drop now.target.turn now.target.cores)),
     ) in
     record {
       done = omega (arith, most.done, most_done, one_more);
-      edits = omega (arith, most.edits, most_edits, edits, kept.made.edits_were, edits_in-append now.done now.undone);
+      carried = omega (arith, most.carried, most_carried, carried, kept.made.carried_were, carried_in-append now.done now.undone);
       none = λ none. absurd (omega (arith, none));
       bytes = λ some. elim (cases_lt 0 made) [
         | inl more ↦ omega (arith, most_bytes, most.bytes more, before, fewer)
@@ -147,16 +148,16 @@ StandsOn-here course kept = record {
   log = take_all (length course.done) course.log (omega (arith, kept.records));
   more = omega arith;
   most_done = omega arith;
-  most_edits = omega arith;
+  most_carried = omega arith;
   most_bytes = omega arith;
   read = refl;
 }
 
 -- Moves are laid on once more.
-pub StandsOn-then : (old now next : Course) (more : List Move) → StandsOn old now → next.app ≡ now.app → next.limit ≡ now.limit
+pub StandsOn-then : (old now next : Course) (more : List PlainMove) → StandsOn old now → next.app ≡ now.app → next.limit ≡ now.limit
     → next.done ≡ now.done ++ more → take (length now.done) next.log ≡ now.log → now.most_done ≤ next.most_done
-    → now.most_edits ≤ next.most_edits → now.most_bytes ≤ next.most_bytes → next.read ≡ now.read → StandsOn old next
-StandsOn-then old now next more stands app limit done log most_done most_edits most_bytes read = record {
+    → now.most_carried ≤ next.most_carried → now.most_bytes ≤ next.most_bytes → next.read ≡ now.read → StandsOn old next
+StandsOn-then old now next more stands app limit done log most_done most_carried most_bytes read = record {
   app = app ∙ stands.app;
   limit = limit ∙ stands.limit;
   done =
@@ -165,7 +166,7 @@ StandsOn-then old now next more stands app limit done log most_done most_edits m
       sym (take-take (length old.done) (length now.done) next.log stands.more) ∙ ap (take (length old.done)) log ∙ stands.log;
   more = omega (arith, stands.more, ap length done, length-append now.done more);
   most_done = omega (arith, stands.most_done, most_done);
-  most_edits = omega (arith, stands.most_edits, most_edits);
+  most_carried = omega (arith, stands.most_carried, most_carried);
   most_bytes = omega (arith, stands.most_bytes, most_bytes);
   read = read ∙ stands.read;
 }
@@ -180,7 +181,7 @@ StandsOn-trans old now next first then = record {
       sym (take-take (length old.done) (length now.done) next.log first.more) ∙ ap (take (length old.done)) then.log ∙ first.log;
   more = omega (arith, first.more, then.more);
   most_done = omega (arith, first.most_done, then.most_done);
-  most_edits = omega (arith, first.most_edits, then.most_edits);
+  most_carried = omega (arith, first.most_carried, then.most_carried);
   most_bytes = omega (arith, first.most_bytes, then.most_bytes);
   read = then.read ∙ first.read;
 }
@@ -212,10 +213,10 @@ next_state old goal made now s at steps =
     (ap (state_by_policy old.app old.target) (add-one made) ∙ ap (λ (t : Snapshot). state_or t (step old.app t (policy_of t))) (sym at.state)
     ∙ ap (state_or now.target) steps)
 
-next_done : (old : Course) (goal : Option Condition) (made : ℕ) (now : Course) (done : List Move) → IsAt old goal made now
+next_done : (old : Course) (goal : Option Condition) (made : ℕ) (now : Course) (done : List PlainMove) → IsAt old goal made now
     → done ≡ now.done ++ policy_of now.target ∷ [] → done ≡ done_by_policy old (made + 1)
 next_done old goal made now done at is =
-    is ∙ ap (λ (ms : List Move). ms ++ policy_of now.target ∷ []) at.done
+    is ∙ ap (λ (ms : List PlainMove). ms ++ policy_of now.target ∷ []) at.done
     ∙ append_assoc old.done (moves_by_policy old.app old.target made) (policy_of now.target ∷ [])
     ∙ ap (λ (t : Snapshot). old.done ++ (moves_by_policy old.app old.target made ++ policy_of t ∷ [])) at.state
     ∙ sym (ap (done_by_policy old) (add-one made))
@@ -250,7 +251,7 @@ EndsRun-met old goal made count now next at less within more steps done undone s
   undone = undone;
   log = stands.log;
   most_done = most.done;
-  most_edits = most.edits;
+  most_carried = most.carried;
   most_bytes = most.bytes;
 }
 
@@ -299,7 +300,7 @@ runs_from_aside old goal count runs = record {
     log = runs.stands.log;
     more = runs.stands.more;
     most_done = runs.stands.most_done;
-    most_edits = runs.stands.most_edits;
+    most_carried = runs.stands.most_carried;
     most_bytes = runs.stands.most_bytes;
     read = runs.stands.read;
   };
@@ -310,17 +311,17 @@ runs_from_aside old goal count runs = record {
 
 -- Courses are equal where what is seen of them is.
 pub same_course : (old new : Course) → new.app ≡ old.app → new.limit ≡ old.limit → new.target ≡ old.target → new.done ≡ old.done → new.log ≡ old.log
-    → new.undone ≡ old.undone → new.most_done ≡ old.most_done → new.most_edits ≡ old.most_edits → new.most_bytes ≡ old.most_bytes → new.read ≡ old.read
+    → new.undone ≡ old.undone → new.most_done ≡ old.most_done → new.most_carried ≡ old.most_carried → new.most_bytes ≡ old.most_bytes → new.read ≡ old.read
     → new ≡ old
-same_course old new app limit target done log undone most_done most_edits most_bytes read =
+same_course old new app limit target done log undone most_done most_carried most_bytes read =
     ap (λ (x : Application). record new { app = x }) app
     ∙ ap (λ x. record new { app = old.app; limit = x }) limit
     ∙ ap (λ (x : Snapshot). record new { app = old.app; limit = old.limit; target = x }) target
-    ∙ ap (λ (x : List Move). record new { app = old.app; limit = old.limit; target = old.target; done = x }) done
+    ∙ ap (λ (x : List PlainMove). record new { app = old.app; limit = old.limit; target = old.target; done = x }) done
     ∙ ap (λ (x : List (List Change)). record new { app = old.app; limit = old.limit; target = old.target; done = old.done; log = x }) log
-    ∙ ap (λ (x : List Move). record old { undone = x; most_done = new.most_done; most_edits = new.most_edits; most_bytes = new.most_bytes; read = new.read }) undone
-    ∙ ap (λ x. record old { most_done = x; most_edits = new.most_edits; most_bytes = new.most_bytes; read = new.read }) most_done
-    ∙ ap (λ x. record old { most_edits = x; most_bytes = new.most_bytes; read = new.read }) most_edits
+    ∙ ap (λ (x : List PlainMove). record old { undone = x; most_done = new.most_done; most_carried = new.most_carried; most_bytes = new.most_bytes; read = new.read }) undone
+    ∙ ap (λ x. record old { most_done = x; most_carried = new.most_carried; most_bytes = new.most_bytes; read = new.read }) most_done
+    ∙ ap (λ x. record old { most_carried = x; most_bytes = new.most_bytes; read = new.read }) most_carried
     ∙ ap (λ x. record old { most_bytes = x; read = new.read }) most_bytes
     ∙ ap (λ x. record old { read = x }) read
 
@@ -329,7 +330,7 @@ pub same_target : (old new : Course) → new.app ≡ old.app → new.done ≡ ol
     → state_after new.app new.done ≡ Ok new.target → new.target ≡ old.target
 same_target old new app done leads leads_new =
     ap (state_or old.target)
-    (sym leads_new ∙ ap (λ (a : Application). state_after a new.done) app ∙ ap (λ (ms : List Move). state_after old.app ms) done ∙ leads)
+    (sym leads_new ∙ ap (λ (a : Application). state_after a new.done) app ∙ ap (λ (ms : List PlainMove). state_after old.app ms) done ∙ leads)
 
 -- ---- a run without a goal
 

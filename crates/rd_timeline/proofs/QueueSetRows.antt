@@ -17,8 +17,8 @@ use Rattle.rd_app.specs.Application.{Application}
 use Rattle.rd_app.specs.Builtin.{builtin}
 use Rattle.rd_state.specs.Snapshot.{Snapshot, TaskSnapshot}
 use Rattle.rd_state.specs.Objects.{no_objects}
-use Rattle.rd_calls.specs.declared.moves.Move.{Move}
-use Rattle.rd_calls.specs.declared.moves.Move.TheVariants.{Core}
+use Rattle.rd_moves.specs.Moves.{PlainMove}
+use Rattle.rd_moves.specs.declared.moves.Move.TheVariants.{Core}
 use Rattle.rd_timeline.specs.History.{state_after}
 
 -- one task over a queue for items of one byte, in a set with room for one handle
@@ -44,7 +44,7 @@ abbrev runs_with : TaskSnapshot → QueueSnapshot → QueueSetSnapshot → Snaps
 runs_with task queue queue_set =
     record { tick = 0; turn = 1; cores = Some 0 ∷ []; ready = []; tasks = task ∷ []; objects = record no_objects { queues = queue ∷ []; queue_sets = queue_set ∷ [] } }
 
-abbrev one_move : Move
+abbrev one_move : PlainMove
 one_move = Core 0
 
 -- ---- an overwrite of an item that is there posts nothing

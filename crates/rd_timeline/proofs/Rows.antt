@@ -14,8 +14,8 @@ use Rattle.rd_state.specs.Change.{applied, inverse_of}
 use Rattle.rd_state.specs.Snapshot.{Snapshot, TaskSnapshot}
 use Rattle.rd_state.specs.Objects.{no_objects}
 use Rattle.rd_state.specs.Undoing.{undone}
-use Rattle.rd_calls.specs.declared.moves.Move.{Move}
-use Rattle.rd_calls.specs.declared.moves.Move.TheVariants.{Core}
+use Rattle.rd_moves.specs.Moves.{PlainMove}
+use Rattle.rd_moves.specs.declared.moves.Move.TheVariants.{Core}
 use Rattle.rd_timeline.specs.History.{state_after}
 
 abbrev queue_of : List (List ℕ) → QueueSnapshot
@@ -29,7 +29,7 @@ task_of pc r0 bytes = record { pc = pc; registers = r0 ∷ 0 ∷ 0 ∷ 0 ∷ 0 �
 abbrev state_of : ℕ → TaskSnapshot → List (List ℕ) → Snapshot
 state_of turn task items = record { tick = 0; turn = turn; cores = Some 0 ∷ []; ready = []; tasks = task ∷ []; objects = record no_objects { queues = queue_of items ∷ [] } }
 
-abbrev one_move : Move
+abbrev one_move : PlainMove
 one_move = Core 0
 
 -- At boot t0 runs, and the queue is empty.

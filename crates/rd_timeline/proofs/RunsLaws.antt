@@ -1,52 +1,46 @@
 -- What each request leaves of the moves.
 use Rattle.std.proofs.Common.{◌≡◌, ◌≢◌, ◌∙◌, ℕ, zero, suc, ◌+◌, ◌-◌, ◌<◌, List, [], ◌∷◌, ◌++◌, inl, inr, true, false, cond, length, take, drop, refl, ap, subst, sym, arith}
-use Rattle.std.specs.Prelude.{◌&&◌, Bool, not, nat_eq, nat_lt, is_ok, IsTrue, Option, None, Some, Result, Ok, Err, IfErr, IfOk, IsErr, IsErrOf, IsOk, OnErr, OnOk, ◌↔◌, unwrap_or}
+use Rattle.std.specs.Prelude.{◌&&◌, Bool, not, nat_eq, nat_lt, is_ok, IsTrue, Option, None, Some, Result, Ok, Err, IsOk, unwrap_or}
 use Rattle.std.proofs.lemmas.Bool.{eq-eqb, false≢true, le-leb, lt-leb, ltb-true, ne_eqb}
 use Rattle.rd_app.specs.Application.{Application}
-use Rattle.rd_bytes.specs.declared.no_memory.NoMemory.{NoMemory as NoMemoryError}
 use Rattle.rd_refusal.specs.declared.refusal.Refusal.{Refusal}
 use Rattle.rd_refusal.specs.declared.refusal.Refusal.TheVariants.{MovesFull, NoMemory}
 use Rattle.rd_state.specs.Boot.{boot_of}
 use Rattle.rd_state.specs.Snapshot.{Snapshot}
-use Rattle.rd_calls.specs.declared.moves.Move.{Move}
+use Rattle.rd_moves.specs.Moves.{PlainMove}
 use Rattle.rd_calls.specs.Step.{policy_of, step}
 use Rattle.rd_condition.specs.declared.condition.Condition.{Condition}
 use Rattle.rd_timeline.specs.declared.running.Found.{Found}
-use Rattle.rd_timeline.specs.declared.runs.Request.TheVariants.{Go, Redo, BackUntil}
+use Rattle.rd_moves.specs.Requests.{PlainRequest}
+use Rattle.rd_moves.specs.declared.request.Request.TheVariants.{Go, Back, Forward, Redo, Until, BackUntil}
 use Rattle.rd_timeline.specs.Backward.{GoesBackTo, HasRedone, last_met, place_met}
-use Rattle.rd_timeline.specs.Course.{Course, GoesOn, IsFull, IsWhyNot}
+use Rattle.rd_timeline.specs.Course.{Course, GoesOn, IsWhyNot}
 use Rattle.rd_timeline.specs.History.{state_after}
 use Rattle.rd_timeline.specs.Policy.{EndsRun, IsWhyNoRun, Run, Going, Met, Refused, allowed, ended, moves_by_policy, ran, run_from, run_on, looked_for, meets, state_or}
-use Rattle.rd_timeline.specs.Runs.{Moves, answered, back_at, can_make, laid_on, left_by, moves_of, run_of, state_of}
+use Rattle.rd_timeline.specs.Runs.{Moves, answered, back_at, can_make, laid_on, left_by, makes_move, may_make_moves, moves_of, run_of, state_of}
 use Rattle.rd_timeline.proofs.CauseLaws.{never_no_memory}
 use Rattle.rd_timeline.proofs.HistoryLaws.{state_after-push}
 use Rattle.rd_timeline.proofs.PolicyLaws.{ran_on}
 
 -- ---- one move
 
--- there was room for a move that was made
-pub with_room : (P : Type 0) (old : Course) (r : Result ℕ Refusal) → (IsErrOf r MovesFull ↔ IsFull old) → OnOk r P
-    → IfOk r (λ at. (length old.done ≢ old.limit) × P)
-with_room P old (Ok at) full goes = (λ is. let none : Ok at ≡ Err MovesFull = full.1 is in absurd (false≢true (sym (ap is_ok none))), goes)
-with_room P old (Err refusal) full goes = tt
-
-can_make_is : (old : Course) (move : Move) (b : Bool) → state_after old.app old.done ≡ Ok old.target → length old.done ≢ old.limit
+can_make_is : (old : Course) (move : PlainMove) (b : Bool) → state_after old.app old.done ≡ Ok old.target → length old.done ≢ old.limit
     → is_ok (step old.app old.target move) ≡ b → can_make old.app old.limit (moves_of old) move ≡ b
 can_make_is old move b leads room is =
     ap (λ b. not b && is_ok (state_after old.app (old.done ++ move ∷ []))) (ne_eqb (length old.done) old.limit room)
     ∙ ap is_ok (state_after-push old.app old.done move old.target leads) ∙ is
 
 -- where it was made
-pub go_leaves : (old new : Course) (move : Move) → state_after old.app old.done ≡ Ok old.target → length old.done ≢ old.limit → GoesOn old move new
+pub go_leaves : (old new : Course) (move : PlainMove) → state_after old.app old.done ≡ Ok old.target → length old.done ≢ old.limit → GoesOn old move new
     → moves_of new ≡ answered old.app old.limit (moves_of old) (Go move)
 go_leaves old new move leads room goes =
-    ap (λ (ms : List Move). record { done = ms; undone = new.undone }) goes.done
-    ∙ ap (λ (us : List Move). record { done = old.done ++ move ∷ []; undone = us }) goes.undone
+    ap (λ (ms : List PlainMove). record { done = ms; undone = new.undone }) goes.done
+    ∙ ap (λ (us : List PlainMove). record { done = old.done ++ move ∷ []; undone = us }) goes.undone
     ∙ sym (ap (λ b. cond b (record { done = old.done ++ move ∷ []; undone = [] }) (moves_of old))
     (can_make_is old move true leads room (ap is_ok goes.step)))
 
 -- where it was refused, but for want of memory
-pub go_refused : (old : Course) (move : Move) (refusal : Refusal) → state_after old.app old.done ≡ Ok old.target → refusal ≢ NoMemory
+pub go_refused : (old : Course) (move : PlainMove) (refusal : Refusal) → state_after old.app old.done ≡ Ok old.target → refusal ≢ NoMemory
     → IsWhyNot old move refusal → moves_of old ≡ answered old.app old.limit (moves_of old) (Go move)
 go_refused old move refusal leads other why = elim why [
   | inl full ↦
@@ -60,7 +54,7 @@ go_refused old move refusal leads other why = elim why [
 ]
 
 -- where there was no memory, it could be made
-pub go_needs_memory : (old : Course) (move : Move) → state_after old.app old.done ≡ Ok old.target → IsWhyNot old move NoMemory
+pub go_needs_memory : (old : Course) (move : PlainMove) → state_after old.app old.done ≡ Ok old.target → IsWhyNot old move NoMemory
     → IsTrue (can_make old.app old.limit (moves_of old) move)
 go_needs_memory old move leads why = elim why [
   | inl full ↦ absurd cc
@@ -70,24 +64,13 @@ go_needs_memory old move leads why = elim why [
   ]
 ]
 
--- what stays whether a move is made or refused
-pub stays : {T X : Type 0} (part : Course → X) (old new : Course) (r : Result T Refusal) → OnOk r (part new ≡ part old) → OnErr r (new ≡ old)
-    → part new ≡ part old
-stays part old new (Ok x) made same = made
-stays part old new (Err refusal) made same = ap part same
-
-pub still_leads : {T : Type 0} (old new : Course) (r : Result T Refusal) → OnOk r (state_after new.app new.done ≡ Ok new.target) → OnErr r (new ≡ old)
-    → state_after old.app old.done ≡ Ok old.target → state_after new.app new.done ≡ Ok new.target
-still_leads old new (Ok x) made same leads = made
-still_leads old new (Err refusal) made same leads = subst (λ (course : Course). state_after course.app course.done ≡ Ok course.target) (sym same) leads
-
 -- ---- redo
 
 pub redo_leaves : (old new : Course) (count : ℕ) → HasRedone old count new
     → moves_of new ≡ answered old.app old.limit (moves_of old) (Redo count)
 redo_leaves old new count has =
-    ap (λ (ms : List Move). record { done = ms; undone = new.undone }) has.done
-    ∙ ap (λ (us : List Move). record { done = old.done ++ take count old.undone; undone = us }) has.undone
+    ap (λ (ms : List PlainMove). record { done = ms; undone = new.undone }) has.done
+    ∙ ap (λ (us : List PlainMove). record { done = old.done ++ take count old.undone; undone = us }) has.undone
     ∙ sym (ap (λ b. cond b (record { done = old.done ++ take count old.undone; undone = drop count old.undone }) (moves_of old))
     (le-leb count (length old.undone) has.some))
 
@@ -99,10 +82,10 @@ redo_refused old count fewer =
 -- ---- runs by policy
 
 -- the state that the moves done give is the target
-target_given : (course : Course) → state_after course.app course.done ≡ Ok course.target → state_of course.app (moves_of course) ≡ course.target
+pub target_given : (course : Course) → state_after course.app course.done ≡ Ok course.target → state_of course.app (moves_of course) ≡ course.target
 target_given course leads = ap (state_or (boot_of course.app)) leads
 
-run_given : (course : Course) (goal : Option Condition) (count : ℕ) → state_after course.app course.done ≡ Ok course.target
+pub run_given : (course : Course) (goal : Option Condition) (count : ℕ) → state_after course.app course.done ≡ Ok course.target
     → run_of course.app course.limit goal (moves_of course) count ≡ run_from course goal count
 run_given course goal count leads =
     ap (λ (s : Snapshot). ran course.app (course.limit - length course.done) goal s count) (target_given course leads)
@@ -114,8 +97,8 @@ left_by_ended app moves false made s = refl
 pub run_leaves : (old new : Course) (goal : Option Condition) (count : ℕ) (met : Bool) → state_after old.app old.done ≡ Ok old.target
     → EndsRun old goal count met new → moves_of new ≡ left_by old.app (moves_of old) (run_of old.app old.limit goal (moves_of old) count)
 run_leaves old new goal count met leads ends =
-    ap (λ (ms : List Move). record { done = ms; undone = new.undone }) ends.done
-    ∙ ap (λ (us : List Move). record { done = old.done ++ moves_by_policy old.app old.target ends.made; undone = us }) ends.undone
+    ap (λ (ms : List PlainMove). record { done = ms; undone = new.undone }) ends.done
+    ∙ ap (λ (us : List PlainMove). record { done = old.done ++ moves_by_policy old.app old.target ends.made; undone = us }) ends.undone
     ∙ ap (λ (s : Snapshot). record { done = old.done ++ moves_by_policy old.app s ends.made; undone = [] }) (sym (target_given old leads))
     ∙ sym (ap (left_by old.app (moves_of old)) (run_given old goal count leads ∙ ends.run) ∙ left_by_ended old.app (moves_of old) met ends.made new.target)
 
@@ -219,23 +202,18 @@ place_found found place is start = by found.met refl
 pub back_until_leaves : (old new : Course) (condition : Condition) (found : Found) → GoesBackTo old condition found new
     → moves_of new ≡ answered old.app old.limit (moves_of old) (BackUntil condition)
 back_until_leaves old new condition found goes =
-    ap (λ (ms : List Move). record { done = ms; undone = new.undone }) goes.done
-    ∙ ap (λ (us : List Move). record { done = take found.at old.done; undone = us }) goes.undone
+    ap (λ (ms : List PlainMove). record { done = ms; undone = new.undone }) goes.done
+    ∙ ap (λ (us : List PlainMove). record { done = take found.at old.done; undone = us }) goes.undone
     ∙ ap (back_at (moves_of old)) (place_found found (last_met old.app condition old.done (length old.done)) goes.place goes.start)
 
--- ---- what a request answers
+-- ---- which requests make moves
 
--- What follows where a request is made, and where it is refused for another cause than memory, holds where memory didn't run out.
-pub answers : {T : Type 0} (P : Type 0) (made : Result T Refusal) (result : Result (Unit {0}) NoMemoryError) (Made : T → Type 0) (Why : Refusal → Type 0)
-    (Same : Type 0) → (IsErr result ↔ IsErrOf made NoMemory) → IfOk made Made → IfErr made Why → OnErr made Same → ((x : T) → Made x → P)
-    → ((refusal : Refusal) → refusal ≢ NoMemory → Why refusal → Same → P) → OnOk result P
-answers P made (Err error) Made Why Same lacks ok why same follows refused = tt
-answers P (Ok x) (Ok y) Made Why Same lacks ok why same follows refused = follows x ok
-answers P (Err refusal) (Ok y) Made Why Same lacks ok why same follows refused =
-    refused refusal (λ is. false≢true (lacks.1 (ap (λ (r : Refusal). Err r) is))) why same
-
--- Where memory ran out, that is why it was refused.
-pub lacking : {T P : Type 0} (made : Result T Refusal) (result : Result (Unit {0}) NoMemoryError) (Why : Refusal → Type 0) → (IsErr result ↔ IsErrOf made NoMemory)
-    → IfErr made Why → (Why NoMemory → P) → OnErr result P
-lacking made (Ok x) Why same why follows = tt
-lacking {T} {P} made (Err error) Why same why follows = follows (subst (λ (r : Result T Refusal). IfErr r Why) (same.0 refl) why)
+-- A request that makes a move is of a kind that does.
+pub may_make : (app : Application) (limit : ℕ) (moves : Moves) (request : PlainRequest) → IsTrue (makes_move app limit moves request)
+    → may_make_moves request ≡ true
+may_make app limit moves (Go action) makes = refl
+may_make app limit moves (Back count) makes = absurd (false≢true makes)
+may_make app limit moves (Forward count) makes = refl
+may_make app limit moves (Redo count) makes = refl
+may_make app limit moves (Until condition count) makes = refl
+may_make app limit moves (BackUntil condition) makes = absurd (false≢true makes)

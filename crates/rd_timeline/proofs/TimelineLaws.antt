@@ -11,71 +11,72 @@ use Rattle.rd_state.specs.Snapshot.{Snapshot}
 use Rattle.rd_state.specs.Undoing.{undone, CanUndo}
 use Rattle.rd_state.specs.Settled.{IsSettled}
 use Rattle.rd_state.specs.Valid.{IsValid}
-use Rattle.rd_calls.specs.declared.moves.Move.{Move}
-use Rattle.rd_calls.specs.declared.moves.Move.TheVariants.{Core, Tick}
-use Rattle.rd_calls.specs.declared.moves.Move.TheVariants as variant
-use Rattle.rd_calls.specs.Step.{step, IsMoveOf, LeavesSettled}
+use Rattle.rd_moves.specs.Moves.{PlainMove}
+use Rattle.rd_moves.specs.declared.moves.Move.TheVariants.{Core, Tick}
+use Rattle.rd_moves.specs.declared.moves.Move.TheVariants as variant
+use Rattle.rd_calls.specs.Step.{step, LeavesSettled}
+use Rattle.rd_moves.specs.Moves.{IsMoveOf}
 use Rattle.rd_packed.specs.declared.count.ReadCount.{ReadCount}
 use Rattle.rd_timeline.specs.declared.timeline.Start.{Start}
 use Rattle.rd_timeline.specs.declared.timeline.Timeline.TheInside.{Inside}
 use Rattle.rd_timeline.specs.Course.{AreMade, Course, IsKept}
-use Rattle.rd_timeline.specs.Decoded.{edits_in}
+use Rattle.rd_timeline.specs.Decoded.{carried_in}
 use Rattle.rd_timeline.specs.History.{CanRewind, IsStateAfter, rewound, state_after}
 use Rattle.rd_timeline.specs.Inside.{IsFresh, IsWhole, course_of}
-use Rattle.rd_timeline.specs.JournalView.{HasEditRoom, JournalView}
+use Rattle.rd_timeline.specs.JournalView.{HasCarriedRoom, JournalView}
 use Rattle.rd_timeline.specs.LogView.{bytes_of}
 use Rattle.rd_timeline.specs.declared.log.TheConstants.{MAX_KEPT_BYTES}
 use Rattle.rd_timeline.specs.Starts.{CanCancel}
-use Rattle.rd_timeline.proofs.DecodedLaws.{edits_in-append}
+use Rattle.rd_timeline.proofs.DecodedLaws.{carried_in-append}
 use Rattle.rd_timeline.proofs.HistoryLaws.{CanRewind-back, CanRewind-push, Retraces-back, Retraces-boot, Retraces-now, Retraces-push, first_is_made, state_after-push}
 
 -- ---- moves that can be made
 
-AreMade-none : (app : Application) (limit most edits : ℕ) → AreMade app limit most edits []
-AreMade-none app limit most edits =
-    record { state = refl; named = All-nil (IsMoveOf app); within = omega arith; were = omega arith; edits_were = omega arith }
+AreMade-none : (app : Application) (limit most carried : ℕ) → AreMade app limit most carried []
+AreMade-none app limit most carried =
+    record { state = refl; named = All-nil (IsMoveOf app); within = omega arith; were = omega arith; carried_were = omega arith }
 
 -- one more
-AreMade-push : (app : Application) (limit most edits : ℕ) (moves : List Move) (move : Move) (s s' : Snapshot) → All (IsMoveOf app) moves → IsMoveOf app move
-    → state_after app moves ≡ Ok s → step app s move ≡ Ok s' → length moves < limit → length moves < most → edits_in (moves ++ move ∷ []) ≤ edits
-    → AreMade app limit most edits (moves ++ move ∷ [])
-AreMade-push app limit most edits moves move s s' all named state steps less were edits_were = record {
+AreMade-push : (app : Application) (limit most carried : ℕ) (moves : List PlainMove) (move : PlainMove) (s s' : Snapshot) → All (IsMoveOf app) moves → IsMoveOf app move
+    → state_after app moves ≡ Ok s → step app s move ≡ Ok s' → length moves < limit → length moves < most → carried_in (moves ++ move ∷ []) ≤ carried
+    → AreMade app limit most carried (moves ++ move ∷ [])
+AreMade-push app limit most carried moves move s s' all named state steps less were carried_were = record {
   state = ap is_ok (state_after-push app moves move s state ∙ steps);
   named = All-append (IsMoveOf app) moves (move ∷ []) all (All-cons (IsMoveOf app) move [] named (All-nil (IsMoveOf app)));
   within = omega (arith, length_push moves move, less);
   were = omega (arith, length_push moves move, were);
-  edits_were = edits_were;
+  carried_were = carried_were;
 }
 
 -- those done, of them and those undone
-named_done : (app : Application) (done undone : List Move) → All (IsMoveOf app) (done ++ undone) → All (IsMoveOf app) done
+named_done : (app : Application) (done undone : List PlainMove) → All (IsMoveOf app) (done ++ undone) → All (IsMoveOf app) done
 named_done app done undone all =
     subst (All (IsMoveOf app)) (take-append_seam done undone) (All-take (IsMoveOf app) (length done) (done ++ undone) all)
 
 -- those done alone
-AreMade-done : (app : Application) (limit most edits : ℕ) (done undone : List Move) (s : Snapshot) → AreMade app limit most edits (done ++ undone)
-    → state_after app done ≡ Ok s → AreMade app limit most edits done
-AreMade-done app limit most edits done undone s made state = record {
+AreMade-done : (app : Application) (limit most carried : ℕ) (done undone : List PlainMove) (s : Snapshot) → AreMade app limit most carried (done ++ undone)
+    → state_after app done ≡ Ok s → AreMade app limit most carried done
+AreMade-done app limit most carried done undone s made state = record {
   state = ap is_ok state;
   named = named_done app done undone made.named;
   within = omega (arith, length-append done undone, made.within);
   were = omega (arith, length-append done undone, made.were);
-  edits_were = omega (arith, edits_in-append done undone, made.edits_were);
+  carried_were = omega (arith, carried_in-append done undone, made.carried_were);
 }
 
 -- the one to be redone next
-pub next_is_named : (app : Application) (done undone : List Move) → All (IsMoveOf app) (done ++ undone) → 0 < length undone
+pub next_is_named : (app : Application) (done undone : List PlainMove) → All (IsMoveOf app) (done ++ undone) → 0 < length undone
     → IsMoveOf app (slice_index_or undone 0 Tick)
 next_is_named app done undone all some =
     subst (All (IsMoveOf app)) (drop-append_seam done undone) (All-drop (IsMoveOf app) (length done) (done ++ undone) all) 0 Tick some
 
-pub next_is_made : (app : Application) (done undone : List Move) (s : Snapshot) → state_after app done ≡ Ok s
+pub next_is_made : (app : Application) (done undone : List PlainMove) (s : Snapshot) → state_after app done ≡ Ok s
     → IsOk (state_after app (done ++ undone)) → 0 < length undone → IsOk (step app s (slice_index_or undone 0 Tick))
 next_is_made app done [] s state is some = absurd (omega (arith, some))
 next_is_made app done (move ∷ rest) s state is some = first_is_made app done move rest s state is
 
 -- Where it is done, the moves are the same altogether.
-pub all_the_same : (done undone : List Move) → 0 < length undone → (done ++ slice_index_or undone 0 Tick ∷ []) ++ drop 1 undone ≡ done ++ undone
+pub all_the_same : (done undone : List PlainMove) → 0 < length undone → (done ++ slice_index_or undone 0 Tick ∷ []) ++ drop 1 undone ≡ done ++ undone
 all_the_same done [] some = absurd (omega (arith, some))
 all_the_same done (move ∷ rest) some = append_assoc done (move ∷ []) rest
 
@@ -83,9 +84,9 @@ all_the_same done (move ∷ rest) some = append_assoc done (move ∷ []) rest
 
 -- Whether a course is kept hangs on its application, its limit, its target, what is done and undone, and the most that was.
 kept_as : (t : Inside) (c : Course) → IsKept c → t.app ≡ c.app → t.limit ≡ c.limit → t.journal.target ≡ c.target → t.journal.done ≡ c.done
-    → t.journal.records ≡ c.log → t.journal.undone ≡ c.undone → t.most_done ≡ c.most_done → t.most_edits ≡ c.most_edits → IsKept (course_of t)
-kept_as t c kept app limit target done log undone most edits =
-    let P : Application → ℕ → Snapshot → List Move → List (List Change) → List Move → ℕ → ℕ → Type 0 =
+    → t.journal.records ≡ c.log → t.journal.undone ≡ c.undone → t.most_done ≡ c.most_done → t.most_carried ≡ c.most_carried → IsKept (course_of t)
+kept_as t c kept app limit target done log undone most carried =
+    let P : Application → ℕ → Snapshot → List PlainMove → List (List Change) → List PlainMove → ℕ → ℕ → Type 0 =
     λ a n s ms rs us m e. IsKept (record (course_of t) {
       app = a;
       limit = n;
@@ -94,55 +95,55 @@ kept_as t c kept app limit target done log undone most edits =
       log = rs;
       undone = us;
       most_done = m;
-      most_edits = e;
+      most_carried = e;
     }) in
-    let here : P c.app c.limit c.target c.done c.log c.undone c.most_done c.most_edits = record {
+    let here : P c.app c.limit c.target c.done c.log c.undone c.most_done c.most_carried = record {
       records = kept.records;
       retraces = kept.retraces;
       rewinds = kept.rewinds;
       made = kept.made;
     } in
-    subst (λ (a : Application). P a t.limit t.journal.target t.journal.done t.journal.records t.journal.undone t.most_done t.most_edits) (sym app)
-    (subst (λ n. P c.app n t.journal.target t.journal.done t.journal.records t.journal.undone t.most_done t.most_edits) (sym limit)
-    (subst (λ (s : Snapshot). P c.app c.limit s t.journal.done t.journal.records t.journal.undone t.most_done t.most_edits) (sym target)
-    (subst (λ (ms : List Move). P c.app c.limit c.target ms t.journal.records t.journal.undone t.most_done t.most_edits) (sym done)
-    (subst (λ (rs : List (List Change)). P c.app c.limit c.target c.done rs t.journal.undone t.most_done t.most_edits) (sym log)
-    (subst (λ (us : List Move). P c.app c.limit c.target c.done c.log us t.most_done t.most_edits) (sym undone)
-    (subst (λ m. P c.app c.limit c.target c.done c.log c.undone m t.most_edits) (sym most)
-    (subst (λ e. P c.app c.limit c.target c.done c.log c.undone c.most_done e) (sym edits) here)))))))
+    subst (λ (a : Application). P a t.limit t.journal.target t.journal.done t.journal.records t.journal.undone t.most_done t.most_carried) (sym app)
+    (subst (λ n. P c.app n t.journal.target t.journal.done t.journal.records t.journal.undone t.most_done t.most_carried) (sym limit)
+    (subst (λ (s : Snapshot). P c.app c.limit s t.journal.done t.journal.records t.journal.undone t.most_done t.most_carried) (sym target)
+    (subst (λ (ms : List PlainMove). P c.app c.limit c.target ms t.journal.records t.journal.undone t.most_done t.most_carried) (sym done)
+    (subst (λ (rs : List (List Change)). P c.app c.limit c.target c.done rs t.journal.undone t.most_done t.most_carried) (sym log)
+    (subst (λ (us : List PlainMove). P c.app c.limit c.target c.done c.log us t.most_done t.most_carried) (sym undone)
+    (subst (λ m. P c.app c.limit c.target c.done c.log c.undone m t.most_carried) (sym most)
+    (subst (λ e. P c.app c.limit c.target c.done c.log c.undone c.most_done e) (sym carried) here)))))))
 
 pub IsWhole-new : (t : Inside) (s : Snapshot) → IsApplication t.app → s ≡ boot_of t.app → IsValid t.app s → IsSettled (priorities_of t.app) s
-    → t.journal.target ≡ s → t.journal.done ≡ [] → t.journal.records ≡ [] → t.journal.undone ≡ [] → IsFresh t → t.most_edits ≡ 0
+    → t.journal.target ≡ s → t.journal.done ≡ [] → t.journal.records ≡ [] → t.journal.undone ≡ [] → IsFresh t → t.most_carried ≡ 0
     → IsWhole t
-IsWhole-new t s limits boot valid settled target done log undone fresh no_edits =
+IsWhole-new t s limits boot valid settled target done log undone fresh none_carried =
     let at_boot : IsKept (record (course_of t) { target = s; done = []; log = []; undone = [] }) =
-    record { records = refl; retraces = Retraces-boot t.app s boot valid settled; rewinds = tt; made = AreMade-none t.app t.limit t.most_done t.most_edits } in
+    record { records = refl; retraces = Retraces-boot t.app s boot valid settled; rewinds = tt; made = AreMade-none t.app t.limit t.most_done t.most_carried } in
     record {
       kept = kept_as t _ at_boot refl refl target done log undone refl refl;
       limits = limits;
       capacity = omega (arith, fresh.0);
-      edits = omega (arith, no_edits);
+      carried = omega (arith, none_carried);
       memory = inl fresh;
     }
 
 -- one move and its record more, and none undone
-pub IsKept-push : (c : Course) (move : Move) (last : List Change) (s : Snapshot) (most edits : ℕ) → IsKept c → IsMoveOf c.app move → length c.done ≢ c.limit
-    → length c.done < most → edits_in (c.done ++ move ∷ []) ≤ edits → step c.app c.target move ≡ Ok s → undone s last ≡ c.target → CanUndo s last → IsValid c.app s
+pub IsKept-push : (c : Course) (move : PlainMove) (last : List Change) (s : Snapshot) (most carried : ℕ) → IsKept c → IsMoveOf c.app move → length c.done ≢ c.limit
+    → length c.done < most → carried_in (c.done ++ move ∷ []) ≤ carried → step c.app c.target move ≡ Ok s → undone s last ≡ c.target → CanUndo s last → IsValid c.app s
     → IsSettled (priorities_of c.app) s
-    → IsKept (record c { target = s; done = c.done ++ move ∷ []; log = c.log ++ last ∷ []; undone = []; most_done = most; most_edits = edits })
-IsKept-push c move last s most edits kept named more were edits_were steps back can valid settled = record {
+    → IsKept (record c { target = s; done = c.done ++ move ∷ []; log = c.log ++ last ∷ []; undone = []; most_done = most; most_carried = carried })
+IsKept-push c move last s most carried kept named more were carried_were steps back can valid settled = record {
   records = omega (arith, length_push c.log last, length_push c.done move, kept.records);
   retraces = Retraces-push c.app c.done c.log move last c.target s kept.records kept.retraces steps back valid settled;
   rewinds = CanRewind-push s c.log last can (subst (λ (t : Snapshot). CanRewind t c.log) (sym back) kept.rewinds);
   made =
-      subst (AreMade c.app c.limit most edits) (sym (append-nil (c.done ++ move ∷ [])))
-      (AreMade-push c.app c.limit most edits c.done move c.target s (named_done c.app c.done c.undone kept.made.named) named
+      subst (AreMade c.app c.limit most carried) (sym (append-nil (c.done ++ move ∷ [])))
+      (AreMade-push c.app c.limit most carried c.done move c.target s (named_done c.app c.done c.undone kept.made.named) named
       (Retraces-now c.app c.done c.log c.target kept.records kept.retraces).state steps
-      (omega (arith, length-append c.done c.undone, kept.made.within, more)) were edits_were);
+      (omega (arith, length-append c.done c.undone, kept.made.within, more)) were carried_were);
 }
 
 -- the first of those undone is done again, with its record
-pub IsKept-replay : (c : Course) (move : Move) (last : List Change) (s : Snapshot) (rest : List Move) → IsKept c
+pub IsKept-replay : (c : Course) (move : PlainMove) (last : List Change) (s : Snapshot) (rest : List PlainMove) → IsKept c
     → (c.done ++ move ∷ []) ++ rest ≡ c.done ++ c.undone → step c.app c.target move ≡ Ok s → undone s last ≡ c.target → CanUndo s last
     → IsValid c.app s → IsSettled (priorities_of c.app) s
     → IsKept (record c { target = s; done = c.done ++ move ∷ []; log = c.log ++ last ∷ []; undone = rest })
@@ -150,7 +151,7 @@ IsKept-replay c move last s rest kept same steps back can valid settled = record
   records = omega (arith, length_push c.log last, length_push c.done move, kept.records);
   retraces = Retraces-push c.app c.done c.log move last c.target s kept.records kept.retraces steps back valid settled;
   rewinds = CanRewind-push s c.log last can (subst (λ (t : Snapshot). CanRewind t c.log) (sym back) kept.rewinds);
-  made = subst (AreMade c.app c.limit c.most_done c.most_edits) (sym same) kept.made;
+  made = subst (AreMade c.app c.limit c.most_done c.most_carried) (sym same) kept.made;
 }
 
 -- the first m moves, with their records
@@ -161,12 +162,12 @@ IsKept-back c m within kept = record {
   retraces = Retraces-back c.app c.done c.log c.target m kept.records within kept.retraces;
   rewinds = CanRewind-back c.target c.log m kept.rewinds;
   made =
-      subst (AreMade c.app c.limit c.most_done c.most_edits)
-      (sym (sym (append_assoc (take m c.done) (drop m c.done) c.undone) ∙ ap (λ (ms : List Move). ms ++ c.undone) (take-append-drop m c.done))) kept.made;
+      subst (AreMade c.app c.limit c.most_done c.most_carried)
+      (sym (sym (append_assoc (take m c.done) (drop m c.done) c.undone) ∙ ap (λ (ms : List PlainMove). ms ++ c.undone) (take-append-drop m c.done))) kept.made;
 }
 
 -- Nothing is left to schedule after a move, where nothing was before it.
-pub settled_after : (app : Application) (s : Snapshot) (move : Move) (s' : Snapshot) → IsSettled (priorities_of app) s → LeavesSettled app s move s'
+pub settled_after : (app : Application) (s : Snapshot) (move : PlainMove) (s' : Snapshot) → IsSettled (priorities_of app) s → LeavesSettled app s move s'
     → IsSettled (priorities_of app) s'
 settled_after app s (Core core) s' before leaves = leaves
 settled_after app s Tick s' before leaves = leaves
@@ -177,20 +178,20 @@ pub state_now : (t : Inside) → IsWhole t → IsStateAfter t.app t.journal.done
 state_now t whole = Retraces-now t.app t.journal.done t.journal.records t.journal.target whole.kept.records whole.kept.retraces
 
 -- the fields after one move more
-pub IsWhole-push : (t t' : Inside) (move : Move) (last : List Change) → IsWhole t → t'.app ≡ t.app → t'.limit ≡ t.limit
+pub IsWhole-push : (t t' : Inside) (move : PlainMove) (last : List Change) → IsWhole t → t'.app ≡ t.app → t'.limit ≡ t.limit
     → IsMoveOf t.app move → length t.journal.done ≢ t.limit → step t.app t.journal.target move ≡ Ok t'.journal.target → undone t'.journal.target last ≡ t.journal.target
     → CanUndo t'.journal.target last
     → IsValid t.app t'.journal.target → IsSettled (priorities_of t.app) t'.journal.target → t'.journal.done ≡ t.journal.done ++ move ∷ []
     → t'.journal.records ≡ t.journal.records ++ last ∷ [] → t'.journal.undone ≡ [] → length t.journal.done < t'.most_done
-    → edits_in (t.journal.done ++ move ∷ []) ≤ t'.most_edits → t'.most_done ≤ t'.journal.capacity → t'.most_edits ≤ t'.journal.edit_capacity
+    → carried_in (t.journal.done ++ move ∷ []) ≤ t'.most_carried → t'.most_done ≤ t'.journal.capacity → t'.most_carried ≤ t'.journal.carried_capacity
     → t'.most_bytes + MAX_KEPT_BYTES ≤ t'.journal.memory → IsWhole t'
-IsWhole-push t t' move last whole app limit named more steps back can valid settled done log undone were edits_were capacity edits memory =
-    let pushed = IsKept-push (course_of t) move last t'.journal.target t'.most_done t'.most_edits whole.kept named more were edits_were steps back can valid settled in
+IsWhole-push t t' move last whole app limit named more steps back can valid settled done log undone were carried_were capacity carried memory =
+    let pushed = IsKept-push (course_of t) move last t'.journal.target t'.most_done t'.most_carried whole.kept named more were carried_were steps back can valid settled in
     record {
       kept = kept_as t' _ pushed app limit refl done log undone refl refl;
       limits = subst IsApplication (sym app) whole.limits;
       capacity = capacity;
-      edits = edits;
+      carried = carried;
       memory = inr memory;
     }
 
@@ -198,13 +199,13 @@ IsWhole-push t t' move last whole app limit named more steps back can valid sett
 pub IsWhole-back : (t : Inside) (journal : JournalView) (read : ReadCount) (m : ℕ) → m ≤ length t.journal.done → IsWhole t
     → journal.target ≡ rewound t.journal.target (drop m t.journal.records) → journal.done ≡ take m t.journal.done
     → journal.records ≡ take m t.journal.records → journal.undone ≡ drop m t.journal.done ++ t.journal.undone → journal.capacity ≡ t.journal.capacity
-    → journal.edit_capacity ≡ t.journal.edit_capacity
+    → journal.carried_capacity ≡ t.journal.carried_capacity
     → journal.memory ≡ t.journal.memory → IsWhole (record t { journal = journal; read = read })
-IsWhole-back t journal read m within whole target done log undone capacity edits memory = record {
+IsWhole-back t journal read m within whole target done log undone capacity carried memory = record {
   kept = kept_as (record t { journal = journal; read = read }) _ (IsKept-back (course_of t) m within whole.kept) refl refl target done log undone refl refl;
   limits = whole.limits;
   capacity = omega (arith, capacity, whole.capacity);
-  edits = omega (arith, edits, whole.edits);
+  carried = omega (arith, carried, whole.carried);
   memory = elim whole.memory [ inl fresh ↦ inl fresh | inr room ↦ inr (omega (arith, memory, room)) ];
 }
 
@@ -217,12 +218,12 @@ IsWhole-aside t journal whole is =
         retraces = whole.kept.retraces;
         rewinds = whole.kept.rewinds;
         made =
-            subst (AreMade t.app t.limit t.most_done t.most_edits) (sym (append-nil t.journal.done))
-            (AreMade-done t.app t.limit t.most_done t.most_edits t.journal.done t.journal.undone t.journal.target whole.kept.made (state_now t whole).state);
+            subst (AreMade t.app t.limit t.most_done t.most_carried) (sym (append-nil t.journal.done))
+            (AreMade-done t.app t.limit t.most_done t.most_carried t.journal.done t.journal.undone t.journal.target whole.kept.made (state_now t whole).state);
       };
       limits = whole.limits;
       capacity = whole.capacity;
-      edits = whole.edits;
+      carried = whole.carried;
       memory = whole.memory;
     })
 
@@ -230,11 +231,11 @@ IsWhole-aside t journal whole is =
 pub IsWhole-cancel : (t : Inside) (journal : JournalView) (start : Start) → IsWhole t → CanCancel (course_of t) start
     → journal.target ≡ rewound t.journal.target (drop start.done t.journal.records) → journal.done ≡ take start.done t.journal.done
     → journal.records ≡ take start.done t.journal.records → journal.undone ≡ start.undone → t.journal.capacity ≤ journal.capacity
-    → t.journal.edit_capacity ≤ journal.edit_capacity
+    → t.journal.carried_capacity ≤ journal.carried_capacity
     → journal.memory ≡ t.journal.memory
-    → IsWhole (record t { journal = journal; most_done = start.most_done; most_edits = start.most_edits; most_bytes = start.most_bytes })
-IsWhole-cancel t journal start whole can target done log undone capacity edits memory =
-    let now : Inside = record t { journal = journal; most_done = start.most_done; most_edits = start.most_edits; most_bytes = start.most_bytes } in
+    → IsWhole (record t { journal = journal; most_done = start.most_done; most_carried = start.most_carried; most_bytes = start.most_bytes })
+IsWhole-cancel t journal start whole can target done log undone capacity carried memory =
+    let now : Inside = record t { journal = journal; most_done = start.most_done; most_carried = start.most_carried; most_bytes = start.most_bytes } in
     let m = start.done in
     let back = IsKept-back (course_of t) m can.earlier whole.kept in
     let kept : IsKept (record (course_of t) {
@@ -243,13 +244,13 @@ IsWhole-cancel t journal start whole can target done log undone capacity edits m
       log = take m t.journal.records;
       undone = start.undone;
       most_done = start.most_done;
-      most_edits = start.most_edits;
+      most_carried = start.most_carried;
     }) = record { records = back.records; retraces = back.retraces; rewinds = back.rewinds; made = can.made } in
     record {
       kept = kept_as now _ kept refl refl target done log undone refl refl;
       limits = whole.limits;
       capacity = omega (arith, capacity, whole.capacity, can.most_done);
-      edits = omega (arith, edits, whole.edits, can.most_edits);
+      carried = omega (arith, carried, whole.carried, can.most_carried);
       memory = elim whole.memory [
         | inl fresh ↦ inl (omega (arith, fresh.0, can.most_done), omega (arith, fresh.1, can.most_bytes))
         | inr room ↦ inr (omega (arith, memory, room, can.most_bytes))
@@ -257,19 +258,19 @@ IsWhole-cancel t journal start whole can target done log undone capacity edits m
     }
 
 -- the fields after the first of the moves undone was made again
-pub IsWhole-replay : (t : Inside) (journal : JournalView) (move : Move) (last : List Change) → IsWhole t
+pub IsWhole-replay : (t : Inside) (journal : JournalView) (move : PlainMove) (last : List Change) → IsWhole t
     → (t.journal.done ++ move ∷ []) ++ journal.undone ≡ t.journal.done ++ t.journal.undone → step t.app t.journal.target move ≡ Ok journal.target
     → undone journal.target last ≡ t.journal.target → CanUndo journal.target last → IsValid t.app journal.target
     → IsSettled (priorities_of t.app) journal.target → journal.done ≡ t.journal.done ++ move ∷ []
-    → journal.records ≡ t.journal.records ++ last ∷ [] → t.journal.capacity ≤ journal.capacity → t.journal.edit_capacity ≤ journal.edit_capacity
+    → journal.records ≡ t.journal.records ++ last ∷ [] → t.journal.capacity ≤ journal.capacity → t.journal.carried_capacity ≤ journal.carried_capacity
     → t.journal.memory ≤ journal.memory → IsWhole (record t { journal = journal })
-IsWhole-replay t journal move last whole same steps back can valid settled done log capacity edits memory =
+IsWhole-replay t journal move last whole same steps back can valid settled done log capacity carried memory =
     let again = IsKept-replay (course_of t) move last journal.target journal.undone whole.kept same steps back can valid settled in
     record {
       kept = kept_as (record t { journal = journal }) _ again refl refl refl done log refl refl refl;
       limits = whole.limits;
       capacity = omega (arith, capacity, whole.capacity);
-      edits = omega (arith, edits, whole.edits);
+      carried = omega (arith, carried, whole.carried);
       memory = elim whole.memory [ inl fresh ↦ inl fresh | inr room ↦ inr (omega (arith, memory, room)) ];
     }
 
@@ -283,14 +284,14 @@ grown t bytes most reserved journal before are is ahead more =
       | inr had ↦ omega (arith, had, are, is, ahead, more)
     ]
 
--- Once there is room for a move, and it is made, there is room for as many edits as were done at the most.
-pub at_most_room : (move : Move) (old edits most : ℕ) (reserved journal : JournalView) → most ≡ max old edits → edits ≡ edits_in journal.done
-    → journal.done ≡ reserved.done ++ move ∷ [] → journal.edit_capacity ≡ reserved.edit_capacity → old ≤ reserved.edit_capacity
-    → HasEditRoom reserved move → edits_in reserved.done ≤ old → most ≤ journal.edit_capacity
-at_most_room move old edits most reserved journal is count done capacity before room were =
-    omega (arith, is, count, ap edits_in done, edits_in-append reserved.done (move ∷ []), capacity, before, were, one_more move room)
+-- Once there is room for a move, and it is made, there is room for what as many moves carry as did at the most.
+pub at_most_room : (move : PlainMove) (old carried most : ℕ) (reserved journal : JournalView) → most ≡ max old carried → carried ≡ carried_in journal.done
+    → journal.done ≡ reserved.done ++ move ∷ [] → journal.carried_capacity ≡ reserved.carried_capacity → old ≤ reserved.carried_capacity
+    → HasCarriedRoom reserved move → carried_in reserved.done ≤ old → most ≤ journal.carried_capacity
+at_most_room move old carried most reserved journal is count done capacity before room were =
+    omega (arith, is, count, ap carried_in done, carried_in-append reserved.done (move ∷ []), capacity, before, were, one_more move room)
   where
-    one_more : (m : Move) → HasEditRoom reserved m → edits_in reserved.done + edits_in (m ∷ []) ≤ max (edits_in reserved.done) reserved.edit_capacity
+    one_more : (m : PlainMove) → HasCarriedRoom reserved m → carried_in reserved.done + carried_in (m ∷ []) ≤ max (carried_in reserved.done) reserved.carried_capacity
     one_more (Core core) room = omega arith
     one_more Tick room = omega arith
     one_more (variant.Edit edit) room = omega (arith, room refl)

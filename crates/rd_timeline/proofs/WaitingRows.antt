@@ -18,7 +18,7 @@ use Rattle.rd_app.specs.Builtin.{builtin}
 use Rattle.rd_app.specs.TaskScript.{TaskScript}
 use Rattle.rd_state.specs.Snapshot.{TaskSnapshot}
 use Rattle.rd_state.specs.Objects.{no_objects}
-use Rattle.rd_calls.specs.declared.moves.Move.TheVariants.{Core, Tick}
+use Rattle.rd_moves.specs.declared.moves.Move.TheVariants.{Core, Tick}
 use Rattle.rd_timeline.specs.History.{state_after}
 
 -- three tasks over one queue with room for one item of one byte

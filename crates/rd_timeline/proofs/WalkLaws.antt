@@ -8,12 +8,12 @@ use Rattle.rd_app.specs.Application.{Application}
 use Rattle.rd_refusal.specs.declared.refusal.Refusal.{Refusal}
 use Rattle.rd_refusal.specs.declared.refusal.Refusal.TheVariants.{MovesFull}
 use Rattle.rd_state.specs.Snapshot.{Snapshot}
-use Rattle.rd_calls.specs.declared.moves.Move.{Move}
-use Rattle.rd_calls.specs.declared.moves.Move.TheVariants as move
+use Rattle.rd_moves.specs.Moves.{PlainMove}
+use Rattle.rd_moves.specs.declared.moves.Move.TheVariants as move
 use Rattle.rd_calls.specs.Step.{policy_of, step}
 use Rattle.rd_condition.specs.declared.condition.Condition.{Condition}
 use Rattle.rd_condition.specs.Conditions.{holds}
-use Rattle.rd_timeline.specs.declared.runs.Request.TheVariants.{Go, Back, Forward, Redo, Until, BackUntil}
+use Rattle.rd_moves.specs.declared.request.Request.TheVariants.{Go, Back, Forward, Redo, Until, BackUntil}
 use Rattle.rd_timeline.specs.Backward.{GoesBack, holds_in, last_met}
 use Rattle.rd_timeline.specs.Course.{Course, GoesOn}
 use Rattle.rd_timeline.specs.History.{state_after}
@@ -30,10 +30,10 @@ redo_undoes_back old mid new count made_old made_new back redo =
     let last = drop k old.done in
     let len : length last ≡ count = omega (arith, length-drop k old.done, back.some) in
     let done : new.done ≡ old.done =
-    redo.done ∙ ap (λ (ms : List Move). ms ++ take count mid.undone) back.done
-    ∙ ap (λ (us : List Move). take k old.done ++ take count us) back.undone
+    redo.done ∙ ap (λ (ms : List PlainMove). ms ++ take count mid.undone) back.done
+    ∙ ap (λ (us : List PlainMove). take k old.done ++ take count us) back.undone
     ∙ ap (λ n. take k old.done ++ take n (last ++ old.undone)) (sym len)
-    ∙ ap (λ (ms : List Move). take k old.done ++ ms) (take-append_seam last old.undone) ∙ take-append-drop k old.done in
+    ∙ ap (λ (ms : List PlainMove). take k old.done ++ ms) (take-append_seam last old.undone) ∙ take-append-drop k old.done in
     record {
       target = same_target old new (redo.app ∙ back.app) done made_old made_new;
       done = done;
@@ -42,7 +42,7 @@ redo_undoes_back old mid new count made_old made_new back redo =
     }
 
 -- One move on and back again, whichever it is.
-one_back : (old mid new : Course) (move : Move) → IsMade old → GoesOn old move mid → GoesBack mid 1 new
+one_back : (old mid new : Course) (move : PlainMove) → IsMade old → GoesOn old move mid → GoesBack mid 1 new
     → (new.target ≡ old.target) × (new.done ≡ old.done)
 one_back old mid new move made on back =
     let len : length mid.done - 1 ≡ length old.done = omega (arith, ap length on.done, length_push old.done move) in
@@ -130,7 +130,7 @@ moves_add app s a zero =
 moves_add app s a (suc b) =
     let more : a + suc b ≡ suc (a + b) = omega arith in
     let t = state_by_policy app s a in
-    ap (moves_by_policy app s) more ∙ ap (λ (ms : List Move). ms ++ policy_of (state_by_policy app s (a + b)) ∷ []) (moves_add app s a b)
+    ap (moves_by_policy app s) more ∙ ap (λ (ms : List PlainMove). ms ++ policy_of (state_by_policy app s (a + b)) ∷ []) (moves_add app s a b)
     ∙ ap (λ (u : Snapshot). (moves_by_policy app s a ++ moves_by_policy app t b) ++ policy_of u ∷ []) (states_add app s a b)
     ∙ append_assoc (moves_by_policy app s a) (moves_by_policy app t b) (policy_of (state_by_policy app t b) ∷ [])
 
@@ -147,22 +147,22 @@ runs_add_up old mid new whole first then app limit one two both =
     record {
       target = at_new.target ∙ state ∙ sym at_whole.target;
       done =
-          at_new.done ∙ ap (λ (ms : List Move). mid.done ++ ms) moves
-          ∙ ap (λ (ms : List Move). ms ++ moves_by_policy old.app (state_by_policy old.app old.target first) then) at_mid.done
+          at_new.done ∙ ap (λ (ms : List PlainMove). mid.done ++ ms) moves
+          ∙ ap (λ (ms : List PlainMove). ms ++ moves_by_policy old.app (state_by_policy old.app old.target first) then) at_mid.done
           ∙ append_assoc old.done (moves_by_policy old.app old.target first) (moves_by_policy old.app (state_by_policy old.app old.target first) then)
-          ∙ ap (λ (ms : List Move). old.done ++ ms) (sym (moves_add old.app old.target first then)) ∙ sym at_whole.done;
+          ∙ ap (λ (ms : List PlainMove). old.done ++ ms) (sym (moves_add old.app old.target first then)) ∙ sym at_whole.done;
       undone = two.undone ∙ sym both.undone;
     }
 
 -- ---- back to where a condition holds
 
 -- The condition holds after so many moves, and after no greater number of them below a bound.
-record IsLast (app : Application) (condition : Condition) (moves : List Move) (bound at : ℕ) : Type 0 where
+record IsLast (app : Application) (condition : Condition) (moves : List PlainMove) (bound at : ℕ) : Type 0 where
   pub earlier : at < bound
   pub holds : holds_in condition (state_after app (take at moves)) ≡ true
   pub later : (place : ℕ) → at < place → place < bound → holds_in condition (state_after app (take place moves)) ≡ false
 
-last_is : (app : Application) (condition : Condition) (moves : List Move) (bound at : ℕ) → last_met app condition moves bound ≡ Some at
+last_is : (app : Application) (condition : Condition) (moves : List PlainMove) (bound at : ℕ) → last_met app condition moves bound ≡ Some at
     → IsLast app condition moves bound at
 last_is app condition moves zero at is = absurd (false≢true (ap is_some is))
 last_is app condition moves (suc n) at is = by (holds_in condition (state_after app (take n moves))) refl (last_is app condition moves n at)
@@ -192,7 +192,7 @@ last_is app condition moves (suc n) at is = by (holds_in condition (state_after 
           ];
         }
 
-none_is : (app : Application) (condition : Condition) (moves : List Move) (bound : ℕ) → last_met app condition moves bound ≡ None
+none_is : (app : Application) (condition : Condition) (moves : List PlainMove) (bound : ℕ) → last_met app condition moves bound ≡ None
     → (place : ℕ) → place < bound → holds_in condition (state_after app (take place moves)) ≡ false
 none_is app condition moves zero is place before = absurd (omega (arith, before))
 none_is app condition moves (suc n) is place before = by (holds_in condition (state_after app (take n moves))) refl (none_is app condition moves n)
@@ -224,7 +224,7 @@ back_finds_the_last old new condition found goes = by found.met refl
     by true met =
         let last = last_is old.app condition old.done (length old.done) found.at (met_is true met) in
         let there : state_after old.app (take found.at old.done) ≡ Ok new.target =
-        sym (ap (λ (a : Application). state_after a new.done) goes.app ∙ ap (λ (ms : List Move). state_after old.app ms) goes.done) ∙ goes.leads in (
+        sym (ap (λ (a : Application). state_after a new.done) goes.app ∙ ap (λ (ms : List PlainMove). state_after old.app ms) goes.done) ∙ goes.leads in (
           λ same. (sym (ap (holds_in condition) there) ∙ last.holds, last.earlier),
           λ place before after. last.later place (after met) before,
         )

@@ -6,7 +6,7 @@ use Rattle.std.specs.Prelude.{if◌then◌else◌}
 use Rattle.rd_refusal.specs.declared.refusal.Refusal.{Refusal}
 use Rattle.rd_app.specs.Application.{Application}
 use Rattle.rd_state.specs.Snapshot.{Snapshot}
-use Rattle.rd_calls.specs.declared.moves.Move.{Move}
+use Rattle.rd_moves.specs.Moves.{PlainMove}
 use Rattle.rd_condition.specs.declared.condition.Condition.{Condition}
 use Rattle.rd_condition.specs.Conditions.{holds}
 use Rattle.rd_timeline.specs.declared.running.Found.{Found}
@@ -26,7 +26,7 @@ pub record HasRedone (old : Course) (count : ℕ) (new : Course) : Type 0 where
   pub done : new.done ≡ old.done ++ take count old.undone
   pub undone : new.undone ≡ drop count old.undone
   pub most_done : new.most_done ≡ old.most_done
-  pub most_edits : new.most_edits ≡ old.most_edits
+  pub most_carried : new.most_carried ≡ old.most_carried
   pub most_bytes : new.most_bytes ≡ old.most_bytes
 
 -- So far some are, no more than so many.
@@ -67,7 +67,7 @@ holds_in condition (Ok s) = holds s condition
 holds_in condition (Err refusal) = false
 
 -- the greatest number of moves, fewer than so many, after which the condition holds
-abbrev pub last_met : Application → Condition → List Move → ℕ → Option ℕ
+abbrev pub last_met : Application → Condition → List PlainMove → ℕ → Option ℕ
 last_met app condition moves zero = None
 last_met app condition moves (suc count) =
     if holds_in condition (state_after app (take count moves)) then Some count
@@ -87,6 +87,6 @@ pub record GoesBackTo (old : Course) (condition : Condition) (found : Found) (ne
   pub done : new.done ≡ take found.at old.done
   pub undone : new.undone ≡ drop found.at old.done ++ old.undone
   pub most_done : new.most_done ≡ old.most_done
-  pub most_edits : new.most_edits ≡ old.most_edits
+  pub most_carried : new.most_carried ≡ old.most_carried
   pub most_bytes : new.most_bytes ≡ old.most_bytes
   pub leads : state_after new.app new.done ≡ Ok new.target

@@ -6,37 +6,38 @@ use Rattle.rd_refusal.specs.declared.refusal.Refusal.TheVariants.{MovesFull, NoM
 use Rattle.rd_app.specs.Application.{Application}
 use Rattle.rd_state.specs.Change.{Change}
 use Rattle.rd_state.specs.Snapshot.{Snapshot}
-use Rattle.rd_calls.specs.declared.moves.Move.{Move}
-use Rattle.rd_calls.specs.Step.{step, IsMoveOf}
-use Rattle.rd_timeline.specs.Decoded.{edits_in, is_edit}
+use Rattle.rd_moves.specs.Moves.{PlainMove}
+use Rattle.rd_calls.specs.Step.{step}
+use Rattle.rd_moves.specs.Moves.{IsMoveOf}
+use Rattle.rd_timeline.specs.Decoded.{carried_in, carries}
 use Rattle.rd_timeline.specs.History.{Retraces, CanRewind, state_after}
 use Rattle.rd_timeline.specs.LogView.{bytes_of}
 
 -- the application, how many moves may be done, the target as it is now, the moves done from boot in
 -- order, the record of each, and the moves undone, the one to be redone next first; how many moves
--- were done at the most so far, how many edits were among those done at the most, and from how many
--- bytes of records a move was made at the most; how many bytes of records were read to go back
+-- were done at the most so far, how many of those done carried something at the most, and from how
+-- many bytes of records a move was made at the most; how many bytes of records were read to go back
 pub record Course : Type 0 where
   pub app : Application
   pub limit : ℕ
   pub target : Snapshot
-  pub done : List Move
+  pub done : List PlainMove
   pub log : List (List Change)
-  pub undone : List Move
+  pub undone : List PlainMove
   pub most_done : ℕ
-  pub most_edits : ℕ
+  pub most_carried : ℕ
   pub most_bytes : ℕ
   pub read : ℕ
 
--- The moves can be made from boot, one after the other, and as many were done once, with as many
--- edits among them.
-pub record AreMade (app : Application) (limit most_done most_edits : ℕ) (moves : List Move)
+-- The moves can be made from boot, one after the other, and as many were done once, of which as
+-- many carried something.
+pub record AreMade (app : Application) (limit most_done most_carried : ℕ) (moves : List PlainMove)
     : Type 0 where
   pub state : IsOk (state_after app moves)
   pub named : All (IsMoveOf app) moves
   pub within : length moves ≤ limit
   pub were : length moves ≤ most_done
-  pub edits_were : edits_in moves ≤ most_edits
+  pub carried_were : carried_in moves ≤ most_carried
 
 -- There is a record for each move done. Going back by them retraces the moves, and can be done.
 -- From there the moves undone lead on.
@@ -44,7 +45,7 @@ pub record IsKept (course : Course) : Type 0 where
   pub records : length course.log ≡ length course.done
   pub retraces : Retraces course.app course.done course.log course.target
   pub rewinds : CanRewind course.target course.log
-  pub made : AreMade course.app course.limit course.most_done course.most_edits
+  pub made : AreMade course.app course.limit course.most_done course.most_carried
       (course.done ++ course.undone)
 
 -- The moves done are at their limit.
@@ -52,32 +53,32 @@ abbrev pub IsFull : Course → Type 0
 IsFull course = length course.done ≡ course.limit
 
 -- There is room for a move more, but the kernel's rules refuse this one.
-abbrev pub IsRefusedBy : Course → Move → Refusal → Type 0
+abbrev pub IsRefusedBy : Course → PlainMove → Refusal → Type 0
 IsRefusedBy course move refusal =
     (length course.done ≢ course.limit) × (step course.app course.target move ≡ Err refusal)
 
 -- There is room for a move more, and the kernel's rules give the state after this one.
-abbrev pub CanGo : Course → Move → Type 0
+abbrev pub CanGo : Course → PlainMove → Type 0
 CanGo course move = (length course.done ≢ course.limit) × IsOk (step course.app course.target move)
 
 -- The move is made: it is the last one done, and no move is undone.
-pub record GoesOn (old : Course) (move : Move) (new : Course) : Type 0 where
+pub record GoesOn (old : Course) (move : PlainMove) (new : Course) : Type 0 where
   pub app : new.app ≡ old.app
   pub limit : new.limit ≡ old.limit
   pub step : step old.app old.target move ≡ Ok new.target
   pub done : new.done ≡ old.done ++ move ∷ []
   pub undone : new.undone ≡ []
 
--- Never were more moves done, or never was a move made from as many bytes of records; or, for an
--- edit, never were more edits done.
-abbrev pub IsMoreThanEver : Course → Move → Type 0
+-- Never were more moves done, or never was a move made from as many bytes of records; or, for a
+-- move that carries something, never did more of those done.
+abbrev pub IsMoreThanEver : Course → PlainMove → Type 0
 IsMoreThanEver course move =
     (course.most_done ≤ length course.done) ⊎ (course.most_bytes < bytes_of course.log)
-    ⊎ (IsTrue (is_edit move) × (course.most_edits ≤ edits_in course.done))
+    ⊎ (IsTrue (carries move) × (course.most_carried ≤ carried_in course.done))
 
 -- Why a move isn't made: the moves done are at their limit, or else the kernel's rules refuse it,
 -- or else there is no memory for it.
-abbrev pub IsWhyNot : Course → Move → Refusal → Type 0
+abbrev pub IsWhyNot : Course → PlainMove → Refusal → Type 0
 IsWhyNot course move refusal =
     (IsFull course × (refusal ≡ MovesFull)) ⊎ IsRefusedBy course move refusal
     ⊎ (CanGo course move × (refusal ≡ NoMemory))

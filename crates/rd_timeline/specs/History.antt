@@ -8,16 +8,16 @@ use Rattle.rd_state.specs.Settled.{IsSettled}
 use Rattle.rd_state.specs.Snapshot.{Snapshot}
 use Rattle.rd_state.specs.Undoing.{undone, CanUndo}
 use Rattle.rd_state.specs.Valid.{IsValid}
-use Rattle.rd_calls.specs.declared.moves.Move.{Move}
+use Rattle.rd_moves.specs.Moves.{PlainMove}
 use Rattle.rd_calls.specs.Step.{step}
 
 -- one move more, where the ones before it gave a state
-abbrev pub stepped : Application → Result Snapshot Refusal → Move → Result Snapshot Refusal
+abbrev pub stepped : Application → Result Snapshot Refusal → PlainMove → Result Snapshot Refusal
 stepped app (Ok s) move = step app s move
 stepped app (Err refusal) move = Err refusal
 
 -- the state that the moves give from boot, one after the other, or the first refusal
-abbrev pub state_after : Application → List Move → Result Snapshot Refusal
+abbrev pub state_after : Application → List PlainMove → Result Snapshot Refusal
 state_after app moves = fold (stepped app) (Ok (boot_of app)) moves
 
 -- the state after the moves of these records are undone, the last one first
@@ -31,12 +31,12 @@ CanRewind s [] = Unit {0}
 CanRewind s (first ∷ later) = CanRewind s later × CanUndo (rewound s later) first
 
 -- The state is the one that the moves give from boot, valid, and with nothing left to schedule.
-pub record IsStateAfter (app : Application) (moves : List Move) (s : Snapshot) : Type 0 where
+pub record IsStateAfter (app : Application) (moves : List PlainMove) (s : Snapshot) : Type 0 where
   pub state : state_after app moves ≡ Ok s
   pub valid : IsValid app s
   pub settled : IsSettled (priorities_of app) s
 
 -- Undoing the records from the end until so many moves are left gives the state that they give.
-abbrev pub Retraces : Application → List Move → List (List Change) → Snapshot → Type 0
+abbrev pub Retraces : Application → List PlainMove → List (List Change) → Snapshot → Type 0
 Retraces app moves records s = (count : ℕ) → count ≤ length moves
     → IsStateAfter app (take count moves) (rewound s (drop count records))

@@ -14,7 +14,7 @@ course_of t = record {
   log = t.journal.records;
   undone = t.journal.undone;
   most_done = t.most_done;
-  most_edits = t.most_edits;
+  most_carried = t.most_carried;
   most_bytes = t.most_bytes;
   read = t.read.bytes;
 }
@@ -28,5 +28,5 @@ pub record IsWhole (t : Inside) : Type 0 where
   pub kept : IsKept (course_of t)
   pub limits : IsApplication t.app
   pub capacity : t.most_done ≤ t.journal.capacity
-  pub edits : t.most_edits ≤ t.journal.edit_capacity
+  pub carried : t.most_carried ≤ t.journal.carried_capacity
   pub memory : IsFresh t ⊎ (t.most_bytes + MAX_KEPT_BYTES ≤ t.journal.memory)

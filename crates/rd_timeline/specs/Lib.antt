@@ -2,7 +2,7 @@
 pub mod LogView
 pub mod LoggedView
 pub mod Decoded
-pub mod EditsView
+pub mod CarriedView
 pub mod JournalView
 pub mod JournalInside
 pub mod History
@@ -19,4 +19,5 @@ pub use Rattle.rd_state.specs.Boot
 pub use Rattle.rd_state.specs.Valid
 pub use Rattle.rd_app.specs.Application
 pub mod Runs
+pub mod Answers
 pub mod RunLaws

@@ -5,7 +5,7 @@ use Rattle.rd_refusal.specs.declared.refusal.Refusal.TheVariants.{NoMemory}
 use Rattle.rd_app.specs.Application.{Application}
 use Rattle.rd_state.specs.Change.{Change}
 use Rattle.rd_state.specs.Snapshot.{Snapshot}
-use Rattle.rd_calls.specs.declared.moves.Move.{Move}
+use Rattle.rd_moves.specs.Moves.{PlainMove}
 use Rattle.rd_calls.specs.Step.{step}
 
 -- the target, the records that lead back from it, for how many bytes of them there is room, and
@@ -17,6 +17,6 @@ pub record LoggedView : Type 0 where
   pub read : ℕ
 
 -- Why a move isn't made: the kernel's rules refuse it, or else there is no memory for its record.
-abbrev pub IsWhyNotKept : Application → Snapshot → Move → Refusal → Type 0
+abbrev pub IsWhyNotKept : Application → Snapshot → PlainMove → Refusal → Type 0
 IsWhyNotKept app s move refusal =
     (step app s move ≡ Err refusal) ⊎ (IsOk (step app s move) × (refusal ≡ NoMemory))

@@ -6,7 +6,7 @@ use Rattle.rd_refusal.specs.declared.refusal.Refusal.{Refusal}
 use Rattle.rd_refusal.specs.declared.refusal.Refusal.TheVariants.{MovesFull, NoMemory}
 use Rattle.rd_app.specs.Application.{Application}
 use Rattle.rd_state.specs.Snapshot.{Snapshot}
-use Rattle.rd_calls.specs.declared.moves.Move.{Move}
+use Rattle.rd_moves.specs.Moves.{PlainMove}
 use Rattle.rd_calls.specs.Step.{policy_of, step}
 use Rattle.rd_condition.specs.declared.condition.Condition.{Condition}
 use Rattle.rd_condition.specs.Conditions.{holds}
@@ -25,7 +25,7 @@ state_by_policy app s zero = s
 state_by_policy app s (suc n) =
     let t = state_by_policy app s n in state_or t (step app t (policy_of t))
 
-abbrev pub moves_by_policy : Application → Snapshot → ℕ → List Move
+abbrev pub moves_by_policy : Application → Snapshot → ℕ → List PlainMove
 moves_by_policy app s zero = []
 moves_by_policy app s (suc n) =
     moves_by_policy app s n ++ policy_of (state_by_policy app s n) ∷ []
@@ -70,7 +70,7 @@ run_from course goal count =
     ran course.app (course.limit - length course.done) goal course.target count
 
 -- the moves done, and so many more by policy
-abbrev pub done_by_policy : Course → ℕ → List Move
+abbrev pub done_by_policy : Course → ℕ → List PlainMove
 done_by_policy course made = course.done ++ moves_by_policy course.app course.target made
 
 -- how a run ends: after so many moves, with its goal met there or not
@@ -79,7 +79,7 @@ ended true made s = Met made s
 ended false made s = Going made s
 
 -- The run has come to its end: the target and the moves done are those of the run, and no move is
--- undone. Its moves are no edits, and its last move was made from the most bytes of records.
+-- undone. Its moves carry nothing, and its last move was made from the most bytes of records.
 pub record EndsRun (old : Course) (goal : Option Condition) (count : ℕ) (met : Bool) (new : Course)
     : Type 0 where
   pub made : ℕ
@@ -88,7 +88,7 @@ pub record EndsRun (old : Course) (goal : Option Condition) (count : ℕ) (met :
   pub undone : new.undone ≡ []
   pub log : take (length old.done) new.log ≡ old.log
   pub most_done : new.most_done ≡ max old.most_done (length new.done)
-  pub most_edits : new.most_edits ≡ old.most_edits
+  pub most_carried : new.most_carried ≡ old.most_carried
   pub most_bytes : 0 < made
       → new.most_bytes ≡ max old.most_bytes (bytes_of (take (length new.done - 1) new.log))
 
@@ -118,7 +118,7 @@ pub record StandsOn (old new : Course) : Type 0 where
   pub log : take (length old.done) new.log ≡ old.log
   pub more : length old.done ≤ length new.done
   pub most_done : old.most_done ≤ new.most_done
-  pub most_edits : old.most_edits ≤ new.most_edits
+  pub most_carried : old.most_carried ≤ new.most_carried
   pub most_bytes : old.most_bytes ≤ new.most_bytes
   pub read : new.read ≡ old.read
 

@@ -2,14 +2,14 @@
 use Rattle.std.specs.Prelude.{ℕ, ◌≡◌, ◌+◌, ◌<◌, Bool, true, false, length, nat_lt, not, None, Some}
 use Rattle.std.specs.Prelude.{take, Ok}
 use Rattle.rd_app.specs.Application.{Application}
-use Rattle.rd_calls.specs.declared.moves.Move.TheVariants as move
-use Rattle.rd_edits.specs.declared.edit.Edit.{Edit}
+use Rattle.rd_moves.specs.declared.moves.Move.TheVariants as move
+use Rattle.rd_moves.specs.Edits.{PlainEdit}
 use Rattle.rd_condition.specs.declared.condition.Condition.{Condition}
 use Rattle.rd_condition.specs.Conditions.{holds}
 use Rattle.rd_timeline.specs.declared.running.Found.{Found}
-use Rattle.rd_timeline.specs.declared.runs.Request.{Request}
-use Rattle.rd_timeline.specs.declared.runs.Request.TheVariants.{Go, Back, Forward, Redo, Until}
-use Rattle.rd_timeline.specs.declared.runs.Request.TheVariants.{BackUntil}
+use Rattle.rd_moves.specs.Requests.{PlainRequest}
+use Rattle.rd_moves.specs.declared.request.Request.TheVariants.{Go, Back, Forward, Redo, Until}
+use Rattle.rd_moves.specs.declared.request.Request.TheVariants.{BackUntil}
 use Rattle.rd_timeline.specs.Backward.{holds_in, GoesBack, GoesBackTo, HasRedone}
 use Rattle.rd_timeline.specs.Course.{Course, GoesOn}
 use Rattle.rd_timeline.specs.History.{state_after}
@@ -49,7 +49,7 @@ BackFindsTheLast = (old new : Course) (condition : Condition) (found : Found)
 
 -- An edit that is taken back leaves no trace.
 abbrev pub EditsLeaveNoTrace : Type 0
-EditsLeaveNoTrace = (old mid new : Course) (edit : Edit) → IsMade old
+EditsLeaveNoTrace = (old mid new : Course) (edit : PlainEdit) → IsMade old
     → GoesOn old (move.Edit edit) mid → GoesBack mid 1 new
     → (new.target ≡ old.target) × (new.done ≡ old.done)
 
@@ -59,7 +59,7 @@ is_refused_run (Going made s) = false
 is_refused_run (Met made s) = false
 is_refused_run (Refused refusal) = true
 
-abbrev pub is_refused : Application → ℕ → Moves → Request → Bool
+abbrev pub is_refused : Application → ℕ → Moves → PlainRequest → Bool
 is_refused app limit moves (Go action) = not (can_make app limit moves action)
 is_refused app limit moves (Back count) = nat_lt (length moves.done) count
 is_refused app limit moves (Forward count) =
@@ -71,5 +71,5 @@ is_refused app limit moves (BackUntil condition) = false
 
 -- A refused request of any kind leaves the moves done, so the target too, and the moves undone.
 abbrev pub RefusedRequestsLeaveAll : Type 0
-RefusedRequestsLeaveAll = (app : Application) (limit : ℕ) (moves : Moves) (request : Request)
+RefusedRequestsLeaveAll = (app : Application) (limit : ℕ) (moves : Moves) (request : PlainRequest)
     → is_refused app limit moves request ≡ true → answered app limit moves request ≡ moves

@@ -1,26 +1,26 @@
 -- Whole runs: what a list of requests leaves of the moves done and undone. A refused request leaves
 -- them.
-use Rattle.std.specs.Prelude.{ℕ, ◌≡◌, ◌-◌, ◌<◌, ◌&&◌, Bool, false, not, IsTrue, if◌then◌else◌}
+use Rattle.std.specs.Prelude.{ℕ, ◌≡◌, ◌-◌, ◌&&◌, Bool, true, false, not, IsTrue}
 use Rattle.std.specs.Prelude.{List, [], ◌∷◌, ◌++◌, length, take, drop, fold, slice_get}
+use Rattle.std.specs.Prelude.{if◌then◌else◌}
 use Rattle.std.specs.Prelude.{nat_eq, nat_le, is_ok, Option, None, Some, unwrap_or}
 use Rattle.rd_app.specs.Application.{Application}
 use Rattle.rd_state.specs.Boot.{boot_of}
 use Rattle.rd_state.specs.Snapshot.{Snapshot}
-use Rattle.rd_calls.specs.declared.moves.Move.{Move}
-use Rattle.rd_calls.specs.Step.{policy_of, IsMoveOf}
+use Rattle.rd_moves.specs.Moves.{PlainMove}
+use Rattle.rd_calls.specs.Step.{policy_of}
 use Rattle.rd_condition.specs.declared.condition.Condition.{Condition}
-use Rattle.rd_condition.specs.Conditions.{IsConditionOf}
-use Rattle.rd_timeline.specs.declared.runs.Request.{Request}
-use Rattle.rd_timeline.specs.declared.runs.Request.TheVariants.{Go, Back, Forward, Redo, Until}
-use Rattle.rd_timeline.specs.declared.runs.Request.TheVariants.{BackUntil}
+use Rattle.rd_moves.specs.Requests.{PlainRequest}
+use Rattle.rd_moves.specs.declared.request.Request.TheVariants.{Go, Back, Forward, Redo, Until}
+use Rattle.rd_moves.specs.declared.request.Request.TheVariants.{BackUntil}
 use Rattle.rd_timeline.specs.Backward.{last_met}
 use Rattle.rd_timeline.specs.Course.{Course}
 use Rattle.rd_timeline.specs.History.{state_after}
 use Rattle.rd_timeline.specs.Policy.{Run, Going, Met, Refused, moves_by_policy, ran, state_or}
 
 pub record Moves : Type 0 where
-  pub done : List Move
-  pub undone : List Move
+  pub done : List PlainMove
+  pub undone : List PlainMove
 
 abbrev pub moves_of : Course → Moves
 moves_of course = record { done = course.done; undone = course.undone }
@@ -30,12 +30,12 @@ abbrev pub state_of : Application → Moves → Snapshot
 state_of app moves = state_or (boot_of app) (state_after app moves.done)
 
 -- Can the move be made? There is room for one more, and it gives a state.
-abbrev pub can_make : Application → ℕ → Moves → Move → Bool
+abbrev pub can_make : Application → ℕ → Moves → PlainMove → Bool
 can_make app limit moves move =
     not (nat_eq (length moves.done) limit) && is_ok (state_after app (moves.done ++ move ∷ []))
 
 -- Does the request make a move, or begin to? Only then is memory needed.
-abbrev pub makes_move : Application → ℕ → Moves → Request → Bool
+abbrev pub makes_move : Application → ℕ → Moves → PlainRequest → Bool
 makes_move app limit moves (Go action) = can_make app limit moves action
 makes_move app limit moves (Back count) = false
 makes_move app limit moves (Forward count) =
@@ -44,6 +44,15 @@ makes_move app limit moves (Redo count) = nat_le count (length moves.undone)
 makes_move app limit moves (Until condition count) =
     can_make app limit moves (policy_of (state_of app moves))
 makes_move app limit moves (BackUntil condition) = false
+
+-- Can the request make moves at all? Only these may take memory.
+abbrev pub may_make_moves : PlainRequest → Bool
+may_make_moves (Go action) = true
+may_make_moves (Back count) = false
+may_make_moves (Forward count) = true
+may_make_moves (Redo count) = true
+may_make_moves (Until condition count) = true
+may_make_moves (BackUntil condition) = false
 
 -- so many moves are done, and those behind them undone
 abbrev pub back_at : Moves → ℕ → Moves
@@ -73,7 +82,7 @@ run_of app limit goal moves count =
 -- A move that is made is the last one done, and the moves undone are forgotten. The last moves done
 -- are undone, or the first moves undone are done again, where there are so many. A run is made by
 -- policy, or not at all. The way back to where a condition holds is the shortest, or to the start.
-abbrev pub answered : Application → ℕ → Moves → Request → Moves
+abbrev pub answered : Application → ℕ → Moves → PlainRequest → Moves
 answered app limit moves (Go action) =
     if can_make app limit moves action
     then record { done = moves.done ++ action ∷ []; undone = [] }
@@ -95,23 +104,14 @@ answered app limit moves (BackUntil condition) =
     back_at moves (unwrap_or (last_met app condition moves.done (length moves.done)) 0)
 
 -- the requests, one after the other
-abbrev pub all_answered : Application → ℕ → Moves → List Request → Moves
+abbrev pub all_answered : Application → ℕ → Moves → List PlainRequest → Moves
 all_answered app limit moves requests = fold (answered app limit) moves requests
 
 -- The requests before one that makes a move are answered, and nothing more.
-pub record StopsBefore (app : Application) (limit : ℕ) (old new : Moves) (requests : List Request)
-    : Type 0 where
+pub record StopsBefore (app : Application) (limit : ℕ) (old new : Moves)
+    (requests : List PlainRequest) : Type 0 where
   pub before : ℕ
-  pub request : Request
+  pub request : PlainRequest
   pub there : slice_get requests before ≡ Some request
   pub makes : IsTrue (makes_move app limit new request)
   pub answered_before : new ≡ all_answered app limit old (take before requests)
-
--- The request names what the application has, and a run has a move at the least.
-abbrev pub IsRequestOf : Application → Request → Type 0
-IsRequestOf app (Go action) = IsMoveOf app action
-IsRequestOf app (Back count) = Unit {0}
-IsRequestOf app (Forward count) = 0 < count
-IsRequestOf app (Redo count) = Unit {0}
-IsRequestOf app (Until condition count) = IsConditionOf app condition × (0 < count)
-IsRequestOf app (BackUntil condition) = IsConditionOf app condition

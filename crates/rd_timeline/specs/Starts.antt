@@ -9,16 +9,16 @@ pub record IsStartOf (course : Course) (start : Start) : Type 0 where
   pub done : start.done ≡ length course.done
   pub undone : start.undone ≡ course.undone
   pub most_done : start.most_done ≡ course.most_done
-  pub most_edits : start.most_edits ≡ course.most_edits
+  pub most_carried : start.most_carried ≡ course.most_carried
   pub most_bytes : start.most_bytes ≡ course.most_bytes
 
 -- No more moves were done then. They and those that were undone could all be made.
 pub record CanCancel (old : Course) (start : Start) : Type 0 where
   pub earlier : start.done ≤ length old.done
-  pub made : AreMade old.app old.limit start.most_done start.most_edits
+  pub made : AreMade old.app old.limit start.most_done start.most_carried
       (take start.done old.done ++ start.undone)
   pub most_done : start.most_done ≤ old.most_done
-  pub most_edits : start.most_edits ≤ old.most_edits
+  pub most_carried : start.most_carried ≤ old.most_carried
   pub most_bytes : start.most_bytes ≤ old.most_bytes
 
 -- All is as it was there.
@@ -29,7 +29,7 @@ pub record IsCancelled (old : Course) (start : Start) (new : Course) : Type 0 wh
   pub log : new.log ≡ take start.done old.log
   pub undone : new.undone ≡ start.undone
   pub most_done : new.most_done ≡ start.most_done
-  pub most_edits : new.most_edits ≡ start.most_edits
+  pub most_carried : new.most_carried ≡ start.most_carried
   pub most_bytes : new.most_bytes ≡ start.most_bytes
   pub read : new.read ≡ old.read
   pub leads : state_after new.app new.done ≡ Ok new.target

@@ -2,22 +2,21 @@
 
 ghost use Rattle.std.specs.Prelude.{◌≡◌, ◌-◌, ◌∷◌, ◌++◌, ◌+◌, ◌<◌, ◌≤◌, [], drop, length};
 ghost use Rattle.std.specs.Prelude.{take, IfErr, IfOk, IsErrOf, IsOk, OnErr, OnOk};
-ghost use Rattle.rd_calls.specs.Step.{IsMoveOf};
+ghost use Rattle.rd_moves.specs.Moves.{IsMoveOf};
 ghost use Rattle.rd_state.specs.Valid.{IsValid};
 ghost use Rattle.rd_timeline.specs.History.{rewound, CanRewind};
-ghost use Rattle.rd_timeline.specs.Decoded.{byte_of, edits_among, edits_at, edits_in};
+ghost use Rattle.rd_timeline.specs.Decoded.{byte_of, carried_among, carried_at, carried_in};
 ghost use Rattle.rd_timeline.specs.Decoded.{HasByte};
-ghost use Rattle.rd_timeline.specs.JournalView.{next_undone, HasEditRoom, IsAsBefore};
+ghost use Rattle.rd_timeline.specs.JournalView.{next_undone, HasCarriedRoom, IsAsBefore};
 ghost use Rattle.rd_timeline.specs.LogView.{bytes_of, RecordsMove};
 ghost use Rattle.rd_timeline.specs.LoggedView.{IsWhyNotKept};
 ghost use Rattle.rd_timeline.specs.declared.log.TheConstants.{MAX_KEPT_BYTES};
 
-use crate::edits::Edits;
+use crate::carried::{Carried, CarriedList};
 use crate::logged::Logged;
 use rd_app::app::Program;
 use rd_bytes::no_memory::NoMemory;
-use rd_calls::moves::Move;
-use rd_edits::edit::Edit;
+use rd_moves::moves::Move;
 use rd_packed::count::ReadCount;
 use rd_refusal::refusal::Refusal;
 use rd_state::state::State;
@@ -27,12 +26,13 @@ use std::marker::Model;
 /// The moves done and the moves undone, in one list, and the target with the record of each move
 /// done. It can't be dropped: it ends in `retire`.
 pub struct Journal {
-    // A byte a move: the number of its core, 254 for an edit, or 255 for a tick.
+    // A byte a move: the number of its core, 255 for a tick, or 254 where the move carries
+    // something besides.
     moves: Vec<u8>,
     // So many of them are done; the others are undone, the one to be redone next first.
     done: usize,
-    // The edits among them. They are rare and large.
-    edits: Edits,
+    // What they carry. Moves that carry something are rare, and what they carry is large.
+    carried: CarriedList,
     logged: Logged,
 }
 
@@ -52,20 +52,20 @@ impl Model for Journal {
 #[derive(Drop)]
 pub struct Aside {
     moves: Vec<u8>,
-    // The edits among them.
-    edits: Vec<Edit>,
+    // What they carry.
+    carried: Vec<Carried>,
 }
 
 impl Model for Aside {
     ghost use Rattle.std.specs.Prelude.{List};
-    ghost use Rattle.rd_calls.specs.declared.moves.Move.{Move};
-    ghost use Rattle.rd_timeline.specs.JournalInside.{moves_aside, HasItsEdits};
+    ghost use Rattle.rd_moves.specs.Moves.{PlainMove};
+    ghost use Rattle.rd_timeline.specs.JournalInside.{moves_aside, HasAllCarried};
 
-    ghost Value = { List Move };
+    ghost Value = { List PlainMove };
 
     ghost view = { moves_aside };
 
-    ghost invariant = { HasItsEdits };
+    ghost invariant = { HasAllCarried };
 }
 
 // The byte that stands for a move.
@@ -80,16 +80,16 @@ fn byte_of_move(action: &Move) -> u8
     }
 }
 
-// How many edits a byte stands for: one or none.
-fn edits_at(byte: u8) -> usize
-    ensures { result ≡ edits_at byte }
+// How many moves that carry something a byte stands for: one or none.
+fn carried_at(byte: u8) -> usize
+    ensures { result ≡ carried_at byte }
 {
     if byte == 254 { 1 } else { 0 }
 }
 
-// How many of the bytes stand for edits.
-fn edits_among(bytes: &[u8]) -> usize
-    ensures { result ≡ edits_among bytes.now }
+// How many of the bytes stand for moves that carry something.
+fn carried_among(bytes: &[u8]) -> usize
+    ensures { result ≡ carried_among bytes.now }
 {
     bytes.iter().filter(|byte| **byte == 254).count()
 }
@@ -107,7 +107,7 @@ impl Journal {
         Ok(Journal {
             moves: Vec::new(alloc),
             done: 0,
-            edits: Edits::new(alloc),
+            carried: CarriedList::new(alloc),
             logged,
         })
     }
@@ -133,11 +133,11 @@ impl Journal {
         self.moves.len() - self.done
     }
 
-    /// How many of the moves done are edits.
-    pub fn edits(&self) -> usize
-        ensures { result ≡ edits_in self.now.done }
+    /// How many of the moves done carry something.
+    pub fn carried(&self) -> usize
+        ensures { result ≡ carried_in self.now.done }
     {
-        self.edits.done()
+        self.carried.done()
     }
 
     /// How many moves have a record kept.
@@ -161,15 +161,15 @@ impl Journal {
         self.logged.count()
     }
 
-    /// Makes room for one move more done; for a new edit there is `reserve_for`. Where there is no
-    /// memory for that, nothing else has changed. It needs none where there is such room, as there
-    /// is after going back.
+    /// Makes room for one move more done, but for what it carries (`reserve_for`). Where there is
+    /// no memory for that, nothing else has changed. It needs none where there is such room, as
+    /// there is after going back.
     pub fn reserve(&mut self) -> Result<(), NoMemory>
         ensures same { IsAsBefore self.old self.new }
         ensures ok { OnOk result (length self.new.done < self.new.capacity) }
         ensures enough { length self.old.done < self.old.capacity → IsOk result }
         ensures grows { self.old.capacity ≤ self.new.capacity }
-        ensures same_edit_capacity { self.new.edit_capacity ≡ self.old.edit_capacity }
+        ensures same_carried_capacity { self.new.carried_capacity ≡ self.old.carried_capacity }
         ensures same_memory { self.new.memory ≡ self.old.memory }
     {
         let missing = (self.done + 1).saturating_sub(self.moves.len());
@@ -178,19 +178,19 @@ impl Journal {
     }
 
     /// Makes room for this move to be done. Where there is no memory for that, nothing else has
-    /// changed. It needs none where there is such room, as there is after going back. Only an edit
-    /// needs room for an edit.
+    /// changed. It needs none where there is such room, as there is after going back. Only a move
+    /// that carries something needs room for that.
     pub fn reserve_for(&mut self, action: &Move) -> Result<(), NoMemory>
         ensures same { IsAsBefore self.old self.new }
         ensures ok { OnOk result (length self.new.done < self.new.capacity) }
-        ensures ok_edit { OnOk result (HasEditRoom self.new action.now) }
-        ensures enough { length self.old.done < self.old.capacity → HasEditRoom self.old action.now
-            → IsOk result }
+        ensures ok_carried { OnOk result (HasCarriedRoom self.new action.now) }
+        ensures enough { length self.old.done < self.old.capacity
+            → HasCarriedRoom self.old action.now → IsOk result }
         ensures grows { self.old.capacity ≤ self.new.capacity }
-        ensures more_edits { self.old.edit_capacity ≤ self.new.edit_capacity }
+        ensures more_carried { self.old.carried_capacity ≤ self.new.carried_capacity }
         ensures same_memory { self.new.memory ≡ self.old.memory }
     {
-        self.edits.reserve(action)?;
+        self.carried.reserve(action)?;
         self.reserve()
     }
 
@@ -202,7 +202,7 @@ impl Journal {
         requires valid { IsValid app.now self.old.target }
         requires named { IsMoveOf app.now action.now }
         requires capacity { length self.old.done < self.old.capacity }
-        requires edit_room { HasEditRoom self.old action.now }
+        requires carried_room { HasCarriedRoom self.old action.now }
         ensures lays { OnOk result
             (RecordsMove app.now self.old.target action.now self.new.target
             self.old.records self.new.records) }
@@ -216,7 +216,7 @@ impl Journal {
         ensures err { OnErr result (IsAsBefore self.old self.new) }
         ensures read { self.new.read ≡ self.old.read }
         ensures kept_capacity { self.new.capacity ≡ self.old.capacity }
-        ensures kept_edit_capacity { self.new.edit_capacity ≡ self.old.edit_capacity }
+        ensures kept_carried_capacity { self.new.carried_capacity ≡ self.old.carried_capacity }
         ensures grows { self.old.memory ≤ self.new.memory }
     {
         app.limits();
@@ -225,7 +225,7 @@ impl Journal {
         self.moves.truncate(self.done);
         self.moves.push_reserved(byte);
         self.done += 1;
-        self.edits.lay(action);
+        self.carried.lay(action);
         Ok(())
     }
 
@@ -236,7 +236,7 @@ impl Journal {
     {
         match self.moves[self.done] {
             255 => Move::Tick,
-            254 => self.edits.next(),
+            254 => self.carried.next(),
             core => Move::Core {
                 core: usize::from(core),
             },
@@ -266,13 +266,13 @@ impl Journal {
         ensures err { OnErr result (IsAsBefore self.old self.new) }
         ensures read { self.new.read ≡ self.old.read }
         ensures kept_capacity { self.new.capacity ≡ self.old.capacity }
-        ensures kept_edit_capacity { self.new.edit_capacity ≡ self.old.edit_capacity }
+        ensures kept_carried_capacity { self.new.carried_capacity ≡ self.old.carried_capacity }
         ensures grows { self.old.memory ≤ self.new.memory }
     {
         let action = self.next();
         self.logged.play(app, &action)?;
-        let edits = edits_at(self.moves[self.done]);
-        self.edits.go_on(edits);
+        let count = carried_at(self.moves[self.done]);
+        self.carried.go_on(count);
         self.done += 1;
         Ok(())
     }
@@ -285,20 +285,20 @@ impl Journal {
         ensures short { OnErr result (0 < length self.old.undone) }
         ensures err { OnErr result (self.new ≡ self.old) }
     {
-        // (once there is memory for these bytes, nothing else but the edits can find none)
+        // (once there is memory for these bytes, nothing else but what is carried can find none)
         let done = self.done;
         let count = self.moves.len() - done;
         let mut moves = Vec::with_capacity(*self.moves.allocator(), count)?;
-        let edits = self.edits.set_aside()?;
+        let carried = self.carried.set_aside()?;
         moves.extend_from_slice(&self.moves[done..]).unwrap();
         self.moves.truncate(done);
-        Ok(Aside { moves, edits })
+        Ok(Aside { moves, carried })
     }
 
     /// Puts moves that were set aside in the place of those that are undone. It takes no memory.
     pub fn put_back(&mut self, aside: Aside)
         requires moves { length self.old.done + length aside ≤ self.old.capacity }
-        requires edits { edits_in self.old.done + edits_in aside ≤ self.old.edit_capacity }
+        requires carried { carried_in self.old.done + carried_in aside ≤ self.old.carried_capacity }
         ensures undone { self.new.undone ≡ aside }
         ensures target { self.new.target ≡ self.old.target }
         ensures done { self.new.done ≡ self.old.done }
@@ -306,24 +306,25 @@ impl Journal {
         ensures same_memory { self.new.memory ≡ self.old.memory }
         ensures read { self.new.read ≡ self.old.read }
         ensures grows { self.old.capacity ≤ self.new.capacity }
-        ensures more_edits { self.old.edit_capacity ≤ self.new.edit_capacity }
+        ensures more_carried { self.old.carried_capacity ≤ self.new.carried_capacity }
     {
-        let Aside { moves, edits } = aside;
+        let Aside { moves, carried } = aside;
         let done = self.done;
         self.moves.truncate(done);
         self.moves.extend_from_slice(moves.as_slice()).unwrap();
-        self.edits.put_back(edits);
+        self.carried.put_back(carried);
     }
 
-    // How many of the last `n` moves done are edits. Where none is kept they aren't looked at.
-    fn edits_in_last(&self, n: usize) -> usize
+    // How many of the last `n` moves done carry something. Where nothing is kept they aren't looked
+    // at.
+    fn carried_in_last(&self, n: usize) -> usize
         requires { n ≤ length self.now.done }
-        ensures { result ≡ edits_in (drop (length self.now.done - n) self.now.done) }
+        ensures { result ≡ carried_in (drop (length self.now.done - n) self.now.done) }
     {
-        if self.edits.done() == 0 {
+        if self.carried.done() == 0 {
             return 0;
         }
-        edits_among(&self.moves[self.done - n..self.done])
+        carried_among(&self.moves[self.done - n..self.done])
     }
 
     /// Takes the last `n` moves done back: the target goes back by their records, of which each
@@ -341,13 +342,13 @@ impl Journal {
             ≡ drop (length self.old.done - n) self.old.done ++ self.old.undone }
         ensures records { self.new.records ≡ take (length self.old.done - n) self.old.records }
         ensures kept_capacity { self.new.capacity ≡ self.old.capacity }
-        ensures kept_edit_capacity { self.new.edit_capacity ≡ self.old.edit_capacity }
+        ensures kept_carried_capacity { self.new.carried_capacity ≡ self.old.carried_capacity }
         ensures same_memory { self.new.memory ≡ self.old.memory }
         ensures read { self.new.read ≡ self.old.read
             + bytes_of (drop (length self.old.done - n) self.old.records) }
     {
-        let edits = self.edits_in_last(n);
-        self.edits.take_back(edits);
+        let count = self.carried_in_last(n);
+        self.carried.take_back(count);
         self.done -= n;
         self.logged.take_back(n);
     }
@@ -357,7 +358,7 @@ impl Journal {
         let Journal {
             moves: _,
             done: _,
-            edits: _,
+            carried: _,
             logged,
         } = self;
         logged.retire();

@@ -1,7 +1,8 @@
 //! The moves made so far, the way back through them, and the state that they give.
 #![tactic(auto)]
 
-mod edits;
+mod answering;
+mod carried;
 pub mod journal;
 pub mod laws;
 pub mod log;

@@ -2,7 +2,7 @@
 
 ghost use Rattle.std.specs.Prelude.{◌≡◌, ◌+◌, ◌-◌, ◌<◌, ◌≤◌, [], drop, length, take};
 ghost use Rattle.std.specs.Prelude.{IfErr, IfOk, IsErrOf, OnErr, OnOk};
-ghost use Rattle.rd_calls.specs.Step.{IsMoveOf};
+ghost use Rattle.rd_moves.specs.Moves.{IsMoveOf};
 ghost use Rattle.rd_packed.specs.Records.{last_of_all, record_packed};
 ghost use Rattle.rd_state.specs.Undoing.{undone, CanUndo};
 ghost use Rattle.rd_state.specs.Valid.{IsValid};
@@ -14,8 +14,8 @@ ghost use Rattle.rd_timeline.specs.declared.log.TheConstants.{MAX_KEPT_BYTES};
 use crate::log::Log;
 use rd_app::app::Program;
 use rd_bytes::no_memory::NoMemory;
-use rd_calls::moves::Move;
 use rd_calls::play::{MAX_RECORD_BYTES, play_on};
+use rd_moves::moves::Move;
 use rd_packed::count::ReadCount;
 use rd_refusal::refusal::Refusal;
 use rd_state::editing::Editing;

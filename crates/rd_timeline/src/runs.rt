@@ -1,72 +1,42 @@
-//! Lists of requests: what they leave of the moves done and undone.
+//! Requests: what is answered to one, and what lists of them leave of the moves done and undone.
 
-ghost use Rattle.std.specs.Prelude.{◌≡◌, ◌↔◌, All, IsErr, IsErrOf, IsTrue, Ok, OnOk, OnErr};
-ghost use Rattle.rd_timeline.specs.Course.{Course};
+ghost use Rattle.std.specs.Prelude.{◌≡◌, All, IfOk, IsTrue, Ok, OnErr, OnOk, true};
+ghost use Rattle.rd_timeline.specs.Answers.{answer_to};
 ghost use Rattle.rd_timeline.specs.History.{state_after};
 ghost use Rattle.rd_timeline.specs.Runs.{moves_of, makes_move, answered, all_answered};
-ghost use Rattle.rd_timeline.specs.Runs.{StopsBefore, IsRequestOf};
+ghost use Rattle.rd_timeline.specs.Runs.{may_make_moves, StopsBefore};
+ghost use Rattle.rd_moves.specs.Requests.{IsRequestOf};
 
+use crate::answering;
 use crate::timeline::Timeline;
 use rd_bytes::no_memory::NoMemory;
-use rd_calls::moves::Move;
-use rd_condition::condition::Condition;
-use rd_refusal::refusal::Refusal;
-
-/// What one asks of a timeline.
-#[derive(Drop)]
-pub enum Request {
-    /// Make this move.
-    Go { action: Move },
-    /// Go back by so many moves.
-    Back { count: usize },
-    /// Make so many moves by policy, one at the least.
-    Forward { count: usize },
-    /// Make so many moves again that are undone.
-    Redo { count: usize },
-    /// Make moves by policy until the condition holds, so many at the most and one at the least.
-    Until { condition: Condition, count: usize },
-    /// Go back to where the condition held, or to the start.
-    BackUntil { condition: Condition },
-}
-
-// That memory ran out, if that is why it was refused. Any other refusal is an answer.
-fn unless_no_memory<T: Drop>(made: Result<T, Refusal>) -> Result<(), NoMemory>
-    ensures { IsErr result ↔ IsErrOf made Refusal.NoMemory }
-{
-    match made {
-        Err(Refusal::NoMemory) => Err(NoMemory),
-        Ok(_) | Err(_) => Ok(()),
-    }
-}
+use rd_moves::answer::Answer;
+use rd_moves::request::Request;
 
 impl Timeline {
-    /// Does what is asked; a request that is refused changes nothing. Only a request that makes a
-    /// move may find no memory, and then nothing has changed either.
-    pub fn answer(&mut self, request: &Request) -> Result<(), NoMemory>
+    /// Does what is asked, and answers it; a request that is refused changes nothing. Only a
+    /// request that makes a move may find no memory, and then nothing has changed either.
+    pub fn answer(&mut self, request: &Request) -> Result<Answer, NoMemory>
         requires { IsRequestOf self.old.app request.now }
-        ensures ok { OnOk result (moves_of self.new
+        ensures ok { IfOk result (λ answer.
+            answer ≡ answer_to self.old.app self.old.limit (moves_of self.old) request.now) }
+        ensures moves { OnOk result (moves_of self.new
             ≡ answered self.old.app self.old.limit (moves_of self.old) request.now) }
         ensures no_memory { OnErr result
             (IsTrue (makes_move self.old.app self.old.limit (moves_of self.old) request.now)) }
+        ensures only { OnErr result (may_make_moves request.now ≡ true) }
         ensures err { OnErr result (self.new ≡ self.old) }
         ensures app { self.new.app ≡ self.old.app }
         ensures limit { self.new.limit ≡ self.old.limit }
         ensures leads { state_after self.new.app self.new.done ≡ Ok self.new.target }
     {
-        self.keeps();
         match request {
-            Request::Go { action } => unless_no_memory(self.go(action.copy())),
-            Request::Back { count } => {
-                let _ = self.back(*count);
-                Ok(())
-            }
-            Request::Forward { count } => unless_no_memory(self.forward(*count)),
-            Request::Redo { count } => unless_no_memory(self.redo(*count)),
-            Request::Until { condition, count } => unless_no_memory(self.until(*condition, *count)),
-            Request::BackUntil { condition } => {
-                self.back_until(*condition);
-                Ok(())
-            }
+            Request::Go { action } => answering::go(self, action),
+            Request::Back { count } => Ok(answering::back(self, *count)),
+            Request::Forward { count } => answering::forward(self, *count),
+            Request::Redo { count } => answering::redo(self, *count),
+            Request::Until { condition, count } => answering::until(self, *condition, *count),
+            Request::BackUntil { condition } => Ok(answering::back_until(self, *condition)),
         }
     }
 

@@ -8,11 +8,12 @@ ghost use Rattle.rd_packed.specs.Records.{record_packed, TakesLittle};
 ghost use Rattle.rd_state.specs.PackedChanges.{IsPackable};
 ghost use Rattle.rd_state.specs.Settled.{IsSettled};
 ghost use Rattle.rd_state.specs.Valid.{IsValid};
-ghost use Rattle.rd_calls.specs.Step.{step, IsMoveOf};
+ghost use Rattle.rd_calls.specs.Step.{step};
+ghost use Rattle.rd_moves.specs.Moves.{IsMoveOf};
 ghost use Rattle.rd_timeline.specs.Backward.{GoesBack};
 ghost use Rattle.rd_timeline.specs.Course.{IsKept, IsFull, IsRefusedBy, CanGo, GoesOn};
 ghost use Rattle.rd_timeline.specs.Course.{IsMoreThanEver, IsWhyNot};
-ghost use Rattle.rd_timeline.specs.Decoded.{edits_in};
+ghost use Rattle.rd_timeline.specs.Decoded.{carried_in};
 ghost use Rattle.rd_timeline.specs.History.{state_after};
 ghost use Rattle.rd_timeline.specs.LogView.{bytes_of};
 ghost use Rattle.rd_timeline.specs.Policy.{StandsOn};
@@ -22,8 +23,8 @@ use crate::journal::{Aside, Journal};
 use crate::log::Log;
 use rd_app::app::Program;
 use rd_bytes::no_memory::NoMemory;
-use rd_calls::moves::Move;
 use rd_calls::play::why_not;
+use rd_moves::moves::Move;
 use rd_packed::count::ReadCount;
 use rd_refusal::refusal::Refusal;
 use rd_state::state::State;
@@ -36,11 +37,11 @@ pub struct Timeline {
     app: Program,
     limit: usize,
     journal: Journal,
-    // How many moves were done at the most so far, how many edits were among those done at the
+    // How many moves were done at the most so far, how many of those done carried something at the
     // most, and from how many bytes of records a move was made at the most. There is room for as
     // much.
     most_done: usize,
-    most_edits: usize,
+    most_carried: usize,
     most_bytes: usize,
     // How many bytes of records `back` has read.
     read: ReadCount,
@@ -65,7 +66,7 @@ pub(crate) struct Start {
     done: usize,
     undone: Aside,
     most_done: usize,
-    most_edits: usize,
+    most_carried: usize,
     most_bytes: usize,
 }
 
@@ -81,7 +82,7 @@ impl Timeline {
           log = [];
           undone = [];
           most_done = 0;
-          most_edits = 0;
+          most_carried = 0;
           most_bytes = 0;
           read = 0;
         }) }
@@ -94,7 +95,7 @@ impl Timeline {
             limit,
             journal,
             most_done: 0,
-            most_edits: 0,
+            most_carried: 0,
             most_bytes: 0,
             read: ReadCount::new(),
         })
@@ -172,8 +173,8 @@ impl Timeline {
         ensures leads { OnOk result (state_after self.new.app self.new.done ≡ Ok self.new.target) }
         ensures most_done { OnOk result
             (self.new.most_done ≡ max self.old.most_done (length self.new.done)) }
-        ensures most_edits { OnOk result
-            (self.new.most_edits ≡ max self.old.most_edits (edits_in self.new.done)) }
+        ensures most_carried { OnOk result
+            (self.new.most_carried ≡ max self.old.most_carried (carried_in self.new.done)) }
         ensures most_bytes { OnOk result
             (self.new.most_bytes ≡ max self.old.most_bytes (bytes_of self.old.log)) }
         ensures read { OnOk result (self.new.read ≡ self.old.read) }
@@ -191,19 +192,56 @@ impl Timeline {
         ensures refusals { IfErr result (IsWhyNot self.old action) }
         ensures err { OnErr result (self.new ≡ self.old) }
     {
+        self.make(&action)
+    }
+
+    /// The same of a move that stays where it is: what it carries is copied once, to be kept.
+    pub(crate) fn make(&mut self, action: &Move) -> Result<usize, Refusal>
+        requires named { IsMoveOf self.old.app action.now }
+        ensures at { IfOk result (λ at. at ≡ length self.new.done) }
+        ensures goes { OnOk result (GoesOn self.old action.now self.new) }
+        ensures step { OnOk result
+            (step self.old.app self.old.target action.now ≡ Ok self.new.target) }
+        ensures done { OnOk result (self.new.done ≡ self.old.done ++ action.now ∷ []) }
+        ensures undone { OnOk result (self.new.undone ≡ []) }
+        ensures app { OnOk result (self.new.app ≡ self.old.app) }
+        ensures limit { OnOk result (self.new.limit ≡ self.old.limit) }
+        ensures log { OnOk result (take (length self.old.done) self.new.log ≡ self.old.log) }
+        ensures leads { OnOk result (state_after self.new.app self.new.done ≡ Ok self.new.target) }
+        ensures most_done { OnOk result
+            (self.new.most_done ≡ max self.old.most_done (length self.new.done)) }
+        ensures most_carried { OnOk result
+            (self.new.most_carried ≡ max self.old.most_carried (carried_in self.new.done)) }
+        ensures most_bytes { OnOk result
+            (self.new.most_bytes ≡ max self.old.most_bytes (bytes_of self.old.log)) }
+        ensures read { OnOk result (self.new.read ≡ self.old.read) }
+
+        // When it is refused, and that nothing has changed then.
+        ensures moves_full { IsErrOf result Refusal.MovesFull ↔ IsFull self.old }
+        ensures no_task { IsErrOf result Refusal.NoTask
+            ↔ IsRefusedBy self.old action.now Refusal.NoTask }
+        ensures tick_limit { IsErrOf result Refusal.TickLimit
+            ↔ IsRefusedBy self.old action.now Refusal.TickLimit }
+        ensures bad_edit { IsErrOf result Refusal.BadEdit
+            ↔ IsRefusedBy self.old action.now Refusal.BadEdit }
+        ensures no_memory { IsErrOf result Refusal.NoMemory → CanGo self.old action.now }
+        ensures short { IsErrOf result Refusal.NoMemory → IsMoreThanEver self.old action.now }
+        ensures refusals { IfErr result (IsWhyNot self.old action.now) }
+        ensures err { OnErr result (self.new ≡ self.old) }
+    {
         if self.at() == self.limit {
             return Err(Refusal::MovesFull);
         }
-        if self.journal.reserve_for(&action).is_err() {
+        if self.journal.reserve_for(action).is_err() {
             // What is wrong with the move itself is the cause, if something is.
-            let cause = why_not(&self.app, self.journal.target(), &action);
+            let cause = why_not(&self.app, self.journal.target(), action);
             return Err(cause.unwrap_or(Refusal::NoMemory));
         }
         let bytes = self.journal.bytes();
-        self.journal.play(&self.app, &action)?;
+        self.journal.play(&self.app, action)?;
         let at = self.journal.done();
         self.most_done = self.most_done.max(at);
-        self.most_edits = self.most_edits.max(self.journal.edits());
+        self.most_carried = self.most_carried.max(self.journal.carried());
         self.most_bytes = self.most_bytes.max(bytes);
         Ok(at)
     }
@@ -218,7 +256,7 @@ impl Timeline {
         ensures app { self.new.app ≡ self.old.app }
         ensures limit { self.new.limit ≡ self.old.limit }
         ensures most_done { self.new.most_done ≡ self.old.most_done }
-        ensures most_edits { self.new.most_edits ≡ self.old.most_edits }
+        ensures most_carried { self.new.most_carried ≡ self.old.most_carried }
         ensures most_bytes { self.new.most_bytes ≡ self.old.most_bytes }
         ensures read { self.new.read ≡ self.old.read }
         ensures leads { state_after self.new.app self.new.done ≡ Ok self.new.target }
@@ -242,7 +280,7 @@ impl Timeline {
         ensures app { OnOk result (self.new.app ≡ self.old.app) }
         ensures limit { OnOk result (self.new.limit ≡ self.old.limit) }
         ensures most_done { OnOk result (self.new.most_done ≡ self.old.most_done) }
-        ensures most_edits { OnOk result (self.new.most_edits ≡ self.old.most_edits) }
+        ensures most_carried { OnOk result (self.new.most_carried ≡ self.old.most_carried) }
         ensures most_bytes { OnOk result (self.new.most_bytes ≡ self.old.most_bytes) }
         ensures read { OnOk result (self.new.read
             ≡ self.old.read + bytes_of (drop (length self.old.done - n) self.old.log)) }
@@ -274,7 +312,7 @@ impl Timeline {
             done: self.at(),
             undone: self.journal.set_aside()?,
             most_done: self.most_done,
-            most_edits: self.most_edits,
+            most_carried: self.most_carried,
             most_bytes: self.most_bytes,
         })
     }
@@ -289,14 +327,14 @@ impl Timeline {
             done,
             undone,
             most_done,
-            most_edits,
+            most_carried,
             most_bytes,
         } = start;
         let made = self.at() - done;
         self.journal.take_back(made);
         self.journal.put_back(undone);
         self.most_done = most_done;
-        self.most_edits = most_edits;
+        self.most_carried = most_carried;
         self.most_bytes = most_bytes;
     }
 
@@ -309,7 +347,7 @@ impl Timeline {
         ensures undone { OnOk result (self.new.undone ≡ drop 1 self.old.undone) }
         ensures stands { OnOk result (StandsOn self.old self.new) }
         ensures most_done { OnOk result (self.new.most_done ≡ self.old.most_done) }
-        ensures most_edits { OnOk result (self.new.most_edits ≡ self.old.most_edits) }
+        ensures most_carried { OnOk result (self.new.most_carried ≡ self.old.most_carried) }
         ensures most_bytes { OnOk result (self.new.most_bytes ≡ self.old.most_bytes) }
         ensures short { OnErr result (self.old.most_bytes < bytes_of self.old.log) }
         ensures err { OnErr result (self.new ≡ self.old) }
@@ -343,7 +381,7 @@ impl Timeline {
             limit: _,
             journal,
             most_done: _,
-            most_edits: _,
+            most_carried: _,
             most_bytes: _,
             read: _,
         } = self;

@@ -1,5 +1,5 @@
 -- The goals of `come_back` that the check left open.
-use Rattle.std.proofs.Common.{◌≡◌, ℕ, rules, subst, sym}
+use Rattle.std.proofs.Common.{ℕ, rules, subst, sym}
 use Rattle.std.specs.Prelude.{Result, Ok, Err, OnOk}
 use Rattle.rd_state.specs.Edit.{Edit, Reaches}
 use Rattle.rd_state.specs.Snapshot.{Snapshot}

@@ -1,5 +1,7 @@
 -- The goals of record_command that the check left open.
-use Rattle.std.proofs.Common.{◌≡◌, ◌∙◌, ◌++◌, ◌∷◌, [], List, ap, arith, inl, length, subst, sym}
+use Rattle.std.proofs.Common.{◌≡◌, ◌∙◌, ◌++◌, ◌∷◌, ℕ, [], List, ap, arith, inl, length, subst, sym}
+use Rattle.rd_text.specs.Words.{words_of}
+use Rattle.rd_command.specs.Commands.{command_of}
 use Rattle.std.specs.Prelude.{Result, Ok, Err, OnErr}
 use Rattle.std.proofs.lemmas.List.{length_push}
 use Rattle.rd_desk.specs.declared.entry.Entry.{Entry}
@@ -19,17 +21,17 @@ invariant_of-self-2 c =
     let d = c.self.inside in
     let whole = c.self.invariant in
     let who = c.args.who in
-    let command = c.args.command.now in
+    let command = c.args.order.now.command in
     let reply = c.in_ok-reply.reply in
     let there = rw (← c.self.view_is) at c.requires.there in
     let answered : IsAnswered d.machine who command c.serve.new.self reply = c.in_ok-reply.ensures.ok in
     let stay = sessions_stay d.machine who command there in
     let last = entry_of d.machine who (Ask command) in
-    let kept : Entry = record { who = who; event = Ask (asked_by c.args.line.now); reply = reply } in
+    let kept : Entry = record { who = who; event = Ask (asked_by c.line-line.result.now); reply = reply } in
     let before : c.make_room_for.new.history.entries ≡ d.history.entries = c.make_room_for.ensures.entries ∙ c.make_room.ensures.entries in
     let entries : c.push.new.self.entries ≡ d.history.entries ++ last ∷ [] =
     c.push.ensures.entries ∙ ap (λ (es : List Entry). es ++ kept ∷ []) before
-    ∙ ap (λ (e : Entry). d.history.entries ++ e ∷ []) (entry_is d.machine who c.args.line.now command reply c.requires.line answered.reply_is) in
+    ∙ ap (λ (e : Entry). d.history.entries ++ e ∷ []) (entry_is d.machine who c.line-line.result.now command reply (ap (λ (line : List ℕ). command_of (words_of line)) c.line-line.ensures.line ∙ c.line-line.ensures.says) answered.reply_is) in
     let longer = ap length entries in
     let one_more = length_push d.history.entries last in
     let present = ap (λ (e : Debugger). present_count e.sessions) answered.after ∙ stay.present in
@@ -48,7 +50,7 @@ invariant_of-self-in_err-make_room_for c =
     let d = c.self.inside in
     let whole = c.self.invariant in
     let who = c.args.who in
-    let command = c.args.command.now in
+    let command = c.args.order.now.command in
     let reply = c.in_ok-reply.reply in
     let answered : IsAnswered d.machine who command c.serve.new.self reply = c.in_ok-reply.ensures.ok in
     let same : c.serve.new.self ≡ d.machine =
@@ -73,7 +75,7 @@ pub returns-in_err-make_room_for-clause-err : goal.returns-in_err-make_room_for-
 returns-in_err-make_room_for-clause-err c =
     let d = c.self.inside in
     let who = c.args.who in
-    let command = c.args.command.now in
+    let command = c.args.order.now.command in
     let reply = c.in_ok-reply.reply in
     let answered : IsAnswered d.machine who command c.serve.new.self reply = c.in_ok-reply.ensures.ok in
     let same : c.serve.new.self ≡ d.machine =
@@ -87,7 +89,7 @@ returns-in_err-make_room_for-clause-err c =
 pub returns-in_err-make_room_for-clause-lacks : goal.returns-in_err-make_room_for-clause-lacks
 returns-in_err-make_room_for-clause-lacks c =
     let who = c.args.who in
-    let command = c.args.command.now in
+    let command = c.args.order.now.command in
     let answered : IsAnswered c.self.inside.machine who command c.serve.new.self c.in_ok-reply.reply = c.in_ok-reply.ensures.ok in
     let shows = a_view_shows c.self.inside.machine who command c.in_ok-reply.reply answered.reply_is c.in_err-make_room_for.ensures.err in
     let needs = subst (λ (v : RoomedDesk). NeedsMemory v.desk.debugger who command) c.self.view_is shows.1 in

@@ -15,7 +15,7 @@ pub returns : goal.returns
 returns c =
     let m = c.self.inside in
     let target : target_of (debugger_of m) ≡ m.timeline.target = ap (state_or (boot_of m.timeline.app)) c.keeps.ensures.leads in
-    subst (λ (d : Debugger). c.shown.result ≡ Shown (line_of (watches_text (watches_shown (target_of d) (own_watches d c.args.who))))) c.self.view_is
-    (c.shown.ensures ∙ ap Shown c.in_ok-show_all_watches.ensures
+    subst (λ (d : Debugger). Shown c.in_ok-text.text ≡ Shown (line_of (watches_text (watches_shown (target_of d) (own_watches d c.args.who))))) c.self.view_is
+    (ap Shown c.in_ok-text.ensures
     ∙ ap (λ (w : WatchesView). Shown (line_of (watches_text (watches_shown m.timeline.target w)))) c.watches-watches.ensures
     ∙ ap (λ (s : Snapshot). Shown (line_of (watches_text (watches_shown s (own_watches (debugger_of m) c.args.who))))) (sym target))

@@ -2,10 +2,10 @@
 use Rattle.std.proofs.Common.{◌∙◌, ◌+◌, ◌++◌, ◌∷◌, [], ap, arith, length, sym, take}
 use Rattle.std.specs.Prelude.{ℕ, List}
 use Rattle.std.proofs.lemmas.List.{length-take-le, length_push}
-use Rattle.rd_edits.specs.declared.edit.Edit.{Edit}
-use Rattle.rd_timeline.specs.Decoded.{decoded, edits_among}
+use Rattle.rd_timeline.specs.declared.carried.Carried.{Carried}
+use Rattle.rd_timeline.specs.Decoded.{decoded, carried_among}
 use Rattle.rd_timeline.specs.JournalView.{JournalView}
-use Rattle.rd_timeline.proofs.JournalLaws.{done_count, edits_done, has_byte, moves_laid}
+use Rattle.rd_timeline.proofs.JournalLaws.{done_count, carried_done, has_byte, moves_laid}
 use Rattle.rd_timeline.proofs.journal.Journal.play.Goals as goal
 
 pub push_reserved-requires : goal.push_reserved-requires
@@ -24,9 +24,9 @@ pub lay-requires : goal.lay-requires
 lay-requires c is =
     omega (
       arith,
-      c.requires.edit_room is,
-      edits_done c.self.inside c.args.self.now c.self.view_is c.self.invariant,
-      ap (λ (v : JournalView). v.edit_capacity) c.self.view_is,
+      c.requires.carried_room is,
+      carried_done c.self.inside c.args.self.now c.self.view_is c.self.invariant,
+      ap (λ (v : JournalView). v.carried_capacity) c.self.view_is,
     )
 
 pub invariant_of-self-2 : goal.invariant_of-self-2
@@ -43,8 +43,8 @@ invariant_of-self-2 c =
             length_push c.self.inside.logged.records c.in_ok-play.ensures.lays.undo,
             c.self.invariant.records,
           );
-      done = laid.done_edits ∙ ap length (sym c.lay.ensures.done);
-      undone = ap edits_among laid.none ∙ sym (ap length c.lay.ensures.undone);
+      done = laid.done_carried ∙ ap length (sym c.lay.ensures.done);
+      undone = ap carried_among laid.none ∙ sym (ap length c.lay.ensures.undone);
     }
 
 pub returns-clause-done : goal.returns-clause-done
@@ -52,7 +52,7 @@ returns-clause-done c =
     let bytes = c.push_reserved.ensures.items ∙ ap (λ (bs : List ℕ). bs ++ c.byte_of_move-byte.result ∷ []) c.truncate.ensures.items
     ∙ ap (λ b. take c.self.inside.done c.self.inside.moves.items ++ b ∷ []) c.byte_of_move-byte.ensures in
     let laid = moves_laid c.self.inside c.args.action.now c.push_reserved.new.self.items c.self.invariant (has_byte c.args.app.now c.args.action.now c.limits.ensures c.requires.named) bytes in
-    ap (λ (es : List Edit). decoded (take (c.self.inside.done + 1) c.push_reserved.new.self.items) es) c.lay.ensures.done ∙ laid.done
+    ap (λ (es : List Carried). decoded (take (c.self.inside.done + 1) c.push_reserved.new.self.items) es) c.lay.ensures.done ∙ laid.done
     ∙ ap (λ (v : JournalView). v.done ++ c.args.action.now ∷ []) c.self.view_is
 
 pub returns-clause-undone : goal.returns-clause-undone

@@ -31,7 +31,7 @@ returns-clause-ok c =
       c.saturating_sub-missing.ensures,
       c.in_ok-reserve.ensures.ok,
       c.in_ok-reserve.ensures.len,
-      length-decoded (take c.self.inside.done c.reserve.new.self.items) c.self.inside.edits.done,
+      length-decoded (take c.self.inside.done c.reserve.new.self.items) c.self.inside.carried.done,
       ap (λ (bytes : List ℕ). length (take c.self.inside.done bytes)) c.in_ok-reserve.ensures.items,
       length-take-le c.self.inside.done c.self.inside.moves.items c.self.invariant.border,
     )

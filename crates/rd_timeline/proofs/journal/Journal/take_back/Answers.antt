@@ -2,19 +2,19 @@
 use Rattle.std.proofs.Common.{◌∙◌, ◌-◌, ap, arith, drop, length, sym, take}
 use Rattle.std.specs.Prelude.{List}
 use Rattle.std.proofs.lemmas.List.{length-take-le}
-use Rattle.rd_edits.specs.declared.edit.Edit.{Edit}
+use Rattle.rd_timeline.specs.declared.carried.Carried.{Carried}
 use Rattle.rd_timeline.specs.Decoded.{decoded}
 use Rattle.rd_timeline.proofs.JournalLaws.{border_back}
 use Rattle.rd_timeline.proofs.journal.Journal.take_back.Goals as goal
 
 pub take_back-requires : goal.take_back-requires
 take_back-requires c =
-    let earlier = border_back c.self.inside c.args.self.now c.args.n c.edits_in_last-edits.result c.self.view_is c.self.invariant c.edits_in_last-edits.ensures in
+    let earlier = border_back c.self.inside c.args.self.now c.args.n c.carried_in_last-count.result c.self.view_is c.self.invariant c.carried_in_last-count.ensures in
     omega (arith, earlier.enough)
 
 pub invariant_of-self : goal.invariant_of-self
 invariant_of-self c =
-    let earlier = border_back c.self.inside c.args.self.now c.args.n c.edits_in_last-edits.result c.self.view_is c.self.invariant c.edits_in_last-edits.ensures in
+    let earlier = border_back c.self.inside c.args.self.now c.args.n c.carried_in_last-count.result c.self.view_is c.self.invariant c.carried_in_last-count.ensures in
     record {
       border = omega (arith, c.self.invariant.border);
       records =
@@ -24,16 +24,16 @@ invariant_of-self c =
             length-take-le (length c.self.inside.logged.records - c.args.n) c.self.inside.logged.records (omega arith),
             c.self.invariant.records,
           );
-      done = earlier.done_edits ∙ ap length (sym c.take_back.ensures.done);
-      undone = earlier.undone_edits ∙ ap length (sym c.take_back.ensures.undone);
+      done = earlier.done_carried ∙ ap length (sym c.take_back.ensures.done);
+      undone = earlier.undone_carried ∙ ap length (sym c.take_back.ensures.undone);
     }
 
 pub returns-clause-done : goal.returns-clause-done
 returns-clause-done c =
-    let earlier = border_back c.self.inside c.args.self.now c.args.n c.edits_in_last-edits.result c.self.view_is c.self.invariant c.edits_in_last-edits.ensures in
-    ap (λ (es : List Edit). decoded (take (c.self.inside.done - c.args.n) c.self.inside.moves.items) es) c.take_back.ensures.done ∙ earlier.done
+    let earlier = border_back c.self.inside c.args.self.now c.args.n c.carried_in_last-count.result c.self.view_is c.self.invariant c.carried_in_last-count.ensures in
+    ap (λ (es : List Carried). decoded (take (c.self.inside.done - c.args.n) c.self.inside.moves.items) es) c.take_back.ensures.done ∙ earlier.done
 
 pub returns-clause-undone : goal.returns-clause-undone
 returns-clause-undone c =
-    let earlier = border_back c.self.inside c.args.self.now c.args.n c.edits_in_last-edits.result c.self.view_is c.self.invariant c.edits_in_last-edits.ensures in
-    ap (λ (es : List Edit). decoded (drop (c.self.inside.done - c.args.n) c.self.inside.moves.items) es) c.take_back.ensures.undone ∙ earlier.undone
+    let earlier = border_back c.self.inside c.args.self.now c.args.n c.carried_in_last-count.result c.self.view_is c.self.invariant c.carried_in_last-count.ensures in
+    ap (λ (es : List Carried). decoded (drop (c.self.inside.done - c.args.n) c.self.inside.moves.items) es) c.take_back.ensures.undone ∙ earlier.undone

@@ -13,4 +13,4 @@ invariant_of-self c =
     let t = c.self.inside in
     let taken = c.take_back.ensures in
     IsWhole-back t c.take_back.new.self c.more-self-inside.result (length t.journal.done - c.args.n) (omega arith) c.self.invariant taken.target taken.done taken.records taken.undone
-    taken.kept_capacity taken.kept_edit_capacity taken.same_memory
+    taken.kept_capacity taken.kept_carried_capacity taken.same_memory

@@ -4,7 +4,7 @@ use Rattle.std.specs.Prelude.{List}
 use Rattle.std.proofs.lemmas.Bool.{false≢true}
 use Rattle.std.proofs.lemmas.List.{length-take-le}
 use Rattle.rd_app.specs.Application.{Application}
-use Rattle.rd_calls.specs.declared.moves.Move.{Move}
+use Rattle.rd_moves.specs.Moves.{PlainMove}
 use Rattle.rd_timeline.specs.Backward.{last_met}
 use Rattle.rd_timeline.specs.History.{state_after}
 use Rattle.rd_timeline.proofs.BackwardLaws.{looked_at, one_back}
@@ -26,7 +26,7 @@ returns-then-meets-clause-place c =
     let app = on_ok c.back.result c.unwrap.result c.unwrap.ensures c.back.ensures.app ∙ i.app in
     let leads = on_ok c.back.result c.unwrap.result c.unwrap.ensures c.back.ensures.leads in
     let state : state_after old.app (take j old.done) ≡ Ok c.back.new.self.target =
-    sym (ap (λ (a : Application). state_after a c.back.new.self.done) app ∙ ap (λ (ms : List Move). state_after old.app ms) done) ∙ leads in
+    sym (ap (λ (a : Application). state_after a c.back.new.self.done) app ∙ ap (λ (ms : List PlainMove). state_after old.app ms) done) ∙ leads in
     let at : c.at.result ≡ j = omega (arith, c.at.ensures, ap length done, length-take-le j old.done (omega arith)) in
     let met : last_met old.app c.args.condition old.done (suc j) ≡ Some j =
     looked_at old.app c.args.condition old.done j c.back.new.self.target state
@@ -38,10 +38,10 @@ returns-then-meets-clause-place c =
       limit = on_ok c.back.result c.unwrap.result c.unwrap.ensures c.back.ensures.limit ∙ i.limit;
       done = done ∙ ap (λ k. take k old.done) (sym at);
       undone =
-          undone ∙ ap (λ (us : List Move). drop (length c.loop.self.done - 1) c.loop.self.done ++ us) i.undone ∙ back.1
+          undone ∙ ap (λ (us : List PlainMove). drop (length c.loop.self.done - 1) c.loop.self.done ++ us) i.undone ∙ back.1
           ∙ ap (λ k. drop k old.done ++ old.undone) (sym at);
       most_done = on_ok c.back.result c.unwrap.result c.unwrap.ensures c.back.ensures.most_done ∙ i.most_done;
-      most_edits = on_ok c.back.result c.unwrap.result c.unwrap.ensures c.back.ensures.most_edits ∙ i.most_edits;
+      most_carried = on_ok c.back.result c.unwrap.result c.unwrap.ensures c.back.ensures.most_carried ∙ i.most_carried;
       most_bytes = on_ok c.back.result c.unwrap.result c.unwrap.ensures c.back.ensures.most_bytes ∙ i.most_bytes;
       leads = leads;
     }
@@ -58,7 +58,7 @@ loop-preserved c =
     let app = on_ok c.back.result c.unwrap.result c.unwrap.ensures c.back.ensures.app ∙ i.app in
     let leads = on_ok c.back.result c.unwrap.result c.unwrap.ensures c.back.ensures.leads in
     let state : state_after old.app (take j old.done) ≡ Ok c.back.new.self.target =
-    sym (ap (λ (a : Application). state_after a c.back.new.self.done) app ∙ ap (λ (ms : List Move). state_after old.app ms) done) ∙ leads in
+    sym (ap (λ (a : Application). state_after a c.back.new.self.done) app ∙ ap (λ (ms : List PlainMove). state_after old.app ms) done) ∙ leads in
     let unmet : last_met old.app c.args.condition old.done (suc j) ≡ last_met old.app c.args.condition old.done j =
     looked_at old.app c.args.condition old.done j c.back.new.self.target state
     ∙ ap (λ b. cond b (Some j) (last_met old.app c.args.condition old.done j)) (sym c.meets.ensures ∙ c.if-meets.false) in
@@ -69,9 +69,9 @@ loop-preserved c =
       app = app;
       limit = on_ok c.back.result c.unwrap.result c.unwrap.ensures c.back.ensures.limit ∙ i.limit;
       done = done;
-      undone = undone ∙ ap (λ (us : List Move). drop (length c.loop.self.done - 1) c.loop.self.done ++ us) i.undone ∙ back.1;
+      undone = undone ∙ ap (λ (us : List PlainMove). drop (length c.loop.self.done - 1) c.loop.self.done ++ us) i.undone ∙ back.1;
       most_done = on_ok c.back.result c.unwrap.result c.unwrap.ensures c.back.ensures.most_done ∙ i.most_done;
-      most_edits = on_ok c.back.result c.unwrap.result c.unwrap.ensures c.back.ensures.most_edits ∙ i.most_edits;
+      most_carried = on_ok c.back.result c.unwrap.result c.unwrap.ensures c.back.ensures.most_carried ∙ i.most_carried;
       most_bytes = on_ok c.back.result c.unwrap.result c.unwrap.ensures c.back.ensures.most_bytes ∙ i.most_bytes;
       log = on_ok c.back.result c.unwrap.result c.unwrap.ensures c.back.ensures.log ∙ one.0;
       read =
@@ -95,7 +95,7 @@ returns-clause-place c =
       done = i.done ∙ ap (λ k. take k old.done) none;
       undone = i.undone ∙ ap (λ k. drop k old.done ++ old.undone) none;
       most_done = i.most_done;
-      most_edits = i.most_edits;
+      most_carried = i.most_carried;
       most_bytes = i.most_bytes;
       leads = c.keeps-2.ensures.leads;
     }

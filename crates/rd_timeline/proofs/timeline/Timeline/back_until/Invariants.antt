@@ -13,7 +13,7 @@ invariant-loop l = record {
   done : l.self.done ≡ take (length l.fn.self.done - l.counter) l.fn.self.done;
   undone : l.self.undone ≡ drop (length l.fn.self.done - l.counter) l.fn.self.done ++ l.fn.self.undone;
   most_done : l.self.most_done ≡ l.fn.self.most_done;
-  most_edits : l.self.most_edits ≡ l.fn.self.most_edits;
+  most_carried : l.self.most_carried ≡ l.fn.self.most_carried;
   most_bytes : l.self.most_bytes ≡ l.fn.self.most_bytes;
   log : l.self.log ≡ take (length l.fn.self.done - l.counter) l.fn.self.log;
   read : l.self.read ≡ l.fn.self.read + bytes_of (drop (length l.fn.self.done - l.counter) l.fn.self.log);

@@ -24,4 +24,4 @@ invariant_of-self c =
     IsWhole-cancel t c.put_back.new.self start c.self.invariant can
     (put.target ∙ taken.target ∙ ap (λ k. rewound t.journal.target (drop k t.journal.records)) first)
     (put.done ∙ taken.done ∙ ap (λ k. take k t.journal.done) first) (put.records ∙ taken.records ∙ ap (λ k. take k t.journal.records) first)
-    put.undone (omega (arith, put.grows, taken.kept_capacity)) (omega (arith, put.more_edits, taken.kept_edit_capacity)) (omega (arith, taken.same_memory, put.same_memory))
+    put.undone (omega (arith, put.grows, taken.kept_capacity)) (omega (arith, put.more_carried, taken.kept_carried_capacity)) (omega (arith, taken.same_memory, put.same_memory))

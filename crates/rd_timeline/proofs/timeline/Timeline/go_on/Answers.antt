@@ -2,8 +2,9 @@
 use Rattle.std.proofs.Common.{◌≢◌, ◌≤◌, ◌∙◌, ◌++◌, ◌∷◌, [], ap, arith, length, rules, sym, subst}
 use Rattle.std.proofs.lemmas.List.{length-append}
 use Rattle.rd_app.specs.Application.{Application}
-use Rattle.rd_calls.specs.declared.moves.Move.{Move}
-use Rattle.rd_calls.specs.Step.{policy_of, step, IsMoveOf}
+use Rattle.rd_moves.specs.Moves.{PlainMove}
+use Rattle.rd_calls.specs.Step.{policy_of, step}
+use Rattle.rd_moves.specs.Moves.{IsMoveOf}
 use Rattle.std.specs.Prelude.{Err, IsErrOf}
 use Rattle.rd_refusal.specs.declared.refusal.Refusal.TheVariants.{NoMemory}
 use Rattle.rd_timeline.specs.Course.{IsMoreThanEver, IsWhyNot}
@@ -30,7 +31,7 @@ returns-in_err-go-clause-refusals c =
     let within : length c.loop.self.done ≤ c.args.self.now.limit =
     omega (arith, c.keeps-in-loop.ensures.kept.made.within, length-append c.loop.self.done c.loop.self.undone, i.stands.limit) in
     let why =
-    subst (λ (move : Move). IsWhyNot c.loop.self move c.in_err-go.field-0.0) (c.policy-action.ensures ∙ ap policy_of c.target.ensures)
+    subst (λ (move : PlainMove). IsWhyNot c.loop.self move c.in_err-go.field-0.0) (c.policy-action.ensures ∙ ap policy_of c.target.ensures)
     c.in_err-go.ensures.refusals in
     let refused : IsWhyNoRun c.args.self.now c.args.goal c.args.count c.in_err-go.field-0.0 =
     why_no_run c.args.self.now c.args.goal c.loop.counter c.args.count c.loop.self c.in_err-go.field-0.0 at (omega (arith, c.loop-test.true)) within why in
@@ -60,17 +61,17 @@ returns-then-meets-clause-ends c =
     omega (arith, c.keeps-in-loop.ensures.kept.made.within, length-append c.loop.self.done c.loop.self.undone, i.stands.limit) in
     let more : length c.loop.self.done ≢ c.loop.self.limit = search rules in
     let made = c.in_ok-go.ensures in
-    let done = made.done ∙ ap (λ (move : Move). c.loop.self.done ++ move ∷ []) is in
+    let done = made.done ∙ ap (λ (move : PlainMove). c.loop.self.done ++ move ∷ []) is in
     let stands =
     StandsOn-then c.args.self.now c.loop.self c.go.new.self (c.policy-action.result ∷ []) i.stands made.app made.limit made.done made.log
-    (omega (arith, made.most_done)) (omega (arith, made.most_edits)) (omega (arith, made.most_bytes)) made.read in
+    (omega (arith, made.most_done)) (omega (arith, made.most_carried)) (omega (arith, made.most_bytes)) made.read in
     let most =
-    IsMost-next c.args.self.now c.loop.counter c.loop.self c.go.new.self i.most c.keeps-in-loop.ensures.kept done made.log made.most_done made.most_edits
+    IsMost-next c.args.self.now c.loop.counter c.loop.self c.go.new.self i.most c.keeps-in-loop.ensures.kept done made.log made.most_done made.most_carried
     made.most_bytes in
     EndsRun-met c.args.self.now c.args.goal c.loop.counter c.args.count c.loop.self c.go.new.self at (omega (arith, c.loop-test.true)) within
     (λ same. more (same ∙ sym i.stands.limit))
     (ap (λ (app : Application). step app c.loop.self.target (policy_of c.loop.self.target)) (sym i.stands.app)
-    ∙ ap (λ (move : Move). step c.loop.self.app c.loop.self.target move) (sym is) ∙ c.in_ok-go.ensures.step)
+    ∙ ap (λ (move : PlainMove). step c.loop.self.app c.loop.self.target move) (sym is) ∙ c.in_ok-go.ensures.step)
     done made.undone stands most
     (sym c.meets.ensures ∙ c.if-meets.true)
 
@@ -85,14 +86,14 @@ loop-preserved c =
     let more : length c.loop.self.done ≢ c.loop.self.limit = search rules in
     let stands =
     StandsOn-then c.args.self.now c.loop.self c.go.new.self (c.policy-action.result ∷ []) i.stands made.app made.limit made.done made.log
-    (omega (arith, made.most_done)) (omega (arith, made.most_edits)) (omega (arith, made.most_bytes)) made.read in
-    let done = made.done ∙ ap (λ (move : Move). c.loop.self.done ++ move ∷ []) is in
+    (omega (arith, made.most_done)) (omega (arith, made.most_carried)) (omega (arith, made.most_bytes)) made.read in
+    let done = made.done ∙ ap (λ (move : PlainMove). c.loop.self.done ++ move ∷ []) is in
     let most =
-    IsMost-next c.args.self.now c.loop.counter c.loop.self c.go.new.self i.most c.keeps-in-loop.ensures.kept done made.log made.most_done made.most_edits
+    IsMost-next c.args.self.now c.loop.counter c.loop.self c.go.new.self i.most c.keeps-in-loop.ensures.kept done made.log made.most_done made.most_carried
     made.most_bytes in
     let next =
     IsAt-next c.args.self.now c.args.goal c.loop.counter c.loop.self c.go.new.self at within (λ same. more (same ∙ sym i.stands.limit))
     (ap (λ (app : Application). step app c.loop.self.target (policy_of c.loop.self.target)) (sym i.stands.app)
-    ∙ ap (λ (move : Move). step c.loop.self.app c.loop.self.target move) (sym is) ∙ made.step)
+    ∙ ap (λ (move : PlainMove). step c.loop.self.app c.loop.self.target move) (sym is) ∙ made.step)
     done stands most (sym c.meets.ensures ∙ c.if-meets.false) in
     record { run = next.run; state = next.state; done = next.done; undone = made.undone; stands = stands; most = next.most }

@@ -5,5 +5,5 @@ use Rattle.rd_timeline.proofs.timeline.Timeline.new.Goals as goal
 
 pub invariant_of-result : goal.invariant_of-result
 invariant_of-result c =
-    IsWhole-new (record { app = c.args.app; limit = c.args.limit; journal = c.in_ok-journal.journal; most_done = 0; most_edits = 0; most_bytes = 0; read = c.new-2.result }) _ c.limits.ensures c.in_ok-target.ensures.state c.in_ok-target.ensures.valid c.in_ok-target.ensures.settled
+    IsWhole-new (record { app = c.args.app; limit = c.args.limit; journal = c.in_ok-journal.journal; most_done = 0; most_carried = 0; most_bytes = 0; read = c.new-2.result }) _ c.limits.ensures c.in_ok-target.ensures.state c.in_ok-target.ensures.valid c.in_ok-target.ensures.settled
     c.in_ok-journal.ensures.target c.in_ok-journal.ensures.done c.in_ok-journal.ensures.records c.in_ok-journal.ensures.undone (refl, refl) refl

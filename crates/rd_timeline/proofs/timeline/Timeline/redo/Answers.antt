@@ -18,4 +18,4 @@ returns-then-is_err-clause-err c =
     let undone = back.undone ∙ ap (λ k. drop k now.done ++ now.undone) before ∙ undone_again old now part.redone part.has in
     let log = back.log ∙ ap (λ k. take k now.log) before ∙ part.stands.log in
     same_course old new app (back.limit ∙ part.has.limit) (same_target old new app done c.keeps.ensures.leads back.leads) done log undone
-    (back.most_done ∙ part.has.most_done) (back.most_edits ∙ part.has.most_edits) (back.most_bytes ∙ part.has.most_bytes) (back.read ∙ part.stands.read)
+    (back.most_done ∙ part.has.most_done) (back.most_carried ∙ part.has.most_carried) (back.most_bytes ∙ part.has.most_bytes) (back.read ∙ part.stands.read)

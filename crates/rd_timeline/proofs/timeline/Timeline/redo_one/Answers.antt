@@ -2,7 +2,7 @@
 use Rattle.std.proofs.Common.{◌≡◌, ◌∙◌, ◌<◌, ◌++◌, ◌∷◌, [], ap, arith, inl, inr, length, length-append, subst, sym}
 use Rattle.std.proofs.lemmas.Bool.{false≢true}
 use Rattle.std.specs.Prelude.{IsOk, is_ok, slice_index_or, Err}
-use Rattle.rd_calls.specs.declared.moves.Move.TheVariants.{Tick}
+use Rattle.rd_moves.specs.declared.moves.Move.TheVariants.{Tick}
 use Rattle.rd_calls.specs.Step.{step}
 use Rattle.rd_refusal.specs.declared.refusal.Refusal.{Refusal}
 use Rattle.rd_refusal.specs.declared.refusal.Refusal.TheVariants.{NoMemory}
@@ -42,7 +42,7 @@ invariant_of-self-2 c =
     made.lays.played.valid (settled_after t.app j.target move c.replay.new.self.target (state_now t c.self.invariant).settled made.lays.played.settled)
     made.done made.lays.records
     (omega (arith, c.replay.ensures.kept_capacity))
-    (omega (arith, c.replay.ensures.kept_edit_capacity))
+    (omega (arith, c.replay.ensures.kept_carried_capacity))
     c.replay.ensures.grows
 
 -- The kernel's rules don't refuse it, so it is the log that can't grow, which has room for as much as there was once.

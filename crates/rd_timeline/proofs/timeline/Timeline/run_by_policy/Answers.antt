@@ -26,7 +26,7 @@ returns-in-Err-clause-err c =
     let log = cancelled.log ∙ ap (λ k. take k c.go_on.new.self.log) start.done ∙ stands.log in
     same_course old c.cancel_run.new.self app (cancelled.limit ∙ stands.limit)
     (same_target old c.cancel_run.new.self app done c.keeps.ensures.leads cancelled.leads) done log (cancelled.undone ∙ start.undone)
-    (cancelled.most_done ∙ start.most_done) (cancelled.most_edits ∙ start.most_edits) (cancelled.most_bytes ∙ start.most_bytes) (cancelled.read ∙ stands.read)
+    (cancelled.most_done ∙ start.most_done) (cancelled.most_carried ∙ start.most_carried) (cancelled.most_bytes ∙ start.most_bytes) (cancelled.read ∙ stands.read)
 
 pub returns-in-Err-clause-short : goal.returns-in-Err-clause-short
 returns-in-Err-clause-short c =

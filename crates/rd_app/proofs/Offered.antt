@@ -1,0 +1,2 @@
+-- What the crates above cite.
+pub use Rattle.rd_app.proofs.ProfileLaws.{few_cores_of}

@@ -1,0 +1,25 @@
+//! Views: what a session can be shown.
+
+use rd_text::kind::Kind;
+
+/// A view that names nothing.
+#[derive(Clone, Copy)]
+pub enum Overview {
+    /// `show cores`: who runs, who is ready, the tick and the turn.
+    Cores,
+    /// `show moves`: how many moves were made, and how many of them taken back.
+    Moves,
+    /// `show wheel`: which session has the wheel.
+    Wheel,
+    /// `show watches`: which of the session's watches hold.
+    Watches,
+}
+
+/// What is shown.
+#[derive(Clone, Copy)]
+pub enum View {
+    /// `show KIND NAME`: the thing of that kind with this number.
+    Thing { kind: Kind, number: usize },
+    /// What names nothing.
+    Overview { of: Overview },
+}

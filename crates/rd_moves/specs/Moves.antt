@@ -1,0 +1,16 @@
+-- Moves: what each names of an application.
+use Rattle.std.specs.Prelude.{ℕ, ◌<◌, List}
+use Rattle.rd_app.specs.Application.{Application}
+use Rattle.rd_moves.specs.declared.moves.Move as moves
+use Rattle.rd_moves.specs.declared.moves.Move.TheVariants.{Core, Tick, Edit}
+use Rattle.rd_moves.specs.Edits.{IsEditOf}
+
+-- a move with the bytes of an edit as a list, wherever they stand
+abbrev pub PlainMove : Type 0
+PlainMove = moves.Move (List ℕ)
+
+-- The move names what the application has.
+abbrev pub IsMoveOf : Application → PlainMove → Type 0
+IsMoveOf app (Core core) = core < app.cores
+IsMoveOf app Tick = Unit {0}
+IsMoveOf app (Edit edit) = IsEditOf app edit

@@ -1,0 +1,9 @@
+//! What can be asked of a target, as plain data: moves, edits and requests, and what each names of
+//! an application. What they do stands elsewhere.
+#![tactic(auto)]
+
+pub mod answer;
+pub mod count;
+pub mod edit;
+pub mod moves;
+pub mod request;

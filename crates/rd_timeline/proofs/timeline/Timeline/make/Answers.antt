@@ -1,0 +1,78 @@
+-- The goals of `make` that the check left open.
+use Rattle.std.proofs.Common.{◌≡◌, ◌<◌, ◌+◌, ◌∙◌, arith, length, ◌++◌, ◌∷◌, [], List, ap, refl, rules, subst, sym}
+use Rattle.std.specs.Prelude.{Ok}
+use Rattle.rd_moves.specs.Moves.{PlainMove}
+use Rattle.rd_state.specs.Change.{Change}
+use Rattle.rd_state.specs.Snapshot.{Snapshot}
+use Rattle.rd_app.specs.Application.{priorities_of}
+use Rattle.rd_state.specs.Settled.{IsSettled}
+use Rattle.rd_state.specs.Valid.{IsValid}
+use Rattle.rd_calls.specs.Step.{step}
+use Rattle.rd_moves.specs.Moves.{IsMoveOf}
+use Rattle.rd_timeline.specs.Course.{Course}
+use Rattle.rd_timeline.specs.Decoded.{carried_in}
+use Rattle.rd_timeline.specs.JournalView.{HasCarriedRoom}
+use Rattle.rd_timeline.specs.History.{state_after}
+use Rattle.rd_timeline.proofs.DecodedLaws.{carried_in-append}
+use Rattle.rd_timeline.proofs.HistoryLaws.{state_after-push}
+use Rattle.rd_timeline.proofs.TimelineLaws.{IsWhole-push, at_most_room, grown, settled_after, state_now}
+use Rattle.std.proofs.lemmas.List.{length_push}
+use Rattle.rd_timeline.proofs.timeline.Timeline.make.Goals as goal
+
+-- the target is valid, and so it is once there is room for a move more
+pub why_not-cause-requires-clause-valid : goal.why_not-cause-requires-clause-valid
+why_not-cause-requires-clause-valid c =
+    subst (λ (s : Snapshot). IsValid c.self.inside.app s) (sym (c.target.ensures ∙ c.reserve_for.ensures.same.target))
+    (state_now c.self.inside c.self.invariant).valid
+
+pub play-requires-clause-valid : goal.play-requires-clause-valid
+play-requires-clause-valid c =
+    subst (λ (s : Snapshot). IsValid c.self.inside.app s) (sym c.reserve_for.ensures.same.target) (state_now c.self.inside c.self.invariant).valid
+
+pub invariant_of-self-2 : goal.invariant_of-self-2
+invariant_of-self-2 c =
+    let t = c.self.inside in
+    let same = c.reserve_for.ensures.same in
+    let made = c.in_ok-play.ensures in
+    let played = made.lays.played in
+    let from_target : step t.app t.journal.target c.args.action.now ≡ Ok c.play.new.self.target =
+    ap (λ (s : Snapshot). step t.app s c.args.action.now) (sym same.target) ∙ played.step in
+    let capacity : length c.reserve_for.new.self.done < c.reserve_for.new.self.capacity = search rules in
+    let ok_carried : HasCarriedRoom c.reserve_for.new.self c.args.action.now = search rules in
+    let one_more : length c.play.new.self.done ≡ length c.reserve_for.new.self.done + 1 =
+    omega (arith, ap length made.done, length_push c.reserve_for.new.self.done c.args.action.now) in
+    let all : c.play.new.self.done ≡ t.journal.done ++ c.args.action.now ∷ [] =
+    made.done ∙ ap (λ (moves : List PlainMove). moves ++ c.args.action.now ∷ []) same.done in
+    let settled = settled_after t.app c.reserve_for.new.self.target c.args.action.now c.play.new.self.target
+    (subst (IsSettled (priorities_of t.app)) (sym same.target) (state_now t c.self.invariant).settled) played.settled in
+    IsWhole-push t
+    (record {
+      app = t.app;
+      limit = t.limit;
+      journal = c.play.new.self;
+      most_done = c.max-self-inside.result;
+      most_carried = c.max-self-inside-2.result;
+      most_bytes = c.max-self-inside-3.result;
+      read = t.read;
+    })
+    c.args.action.now made.lays.undo c.self.invariant refl refl (subst (λ (course : Course). IsMoveOf course.app c.args.action.now) (sym c.self.view_is) c.requires.named) (search rules) from_target (played.leads_back ∙ same.target) played.can_undo
+    played.valid settled all
+    (made.lays.records ∙ ap (λ (records : List (List Change)). records ++ made.lays.undo ∷ []) same.records)
+    made.undone (omega (arith, c.max-self-inside.ensures, c.done-at.ensures, one_more, ap length same.done))
+    (omega (arith, c.max-self-inside-2.ensures, c.carried.ensures, ap carried_in all))
+    (omega (arith, c.max-self-inside.ensures, c.done-at.ensures, one_more, capacity, made.kept_capacity, c.reserve_for.ensures.grows, c.self.invariant.capacity))
+    (at_most_room c.args.action.now t.most_carried c.carried.result c.max-self-inside-2.result c.reserve_for.new.self c.play.new.self c.max-self-inside-2.ensures c.carried.ensures
+    made.done made.kept_carried_capacity (omega (arith, c.reserve_for.ensures.more_carried, c.self.invariant.carried)) ok_carried
+    (omega (arith, ap carried_in same.done, c.self.invariant.kept.made.carried_were, carried_in-append t.journal.done t.journal.undone)))
+    (grown t c.bytes-bytes.result c.max-self-inside-3.result c.reserve_for.new.self c.play.new.self c.self.invariant.memory c.bytes-bytes.ensures c.max-self-inside-3.ensures
+    made.ahead (omega (arith, c.reserve_for.ensures.same_memory, c.play.ensures.grows)))
+
+pub returns-clause-leads : goal.returns-clause-leads
+returns-clause-leads c =
+    let t = c.self.inside in
+    let made = c.in_ok-play.ensures in
+    ap (λ (moves : List PlainMove). state_after t.app moves)
+    (made.done ∙ ap (λ (moves : List PlainMove). moves ++ c.args.action.now ∷ []) c.reserve_for.ensures.same.done)
+    ∙ state_after-push t.app t.journal.done c.args.action.now t.journal.target
+    (state_now t c.self.invariant).state
+    ∙ ap (λ (s : Snapshot). step t.app s c.args.action.now) (sym c.reserve_for.ensures.same.target) ∙ made.lays.played.step
