@@ -3,6 +3,7 @@
 ghost use Rattle.std.specs.Prelude.{◌≡◌};
 ghost use Rattle.rd_text.specs.Words.{bytes_of};
 ghost use Rattle.rd_command.specs.Digits.{is_data};
+ghost use Rattle.rd_command.specs.Keywords.{poke};
 
 use rd_bytes::bytes::Bytes;
 use rd_moves::edit::Edit;
@@ -97,28 +98,33 @@ fn own_edit(edit: &Edit<Digits<'_>>) -> Edit
     }
 }
 
-// The move with bytes of its own.
-fn own_move(action: &Move<Digits<'_>>) -> Move
-    ensures { result ≡ action.now }
+// An edit, as a request. (By itself, so that no other request clears room for its bytes twice.)
+#[inline(never)]
+fn own_poke(edit: &Edit<Digits<'_>>) -> Request
+    ensures { result ≡ poke edit.now }
 {
-    match action {
-        Move::Core { core } => Move::Core { core: *core },
-        Move::Tick => Move::Tick,
-        Move::Edit { edit } => Move::Edit {
+    Request::Go {
+        action: Move::Edit {
             edit: own_edit(edit),
         },
     }
 }
 
-/// The request with bytes of its own. Up to here it takes little room: 256 bytes would be cleared and
-/// moved with every command.
+/// The request with bytes of its own. Up to here it takes little room: 256 bytes would be cleared
+/// and moved with every command.
 pub fn own(request: &Request<Digits<'_>>) -> Request
     ensures { result ≡ request.now }
 {
     match request {
-        Request::Go { action } => Request::Go {
-            action: own_move(action),
+        Request::Go {
+            action: Move::Core { core },
+        } => Request::Go {
+            action: Move::Core { core: *core },
         },
+        Request::Go { action: Move::Tick } => Request::Go { action: Move::Tick },
+        Request::Go {
+            action: Move::Edit { edit },
+        } => own_poke(edit),
         Request::Back { count } => Request::Back { count: *count },
         Request::Forward { count } => Request::Forward { count: *count },
         Request::Redo { count } => Request::Redo { count: *count },
