@@ -23,11 +23,12 @@ use Rattle.rd_command.specs.declared.keyword.EditKeyword.{EditKeyword}
 use Rattle.rd_command.specs.declared.keyword.EditKeyword.TheVariants as poked
 use Rattle.rd_command.specs.declared.keyword.Keyword.{Keyword}
 use Rattle.rd_command.specs.declared.keyword.Keyword.TheVariants.{Ask, AskByWatch, TakeWheel, GiveWheel, Watch, Unwatch, Show, Look}
+use Rattle.rd_command.specs.declared.keyword.Keyword.TheVariants as keyword
 use Rattle.rd_command.specs.declared.keyword.RequestKeyword.{RequestKeyword}
 use Rattle.rd_command.specs.declared.keyword.RequestKeyword.TheVariants as asked
 use Rattle.rd_command.specs.declared.keyword.SearchKeyword.{SearchKeyword}
 use Rattle.rd_command.specs.declared.keyword.SearchKeyword.TheVariants as sought
-use Rattle.rd_command.specs.declared.view.View.TheVariants.{Thing, Overview}
+use Rattle.rd_command.specs.declared.view.View.TheVariants.{Thing, Cores, Overview}
 use Rattle.rd_command.specs.declared.keyword.Parameter.{Parameter}
 use Rattle.rd_command.specs.declared.keyword.Parameter.TheVariants.{Core, Count, Register, Index, Number, Data, Operator, Phase, Name}
 use Rattle.rd_command.specs.declared.keyword.Parameter.TheVariants as parameter
@@ -235,6 +236,7 @@ keyword_good app Unwatch reading made there same e =
 keyword_good app (Show kind) reading made there same e =
     effect_good app (λ number. number < length (names_of kind app.names)) (λ number. bound.Looks (Thing kind number)) (thing_row kind) reading made there same
     (λ number named. named) (λ number good. good) e
+keyword_good app keyword.Cores reading made there same e = let is : bound.Looks Cores ≡ made = cc in subst (IsBoundOf app) is tt
 keyword_good app (Look of) reading made there same e = let is : bound.Looks (Overview of) ≡ made = cc in subst (IsBoundOf app) is tt
 
 pub bound_is_there : (app : AppView) (command : CommandView) (made : Bound) → AreAsMany app.runs app.names → bound_of app command ≡ Some made → IsBoundOf app made

@@ -17,6 +17,7 @@ use Rattle.rd_command.specs.declared.keyword.EditKeyword.{EditKeyword}
 use Rattle.rd_command.specs.declared.keyword.EditKeyword.TheVariants as poked
 use Rattle.rd_command.specs.declared.keyword.Keyword.{Keyword}
 use Rattle.rd_command.specs.declared.keyword.Keyword.TheVariants.{Ask, AskByWatch, TakeWheel, GiveWheel, Watch, Unwatch, Show, Look}
+use Rattle.rd_command.specs.declared.keyword.Keyword.TheVariants as keyword
 use Rattle.rd_command.specs.declared.keyword.RequestKeyword.{RequestKeyword}
 use Rattle.rd_command.specs.declared.keyword.RequestKeyword.TheVariants as asked
 use Rattle.rd_command.specs.declared.keyword.SearchKeyword.{SearchKeyword}
@@ -106,7 +107,7 @@ found_takes verb more operands k words command e =
     subst (λ (command : CommandView). (command.keyword ≡ k) × (words ≡ more ++ command.operands) × AreOperands operands command.operands) formed.1
     (refl, texts_taken more words left.0 left.1, operands_take operands left.0 formed.0)
 
-spelling_takes : (of : Spelling) (k : Keyword) (first : List ℕ) (words : List (List ℕ)) (command : CommandView) → command_spelled of k first words ≡ Some command
+pub spelling_takes : (of : Spelling) (k : Keyword) (first : List ℕ) (words : List (List ℕ)) (command : CommandView) → command_spelled of k first words ≡ Some command
     → (command.keyword ≡ k) × (first ∷ words ≡ of.verb ∷ (of.more ++ command.operands)) × AreOperands of.operands command.operands
 spelling_takes of k first words command e =
     let found =
@@ -128,7 +129,7 @@ spelled_takes k first words command e =
       formed = subst (λ (k : Keyword). AreOperands (spelling_of k).operands command.operands) same taken.2;
     }
 
-either_takes : (spelled others : Option CommandView) (command : CommandView) (Good : CommandView → Type 0)
+pub either_takes : (spelled others : Option CommandView) (command : CommandView) (Good : CommandView → Type 0)
     → ((found : CommandView) → spelled ≡ Some found → Good found) → (others ≡ Some command → Good command)
     → option_or spelled others ≡ Some command → Good command
 either_takes (Some found) others command Good now later e = let is : found ≡ command = cc in subst Good is (now found refl)
@@ -212,7 +213,6 @@ show_again kind.Group = λ left formed. found_first (Show kind.Group) left _ for
 show_again kind.Task = λ left formed. found_first (Show kind.Task) left _ formed
 
 look_again : (k : Overview) → IsFound (Look k)
-look_again overview.Cores = λ left formed. found_first (Look overview.Cores) left _ formed
 look_again overview.Moves = λ left formed. found_first (Look overview.Moves) left _ formed
 look_again overview.Wheel = λ left formed. found_first (Look overview.Wheel) left _ formed
 look_again overview.Watches = λ left formed. found_first (Look overview.Watches) left _ formed
@@ -285,6 +285,7 @@ keyword_again GiveWheel = λ left formed. found_first GiveWheel left _ formed
 keyword_again Watch = λ left formed. found_first Watch left _ formed
 keyword_again Unwatch = λ left formed. found_first Unwatch left _ formed
 keyword_again (Show k) = show_again k
+keyword_again keyword.Cores = λ left formed. found_first keyword.Cores left _ formed
 keyword_again (Look k) = look_again k
 
 pub command_again : (words : List (List ℕ)) (command : CommandView) → Spells words command → command_of words ≡ Some command

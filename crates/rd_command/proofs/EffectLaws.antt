@@ -1,11 +1,12 @@
 -- What is bound does what the keyword of its command says.
-use Rattle.std.proofs.Common.{◌≡◌, ◌∙◌, Option, Some, false, option_map, ap, refl, sym}
+use Rattle.std.proofs.Common.{◌≡◌, ◌∙◌, Option, Some, option_map, ap, refl, sym}
 use Rattle.rd_names.specs.Apps.{AppView}
 use Rattle.rd_command.specs.declared.binding.Bound.{Bound}
 use Rattle.rd_command.specs.declared.binding.Bound.TheVariants as bound
 use Rattle.rd_command.specs.declared.keyword.Keyword.{Keyword}
 use Rattle.rd_command.specs.declared.keyword.Keyword.TheVariants.{Ask, AskByWatch, TakeWheel, GiveWheel, Watch, Unwatch, Show, Look}
-use Rattle.rd_command.specs.declared.view.View.TheVariants.{Thing, Overview}
+use Rattle.rd_command.specs.declared.keyword.Keyword.TheVariants as keyword
+use Rattle.rd_command.specs.declared.view.View.TheVariants.{Thing, Cores, Overview}
 use Rattle.rd_command.specs.Bindings.{Reading, bound_by, bound_of, by_watch, wheel_for, known_of, made_by}
 use Rattle.rd_command.specs.Commands.{CommandView}
 use Rattle.rd_command.specs.Keywords.{Wheel, request_row, search_row, thing_row, unwatch_row, watch_row, wheel_of}
@@ -27,6 +28,7 @@ keyword_wheel Watch reading made e = always_so (λ condition. bound.Keeps condit
 keyword_wheel Unwatch reading made e = always_so (λ number. bound.Drops number) (made_by unwatch_row reading) made _ (λ number. refl) e
 keyword_wheel (Show kind) reading made e =
     always_so (λ number. bound.Looks (Thing kind number)) (made_by (thing_row kind) reading) made _ (λ number. refl) e
+keyword_wheel keyword.Cores reading made e = let is : bound.Looks Cores ≡ made = cc in sym (ap wheel_for is)
 keyword_wheel (Look of) reading made e = let is : bound.Looks (Overview of) ≡ made = cc in sym (ap wheel_for is)
 
 pub wheel_as_said : (app : AppView) (command : CommandView) (made : Bound) → bound_of app command ≡ Some made

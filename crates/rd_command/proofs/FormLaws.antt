@@ -7,3 +7,7 @@ pub no_words : (parameters : List Parameter) (index : ℕ) → index < length pa
 no_words [] index there = absurd (omega (arith, there))
 no_words (parameter ∷ others) zero there = refl
 no_words (parameter ∷ others) (suc index) there = no_words others index (omega (arith, there))
+
+pub nothing_left : {X : Type 0} (xs : List X) → length xs < 1 → xs ≡ []
+nothing_left [] none = refl
+nothing_left (x ∷ xs) none = absurd (omega (arith, none))

@@ -146,6 +146,7 @@ keyword_there known GiveWheel words h = refl
 keyword_there known keyword.Watch words h = effect_there known (λ condition. bound.Keeps condition) watch_row words h
 keyword_there known Unwatch words h = effect_there known (λ number. bound.Drops number) unwatch_row words h
 keyword_there known (Show kind) words h = effect_there known (λ number. bound.Looks (Thing kind number)) (thing_row kind) words h
+keyword_there known keyword.Cores words h = refl
 keyword_there known (Look of) words h = refl
 
 pub bound_exactly : (known : Known) (command : CommandView) (bound : Option Bound) → bound ≡ bound_in known command → (words : List (List ℕ))

@@ -28,7 +28,7 @@ use Rattle.rd_command.specs.declared.keyword.Parameter.TheVariants.{Core, Count,
 use Rattle.rd_command.specs.declared.keyword.Parameter.TheVariants.{Number, Data, Operator}
 use Rattle.rd_command.specs.declared.keyword.Parameter.TheVariants.{Phase, Watch, Name}
 use Rattle.rd_command.specs.declared.view.View.{View}
-use Rattle.rd_command.specs.declared.view.View.TheVariants.{Thing, Overview}
+use Rattle.rd_command.specs.declared.view.View.TheVariants.{Thing, Cores, Overview}
 use Rattle.rd_command.specs.Commands.{CommandView}
 use Rattle.rd_command.specs.Forms.{count_of, operator_of, phase_of, watch_of}
 use Rattle.rd_command.specs.Keywords.{Makes, MakesFrom, Value, Written, ConditionRow}
@@ -46,6 +46,7 @@ IsWatch watch = watch < MAX_WATCHES
 -- The application has the thing that is shown.
 abbrev pub IsViewOf : NamesView → View → Type 0
 IsViewOf names (Thing kind number) = number < length (names_of kind names)
+IsViewOf names Cores = Unit {0}
 IsViewOf names (Overview of) = Unit {0}
 
 -- The application has what the command names. (That a count is one says its type.)
@@ -191,6 +192,7 @@ bound_by keyword.Watch reading =
 bound_by Unwatch reading = option_map (λ number. bound.Drops number) (made_by unwatch_row reading)
 bound_by (Show kind) reading =
     option_map (λ number. bound.Looks (Thing kind number)) (made_by (thing_row kind) reading)
+bound_by keyword.Cores reading = Some (bound.Looks Cores)
 bound_by (Look of) reading = Some (bound.Looks (Overview of))
 
 -- what the command is bound to, if the application has all that it names

@@ -32,6 +32,7 @@ use Rattle.rd_command.specs.declared.keyword.Keyword.{Keyword}
 use Rattle.rd_command.specs.declared.keyword.Keyword.TheVariants.{Ask, AskByWatch, TakeWheel}
 use Rattle.rd_command.specs.declared.keyword.Keyword.TheVariants.{GiveWheel, Watch, Unwatch, Show}
 use Rattle.rd_command.specs.declared.keyword.Keyword.TheVariants.{Look}
+use Rattle.rd_command.specs.declared.keyword.Keyword.TheVariants as keyword
 use Rattle.rd_command.specs.declared.keyword.RequestKeyword.{RequestKeyword}
 use Rattle.rd_command.specs.declared.keyword.RequestKeyword.TheVariants as asked
 use Rattle.rd_command.specs.declared.keyword.SearchKeyword.{SearchKeyword}
@@ -242,9 +243,8 @@ thing_row kind =
     Spelled (spelled (codes "show") (word_of_kind kind ∷ []) (Plain (Name kind ∷ [])))
     (λ number. number)
 
--- the word of what names nothing
+-- the word of what is of the debugger itself
 abbrev pub word_of_overview : Overview → List ℕ
-word_of_overview overview.Cores = codes "cores"
 word_of_overview overview.Moves = codes "moves"
 word_of_overview overview.Wheel = codes "wheel"
 word_of_overview overview.Watches = codes "watches"
@@ -261,6 +261,7 @@ spelling_of GiveWheel = two_words (codes "wheel") (codes "give")
 spelling_of Watch = spelling_in watch_row
 spelling_of Unwatch = spelling_in unwatch_row
 spelling_of (Show kind) = spelling_in (thing_row kind)
+spelling_of keyword.Cores = two_words (codes "show") (codes "cores")
 spelling_of (Look of) = two_words (codes "show") (word_of_overview of)
 
 -- what a command has to do with the wheel: it takes it, it gives it, it is refused while another
@@ -280,6 +281,7 @@ wheel_of GiveWheel = Given
 wheel_of Watch = Free
 wheel_of Unwatch = Free
 wheel_of (Show kind) = Free
+wheel_of keyword.Cores = Free
 wheel_of (Look of) = Free
 
 -- Is a command refused while another session has the wheel? To take it is, too.
@@ -300,7 +302,7 @@ keywords =
     ∷ Ask asked.BackUntil ∷ AskByWatch sought.BackUntil ∷ Ask asked.Forward
     ∷ Show kind.Task ∷ Show kind.Queue ∷ Show kind.QueueSet ∷ Show kind.Stream
     ∷ Show kind.Message ∷ Show kind.Group
-    ∷ Look overview.Cores ∷ Look overview.Moves ∷ Look overview.Wheel ∷ Look overview.Watches
+    ∷ keyword.Cores ∷ Look overview.Moves ∷ Look overview.Wheel ∷ Look overview.Watches
     ∷ Ask asked.Redo ∷ Ask asked.Until ∷ AskByWatch sought.Until
     ∷ Ask (asked.Poke poked.Register) ∷ Ask (asked.Poke poked.Data) ∷ Ask (asked.Poke poked.Pc)
     ∷ Ask (asked.Poke poked.Value) ∷ Ask (asked.Poke poked.Bits) ∷ Ask (asked.Poke poked.Item)

@@ -266,6 +266,7 @@ fn read_bound<'a>(keyword: Keyword, reader: &mut Reader<'_, 'a>) -> Result<Bound
                 view: View::Thing { kind, number },
             })
         }
+        Keyword::Cores => Ok(Bound::Looks { view: View::Cores }),
         Keyword::Look(of) => Ok(Bound::Looks {
             view: View::Overview { of },
         }),

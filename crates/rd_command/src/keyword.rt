@@ -94,7 +94,9 @@ pub enum Keyword {
     Unwatch,
     /// It shows a thing of that kind.
     Show(Kind),
-    /// It shows what names nothing.
+    /// It shows the cores.
+    Cores,
+    /// It shows what is of the debugger itself.
     Look(Overview),
 }
 
@@ -110,6 +112,7 @@ impl Keyword {
             | Keyword::Watch
             | Keyword::Unwatch
             | Keyword::Show(_)
+            | Keyword::Cores
             | Keyword::Look(_) => false,
         }
     }
@@ -205,7 +208,7 @@ pub(crate) static KEYWORDS: [Verb<'static>; 11] = [
             ("stream", Plain(&[STREAM]), Show(Kind::Stream)),
             ("message", Plain(&[MESSAGE]), Show(Kind::Message)),
             ("group", Plain(&[GROUP]), Show(Kind::Group)),
-            ("cores", Plain(&[]), Look(Overview::Cores)),
+            ("cores", Plain(&[]), Keyword::Cores),
             ("moves", Plain(&[]), Look(Overview::Moves)),
             ("wheel", Plain(&[]), Look(Overview::Wheel)),
             ("watches", Plain(&[]), Look(Overview::Watches)),

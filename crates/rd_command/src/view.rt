@@ -2,11 +2,9 @@
 
 use rd_text::kind::Kind;
 
-/// A view that names nothing.
+/// What is shown of the debugger itself.
 #[derive(Clone, Copy)]
 pub enum Overview {
-    /// `show cores`: who runs, who is ready, the tick and the turn.
-    Cores,
     /// `show moves`: how many moves were made, and how many of them taken back.
     Moves,
     /// `show wheel`: which session has the wheel.
@@ -20,6 +18,8 @@ pub enum Overview {
 pub enum View {
     /// `show KIND NAME`: the thing of that kind with this number.
     Thing { kind: Kind, number: usize },
-    /// What names nothing.
+    /// `show cores`: who runs, who is ready, the tick and the turn.
+    Cores,
+    /// What names nothing, and is of the debugger.
     Overview { of: Overview },
 }

@@ -80,8 +80,9 @@ seen_search d other watches (Some condition) search = refl
 seen_view : (d : Debugger) (who other : ℕ) (watches : WatchesView) (seen : View) → own_watches (watching d other watches) who ≡ own_watches d who
     → view_of (watching d other watches) who seen ≡ view_of d who seen
 seen_view d who other watches (view.Thing kind number) own = refl
+seen_view d who other watches view.Cores own = refl
 seen_view d who other watches (view.Overview of) own =
-    ap (λ (ws : WatchesView). overview_in d.app.names (target_of d) d.moves d.wheel ws of) own
+    ap (λ (ws : WatchesView). overview_in (target_of d) d.moves d.wheel ws of) own
 
 seen_bound : (d : Debugger) (who other : ℕ) (watches : WatchesView) (made : Bound) → own_watches (watching d other watches) who ≡ own_watches d who
     → reply_to_bound (watching d other watches) who made ≡ reply_to_bound d who made

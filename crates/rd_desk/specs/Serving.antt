@@ -8,7 +8,6 @@ use Rattle.rd_condition.specs.declared.condition.Condition.{Condition}
 use Rattle.rd_moves.specs.declared.request.Search.{Search}
 use Rattle.rd_moves.specs.Requests.{PlainRequest, request_for}
 use Rattle.rd_timeline.specs.Answers.{answer_to}
-use Rattle.rd_names.specs.Names.{NamesView}
 use Rattle.rd_state.specs.Snapshot.{Snapshot}
 use Rattle.rd_timeline.specs.Runs.{answered}
 use Rattle.rd_timeline.specs.Runs as runs
@@ -87,23 +86,20 @@ reply_to_dropped number (Some condition) = Told (Watch number)
 
 -- ---- views
 
--- what is shown of these names, this target, the moves, the wheel, and a session's own watches,
--- where a view names nothing
-abbrev pub overview_in : NamesView → Snapshot → runs.Moves → Option ℕ → WatchesView → Overview
-    → Reply
-overview_in names s moves wheel watches overview.Cores = shown (cores_text names s)
-overview_in names s moves wheel watches overview.Moves =
+-- what is shown of the debugger: of this target, the moves, the wheel, and a session's own watches
+abbrev pub overview_in : Snapshot → runs.Moves → Option ℕ → WatchesView → Overview → Reply
+overview_in s moves wheel watches overview.Moves =
     Told (Moves (length moves.done) (length moves.undone))
-overview_in names s moves wheel watches overview.Wheel = Told (Holder wheel)
-overview_in names s moves wheel watches overview.Watches =
+overview_in s moves wheel watches overview.Wheel = Told (Holder wheel)
+overview_in s moves wheel watches overview.Watches =
     shown (watches_text (watches_shown s watches))
 
 abbrev pub overview_of : Debugger → ℕ → Overview → Reply
-overview_of d who of =
-    overview_in d.app.names (target_of d) d.moves d.wheel (own_watches d who) of
+overview_of d who of = overview_in (target_of d) d.moves d.wheel (own_watches d who) of
 
 abbrev pub view_of : Debugger → ℕ → View → Reply
 view_of d who (view.Thing kind number) = shown (view_text d.app.names (target_of d) kind number)
+view_of d who view.Cores = shown (cores_text d.app.names (target_of d))
 view_of d who (view.Overview of) = overview_of d who of
 
 -- ---- commands, each by what it does

@@ -8,9 +8,8 @@ use Rattle.rd_text.specs.declared.kind.Kind.{Kind}
 use Rattle.rd_text.specs.declared.kind.Kind.TheVariants as kind
 use Rattle.rd_state.specs.Snapshot.{Snapshot, group_at, message_at, numbers_of, queue_at}
 use Rattle.rd_state.specs.Snapshot.{queue_set_at, stream_at, task_at}
-use Rattle.rd_command.specs.declared.view.Overview.TheVariants as overview
 use Rattle.rd_command.specs.declared.view.View.{View}
-use Rattle.rd_command.specs.declared.view.View.TheVariants.{Thing, Overview}
+use Rattle.rd_command.specs.declared.view.View.TheVariants.{Thing, Cores, Overview}
 use Rattle.rd_reply.specs.declared.watches.WatchShown.{WatchShown}
 use Rattle.rd_reply.specs.Names.{name_at, numbers_named}
 use Rattle.rd_reply.specs.Replies.{cores_text, group_text, is_task, message_text, queue_text}
@@ -45,10 +44,8 @@ pub record AreNamesOf (s : Snapshot) (names : NamesView) : Type 0 where
 -- what is shown of the target, where a view is one of it
 abbrev pub text_shown : NamesView → Snapshot → View → Option (List ℕ)
 text_shown names s (Thing kind number) = Some (view_text names s kind number)
-text_shown names s (Overview overview.Cores) = Some (cores_text names s)
-text_shown names s (Overview overview.Moves) = None
-text_shown names s (Overview overview.Wheel) = None
-text_shown names s (Overview overview.Watches) = None
+text_shown names s Cores = Some (cores_text names s)
+text_shown names s (Overview of) = None
 
 -- a watch with that number, if there is one, and whether its condition holds in this state
 abbrev pub shown_at : Snapshot → ℕ → Option Condition → List WatchShown

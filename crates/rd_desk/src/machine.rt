@@ -358,11 +358,10 @@ impl Machine {
         ensures no_memory { OnErr result (is_text (view_of self.now who view) ≡ true) }
     {
         let of = match view {
-            View::Thing { .. } => return self.view(view),
+            View::Thing { .. } | View::Cores => return self.view(view),
             View::Overview { of } => of,
         };
         match of {
-            Overview::Cores => self.view(view),
             Overview::Moves => Ok(told(Short::Moves {
                 done: self.timeline.at(),
                 undone: self.timeline.left(),

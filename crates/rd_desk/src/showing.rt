@@ -13,7 +13,7 @@ use crate::text::Text;
 use crate::watches::Watches;
 use rd_bytes::no_memory::NoMemory;
 use rd_command::binding::MAX_WATCHES;
-use rd_command::view::{Overview, View};
+use rd_command::view::View;
 use rd_condition::condition::Condition;
 use rd_names::names::Names;
 use rd_reply::buffers::{show_message, show_stream};
@@ -73,15 +73,11 @@ fn append_view(
 {
     match view {
         View::Thing { kind, number } => append_thing(state, names, line, kind, number),
-        View::Overview {
-            of: Overview::Cores,
-        } => {
+        View::Cores => {
             state.sizes();
             show_cores(line, names, state)
         }
-        View::Overview {
-            of: Overview::Moves | Overview::Wheel | Overview::Watches,
-        } => unreachable!(),
+        View::Overview { .. } => unreachable!(),
     }
 }
 

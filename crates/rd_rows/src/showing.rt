@@ -7,7 +7,7 @@ ghost use Rattle.rd_desk.specs.Debugger.{target_of};
 ghost use Rattle.rd_desk.specs.Views.{text_shown};
 
 use crate::asserts::assert_same;
-use rd_command::view::{Overview, View};
+use rd_command::view::View;
 use rd_desk::machine::Machine;
 use rd_desk::showing::show;
 use rd_names::app::App;
@@ -49,10 +49,7 @@ fn assert_all_shown<H: AllocGlobal + Abort>(rt: &H, machine: &Machine) -> Result
     let line = "task t0 core 0 pc 0 phase run regs 0,0,0,0,0,0,0,0 data - notes 0:idle\n";
     assert_shown(rt, machine, task, line)?;
     let line = "cores t0 ready - tick 0 turn 0\n";
-    let cores = View::Overview {
-        of: Overview::Cores,
-    };
-    assert_shown(rt, machine, cores, line)
+    assert_shown(rt, machine, View::Cores, line)
 }
 
 // What a command shows of the target is the line of the thing that it names.
