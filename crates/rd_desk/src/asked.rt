@@ -68,9 +68,13 @@ impl Asked {
 fn have_same_words(line: &[u8], other: &[u8]) -> bool
     ensures { IsTrue result ↔ (words_of line.now ≡ words_of other.now) }
 {
-    if line == other {
-        return true;
-    }
+    line == other || agree_word_by_word(line, other)
+}
+
+// The same, looked at word by word.
+fn agree_word_by_word(line: &[u8], other: &[u8]) -> bool
+    ensures { IsTrue result ↔ (words_of line.now ≡ words_of other.now) }
+{
     let mut words = Words::new(line);
     let mut others = Words::new(other);
     while let Some(word) = words.next() {

@@ -1,7 +1,7 @@
--- What holds in each turn of have_same_words' loop.
+-- What holds in each turn of agree_word_by_word' loop.
 use Rattle.std.proofs.Common.{◌≡◌, ◌↔◌}
 use Rattle.rd_text.specs.Words.{words_of}
-use Rattle.rd_desk.proofs.asked.have_same_words.Given as goal
+use Rattle.rd_desk.proofs.asked.agree_word_by_word.Given as goal
 
 -- the words that are left decide
 abbrev pub invariant-loop-word : goal.invariant-loop-word
