@@ -1,5 +1,5 @@
 -- What comes of each kind of request.
-use Rattle.std.proofs.Common.{◌≡◌, ◌≢◌, ◌∙◌, ℕ, ◌-◌, ◌<◌, ◌≤◌, ◌++◌, List, [], ◌∷◌, inl, inr, true, false, cond, length, refl, ap, subst, sym}
+use Rattle.std.proofs.Common.{◌≡◌, ◌≢◌, ◌∙◌, ℕ, ◌-◌, ◌<◌, ◌≤◌, ◌++◌, List, inl, inr, true, false, cond, length, refl, ap, subst, sym}
 use Rattle.std.specs.Prelude.{Bool, IsTrue, nat_le, Option, None, Some, Result, Ok, Err, IfErr, IfOk, IsErr, IsErrOf, IsOk, OnErr, OnOk, ◌↔◌}
 use Rattle.std.proofs.lemmas.Bool.{cases_lt, eq-eqb, false≢true, le-leb, lt-leb, ne_eqb}
 use Rattle.rd_app.specs.Application.{Application}
@@ -13,15 +13,14 @@ use Rattle.rd_moves.specs.Requests.{PlainRequest}
 use Rattle.rd_moves.specs.declared.answer.Answer.{Answer}
 use Rattle.rd_moves.specs.declared.answer.Answer.TheVariants.{Refused}
 use Rattle.rd_moves.specs.declared.answer.SearchEnd.{SearchEnd}
-use Rattle.rd_moves.specs.declared.answer.SearchEnd.TheVariants.{Met, Limit, Start}
-use Rattle.rd_moves.specs.declared.request.Request.TheVariants.{Go, Back, Forward, Redo, Until, BackUntil}
-use Rattle.rd_timeline.specs.declared.running.Found.{Found}
+use Rattle.rd_moves.specs.declared.answer.SearchEnd.TheVariants.{Met, Limit}
+use Rattle.rd_moves.specs.declared.request.Request.TheVariants.{Go, Back, Forward, Redo, Until}
 use Rattle.rd_timeline.specs.Answers.{Obeys, answer_at, answer_of}
-use Rattle.rd_timeline.specs.Backward.{GoesBack, GoesBackTo, HasRedone, IsWhyNoRedo}
+use Rattle.rd_timeline.specs.Backward.{GoesBack, HasRedone, IsWhyNoRedo}
 use Rattle.rd_timeline.specs.Course.{Course, GoesOn, IsFull, IsWhyNot}
 use Rattle.rd_timeline.specs.History.{state_after}
 use Rattle.rd_timeline.specs.Policy.{EndsRun, IsWhyNoRun, ended, moves_by_policy}
-use Rattle.rd_timeline.specs.Runs.{Moves, Response, Leaves, Refuses, Lays, ByPolicy, back_at, can_lay, end_of, go_response, laid_on, lays, left, makes_move, moved_on, moves_of, redone, response_to, run_of, run_response, search_response}
+use Rattle.rd_timeline.specs.Runs.{Moves, Leaves, Refuses, Lays, ByPolicy, back_at, can_lay, end_of, go_response, laid_on, lays, left, makes_move, moved_on, moves_of, redone, response_to, run_of, run_response}
 use Rattle.rd_timeline.proofs.RunsLaws.{moved_given, run_given, run_needs_memory, target_given}
 
 -- ---- what comes of a request
@@ -245,21 +244,3 @@ run_obeyed old new goal count made result at met lacks tells says at_is ends why
     (λ x is. record { comes = run_done old new goal count (met x) before is; app = app; limit = limit; leads = leads })
     (λ refusal other cause. run_not_done old goal count refusal before other cause)
     (λ lack. subst (λ (l : Lays). IsTrue (can_lay old.app old.limit (moves_of old) l)) (sym (run_lays goal count)) (run_needs_memory old goal count before lack))
-
--- ---- back to where a condition held
-
-found_last : (moves : Moves) (at : ℕ) (met : Bool) → (met ≡ false → at ≡ 0)
-    → search_response moves (cond met (Some at) None) ≡ Leaves (back_at moves at) (Some (cond met Met Start))
-found_last moves at true start = refl
-found_last moves at false start = ap (λ n. Leaves (back_at moves n) (Some Start)) (sym (start refl))
-
-pub back_until_done : (old new : Course) (condition : Condition) (found : Found) → GoesBackTo old condition found new
-    → IsAnswered old (BackUntil condition) new (Some (cond found.met Met Start))
-back_until_done old new condition found goes = record {
-  comes =
-      ap (search_response (moves_of old)) (sym goes.place) ∙ found_last (moves_of old) found.at found.met goes.start
-      ∙ leaves (back_at (moves_of old) found.at) (Some (cond found.met Met Start)) new goes.done goes.undone;
-  app = goes.app;
-  limit = goes.limit;
-  leads = goes.leads;
-}
