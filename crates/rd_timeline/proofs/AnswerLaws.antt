@@ -20,7 +20,7 @@ use Rattle.rd_timeline.specs.Backward.{GoesBack, HasRedone, IsWhyNoRedo}
 use Rattle.rd_timeline.specs.Course.{Course, GoesOn, IsFull, IsWhyNot}
 use Rattle.rd_timeline.specs.History.{state_after}
 use Rattle.rd_timeline.specs.Policy.{EndsRun, IsWhyNoRun, ended, moves_by_policy}
-use Rattle.rd_timeline.specs.Runs.{Moves, Leaves, Refuses, Lays, ByPolicy, back_at, can_lay, end_of, go_response, laid_on, lays, left, makes_move, moved_on, moves_of, redone, response_to, run_of, run_response}
+use Rattle.rd_timeline.specs.Runs.{Moves, Leaves, Refuses, Lays, ByPolicy, back_at, can_lay, end_of, go_response, laid_on, lays, makes_move, moved_on, moves_after, moves_of, redone, response_to, run_of, run_response}
 use Rattle.rd_timeline.proofs.RunsLaws.{moved_given, run_given, run_needs_memory, target_given}
 
 -- ---- what comes of a request
@@ -44,7 +44,7 @@ pub obeyed : (old new : Course) (request : PlainRequest) (at : ℕ) (end : Optio
     → Obeys old request new (Ok (answer_at at end))
 obeyed old new request at end at_is is = record {
   ok = ap (λ n. answer_at n end) at_is ∙ sym (ap answer_of is.comes);
-  moves = sym (ap (left (moves_of old)) is.comes);
+  moves = sym (ap (moves_after (moves_of old)) is.comes);
   no_memory = tt;
   err = tt;
   app = is.app;
@@ -56,7 +56,7 @@ pub nothing_changed : (old new : Course) (request : PlainRequest) (refusal : Ref
     → state_after old.app old.done ≡ Ok old.target → Obeys old request new (Ok (Refused refusal))
 nothing_changed old new request refusal refused same leads = record {
   ok = sym (ap answer_of refused);
-  moves = ap moves_of same ∙ sym (ap (left (moves_of old)) refused);
+  moves = ap moves_of same ∙ sym (ap (moves_after (moves_of old)) refused);
   no_memory = tt;
   err = tt;
   app = ap (λ (course : Course). course.app) same;

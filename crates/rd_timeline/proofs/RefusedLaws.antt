@@ -11,9 +11,9 @@ use Rattle.rd_moves.specs.Moves.{PlainMove}
 use Rattle.rd_moves.specs.Requests.{PlainRequest}
 use Rattle.rd_timeline.specs.Answers.{answer_of, answer_to}
 use Rattle.rd_timeline.specs.RunLaws.{RefusedRequestsLeaveAll, is_refusal}
-use Rattle.rd_timeline.specs.Runs.{Moves, Response, Leaves, Refuses, answered, go_response, left, moved, moved_on, response_to}
+use Rattle.rd_timeline.specs.Runs.{Moves, Response, Leaves, Refuses, answered, go_response, moved, moved_on, moves_after, response_to}
 
-stay : (moves : Moves) (response : Response) → is_refusal response ≡ true → left moves response ≡ moves
+stay : (moves : Moves) (response : Response) → is_refusal response ≡ true → moves_after moves response ≡ moves
 stay moves (Leaves new end) is = absurd (false≢true is)
 stay moves (Refuses refusal) is = refl
 
@@ -31,7 +31,7 @@ pub refused_request : (app : Application) (most : ℕ) (moves : Moves) (asked : 
 refused_request app most moves asked refusal is = refused_requests_leave_all app most moves asked (told (response_to app most moves asked) refusal is)
 
 made : (moves : Moves) (move : PlainMove) (r : Result Snapshot Refusal) (at : ℕ) → answer_of (go_response moves move r) ≡ Done at
-    → left moves (go_response moves move r) ≡ moved_on moves move
+    → moves_after moves (go_response moves move r) ≡ moved_on moves move
 made moves move (Ok s) at is = refl
 made moves move (Err refusal) at is = absurd cc
 

@@ -125,13 +125,13 @@ response_to app limit moves (BackUntil condition) =
     search_response moves (last_met app condition moves.done (length moves.done))
 
 -- the moves after it, which were these before
-abbrev pub left : Moves → Response → Moves
-left moves (Leaves new end) = new
-left moves (Refuses refusal) = moves
+abbrev pub moves_after : Moves → Response → Moves
+moves_after moves (Leaves new end) = new
+moves_after moves (Refuses refusal) = moves
 
 -- the moves that the request leaves
 abbrev pub answered : Application → ℕ → Moves → PlainRequest → Moves
-answered app limit moves request = left moves (response_to app limit moves request)
+answered app limit moves request = moves_after moves (response_to app limit moves request)
 
 -- ---- what needs memory
 
@@ -162,7 +162,7 @@ can_lay app limit moves Nothing = false
 abbrev pub makes_move : Application → ℕ → Moves → PlainRequest → Bool
 makes_move app limit moves request = can_lay app limit moves (lays request)
 
--- Is it any move?
+-- Does it lay on any move?
 abbrev pub is_any : Lays → Bool
 is_any (OwnMove move) = true
 is_any ByPolicy = true
