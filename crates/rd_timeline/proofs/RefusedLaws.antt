@@ -1,80 +1,40 @@
--- A request that is refused leaves the moves, and a move that was made could be made.
-use Rattle.std.proofs.Common.{◌≡◌, ◌≢◌, ◌∙◌, ℕ, [], ◌∷◌, ◌++◌, true, false, cond, length, refl, ap}
-use Rattle.std.specs.Prelude.{◌&&◌, Bool, not, nat_eq, nat_le, is_ok, Option, None, Some, Result, Ok, Err}
+-- A request that is refused leaves the moves, and a move that is made is the last one done.
+use Rattle.std.proofs.Common.{◌≡◌, ℕ, true, refl}
+use Rattle.std.specs.Prelude.{None, Some, Result, Ok, Err}
+use Rattle.std.proofs.lemmas.Bool.{false≢true}
 use Rattle.rd_app.specs.Application.{Application}
 use Rattle.rd_refusal.specs.declared.refusal.Refusal.{Refusal}
-use Rattle.rd_refusal.specs.declared.refusal.Refusal.TheVariants.{MovesFull}
 use Rattle.rd_state.specs.Snapshot.{Snapshot}
 use Rattle.rd_moves.specs.declared.answer.Answer.TheVariants.{Done, Refused}
-use Rattle.rd_moves.specs.declared.request.Request.TheVariants as request
+use Rattle.rd_moves.specs.declared.request.Request.TheVariants.{Go}
 use Rattle.rd_moves.specs.Moves.{PlainMove}
 use Rattle.rd_moves.specs.Requests.{PlainRequest}
-use Rattle.rd_calls.specs.Step.{step}
-use Rattle.rd_timeline.specs.Answers.{answer_to, move_answer, run_answer, search_answer, stepped_answer, way_back_answer}
-use Rattle.rd_timeline.specs.Backward.{last_met}
-use Rattle.rd_timeline.specs.History.{state_after}
-use Rattle.rd_timeline.specs.Policy.{Run, Going, Met as MetAfter, Refused as RefusedRun}
-use Rattle.rd_timeline.specs.Runs.{Moves, answered, can_make, left_by, run_of, state_of}
-use Rattle.rd_timeline.proofs.HistoryLaws.{state_after-push}
+use Rattle.rd_timeline.specs.Answers.{answer_of, answer_to}
+use Rattle.rd_timeline.specs.RunLaws.{RefusedRequestsLeaveAll, is_refusal}
+use Rattle.rd_timeline.specs.Runs.{Moves, Response, Leaves, Refuses, answered, go_response, moved, moved_on, moves_after, response_to}
 
--- ---- a request that is refused leaves the moves
+stay : (moves : Moves) (response : Response) → is_refusal response ≡ true → moves_after moves response ≡ moves
+stay moves (Leaves new end) is = absurd (false≢true is)
+stay moves (Refuses refusal) is = refl
 
--- a move that is refused can't be made
-refused_go : (app : Application) (most : ℕ) (moves : Moves) (move : PlainMove) (refusal : Refusal) → state_after app moves.done ≡ Ok (state_of app moves)
-    → move_answer app most moves move ≡ Refused refusal → can_make app most moves move ≡ false
-refused_go app most moves move refusal leads is = by (nat_eq (length moves.done) most) (step app (state_of app moves) move) refl refl is
-  where
-    after : state_after app (moves.done ++ move ∷ []) ≡ step app (state_of app moves) move
-    after = state_after-push app moves.done move (state_of app moves) leads
+pub refused_requests_leave_all : RefusedRequestsLeaveAll
+refused_requests_leave_all app limit moves request is = stay moves (response_to app limit moves request) is
 
-    by : (b : Bool) (r : Result Snapshot Refusal) → nat_eq (length moves.done) most ≡ b → step app (state_of app moves) move ≡ r
-        → cond b (Refused MovesFull) (stepped_answer moves r) ≡ Refused refusal → can_make app most moves move ≡ false
-    by true r full steps is = ap (λ b. not b && is_ok (state_after app (moves.done ++ move ∷ []))) full
-    by false (Ok s) full steps is = absurd cc
-    by false (Err other) full steps is =
-        ap (λ b. not b && is_ok (state_after app (moves.done ++ move ∷ []))) full ∙ ap is_ok (after ∙ steps)
+-- the same by its answer
+told : (response : Response) (refusal : Refusal) → answer_of response ≡ Refused refusal → is_refusal response ≡ true
+told (Leaves new None) refusal is = absurd cc
+told (Leaves new (Some end)) refusal is = absurd cc
+told (Refuses other) refusal is = refl
 
-if_refused : (b : Bool) (n : ℕ) (why refusal : Refusal) (some none : Moves) → cond b (Done n) (Refused why) ≡ Refused refusal → cond b some none ≡ none
-if_refused true n why refusal some none is = absurd cc
-if_refused false n why refusal some none is = refl
-
-run_refused : (app : Application) (moves : Moves) (run : Run) (refusal : Refusal) → run_answer moves run ≡ Refused refusal → left_by app moves run ≡ moves
-run_refused app moves (Going made s) refusal is = absurd cc
-run_refused app moves (MetAfter made s) refusal is = absurd cc
-run_refused app moves (RefusedRun other) refusal is = refl
-
-search_refused : (app : Application) (moves : Moves) (run : Run) (refusal : Refusal) → search_answer moves run ≡ Refused refusal → left_by app moves run ≡ moves
-search_refused app moves (Going made s) refusal is = absurd cc
-search_refused app moves (MetAfter made s) refusal is = absurd cc
-search_refused app moves (RefusedRun other) refusal is = refl
-
-never_refused : (place : Option ℕ) (refusal : Refusal) → way_back_answer place ≢ Refused refusal
-never_refused None refusal is = absurd cc
-never_refused (Some at) refusal is = absurd cc
-
-pub refused_request : (app : Application) (most : ℕ) (moves : Moves) (asked : PlainRequest) (refusal : Refusal) → state_after app moves.done ≡ Ok (state_of app moves)
+pub refused_request : (app : Application) (most : ℕ) (moves : Moves) (asked : PlainRequest) (refusal : Refusal)
     → answer_to app most moves asked ≡ Refused refusal → answered app most moves asked ≡ moves
-refused_request app most moves (request.Go action) refusal leads is =
-    ap (λ b. cond b (record { done = moves.done ++ action ∷ []; undone = [] }) moves) (refused_go app most moves action refusal leads is)
-refused_request app most moves (request.Back count) refusal leads is = if_refused (nat_le count (length moves.done)) _ _ refusal _ moves is
-refused_request app most moves (request.Forward count) refusal leads is = run_refused app moves (run_of app most None moves count) refusal is
-refused_request app most moves (request.Redo count) refusal leads is = if_refused (nat_le count (length moves.undone)) _ _ refusal _ moves is
-refused_request app most moves (request.Until condition count) refusal leads is =
-    search_refused app moves (run_of app most (Some condition) moves count) refusal is
-refused_request app most moves (request.BackUntil condition) refusal leads is =
-    absurd (never_refused (last_met app condition moves.done (length moves.done)) refusal is)
+refused_request app most moves asked refusal is = refused_requests_leave_all app most moves asked (told (response_to app most moves asked) refusal is)
 
--- a move that was made could be made
-pub made_go : (app : Application) (most : ℕ) (moves : Moves) (move : PlainMove) (at : ℕ) → state_after app moves.done ≡ Ok (state_of app moves)
-    → move_answer app most moves move ≡ Done at → can_make app most moves move ≡ true
-made_go app most moves move at leads is = by (nat_eq (length moves.done) most) (step app (state_of app moves) move) refl refl is
-  where
-    after : state_after app (moves.done ++ move ∷ []) ≡ step app (state_of app moves) move
-    after = state_after-push app moves.done move (state_of app moves) leads
+made : (moves : Moves) (move : PlainMove) (r : Result Snapshot Refusal) (at : ℕ) → answer_of (go_response moves move r) ≡ Done at
+    → moves_after moves (go_response moves move r) ≡ moved_on moves move
+made moves move (Ok s) at is = refl
+made moves move (Err refusal) at is = absurd cc
 
-    by : (b : Bool) (r : Result Snapshot Refusal) → nat_eq (length moves.done) most ≡ b → step app (state_of app moves) move ≡ r
-        → cond b (Refused MovesFull) (stepped_answer moves r) ≡ Done at → can_make app most moves move ≡ true
-    by true r full steps is = absurd cc
-    by false (Err other) full steps is = absurd cc
-    by false (Ok s) full steps is =
-        ap (λ b. not b && is_ok (state_after app (moves.done ++ move ∷ []))) full ∙ ap is_ok (after ∙ steps)
+pub went_on : (app : Application) (most : ℕ) (moves : Moves) (move : PlainMove) (at : ℕ) → answer_to app most moves (Go move) ≡ Done at
+    → answered app most moves (Go move) ≡ moved_on moves move
+went_on app most moves move at is = made moves move (moved app most moves move) at is

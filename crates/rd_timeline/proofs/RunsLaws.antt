@@ -1,7 +1,7 @@
--- What each request leaves of the moves.
-use Rattle.std.proofs.Common.{◌≡◌, ◌≢◌, ◌∙◌, ℕ, zero, suc, ◌+◌, ◌-◌, ◌<◌, List, [], ◌∷◌, ◌++◌, inl, inr, true, false, cond, length, take, drop, refl, ap, subst, sym, arith}
-use Rattle.std.specs.Prelude.{◌&&◌, Bool, not, nat_eq, nat_lt, is_ok, IsTrue, Option, None, Some, Result, Ok, Err, IsOk, unwrap_or}
-use Rattle.std.proofs.lemmas.Bool.{eq-eqb, false≢true, le-leb, lt-leb, ltb-true, ne_eqb}
+-- Moves and runs from where a timeline is, and what needs memory.
+use Rattle.std.proofs.Common.{◌≡◌, ◌≢◌, ◌∙◌, ℕ, zero, suc, ◌+◌, ◌-◌, inl, inr, true, false, cond, length, refl, ap, subst, sym, arith}
+use Rattle.std.specs.Prelude.{Bool, nat_eq, nat_le, nat_lt, is_ok, IsTrue, Option, Result, Ok, Err, IsOk}
+use Rattle.std.proofs.lemmas.Bool.{false≢true, le-leb, ltb-true, ne_eqb}
 use Rattle.rd_app.specs.Application.{Application}
 use Rattle.rd_refusal.specs.declared.refusal.Refusal.{Refusal}
 use Rattle.rd_refusal.specs.declared.refusal.Refusal.TheVariants.{MovesFull, NoMemory}
@@ -10,76 +10,15 @@ use Rattle.rd_state.specs.Snapshot.{Snapshot}
 use Rattle.rd_moves.specs.Moves.{PlainMove}
 use Rattle.rd_calls.specs.Step.{policy_of, step}
 use Rattle.rd_condition.specs.declared.condition.Condition.{Condition}
-use Rattle.rd_timeline.specs.declared.running.Found.{Found}
-use Rattle.rd_moves.specs.Requests.{PlainRequest}
-use Rattle.rd_moves.specs.declared.request.Request.TheVariants.{Go, Back, Forward, Redo, Until, BackUntil}
-use Rattle.rd_timeline.specs.Backward.{GoesBackTo, HasRedone, last_met, place_met}
-use Rattle.rd_timeline.specs.Course.{Course, GoesOn, IsWhyNot}
+use Rattle.rd_timeline.specs.Backward.{IsWhyNoRedo}
+use Rattle.rd_timeline.specs.Course.{Course, IsWhyNot}
 use Rattle.rd_timeline.specs.History.{state_after}
-use Rattle.rd_timeline.specs.Policy.{EndsRun, IsWhyNoRun, Run, Going, Met, Refused, allowed, ended, moves_by_policy, ran, run_from, run_on, looked_for, meets, state_or}
-use Rattle.rd_timeline.specs.Runs.{Moves, answered, back_at, can_make, laid_on, left_by, makes_move, may_make_moves, moves_of, run_of, state_of}
+use Rattle.rd_timeline.specs.Policy.{IsWhyNoRun, Run, Going, Met, Refused, allowed, ran, run_from, run_on, looked_for, meets, state_or}
+use Rattle.rd_timeline.specs.Runs.{can_make, moved, moves_of, run_of, state_of}
 use Rattle.rd_timeline.proofs.CauseLaws.{never_no_memory}
-use Rattle.rd_timeline.proofs.HistoryLaws.{state_after-push}
 use Rattle.rd_timeline.proofs.PolicyLaws.{ran_on}
 
--- ---- one move
-
-can_make_is : (old : Course) (move : PlainMove) (b : Bool) → state_after old.app old.done ≡ Ok old.target → length old.done ≢ old.limit
-    → is_ok (step old.app old.target move) ≡ b → can_make old.app old.limit (moves_of old) move ≡ b
-can_make_is old move b leads room is =
-    ap (λ b. not b && is_ok (state_after old.app (old.done ++ move ∷ []))) (ne_eqb (length old.done) old.limit room)
-    ∙ ap is_ok (state_after-push old.app old.done move old.target leads) ∙ is
-
--- where it was made
-pub go_leaves : (old new : Course) (move : PlainMove) → state_after old.app old.done ≡ Ok old.target → length old.done ≢ old.limit → GoesOn old move new
-    → moves_of new ≡ answered old.app old.limit (moves_of old) (Go move)
-go_leaves old new move leads room goes =
-    ap (λ (ms : List PlainMove). record { done = ms; undone = new.undone }) goes.done
-    ∙ ap (λ (us : List PlainMove). record { done = old.done ++ move ∷ []; undone = us }) goes.undone
-    ∙ sym (ap (λ b. cond b (record { done = old.done ++ move ∷ []; undone = [] }) (moves_of old))
-    (can_make_is old move true leads room (ap is_ok goes.step)))
-
--- where it was refused, but for want of memory
-pub go_refused : (old : Course) (move : PlainMove) (refusal : Refusal) → state_after old.app old.done ≡ Ok old.target → refusal ≢ NoMemory
-    → IsWhyNot old move refusal → moves_of old ≡ answered old.app old.limit (moves_of old) (Go move)
-go_refused old move refusal leads other why = elim why [
-  | inl full ↦
-      let is : nat_eq (length old.done) old.limit ≡ true = eq-eqb (length old.done) old.limit full.0 in
-      sym (ap (λ b. cond (not b && is_ok (state_after old.app (old.done ++ move ∷ []))) (record { done = old.done ++ move ∷ []; undone = [] }) (moves_of old)) is)
-  | inr others ↦ elim others [
-    | inl by_rules ↦ sym (ap (λ b. cond b (record { done = old.done ++ move ∷ []; undone = [] }) (moves_of old))
-        (can_make_is old move false leads by_rules.0 (ap is_ok by_rules.1)))
-    | inr lacks ↦ absurd (other lacks.1)
-  ]
-]
-
--- where there was no memory, it could be made
-pub go_needs_memory : (old : Course) (move : PlainMove) → state_after old.app old.done ≡ Ok old.target → IsWhyNot old move NoMemory
-    → IsTrue (can_make old.app old.limit (moves_of old) move)
-go_needs_memory old move leads why = elim why [
-  | inl full ↦ absurd cc
-  | inr others ↦ elim others [
-    | inl by_rules ↦ absurd (never_no_memory old.app old.target move by_rules.1)
-    | inr lacks ↦ can_make_is old move true leads lacks.0.0 lacks.0.1
-  ]
-]
-
--- ---- redo
-
-pub redo_leaves : (old new : Course) (count : ℕ) → HasRedone old count new
-    → moves_of new ≡ answered old.app old.limit (moves_of old) (Redo count)
-redo_leaves old new count has =
-    ap (λ (ms : List PlainMove). record { done = ms; undone = new.undone }) has.done
-    ∙ ap (λ (us : List PlainMove). record { done = old.done ++ take count old.undone; undone = us }) has.undone
-    ∙ sym (ap (λ b. cond b (record { done = old.done ++ take count old.undone; undone = drop count old.undone }) (moves_of old))
-    (le-leb count (length old.undone) has.some))
-
-pub redo_refused : (old : Course) (count : ℕ) → length old.undone < count → moves_of old ≡ answered old.app old.limit (moves_of old) (Redo count)
-redo_refused old count fewer =
-    sym (ap (λ b. cond b (record { done = old.done ++ take count old.undone; undone = drop count old.undone }) (moves_of old))
-    (lt-leb count (length old.undone) fewer))
-
--- ---- runs by policy
+-- ---- from where a timeline is
 
 -- the state that the moves done give is the target
 pub target_given : (course : Course) → state_after course.app course.done ≡ Ok course.target → state_of course.app (moves_of course) ≡ course.target
@@ -90,24 +29,34 @@ pub run_given : (course : Course) (goal : Option Condition) (count : ℕ) → st
 run_given course goal count leads =
     ap (λ (s : Snapshot). ran course.app (course.limit - length course.done) goal s count) (target_given course leads)
 
-left_by_ended : (app : Application) (moves : Moves) (met : Bool) (made : ℕ) (s : Snapshot) → left_by app moves (ended met made s) ≡ laid_on app moves made
-left_by_ended app moves true made s = refl
-left_by_ended app moves false made s = refl
+-- a move more, where there is room for it or not
+pub moved_given : (course : Course) (move : PlainMove) (full : Bool) → state_after course.app course.done ≡ Ok course.target
+    → nat_eq (length course.done) course.limit ≡ full
+    → moved course.app course.limit (moves_of course) move ≡ cond full (Err MovesFull) (step course.app course.target move)
+moved_given course move full leads is =
+    ap (λ (s : Snapshot). cond (nat_eq (length course.done) course.limit) (Err MovesFull) (step course.app s move)) (target_given course leads)
+    ∙ ap (λ b. cond b (Err MovesFull) (step course.app course.target move)) is
 
-pub run_leaves : (old new : Course) (goal : Option Condition) (count : ℕ) (met : Bool) → state_after old.app old.done ≡ Ok old.target
-    → EndsRun old goal count met new → moves_of new ≡ left_by old.app (moves_of old) (run_of old.app old.limit goal (moves_of old) count)
-run_leaves old new goal count met leads ends =
-    ap (λ (ms : List PlainMove). record { done = ms; undone = new.undone }) ends.done
-    ∙ ap (λ (us : List PlainMove). record { done = old.done ++ moves_by_policy old.app old.target ends.made; undone = us }) ends.undone
-    ∙ ap (λ (s : Snapshot). record { done = old.done ++ moves_by_policy old.app s ends.made; undone = [] }) (sym (target_given old leads))
-    ∙ sym (ap (left_by old.app (moves_of old)) (run_given old goal count leads ∙ ends.run) ∙ left_by_ended old.app (moves_of old) met ends.made new.target)
+-- ---- where there was no memory, there was a move to make
 
-pub run_refused : (old : Course) (goal : Option Condition) (count : ℕ) (refusal : Refusal) → state_after old.app old.done ≡ Ok old.target
-    → refusal ≢ NoMemory → IsWhyNoRun old goal count refusal
-    → moves_of old ≡ left_by old.app (moves_of old) (run_of old.app old.limit goal (moves_of old) count)
-run_refused old goal count refusal leads other why = elim why [
-  | inl refused ↦ sym (ap (left_by old.app (moves_of old)) (run_given old goal count leads ∙ refused))
-  | inr lacks ↦ absurd (other lacks.1)
+can_make_is : (course : Course) (move : PlainMove) → state_after course.app course.done ≡ Ok course.target → length course.done ≢ course.limit
+    → IsOk (step course.app course.target move) → IsTrue (can_make course.app course.limit (moves_of course) move)
+can_make_is course move leads room is = ap is_ok (moved_given course move false leads (ne_eqb (length course.done) course.limit room)) ∙ is
+
+pub go_needs_memory : (old : Course) (move : PlainMove) → state_after old.app old.done ≡ Ok old.target → IsWhyNot old move NoMemory
+    → IsTrue (can_make old.app old.limit (moves_of old) move)
+go_needs_memory old move leads why = elim why [
+  | inl full ↦ absurd cc
+  | inr others ↦ elim others [
+    | inl by_rules ↦ absurd (never_no_memory old.app old.target move by_rules.1)
+    | inr lacks ↦ can_make_is old move leads lacks.0.0 lacks.0.1
+  ]
+]
+
+pub redo_needs_memory : (old : Course) (count : ℕ) → IsWhyNoRedo old count NoMemory → IsTrue (nat_le count (length old.undone))
+redo_needs_memory old count why = elim why [
+  | inl fewer ↦ absurd cc
+  | inr lacks ↦ le-leb count (length old.undone) lacks.0
 ]
 
 -- ---- where memory runs out in a run, its first move can be made
@@ -168,14 +117,10 @@ can_make_first : (course : Course) → state_after course.app course.done ≡ Ok
     → IsOk (allowed course.app (course.limit - length course.done) 0 course.target)
     → IsTrue (can_make course.app course.limit (moves_of course) (policy_of (state_of course.app (moves_of course))))
 can_make_first course leads may =
-    let move = policy_of (state_of course.app (moves_of course)) in
-    let same : move ≡ policy_of course.target = ap policy_of (target_given course leads) in
     let both = by (nat_lt 0 (course.limit - length course.done)) (step course.app course.target (policy_of course.target)) may in
-    let room : nat_eq (length course.done) course.limit ≡ false =
-    ne_eqb (length course.done) course.limit (λ full. omega (arith, ltb-true 0 (course.limit - length course.done) both.0, full)) in
-    let made : is_ok (state_after course.app (course.done ++ move ∷ [])) ≡ true =
-    ap is_ok (state_after-push course.app course.done move course.target leads ∙ ap (step course.app course.target) same) ∙ both.1 in
-    ap (λ b. not b && is_ok (state_after course.app (course.done ++ move ∷ []))) room ∙ made
+    let room : length course.done ≢ course.limit = λ full. omega (arith, ltb-true 0 (course.limit - length course.done) both.0, full) in
+    subst (λ (s : Snapshot). IsTrue (can_make course.app course.limit (moves_of course) (policy_of s))) (sym (target_given course leads))
+    (can_make_is course (policy_of course.target) leads room both.1)
   where
     by : (b : Bool) (r : Result Snapshot Refusal) → IsOk (cond b r (Err MovesFull)) → (b ≡ true) × IsOk r
     by true r is = (refl, is)
@@ -189,31 +134,3 @@ run_needs_memory old goal count leads why = elim why [
       can_make_first old leads
       (first_allowed old.app (old.limit - length old.done) goal old.target lacks.0.made lacks.0.state lacks.0.going lacks.0.next)
 ]
-
--- ---- back to where a condition held
-
-place_found : (found : Found) (place : Option ℕ) → place_met found ≡ place → (found.met ≡ false → found.at ≡ 0) → found.at ≡ unwrap_or place 0
-place_found found place is start = by found.met refl
-  where
-    by : (b : Bool) → found.met ≡ b → found.at ≡ unwrap_or place 0
-    by true met = sym (ap (λ o. unwrap_or o 0) (sym is ∙ ap (λ b. cond b (Some found.at) None) met))
-    by false met = start met ∙ sym (ap (λ o. unwrap_or o 0) (sym is ∙ ap (λ b. cond b (Some found.at) None) met))
-
-pub back_until_leaves : (old new : Course) (condition : Condition) (found : Found) → GoesBackTo old condition found new
-    → moves_of new ≡ answered old.app old.limit (moves_of old) (BackUntil condition)
-back_until_leaves old new condition found goes =
-    ap (λ (ms : List PlainMove). record { done = ms; undone = new.undone }) goes.done
-    ∙ ap (λ (us : List PlainMove). record { done = take found.at old.done; undone = us }) goes.undone
-    ∙ ap (back_at (moves_of old)) (place_found found (last_met old.app condition old.done (length old.done)) goes.place goes.start)
-
--- ---- which requests make moves
-
--- A request that makes a move is of a kind that does.
-pub may_make : (app : Application) (limit : ℕ) (moves : Moves) (request : PlainRequest) → IsTrue (makes_move app limit moves request)
-    → may_make_moves request ≡ true
-may_make app limit moves (Go action) makes = refl
-may_make app limit moves (Back count) makes = absurd (false≢true makes)
-may_make app limit moves (Forward count) makes = refl
-may_make app limit moves (Redo count) makes = refl
-may_make app limit moves (Until condition count) makes = refl
-may_make app limit moves (BackUntil condition) makes = absurd (false≢true makes)

@@ -1,8 +1,8 @@
 -- Going on and back, over any courses.
 use Rattle.std.proofs.Common.{◌≡◌, ◌∙◌, ℕ, zero, suc, ◌+◌, ◌-◌, ◌<◌, inl, inr, List, [], ◌∷◌, ◌++◌, true, false, cond, length, take, drop, refl, ap, subst, sym, arith}
-use Rattle.std.specs.Prelude.{Bool, None, Some, Result, Ok, Err, is_some, nat_lt, not, unwrap_or}
+use Rattle.std.specs.Prelude.{Bool, None, Some, Result, Ok, Err, is_some, nat_lt, unwrap_or}
 use Rattle.std.proofs.Math.Seq.{drop-append_seam, take-append_seam}
-use Rattle.std.proofs.lemmas.Bool.{cases_lt, false≢true, lt-leb, ltb-true}
+use Rattle.std.proofs.lemmas.Bool.{cases_lt, false≢true}
 use Rattle.std.proofs.lemmas.List.{append-nil, append_assoc, length-drop, length_push, take-append-drop}
 use Rattle.rd_app.specs.Application.{Application}
 use Rattle.rd_refusal.specs.declared.refusal.Refusal.{Refusal}
@@ -13,13 +13,11 @@ use Rattle.rd_moves.specs.declared.moves.Move.TheVariants as move
 use Rattle.rd_calls.specs.Step.{policy_of, step}
 use Rattle.rd_condition.specs.declared.condition.Condition.{Condition}
 use Rattle.rd_condition.specs.Conditions.{holds}
-use Rattle.rd_moves.specs.declared.request.Request.TheVariants.{Go, Back, Forward, Redo, Until, BackUntil}
 use Rattle.rd_timeline.specs.Backward.{GoesBack, holds_in, last_met}
 use Rattle.rd_timeline.specs.Course.{Course, GoesOn}
 use Rattle.rd_timeline.specs.History.{state_after}
 use Rattle.rd_timeline.specs.Policy.{EndsRun, Run, Going, Met, Refused, done_by_policy, looked_for, moves_by_policy, ran, run_on, state_by_policy, state_or}
-use Rattle.rd_timeline.specs.RunLaws.{BackFindsTheLast, EditsLeaveNoTrace, IsMade, RedoUndoesBack, RefusedRequestsLeaveAll, RunsAddUp, is_refused_run}
-use Rattle.rd_timeline.specs.Runs.{Moves, back_at, can_make, left_by, run_of}
+use Rattle.rd_timeline.specs.RunLaws.{BackFindsTheLast, EditsLeaveNoTrace, IsMade, RedoUndoesBack, RunsAddUp}
 use Rattle.rd_timeline.proofs.PolicyLaws.{same_target}
 
 -- ---- back, and on again
@@ -232,27 +230,3 @@ back_finds_the_last old new condition found goes = by found.met refl
       λ same. absurd (false≢true (sym met ∙ same)),
       λ place before after. none_is old.app condition old.done (length old.done) (met_is false met) place before,
     )
-
--- ---- refused requests
-
-left_by_refused : (app : Application) (moves : Moves) (run : Run) → is_refused_run run ≡ true → left_by app moves run ≡ moves
-left_by_refused app moves (Going made s) is = absurd (false≢true is)
-left_by_refused app moves (Met made s) is = absurd (false≢true is)
-left_by_refused app moves (Refused refusal) is = refl
-
-unless_made : (b : Bool) (made moves : Moves) → not b ≡ true → cond b made moves ≡ moves
-unless_made true made moves is = absurd (false≢true is)
-unless_made false made moves is = refl
-
-pub refused_requests_leave_all : RefusedRequestsLeaveAll
-refused_requests_leave_all app limit moves (Go action) is =
-    unless_made (can_make app limit moves action) (record { done = moves.done ++ action ∷ []; undone = [] }) moves is
-refused_requests_leave_all app limit moves (Back count) is =
-    ap (λ b. cond b (back_at moves (length moves.done - count)) moves) (lt-leb count (length moves.done) (ltb-true (length moves.done) count is))
-refused_requests_leave_all app limit moves (Forward count) is = left_by_refused app moves (run_of app limit None moves count) is
-refused_requests_leave_all app limit moves (Redo count) is =
-    ap (λ b. cond b (record { done = moves.done ++ take count moves.undone; undone = drop count moves.undone }) moves)
-    (lt-leb count (length moves.undone) (ltb-true (length moves.undone) count is))
-refused_requests_leave_all app limit moves (Until condition count) is =
-    left_by_refused app moves (run_of app limit (Some condition) moves count) is
-refused_requests_leave_all app limit moves (BackUntil condition) is = absurd (false≢true is)

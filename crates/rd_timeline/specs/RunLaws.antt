@@ -1,6 +1,5 @@
 -- What one may count on when going on and back, over any courses of a timeline.
-use Rattle.std.specs.Prelude.{ℕ, ◌≡◌, ◌+◌, ◌<◌, Bool, true, false, length, nat_lt, not, None, Some}
-use Rattle.std.specs.Prelude.{take, Ok}
+use Rattle.std.specs.Prelude.{ℕ, ◌≡◌, ◌+◌, ◌<◌, Bool, true, false, length, None, take, Ok}
 use Rattle.rd_app.specs.Application.{Application}
 use Rattle.rd_moves.specs.declared.moves.Move.TheVariants as move
 use Rattle.rd_moves.specs.Edits.{PlainEdit}
@@ -8,13 +7,11 @@ use Rattle.rd_condition.specs.declared.condition.Condition.{Condition}
 use Rattle.rd_condition.specs.Conditions.{holds}
 use Rattle.rd_timeline.specs.declared.running.Found.{Found}
 use Rattle.rd_moves.specs.Requests.{PlainRequest}
-use Rattle.rd_moves.specs.declared.request.Request.TheVariants.{Go, Back, Forward, Redo, Until}
-use Rattle.rd_moves.specs.declared.request.Request.TheVariants.{BackUntil}
 use Rattle.rd_timeline.specs.Backward.{holds_in, GoesBack, GoesBackTo, HasRedone}
 use Rattle.rd_timeline.specs.Course.{Course, GoesOn}
 use Rattle.rd_timeline.specs.History.{state_after}
-use Rattle.rd_timeline.specs.Policy.{EndsRun, Run, Going, Met, Refused}
-use Rattle.rd_timeline.specs.Runs.{Moves, answered, can_make, run_of}
+use Rattle.rd_timeline.specs.Policy.{EndsRun}
+use Rattle.rd_timeline.specs.Runs.{Moves, Response, Leaves, Refuses, answered, response_to}
 
 -- The target is the state that the moves done give.
 abbrev pub IsMade : Course → Type 0
@@ -54,20 +51,12 @@ EditsLeaveNoTrace = (old mid new : Course) (edit : PlainEdit) → IsMade old
     → (new.target ≡ old.target) × (new.done ≡ old.done)
 
 -- Is a request refused, however much memory there is?
-abbrev pub is_refused_run : Run → Bool
-is_refused_run (Going made s) = false
-is_refused_run (Met made s) = false
-is_refused_run (Refused refusal) = true
+abbrev pub is_refusal : Response → Bool
+is_refusal (Leaves moves end) = false
+is_refusal (Refuses refusal) = true
 
 abbrev pub is_refused : Application → ℕ → Moves → PlainRequest → Bool
-is_refused app limit moves (Go action) = not (can_make app limit moves action)
-is_refused app limit moves (Back count) = nat_lt (length moves.done) count
-is_refused app limit moves (Forward count) =
-    is_refused_run (run_of app limit None moves count)
-is_refused app limit moves (Redo count) = nat_lt (length moves.undone) count
-is_refused app limit moves (Until condition count) =
-    is_refused_run (run_of app limit (Some condition) moves count)
-is_refused app limit moves (BackUntil condition) = false
+is_refused app limit moves request = is_refusal (response_to app limit moves request)
 
 -- A refused request of any kind leaves the moves done, so the target too, and the moves undone.
 abbrev pub RefusedRequestsLeaveAll : Type 0

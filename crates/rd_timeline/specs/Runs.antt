@@ -1,22 +1,26 @@
--- Whole runs: what a list of requests leaves of the moves done and undone. A refused request leaves
--- them.
-use Rattle.std.specs.Prelude.{ℕ, ◌≡◌, ◌-◌, ◌&&◌, Bool, true, false, not, IsTrue}
-use Rattle.std.specs.Prelude.{List, [], ◌∷◌, ◌++◌, length, take, drop, fold, slice_get}
-use Rattle.std.specs.Prelude.{if◌then◌else◌}
-use Rattle.std.specs.Prelude.{nat_eq, nat_le, is_ok, Option, None, Some, unwrap_or}
+-- Whole runs: what comes of a request, and what a list of requests leaves of the moves done and
+-- undone. A refused request leaves them.
+use Rattle.std.specs.Prelude.{ℕ, ◌≡◌, ◌-◌, Bool, true, false, IsTrue, List, [], ◌∷◌, ◌++◌}
+use Rattle.std.specs.Prelude.{length, take, drop, fold, slice_get, if◌then◌else◌, nat_eq, nat_le}
+use Rattle.std.specs.Prelude.{Option, None, Some, Result, Ok, Err, is_ok}
+use Rattle.rd_refusal.specs.declared.refusal.Refusal.{Refusal}
+use Rattle.rd_refusal.specs.declared.refusal.Refusal.TheVariants.{MovesFull, NothingUndone, TooFar}
 use Rattle.rd_app.specs.Application.{Application}
 use Rattle.rd_state.specs.Boot.{boot_of}
 use Rattle.rd_state.specs.Snapshot.{Snapshot}
 use Rattle.rd_moves.specs.Moves.{PlainMove}
-use Rattle.rd_calls.specs.Step.{policy_of}
+use Rattle.rd_calls.specs.Step.{policy_of, step}
 use Rattle.rd_condition.specs.declared.condition.Condition.{Condition}
 use Rattle.rd_moves.specs.Requests.{PlainRequest}
+use Rattle.rd_moves.specs.declared.answer.SearchEnd.{SearchEnd}
+use Rattle.rd_moves.specs.declared.answer.SearchEnd.TheVariants.{Met, Limit, Start}
 use Rattle.rd_moves.specs.declared.request.Request.TheVariants.{Go, Back, Forward, Redo, Until}
 use Rattle.rd_moves.specs.declared.request.Request.TheVariants.{BackUntil}
 use Rattle.rd_timeline.specs.Backward.{last_met}
 use Rattle.rd_timeline.specs.Course.{Course}
 use Rattle.rd_timeline.specs.History.{state_after}
-use Rattle.rd_timeline.specs.Policy.{Run, Going, Met, Refused, moves_by_policy, ran, state_or}
+use Rattle.rd_timeline.specs.Policy.{Run, Going, Met as MetAfter, Refused, moves_by_policy, ran}
+use Rattle.rd_timeline.specs.Policy.{state_or}
 
 pub record Moves : Type 0 where
   pub done : List PlainMove
@@ -29,36 +33,39 @@ moves_of course = record { done = course.done; undone = course.undone }
 abbrev pub state_of : Application → Moves → Snapshot
 state_of app moves = state_or (boot_of app) (state_after app moves.done)
 
+-- the state that one move more gives, or why it is refused: where there is no room for it that is
+-- why, else what the kernel's rules say
+abbrev pub moved : Application → ℕ → Moves → PlainMove → Result Snapshot Refusal
+moved app limit moves move =
+    if nat_eq (length moves.done) limit then Err MovesFull else step app (state_of app moves) move
+
 -- Can the move be made? There is room for one more, and it gives a state.
 abbrev pub can_make : Application → ℕ → Moves → PlainMove → Bool
-can_make app limit moves move =
-    not (nat_eq (length moves.done) limit) && is_ok (state_after app (moves.done ++ move ∷ []))
+can_make app limit moves move = is_ok (moved app limit moves move)
 
--- Does the request make a move, or begin to? Only then is memory needed.
-abbrev pub makes_move : Application → ℕ → Moves → PlainRequest → Bool
-makes_move app limit moves (Go action) = can_make app limit moves action
-makes_move app limit moves (Back count) = false
-makes_move app limit moves (Forward count) =
-    can_make app limit moves (policy_of (state_of app moves))
-makes_move app limit moves (Redo count) = nat_le count (length moves.undone)
-makes_move app limit moves (Until condition count) =
-    can_make app limit moves (policy_of (state_of app moves))
-makes_move app limit moves (BackUntil condition) = false
+-- the run by policy from where the moves are, of so many moves at the most
+abbrev pub run_of : Application → ℕ → Option Condition → Moves → ℕ → Run
+run_of app limit goal moves count =
+    ran app (limit - length moves.done) goal (state_of app moves) count
 
--- Can the request make moves at all? Only these may take memory.
-abbrev pub may_make_moves : PlainRequest → Bool
-may_make_moves (Go action) = true
-may_make_moves (Back count) = false
-may_make_moves (Forward count) = true
-may_make_moves (Redo count) = true
-may_make_moves (Until condition count) = true
-may_make_moves (BackUntil condition) = false
+-- ---- the moves that are left
+
+-- the move is the last one done, and the moves undone are forgotten
+abbrev pub moved_on : Moves → PlainMove → Moves
+moved_on moves move = record { done = moves.done ++ move ∷ []; undone = [] }
 
 -- so many moves are done, and those behind them undone
 abbrev pub back_at : Moves → ℕ → Moves
 back_at moves at = record {
   done = take at moves.done;
   undone = drop at moves.done ++ moves.undone;
+}
+
+-- so many of the moves undone are done again
+abbrev pub redone : Moves → ℕ → Moves
+redone moves count = record {
+  done = moves.done ++ take count moves.undone;
+  undone = drop count moves.undone;
 }
 
 -- the moves that a run by policy lays on, so many of them; none is undone then
@@ -68,40 +75,105 @@ laid_on app moves made = record {
   undone = [];
 }
 
--- what a run leaves of the moves
-abbrev pub left_by : Application → Moves → Run → Moves
-left_by app moves (Going made s) = laid_on app moves made
-left_by app moves (Met made s) = laid_on app moves made
-left_by app moves (Refused refusal) = moves
+-- ---- what comes of a request
 
--- the run by policy from where the moves are, of so many moves at the most
-abbrev pub run_of : Application → ℕ → Option Condition → Moves → ℕ → Run
-run_of app limit goal moves count =
-    ran app (limit - length moves.done) goal (state_of app moves) count
+-- What comes of a request. It is done: these are the moves that it leaves, and where it was a
+-- search, this is how that came to its end. Or it is refused, for this cause, and the moves stay.
+pub data Response : Type 0 where
+  Leaves : Moves → Option SearchEnd → Response
+  Refuses : Refusal → Response
 
--- A move that is made is the last one done, and the moves undone are forgotten. The last moves done
--- are undone, or the first moves undone are done again, where there are so many. A run is made by
--- policy, or not at all. The way back to where a condition holds is the shortest, or to the start.
+-- what comes of a move, which gives this state or is refused
+abbrev pub go_response : Moves → PlainMove → Result Snapshot Refusal → Response
+go_response moves move (Ok s) = Leaves (moved_on moves move) None
+go_response moves move (Err refusal) = Refuses refusal
+
+-- A run that has a goal is a search, which came to this end.
+abbrev pub end_of : Option Condition → SearchEnd → Option SearchEnd
+end_of None end = None
+end_of (Some condition) end = Some end
+
+-- what comes of a run to a goal, if it has one
+abbrev pub run_response : Application → Moves → Option Condition → Run → Response
+run_response app moves goal (Going made s) = Leaves (laid_on app moves made) (end_of goal Limit)
+run_response app moves goal (MetAfter made s) = Leaves (laid_on app moves made) (end_of goal Met)
+run_response app moves goal (Refused refusal) = Refuses refusal
+
+-- what comes of a search back, where the condition held last at this place, or at none
+abbrev pub search_response : Moves → Option ℕ → Response
+search_response moves None = Leaves (back_at moves 0) (Some Start)
+search_response moves (Some at) = Leaves (back_at moves at) (Some Met)
+
+-- What comes of each request, where so many moves may be done, and these are done and undone. The
+-- last moves done are undone, or the first moves undone are done again, where there are so many. A
+-- run is made by policy, or not at all. The way back to where a condition holds is the shortest, or
+-- to the start.
+abbrev pub response_to : Application → ℕ → Moves → PlainRequest → Response
+response_to app limit moves (Go action) = go_response moves action (moved app limit moves action)
+response_to app limit moves (Back count) =
+    if nat_le count (length moves.done)
+    then Leaves (back_at moves (length moves.done - count)) None
+    else Refuses (TooFar (length moves.done))
+response_to app limit moves (Forward count) =
+    run_response app moves None (run_of app limit None moves count)
+response_to app limit moves (Redo count) =
+    if nat_le count (length moves.undone) then Leaves (redone moves count) None
+    else Refuses NothingUndone
+response_to app limit moves (Until condition count) =
+    run_response app moves (Some condition) (run_of app limit (Some condition) moves count)
+response_to app limit moves (BackUntil condition) =
+    search_response moves (last_met app condition moves.done (length moves.done))
+
+-- the moves after it, which were these before
+abbrev pub moves_after : Moves → Response → Moves
+moves_after moves (Leaves new end) = new
+moves_after moves (Refuses refusal) = moves
+
+-- the moves that the request leaves
 abbrev pub answered : Application → ℕ → Moves → PlainRequest → Moves
-answered app limit moves (Go action) =
-    if can_make app limit moves action
-    then record { done = moves.done ++ action ∷ []; undone = [] }
-    else moves
-answered app limit moves (Back count) =
-    if nat_le count (length moves.done) then back_at moves (length moves.done - count) else moves
-answered app limit moves (Forward count) =
-    left_by app moves (run_of app limit None moves count)
-answered app limit moves (Redo count) =
-    if nat_le count (length moves.undone)
-    then record {
-      done = moves.done ++ take count moves.undone;
-      undone = drop count moves.undone;
-    }
-    else moves
-answered app limit moves (Until condition count) =
-    left_by app moves (run_of app limit (Some condition) moves count)
-answered app limit moves (BackUntil condition) =
-    back_at moves (unwrap_or (last_met app condition moves.done (length moves.done)) 0)
+answered app limit moves request = moves_after moves (response_to app limit moves request)
+
+-- ---- what needs memory
+
+-- What a request lays on the moves done, unless it is refused: a move of its own, those that policy
+-- chooses, so many of those undone again, or nothing.
+pub data Lays : Type 0 where
+  OwnMove : PlainMove → Lays
+  ByPolicy : Lays
+  Again : ℕ → Lays
+  Nothing : Lays
+
+abbrev pub lays : PlainRequest → Lays
+lays (Go action) = OwnMove action
+lays (Back count) = Nothing
+lays (Forward count) = ByPolicy
+lays (Redo count) = Again count
+lays (Until condition count) = ByPolicy
+lays (BackUntil condition) = Nothing
+
+-- Can it be laid on, or the first move of it?
+abbrev pub can_lay : Application → ℕ → Moves → Lays → Bool
+can_lay app limit moves (OwnMove move) = can_make app limit moves move
+can_lay app limit moves ByPolicy = can_make app limit moves (policy_of (state_of app moves))
+can_lay app limit moves (Again count) = nat_le count (length moves.undone)
+can_lay app limit moves Nothing = false
+
+-- Does the request make a move, or begin to? Only then is memory needed.
+abbrev pub makes_move : Application → ℕ → Moves → PlainRequest → Bool
+makes_move app limit moves request = can_lay app limit moves (lays request)
+
+-- Does it lay on any move?
+abbrev pub is_any : Lays → Bool
+is_any (OwnMove move) = true
+is_any ByPolicy = true
+is_any (Again count) = true
+is_any Nothing = false
+
+-- Can the request make moves at all? Only these may take memory.
+abbrev pub may_make_moves : PlainRequest → Bool
+may_make_moves request = is_any (lays request)
+
+-- ---- lists of requests
 
 -- the requests, one after the other
 abbrev pub all_answered : Application → ℕ → Moves → List PlainRequest → Moves

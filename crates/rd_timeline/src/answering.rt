@@ -1,10 +1,14 @@
-//! What comes of each kind of request, and what is answered to it.
+//! Requests: what comes of each kind, and what is answered to it.
 
-ghost use Rattle.std.specs.Prelude.{◌≡◌, ◌≢◌, ◌↔◌, IfErr, IfOk, IsErr, IsErrOf, Ok};
+ghost use Rattle.std.specs.Prelude.{◌≡◌, ◌≢◌, ◌↔◌, IfErr, IfOk, IsErr, IsErrOf, IsTrue, Ok, OnErr};
+ghost use Rattle.std.specs.Prelude.{OnOk, true};
 ghost use Rattle.rd_moves.specs.declared.request.Request.TheVariants as request;
 ghost use Rattle.rd_moves.specs.Moves.{IsMoveOf};
+ghost use Rattle.rd_moves.specs.Requests.{IsRequestOf};
 ghost use Rattle.rd_condition.specs.Conditions.{IsConditionOf};
-ghost use Rattle.rd_timeline.specs.Answers.{Obeys, ended_answer};
+ghost use Rattle.rd_timeline.specs.Answers.{Obeys, answer_to, ended_answer};
+ghost use Rattle.rd_timeline.specs.History.{state_after};
+ghost use Rattle.rd_timeline.specs.Runs.{moves_of, makes_move, may_make_moves, answered};
 
 use crate::running::Found;
 use crate::timeline::Timeline;
@@ -13,6 +17,7 @@ use rd_condition::condition::Condition;
 use rd_moves::answer::{Answer, SearchEnd};
 use rd_moves::count::Count;
 use rd_moves::moves::Move;
+use rd_moves::request::Request;
 use rd_refusal::refusal::Refusal;
 
 // What is answered where so many moves are done now, or where a request was refused. That memory
@@ -30,9 +35,9 @@ fn told(made: Result<usize, Refusal>) -> Result<Answer, NoMemory>
     }
 }
 
-/// Makes a move. An `Err` of this and the others says that there is no memory for it; then nothing
-/// has changed.
-pub(crate) fn go(timeline: &mut Timeline, action: &Move) -> Result<Answer, NoMemory>
+// Makes a move. An `Err` of this and the others says that there is no memory for it; then nothing
+// has changed.
+fn go(timeline: &mut Timeline, action: &Move) -> Result<Answer, NoMemory>
     requires { IsMoveOf timeline.old.app action.now }
     ensures { Obeys timeline.old (request.Go action.now) timeline.new result }
 {
@@ -40,8 +45,8 @@ pub(crate) fn go(timeline: &mut Timeline, action: &Move) -> Result<Answer, NoMem
     told(timeline.make(action))
 }
 
-/// Takes the last moves back. It takes no memory.
-pub(crate) fn back(timeline: &mut Timeline, count: Count) -> Answer
+// Takes the last moves back. It takes no memory.
+fn back(timeline: &mut Timeline, count: Count) -> Answer
     ensures { Obeys timeline.old (request.Back count) timeline.new (Ok result) }
 {
     timeline.keeps();
@@ -51,16 +56,16 @@ pub(crate) fn back(timeline: &mut Timeline, count: Count) -> Answer
     }
 }
 
-/// Makes so many moves by policy.
-pub(crate) fn forward(timeline: &mut Timeline, count: Count) -> Result<Answer, NoMemory>
+// Makes so many moves by policy.
+fn forward(timeline: &mut Timeline, count: Count) -> Result<Answer, NoMemory>
     ensures { Obeys timeline.old (request.Forward count) timeline.new result }
 {
     timeline.keeps();
     told(timeline.forward(count.get()))
 }
 
-/// Makes moves again that are undone.
-pub(crate) fn redo(timeline: &mut Timeline, count: Count) -> Result<Answer, NoMemory>
+// Makes moves again that are undone.
+fn redo(timeline: &mut Timeline, count: Count) -> Result<Answer, NoMemory>
     ensures { Obeys timeline.old (request.Redo count) timeline.new result }
 {
     timeline.keeps();
@@ -88,12 +93,8 @@ fn ended(made: Result<Found, Refusal>) -> Result<Answer, NoMemory>
     }
 }
 
-/// Makes moves by policy until a condition holds, so many of them at the most.
-pub(crate) fn until(
-    timeline: &mut Timeline,
-    condition: Condition,
-    count: Count,
-) -> Result<Answer, NoMemory>
+// Makes moves by policy until a condition holds, so many of them at the most.
+fn until(timeline: &mut Timeline, condition: Condition, count: Count) -> Result<Answer, NoMemory>
     requires { IsConditionOf timeline.old.app condition }
     ensures { Obeys timeline.old (request.Until condition count) timeline.new result }
 {
@@ -101,8 +102,8 @@ pub(crate) fn until(
     ended(timeline.until(condition, count.get()))
 }
 
-/// Goes back to where a condition held, or to the start.
-pub(crate) fn back_until(timeline: &mut Timeline, condition: Condition) -> Answer
+// Goes back to where a condition held, or to the start.
+fn back_until(timeline: &mut Timeline, condition: Condition) -> Answer
     requires { IsConditionOf timeline.old.app condition }
     ensures { Obeys timeline.old (request.BackUntil condition) timeline.new (Ok result) }
 {
@@ -113,4 +114,32 @@ pub(crate) fn back_until(timeline: &mut Timeline, condition: Condition) -> Answe
         SearchEnd::Start
     };
     Answer::Ended { at, end }
+}
+
+impl Timeline {
+    /// Does what is asked, and answers it; a request that is refused changes nothing. Only a
+    /// request that makes a move may find no memory, and then nothing has changed either.
+    pub fn answer(&mut self, request: &Request) -> Result<Answer, NoMemory>
+        requires { IsRequestOf self.old.app request.now }
+        ensures ok { IfOk result (λ answer.
+            answer ≡ answer_to self.old.app self.old.limit (moves_of self.old) request.now) }
+        ensures moves { OnOk result (moves_of self.new
+            ≡ answered self.old.app self.old.limit (moves_of self.old) request.now) }
+        ensures no_memory { OnErr result
+            (IsTrue (makes_move self.old.app self.old.limit (moves_of self.old) request.now)) }
+        ensures only { OnErr result (may_make_moves request.now ≡ true) }
+        ensures err { OnErr result (self.new ≡ self.old) }
+        ensures app { self.new.app ≡ self.old.app }
+        ensures limit { self.new.limit ≡ self.old.limit }
+        ensures leads { state_after self.new.app self.new.done ≡ Ok self.new.target }
+    {
+        match request {
+            Request::Go { action } => go(self, action),
+            Request::Back { count } => Ok(back(self, *count)),
+            Request::Forward { count } => forward(self, *count),
+            Request::Redo { count } => redo(self, *count),
+            Request::Until { condition, count } => until(self, *condition, *count),
+            Request::BackUntil { condition } => Ok(back_until(self, *condition)),
+        }
+    }
 }

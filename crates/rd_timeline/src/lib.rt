@@ -1,7 +1,7 @@
 //! The moves made so far, the way back through them, and the state that they give.
 #![tactic(auto)]
 
-mod answering;
+pub mod answering;
 mod carried;
 pub mod journal;
 pub mod laws;

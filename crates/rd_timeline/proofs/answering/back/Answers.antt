@@ -1,6 +1,6 @@
 -- The goals of `back` that the check left open.
 use Rattle.std.proofs.Common.{length, subst}
-use Rattle.std.specs.Prelude.{Ok}
+use Rattle.std.specs.Prelude.{None, Ok}
 use Rattle.rd_moves.specs.declared.answer.Answer.TheVariants.{Done, Refused}
 use Rattle.rd_moves.specs.declared.request.Request.TheVariants.{Back}
 use Rattle.rd_timeline.specs.Answers.{Obeys}
@@ -12,8 +12,7 @@ returns-in-Ok c =
     let old = c.args.timeline.now in
     let new = c.back.new.self in
     subst (λ count. Obeys old (Back count) new (Ok (Done c.in-Ok.at))) c.get.ensures.number
-    (obeyed old new (Back c.get.result) (Done c.in-Ok.at)
-    (back_done old new c.get.result c.in-Ok.at c.in-Ok.ensures.at c.in-Ok.ensures.limit c.in-Ok.ensures.goes))
+    (obeyed old new (Back c.get.result) c.in-Ok.at None c.in-Ok.ensures.at (back_done old new c.get.result c.in-Ok.ensures.goes))
 
 pub returns-in-Err : goal.returns-in-Err
 returns-in-Err c =
@@ -22,6 +21,5 @@ returns-in-Err c =
     let refusal = c.in-Err.refusal in
     let few = rw c.in-Err.is at (too_few c.back.result c.get.result (length old.done) c.back.ensures.ok) in
     subst (λ count. Obeys old (Back count) new (Ok (Refused refusal))) c.get.ensures.number
-    (obeyed old new (Back c.get.result) (Refused refusal)
     (nothing_changed old new (Back c.get.result) refusal (back_not_done old c.get.result refusal few c.in-Err.ensures.too_far) c.in-Err.ensures.err
-    c.keeps.ensures.leads))
+    c.keeps.ensures.leads)
