@@ -5,6 +5,7 @@ use Rattle.std.proofs.lemmas.Bool.{le-leb}
 use Rattle.std.proofs.lemmas.List.{length_push, take-append-le, take_all}
 use Rattle.rd_app.specs.Application.{Application}
 use Rattle.rd_refusal.specs.declared.refusal.Refusal.{Refusal}
+use Rattle.rd_refusal.specs.declared.refusal.Refusal.TheVariants.{TooFar}
 use Rattle.rd_state.specs.Boot.{boot_of}
 use Rattle.rd_condition.specs.declared.condition.Condition.{Condition}
 use Rattle.rd_moves.specs.declared.answer.Answer.{Answer}
@@ -16,8 +17,8 @@ use Rattle.rd_moves.specs.Requests.{PlainRequest, request_for}
 use Rattle.rd_timeline.specs.Answers.{answer_to}
 use Rattle.rd_timeline.specs.History.{state_after}
 use Rattle.rd_timeline.specs.Policy.{state_or}
-use Rattle.rd_timeline.specs.Runs.{Moves, answered, back_at}
-use Rattle.rd_timeline.proofs.Offered.{made_go, refused_request}
+use Rattle.rd_timeline.specs.Runs.{Leaves, Moves, Refuses, answered, back_at, moved_on, moves_after}
+use Rattle.rd_timeline.proofs.Offered.{refused_request, went_on}
 use Rattle.rd_command.specs.Commands.{CommandView}
 use Rattle.rd_command.specs.declared.binding.Bound.{Bound}
 use Rattle.rd_command.specs.declared.binding.Bound.TheVariants as bound
@@ -47,7 +48,7 @@ told_done (given.Refused refusal) at is = absurd cc
 same_request : (d : Debugger) (asked : PlainRequest) (refusal : Refusal) → IsMade d → reply_to_request d asked ≡ refused refusal → after_request d asked ≡ d
 same_request d asked refusal made is =
     ap (λ (moves : Moves). record d { moves = moves })
-    (refused_request d.app.runs d.most_moves d.moves asked refusal made (told_refused (answer_to d.app.runs d.most_moves d.moves asked) refusal is))
+    (refused_request d.app.runs d.most_moves d.moves asked refusal (told_refused (answer_to d.app.runs d.most_moves d.moves asked) refusal is))
 
 same_search : (d : Debugger) (watch : Option Condition) (search : Search) (refusal : Refusal) → IsMade d → reply_to_search d watch search ≡ refused refusal
     → after_search d watch search ≡ d
@@ -91,20 +92,20 @@ taken_back moves move =
     ap (λ n. take n (moves ++ move ∷ [])) less ∙ take-append-le (length moves) moves (move ∷ []) (omega arith)
     ∙ take_all (length moves) moves (omega arith)
 
-back_again : (app : Application) (most : ℕ) (done : List PlainMove) (move : PlainMove) (b : Bool) (moves other : Moves) → b ≡ true
-    → moves.done ≡ done → (cond b moves other).done ≡ done
-back_again app most done move true moves other is same = same
-back_again app most done move false moves other is same = absurd cc
+back_again : (done : List PlainMove) (b : Bool) (before moves : Moves) (refusal : Refusal) → b ≡ true → moves.done ≡ done
+    → (moves_after before (cond b (Leaves moves None) (Refuses refusal))).done ≡ done
+back_again done true before moves refusal is same = same
+back_again done false before moves refusal is same = absurd cc
 
 pub back_gives_the_target_back : BackGivesTheTargetBack
 back_gives_the_target_back d move at made is =
     let told : answer_to d.app.runs d.most_moves d.moves (request.Go move) ≡ given.Done at = told_done (answer_to d.app.runs d.most_moves d.moves (request.Go move)) at is in
-    let longer : Moves = record { done = d.moves.done ++ move ∷ []; undone = [] } in
+    let longer : Moves = moved_on d.moves move in
     let went : answered d.app.runs d.most_moves d.moves (request.Go move) ≡ longer =
-    ap (λ b. cond b longer d.moves) (made_go d.app.runs d.most_moves d.moves move at made told) in
+    went_on d.app.runs d.most_moves d.moves move at told in
     let there : nat_le 1 (length longer.done) ≡ true = le-leb 1 (length longer.done) (omega (arith, length_push d.moves.done move)) in
     let back : (answered d.app.runs d.most_moves longer (request.Back 1)).done ≡ d.moves.done =
-    back_again d.app.runs d.most_moves d.moves.done move (nat_le 1 (length longer.done)) (back_at longer (length longer.done - 1)) longer there
+    back_again d.moves.done (nat_le 1 (length longer.done)) longer (back_at longer (length longer.done - 1)) (TooFar (length longer.done)) there
     (taken_back d.moves.done move) in
     let both : (answered d.app.runs d.most_moves (answered d.app.runs d.most_moves d.moves (request.Go move)) (request.Back 1)).done ≡ d.moves.done =
     ap (λ (moves : Moves). (answered d.app.runs d.most_moves moves (request.Back 1)).done) went ∙ back in
