@@ -3,7 +3,6 @@ use Rattle.std.proofs.Common.{◌≡◌, ◌∙◌, ℕ, ◌-◌, List, [], ◌�
 use Rattle.std.specs.Prelude.{Bool, nat_le, is_none, Option, None, Some, position}
 use Rattle.std.proofs.lemmas.Bool.{le-leb}
 use Rattle.std.proofs.lemmas.List.{length_push, take-append-le, take_all}
-use Rattle.rd_app.specs.Application.{Application}
 use Rattle.rd_refusal.specs.declared.refusal.Refusal.{Refusal}
 use Rattle.rd_refusal.specs.declared.refusal.Refusal.TheVariants.{TooFar}
 use Rattle.rd_state.specs.Boot.{boot_of}
@@ -19,7 +18,6 @@ use Rattle.rd_timeline.specs.History.{state_after}
 use Rattle.rd_timeline.specs.Policy.{state_or}
 use Rattle.rd_timeline.specs.Runs.{Leaves, Moves, Refuses, answered, back_at, moved_on, moves_after}
 use Rattle.rd_timeline.proofs.Offered.{refused_request, went_on}
-use Rattle.rd_command.specs.Commands.{CommandView}
 use Rattle.rd_command.specs.declared.binding.Bound.{Bound}
 use Rattle.rd_command.specs.declared.binding.Bound.TheVariants as bound
 use Rattle.rd_reply.specs.declared.reply.Reply.TheVariants as short

@@ -21,7 +21,7 @@ use Rattle.rd_desk.specs.declared.entry.Receipt.{Receipt}
 use Rattle.rd_desk.specs.DeskView.{DeskView, Does, entry_of}
 use Rattle.rd_desk.specs.Legal.{IsLegal, Leads}
 use Rattle.rd_desk.specs.Memory.{NeedsMemory, is_text, needs_memory}
-use Rattle.rd_desk.specs.Serving.{IsAnswered, MayAct, after_bound, after_command, after_dropped, after_kept, after_search, held_by, reply_to_bound, reply_to_command, reply_to_dropped, reply_to_giver, reply_to_kept, reply_to_search, served}
+use Rattle.rd_desk.specs.Serving.{MayAct, after_bound, after_command, after_dropped, after_kept, after_search, held_by, reply_to_bound, reply_to_command, reply_to_dropped, reply_to_giver, reply_to_kept, reply_to_search, served}
 use Rattle.rd_desk.specs.HistoryView.{IsView}
 use Rattle.rd_desk.specs.Sessions.{IsPresent, WatchesView, present_count, watch_at}
 use Rattle.rd_desk.proofs.CommandedLaws.{commanded}

@@ -1,5 +1,5 @@
 -- What views show.
-use Rattle.std.specs.Prelude.{ℕ, ◌≡◌, ◌+◌, ◌<◌, List, [], ◌∷◌, ◌++◌, length, position}
+use Rattle.std.specs.Prelude.{ℕ, ◌≡◌, ◌+◌, List, [], ◌∷◌, ◌++◌, length, position}
 use Rattle.std.specs.Prelude.{Option, None, Some}
 use Rattle.rd_names.specs.Names.{NamesView, names_of}
 use Rattle.rd_condition.specs.declared.condition.Condition.{Condition}
