@@ -1,15 +1,10 @@
-//! The words of a line, each cut once, with the number that it is.
+//! The words of a line, of which the first one that is left is cut and read.
 
-ghost use Rattle.std.specs.Prelude.{◌≡◌, ◌≤◌, None, Some, if◌then◌else◌, length, nat_le};
+ghost use Rattle.std.specs.Prelude.{◌≡◌, drop, is_none, slice_get};
 ghost use Rattle.rd_text.specs.Words.{number_of};
-ghost use Rattle.rd_command.specs.declared.word.TheConstants.{MAX_WORDS};
 
-use arrayvec::ArrayVec;
 use rd_text::words::{Words, number};
 use std::marker::Model;
-
-/// How many words a command has at the most behind its first one, as in `until` for a register.
-pub(crate) const MAX_WORDS: usize = 6;
 
 /// A word of a line. Its number, if it is one, was read with it.
 #[derive(Drop)]
@@ -27,15 +22,6 @@ impl<'a> Model for Word<'a> {
     ghost view = { λ w. w.text.now };
 
     ghost invariant = { λ w. w.number ≡ number_of w.text.now };
-}
-
-impl<'a> Default for Word<'a> {
-    fn default() -> Word<'a> {
-        Word {
-            text: &[],
-            number: None,
-        }
-    }
 }
 
 impl<'a> Word<'a> {
@@ -74,52 +60,59 @@ impl<'a> Word<'a> {
     }
 }
 
-/// The words behind the first one of a line, as many as a command may have.
+/// The words of a line that are left. The first of them is cut, and its number read, so that a
+/// command with one operand, as most are, is read once for its form and its value.
 #[derive(Drop)]
-pub(crate) struct Behind<'a> {
-    words: ArrayVec<Word<'a>, MAX_WORDS>,
+pub(crate) struct Rest<'a> {
+    first: Option<Word<'a>>,
+    others: Words<'a>,
 }
 
-impl<'a> Model for Behind<'a> {
-    ghost use Rattle.std.specs.Prelude.{ℕ, List};
+impl<'a> Model for Rest<'a> {
+    ghost use Rattle.std.specs.Prelude.{◌≡◌, ℕ, List, None, []};
+    ghost use Rattle.rd_command.specs.Forms.{rest_of};
 
     ghost Value = { List (List ℕ) };
 
-    ghost view = { λ b. b.words.items };
+    ghost view = { λ r. rest_of r.first r.others };
+
+    ghost invariant = { λ r. r.first ≡ None → r.others ≡ [] };
 }
 
-impl<'a> Behind<'a> {
-    /// Reads these words. `None` where a command has never so many.
-    pub(crate) fn read(words: Words<'a>) -> Option<Behind<'a>>
-        ensures { result
-            ≡ (if nat_le (length words.entry) MAX_WORDS then Some words.entry else None) }
+impl<'a> Rest<'a> {
+    /// These words.
+    pub(crate) fn new(words: Words<'a>) -> Rest<'a>
+        ensures { result ≡ words.entry }
     {
-        let mut behind = ArrayVec::new();
-        for text in words {
-            if behind.is_full() {
-                return None;
-            }
-            behind.push(Word::new(text));
-        }
-        Some(Behind { words: behind })
+        let mut others = words;
+        let first = others.next().map(Word::new);
+        Rest { first, others }
     }
 
-    /// An equal list of words.
-    pub(crate) fn copy(&self) -> Behind<'a>
+    /// The same words, to be read a second time.
+    pub(crate) fn copy(&self) -> Rest<'a>
         ensures { result ≡ self.now }
     {
-        let mut words = ArrayVec::new();
-        for word in self.words.as_slice() {
-            words.push(word.copy());
+        Rest {
+            first: self.first.as_ref().map(Word::copy),
+            others: self.others.copy(),
         }
-        Behind { words }
     }
 
-    /// The words.
-    pub(crate) fn as_slice(&self) -> &[Word<'a>]
-        ensures words { result.now ≡ self.now }
-        ensures few { length self.now ≤ MAX_WORDS }
+    /// The first word, which is read now. The one behind it is cut.
+    pub(crate) fn next(&mut self) -> Option<Word<'a>>
+        ensures word { result ≡ slice_get self.old 0 }
+        ensures left { self.new ≡ drop 1 self.old }
     {
-        self.words.as_slice()
+        let first = self.first.take()?;
+        self.first = self.others.next().map(Word::new);
+        Some(first)
+    }
+
+    /// Whether no word is left.
+    pub(crate) fn is_empty(&self) -> bool
+        ensures { result ≡ is_none (slice_get self.now 0) }
+    {
+        self.first.is_none()
     }
 }

@@ -1,9 +1,0 @@
--- What holds in each turn of read's loop.
-use Rattle.std.proofs.Common.{◌≡◌, ◌≤◌, ◌++◌, length}
-use Rattle.rd_command.specs.declared.word.TheConstants.{MAX_WORDS}
-use Rattle.rd_command.proofs.word.Behind.read.Given as goal
-
--- the words so far are read, and as many as there may be
-abbrev pub invariant-loop-text : goal.invariant-loop-text
-invariant-loop-text l =
-    (l.behind.items ++ l.text-iterator ≡ l.fn.words) × (length l.behind.items ≤ MAX_WORDS)
