@@ -22,14 +22,6 @@ drop_front-requires c =
       ap (λ (t : TapeView). length t.bytes) c.start_of_last-start.ensures.tape,
     )
 
-pub invariant_of-self : goal.invariant_of-self
-invariant_of-self c =
-    let kept = last_kept c.self.inside.records c.args.n c.self.inside.tape.bytes (omega (arith, c.if-n-self.true)) c.self.invariant in
-    let now : c.drop_front.new.self.bytes ≡ drop (start_of_last c.args.n c.self.inside.tape.bytes) c.self.inside.tape.bytes =
-    ap (λ (t : TapeView). t.bytes) c.drop_front.ensures ∙ ap (λ (t : TapeView). drop c.start_of_last-start.result t.bytes) c.start_of_last-start.ensures.tape
-    ∙ ap (λ k. drop k c.self.inside.tape.bytes) c.start_of_last-start.ensures.start in
-    rw now kept.are
-
 pub returns-then-n-self-clause-records : goal.returns-then-n-self-clause-records
 returns-then-n-self-clause-records c =
     let kept = last_kept c.self.inside.records c.args.n c.self.inside.tape.bytes (omega (arith, c.if-n-self.true)) c.self.invariant in
@@ -41,6 +33,14 @@ returns-then-n-self-clause-records c =
     sym (length-records_in c.self.inside.records c.self.inside.tape.bytes) ∙ ap length view in
     ap (records_in c.args.n) now ∙ kept.records ∙ ap (drop (c.self.inside.records - c.args.n)) view
     ∙ ap (λ k. drop (k - c.args.n) c.args.self.now.records) count
+
+pub invariant_of-self : goal.invariant_of-self
+invariant_of-self c =
+    let kept = last_kept c.self.inside.records c.args.n c.self.inside.tape.bytes (omega (arith, c.if-n-self.true)) c.self.invariant in
+    let now : c.drop_front.new.self.bytes ≡ drop (start_of_last c.args.n c.self.inside.tape.bytes) c.self.inside.tape.bytes =
+    ap (λ (t : TapeView). t.bytes) c.drop_front.ensures ∙ ap (λ (t : TapeView). drop c.start_of_last-start.result t.bytes) c.start_of_last-start.ensures.tape
+    ∙ ap (λ k. drop k c.self.inside.tape.bytes) c.start_of_last-start.ensures.start in
+    rw now kept.are
 
 pub returns-then-n-self-clause-read : goal.returns-then-n-self-clause-read
 returns-then-n-self-clause-read c =
