@@ -1,7 +1,7 @@
 -- Records that were put behind bytes are read at their end.
 use Rattle.std.proofs.Common.{◌≡◌, ◌∙◌, ℕ, zero, suc, ◌+◌, ◌-◌, ◌<◌, ◌≤◌, ◌^◌, List, [], ◌∷◌, ◌++◌, length, take, drop, get_or}
 use Rattle.std.proofs.Common.{add-one, refl, ap, sym, arith, append_assoc, append-nil, length-append}
-use Rattle.std.proofs.lemmas.List.{length-take-le, length-drop, get_or-drop, get_or-take}
+use Rattle.std.proofs.lemmas.List.{length-take-le, length-drop, get_or-drop, get_or-take, take_all, take-take, drop-take}
 use Rattle.std.proofs.Math.Seq.{take-append_seam, drop-append_seam, get_or-append_seam}
 use Rattle.std.proofs.lemmas.Nat.{from_le_bytes-to_le_bytes_4}
 use Rattle.std.specs.Prelude.{Result, Ok, Err, OnOk}
@@ -142,6 +142,17 @@ trailer_numbers bytes t there is =
     let e1 = b 1 (omega arith) (omega arith) in
     record { size = rw (e8, e7, e6, e5) refl; count = rw (e4, e3, e2, e1) refl }
 
+-- Those of the record that ends at a place.
+pub trailer_at : (bytes t : List ℕ) (end : ℕ) → 8 ≤ end → end ≤ length bytes → t ≡ take 8 (drop (end - 8) bytes) → IsTrailer (take end bytes) t
+trailer_at bytes t end there within is =
+    let front : List ℕ = take end bytes in
+    let len : length front ≡ end = length-take-le end bytes within in
+    let again : end ≡ end - 8 + 8 = omega arith in
+    let here : take 8 (drop (length front - 8) front) ≡ take 8 (drop (end - 8) bytes) =
+    ap (λ k. take 8 (drop (k - 8) front)) len ∙ ap (λ k. take 8 (drop (end - 8) (take k bytes))) again ∙ ap (take 8) (drop-take (end - 8) 8 bytes)
+    ∙ take-take 8 8 (drop (end - 8) bytes) (omega arith) in
+    trailer_numbers front t (omega (arith, len)) (is ∙ sym here)
+
 last_is : (front : List (List Change)) (last : List Change) → last_of_all (front ++ last ∷ []) ≡ last
 last_is front last =
     let e : length (front ++ last ∷ []) - 1 ≡ length front = omega (arith, length-append front (last ∷ [])) in
@@ -154,6 +165,7 @@ front_is front last =
 
 -- What going back by the last record reads, and what it leaves.
 pub record Plan (n : ℕ) (bytes : List ℕ) (records : List (List Change)) (end size : ℕ) : Type 0 where
+  pub whole : take end bytes ≡ bytes
   pub ends : EndsInRecord bytes
   pub rest : AreRecords (n - 1) (before_record bytes)
   pub room : size + 8 ≤ end
@@ -164,12 +176,15 @@ pub record Plan (n : ℕ) (bytes : List ℕ) (records : List (List Change)) (end
   pub front : take (length records - 1) records ≡ records_in (n - 1) (before_record bytes)
 
 pub plan : (n : ℕ) (bytes : List ℕ) (records : List (List Change)) (end size : ℕ) → records_in n bytes ≡ records → 0 < length records
-    → AreRecords n bytes → end ≡ length bytes → size ≡ body_size bytes → Plan n bytes records end size
-plan n bytes records end size view some are all is =
+    → AreRecords n bytes → end ≡ length bytes → size ≡ body_size (take end bytes) → Plan n bytes records end size
+plan n bytes records end size view some are all at_end =
+    let whole : take end bytes ≡ bytes = take_all end bytes (omega arith) in
+    let is : size ≡ body_size bytes = at_end ∙ ap body_size whole in
     let peel : PeeledRecord n bytes = peeled_record n bytes (omega (arith, some, length-records_in n bytes, ap length view)) are in
     let start : end - 8 - size ≡ length bytes - record_size bytes = omega (arith, is, all) in
     let peeled : records ≡ records_in (n - 1) (before_record bytes) ++ last_record bytes ∷ [] = sym view ∙ peel.is in
     record {
+      whole = whole;
       ends = peel.ends;
       rest = peel.rest;
       room = omega (arith, is, all, peel.ends.room);

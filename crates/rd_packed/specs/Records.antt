@@ -1,5 +1,5 @@
 -- Records, one after the other, read from the end of bytes.
-use Rattle.std.specs.Prelude.{ℕ, zero, suc, ◌≡◌, ◌+◌, ◌-◌, ◌*◌, ◌≤◌, List, [], ◌∷◌, ◌++◌}
+use Rattle.std.specs.Prelude.{ℕ, zero, suc, ◌≡◌, ◌+◌, ◌-◌, ◌*◌, ◌≤◌, List, [], ◌∷◌, ◌++◌, ⊤}
 use Rattle.std.specs.Prelude.{drop, take, length, slice_index_or, sum_by}
 use Rattle.std.specs.Int.{w32, to_le_bytes}
 use Rattle.rd_bytes.specs.Ends.{all_but, end_word}
@@ -44,6 +44,16 @@ pub record EndsInRecord (bytes : List ℕ) : Type 0 where
   pub trailer : 8 ≤ length bytes
   pub room : record_size bytes ≤ length bytes
   pub are : AreChanges (change_count bytes) (last_body bytes)
+
+-- The last n records are there, whole.
+abbrev pub HasLast : ℕ → List ℕ → Type 0
+HasLast zero bytes = ⊤
+HasLast (suc n) bytes = EndsInRecord bytes × HasLast n (before_record bytes)
+
+-- where the last n records begin
+abbrev pub start_of_last : ℕ → List ℕ → ℕ
+start_of_last zero bytes = length bytes
+start_of_last (suc n) bytes = start_of_last n (before_record bytes)
 
 -- The bytes are so many packed records, and no more.
 abbrev pub AreRecords : ℕ → List ℕ → Type 0

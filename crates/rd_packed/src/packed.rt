@@ -2,11 +2,12 @@
 
 ghost use Rattle.std.specs.Prelude.{◌≡◌, ◌+◌, ◌-◌, ◌<◌, ◌≤◌, ◌∷◌, ◌++◌, ◌^◌, [], length, take};
 ghost use Rattle.std.specs.Prelude.{IfErr, IsOk, OnErr, OnOk};
-ghost use Rattle.std.specs.Prelude.{drop};
+ghost use Rattle.std.specs.Prelude.{◌*◌, drop, if◌then◌else◌, nat_lt};
 ghost use Rattle.std.specs.Borrow.{sem};
 ghost use Rattle.rd_bytes.specs.Ends.{end_word};
 ghost use Rattle.rd_packed.specs.ReadingAll.{CountsReadOf};
 ghost use Rattle.rd_packed.specs.Records.{body_size, change_count, last_of_all};
+ghost use Rattle.rd_packed.specs.Records.{start_of_last, HasLast};
 ghost use Rattle.rd_packed.specs.Records.{record_packed, records_packed, trailer, TakesLittle};
 ghost use Rattle.rd_state.specs.PackedChanges.{IsPackable};
 ghost use Rattle.rd_state.specs.Undoing.{undone, CanUndo};
@@ -53,16 +54,33 @@ fn numbers_of(trailer: &[u8]) -> (usize, usize)
     (end_word(trailer, 5) as usize, end_word(trailer, 1) as usize)
 }
 
-// Reads the trailer of the last record. Answers how many bytes its changes take, and how many they
-// are.
-fn read_trailer(tape: &mut Tape) -> (usize, usize)
-    requires { 8 ≤ length tape.old.bytes }
-    ensures size { result.0 ≡ body_size tape.old.bytes }
-    ensures count { result.1 ≡ change_count tape.old.bytes }
+// Reads the trailer of the record that ends at `end`. Answers how many bytes its changes take, and
+// how many they are.
+fn read_trailer(tape: &mut Tape, end: usize) -> (usize, usize)
+    requires trailer { 8 ≤ end }
+    requires there { end ≤ length tape.old.bytes }
+    ensures size { result.0 ≡ body_size (take end tape.old.bytes) }
+    ensures count { result.1 ≡ change_count (take end tape.old.bytes) }
     ensures tape { tape.new ≡ record tape.old { read = tape.old.read + 8 } }
 {
-    let end = tape.len();
     numbers_of(tape.read(end - TRAILER, TRAILER))
+}
+
+// Where the last `n` records begin. It goes from trailer to trailer, the last one first, and reads
+// each once.
+fn start_of_last(tape: &mut Tape, n: usize) -> usize
+    requires { HasLast n tape.old.bytes }
+    ensures start { result ≡ start_of_last n tape.old.bytes }
+    ensures tape { tape.new ≡ record tape.old { read = tape.old.read + 8 * n } }
+{
+    let mut start = tape.len();
+    let mut left = n;
+    while left > 0 {
+        let (size, _) = read_trailer(tape, start);
+        start = start - TRAILER - size;
+        left -= 1;
+    }
+    start
 }
 
 // Puts the changes of a record at the end, and the two numbers behind them.
@@ -196,12 +214,29 @@ impl Packed {
             ≡ self.old.read + length (record_packed (last_of_all self.old.records)) }
         ensures capacity { self.new.capacity ≡ self.old.capacity }
     {
-        let (size, count) = read_trailer(&mut self.tape);
         let end = self.tape.len();
+        let (size, count) = read_trailer(&mut self.tape, end);
         let start = end - TRAILER - size;
         state.back_by(self.tape.read(start, size), count);
         self.tape.cut(start);
         self.records -= 1;
+    }
+
+    /// Keeps the last `n` records, or all where there are fewer, and gives up the others. Where it
+    /// gives up any, it reads the trailers of those that it keeps, and no other byte. It takes no
+    /// memory, and keeps the memory that it has.
+    pub fn keep_last(&mut self, n: usize)
+        ensures records { self.new.records
+            ≡ drop (length self.old.records - n) self.old.records }
+        ensures read { self.new.read
+            ≡ self.old.read + (if nat_lt n (length self.old.records) then 8 * n else 0) }
+        ensures capacity { self.new.capacity ≡ self.old.capacity }
+    {
+        if n < self.records {
+            let start = start_of_last(&mut self.tape, n);
+            self.tape.drop_front(start);
+            self.records = n;
+        }
     }
 
     /// Ends it: nobody will go back by its records.

@@ -90,6 +90,17 @@ impl Tape {
         self.bytes.truncate(n);
     }
 
+    /// Keeps the bytes behind the first `n`, and the memory of the others. It takes no memory, and
+    /// the bytes that it moves to the front do not count as read.
+    pub fn drop_front(&mut self, n: usize)
+        requires { n ≤ length self.old.bytes }
+        ensures { self.new ≡ record self.old { bytes = drop n self.old.bytes } }
+    {
+        let rest = self.bytes.len() - n;
+        self.bytes.copy_within(n.., 0);
+        self.bytes.truncate(rest);
+    }
+
     /// The `n` bytes from `from` on, which are counted as read. It takes no memory.
     pub fn read(&mut self, from: usize, n: usize) -> &[u8]
         requires { from + n ≤ length self.old.bytes }

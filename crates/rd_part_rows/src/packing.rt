@@ -1,8 +1,9 @@
 //! Records as bytes, and the way back by them.
 
-ghost use Rattle.std.specs.Prelude.{◌≡◌, ◌+◌, [], length, IfOk};
+ghost use Rattle.std.specs.Prelude.{◌≡◌, ◌+◌, ◌-◌, ◌<◌, ◌∷◌, ◌++◌, [], drop, length, take};
+ghost use Rattle.std.specs.Prelude.{IfOk, OnOk};
 ghost use Rattle.rd_packed.specs.Records.{last_of_all, records_packed};
-ghost use Rattle.rd_state.specs.Change.{the_change, Fits};
+ghost use Rattle.rd_state.specs.Change.{applied, inverse_of, the_change, Fits};
 ghost use Rattle.rd_state.specs.Undoing.{CanUndo};
 
 use crate::asserts::assert_same;
@@ -120,5 +121,97 @@ fn record_of_data(rt: HostRuntime) -> Result<(), Fail> {
     let undo = recorded(alloc, &mut state, Change::Task { task: 0, change })?;
     let bytes = [0x41, 0, 1, 0, 8, 5, 0, 0, 0, 1, 0, 0, 0];
     packs(&rt, alloc, &mut state, undo, &before, &bytes);
+    Ok(())
+}
+
+// Makes a change, and keeps the record that undoes it, if there is memory.
+fn keeps(
+    alloc: Global,
+    packed: &mut Packed,
+    state: &mut State,
+    change: Change<'_>,
+) -> Result<(), NoMemory>
+    requires { Fits state.old (the_change change) }
+    ensures state { OnOk result (state.new ≡ applied state.old (the_change change.entry)) }
+    ensures records { OnOk result (packed.new.records
+        ≡ packed.old.records ++ (inverse_of state.old (the_change change.entry) ∷ []) ∷ []) }
+{
+    let mut undo = Undo::new(alloc);
+    let mut kept = act(state, &mut undo, change);
+    if kept.is_ok() {
+        kept = if undo.bytes().len() < 1000 {
+            packed.append(undo.changes())
+        } else {
+            Err(NoMemory)
+        };
+    }
+    undo.retire();
+    kept
+}
+
+// Keeps so many of the last records. Answers how many there are then, and how many bytes.
+fn left_of(packed: &mut Packed, n: usize) -> (usize, usize)
+    ensures records { packed.new.records
+        ≡ drop (length packed.old.records - n) packed.old.records }
+{
+    packed.keep_last(n);
+    (packed.len(), packed.bytes())
+}
+
+// Goes back by the last record, which leads to this state.
+fn leads_to(rt: &impl Abort, packed: &mut Packed, state: &mut State, before: &State)
+    requires some { 0 < length packed.old.records }
+    requires fits { CanUndo state.old (last_of_all packed.old.records) }
+    ensures state { state.new ≡ before.now }
+    ensures records { packed.new.records
+        ≡ take (length packed.old.records - 1) packed.old.records }
+{
+    packed.undo_last(state);
+    assert!(rt; state.same(before));
+}
+
+// Keeps the last two of three records and goes back by both, and keeps none of one more.
+fn trims(
+    rt: &impl Abort,
+    alloc: Global,
+    packed: &mut Packed,
+    state: &mut State,
+) -> Result<(), NoMemory>
+    requires { packed.old.records ≡ [] }
+{
+    each_change_is_undone();
+    let (register, value) = (3, 9);
+    let change = TaskChange::SetReg { register, value };
+    assert!(rt; state.task_count() > 0);
+    keeps(alloc, packed, state, Change::Task { task: 0, change })?;
+    let first = state.copy(alloc)?;
+    let change = TaskChange::SetData { bytes: &[0x41] };
+    assert!(rt; state.task_count() > 0);
+    keeps(alloc, packed, state, Change::Task { task: 0, change })?;
+    let second = state.copy(alloc)?;
+    let change = TaskChange::SetData { bytes: &[] };
+    assert!(rt; state.task_count() > 0);
+    keeps(alloc, packed, state, Change::Task { task: 0, change })?;
+    assert_same(rt, (packed.len(), packed.bytes()), (3, 40));
+    assert_same(rt, left_of(packed, 2), (2, 25));
+    assert_same(rt, left_of(packed, 5), (2, 25));
+    leads_to(rt, packed, state, &second);
+    leads_to(rt, packed, state, &first);
+    assert_same(rt, left_of(packed, 5), (0, 0));
+    let change = TaskChange::SetReg { register, value: 7 };
+    assert!(rt; state.task_count() > 0);
+    keeps(alloc, packed, state, Change::Task { task: 0, change })?;
+    assert_same(rt, left_of(packed, 0), (0, 0));
+    Ok(())
+}
+
+#[test]
+fn last_records_are_kept(rt: HostRuntime) -> Result<(), Fail> {
+    let alloc = rt.alloc();
+    let mut state = State::boot(alloc, &Program::builtin(alloc)?)?;
+    let mut packed = Packed::new(alloc);
+    let result = trims(&rt, alloc, &mut packed, &mut state);
+    packed.retire();
+    result?;
     Ok(())
 }

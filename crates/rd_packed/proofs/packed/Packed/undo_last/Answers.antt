@@ -9,45 +9,47 @@ use Rattle.rd_packed.proofs.packed.Packed.undo_last.Goals as goal
 
 pub read_trailer-size-requires : goal.read_trailer-size-requires
 read_trailer-size-requires c =
-    trailer_there c.self.inside.records c.self.inside.tape.bytes c.args.self.now.records (ap (λ (v : PackedView). v.records) c.self.view_is) c.requires.some c.self.invariant
+    let there =
+    trailer_there c.self.inside.records c.self.inside.tape.bytes c.args.self.now.records (ap (λ (v : PackedView). v.records) c.self.view_is) c.requires.some c.self.invariant in
+    record { trailer = omega (arith, there, c.len-end.ensures); there = omega (arith, c.len-end.ensures) }
 
 pub overflow_sub-start-2 : goal.overflow_sub-start-2
 overflow_sub-start-2 c =
     let p = plan c.self.inside.records c.self.inside.tape.bytes c.args.self.now.records c.len-end.result c.read_trailer-size.result.0
     (ap (λ (v : PackedView). v.records) c.self.view_is) c.requires.some c.self.invariant
-    (c.len-end.ensures ∙ ap (λ (t : TapeView). length t.bytes) c.read_trailer-size.ensures.tape) c.read_trailer-size.ensures.size in
+    c.len-end.ensures c.read_trailer-size.ensures.size in
     omega (arith, p.room)
 
 pub read-requires : goal.read-requires
 read-requires c =
     let p = plan c.self.inside.records c.self.inside.tape.bytes c.args.self.now.records c.len-end.result c.read_trailer-size.result.0
     (ap (λ (v : PackedView). v.records) c.self.view_is) c.requires.some c.self.invariant
-    (c.len-end.ensures ∙ ap (λ (t : TapeView). length t.bytes) c.read_trailer-size.ensures.tape) c.read_trailer-size.ensures.size in
-    omega (arith, p.room, c.len-end.ensures)
+    c.len-end.ensures c.read_trailer-size.ensures.size in
+    omega (arith, p.room, c.len-end.ensures, ap (λ (t : TapeView). length t.bytes) c.read_trailer-size.ensures.tape)
 
 pub back_by-requires-clause-are : goal.back_by-requires-clause-are
 back_by-requires-clause-are c =
     let p = plan c.self.inside.records c.self.inside.tape.bytes c.args.self.now.records c.len-end.result c.read_trailer-size.result.0
     (ap (λ (v : PackedView). v.records) c.self.view_is) c.requires.some c.self.invariant
-    (c.len-end.ensures ∙ ap (λ (t : TapeView). length t.bytes) c.read_trailer-size.ensures.tape) c.read_trailer-size.ensures.size in
+    c.len-end.ensures c.read_trailer-size.ensures.size in
     let body : c.read.result.now ≡ last_body c.self.inside.tape.bytes =
     c.read.ensures.bytes ∙ ap (λ (t : TapeView). take c.read_trailer-size.result.0 (drop (c.len-end.result - 8 - c.read_trailer-size.result.0) t.bytes)) c.read_trailer-size.ensures.tape ∙ p.body in
-    rw (c.read_trailer-size.ensures.count, body) p.ends.are
+    rw (c.read_trailer-size.ensures.count, p.whole, body) p.ends.are
 
 pub back_by-requires-clause-fits : goal.back_by-requires-clause-fits
 back_by-requires-clause-fits c =
     let p = plan c.self.inside.records c.self.inside.tape.bytes c.args.self.now.records c.len-end.result c.read_trailer-size.result.0
     (ap (λ (v : PackedView). v.records) c.self.view_is) c.requires.some c.self.invariant
-    (c.len-end.ensures ∙ ap (λ (t : TapeView). length t.bytes) c.read_trailer-size.ensures.tape) c.read_trailer-size.ensures.size in
+    c.len-end.ensures c.read_trailer-size.ensures.size in
     let body : c.read.result.now ≡ last_body c.self.inside.tape.bytes =
     c.read.ensures.bytes ∙ ap (λ (t : TapeView). take c.read_trailer-size.result.0 (drop (c.len-end.result - 8 - c.read_trailer-size.result.0) t.bytes)) c.read_trailer-size.ensures.tape ∙ p.body in
-    rw (c.read_trailer-size.ensures.count, body) (subst (CanUndo c.args.state.now) p.last c.requires.fits)
+    rw (c.read_trailer-size.ensures.count, p.whole, body) (subst (CanUndo c.args.state.now) p.last c.requires.fits)
 
 pub invariant_of-self : goal.invariant_of-self
 invariant_of-self c =
     let p = plan c.self.inside.records c.self.inside.tape.bytes c.args.self.now.records c.len-end.result c.read_trailer-size.result.0
     (ap (λ (v : PackedView). v.records) c.self.view_is) c.requires.some c.self.invariant
-    (c.len-end.ensures ∙ ap (λ (t : TapeView). length t.bytes) c.read_trailer-size.ensures.tape) c.read_trailer-size.ensures.size in
+    c.len-end.ensures c.read_trailer-size.ensures.size in
     let cut : c.cut.new.self.bytes ≡ before_record c.self.inside.tape.bytes =
     ap (λ (t : TapeView). t.bytes) c.cut.ensures
     ∙ ap (take (c.len-end.result - 8 - c.read_trailer-size.result.0))
@@ -58,18 +60,18 @@ pub returns-clause-state : goal.returns-clause-state
 returns-clause-state c =
     let p = plan c.self.inside.records c.self.inside.tape.bytes c.args.self.now.records c.len-end.result c.read_trailer-size.result.0
     (ap (λ (v : PackedView). v.records) c.self.view_is) c.requires.some c.self.invariant
-    (c.len-end.ensures ∙ ap (λ (t : TapeView). length t.bytes) c.read_trailer-size.ensures.tape) c.read_trailer-size.ensures.size in
+    c.len-end.ensures c.read_trailer-size.ensures.size in
     let body : c.read.result.now ≡ last_body c.self.inside.tape.bytes =
     c.read.ensures.bytes ∙ ap (λ (t : TapeView). take c.read_trailer-size.result.0 (drop (c.len-end.result - 8 - c.read_trailer-size.result.0) t.bytes)) c.read_trailer-size.ensures.tape ∙ p.body in
     let read : changes_in c.read_trailer-size.result.1 c.read.result.now ≡ last_record c.self.inside.tape.bytes =
-    ap (λ k. changes_in k c.read.result.now) c.read_trailer-size.ensures.count ∙ ap (changes_in (change_count c.self.inside.tape.bytes)) body in
+    ap (λ k. changes_in k c.read.result.now) (c.read_trailer-size.ensures.count ∙ ap change_count p.whole) ∙ ap (changes_in (change_count c.self.inside.tape.bytes)) body in
     c.back_by.ensures ∙ ap (undone c.args.state.now) (read ∙ sym p.last)
 
 pub returns-clause-records : goal.returns-clause-records
 returns-clause-records c =
     let p = plan c.self.inside.records c.self.inside.tape.bytes c.args.self.now.records c.len-end.result c.read_trailer-size.result.0
     (ap (λ (v : PackedView). v.records) c.self.view_is) c.requires.some c.self.invariant
-    (c.len-end.ensures ∙ ap (λ (t : TapeView). length t.bytes) c.read_trailer-size.ensures.tape) c.read_trailer-size.ensures.size in
+    c.len-end.ensures c.read_trailer-size.ensures.size in
     let cut : c.cut.new.self.bytes ≡ before_record c.self.inside.tape.bytes =
     ap (λ (t : TapeView). t.bytes) c.cut.ensures
     ∙ ap (take (c.len-end.result - 8 - c.read_trailer-size.result.0))
@@ -80,7 +82,7 @@ pub returns-clause-read : goal.returns-clause-read
 returns-clause-read c =
     let p = plan c.self.inside.records c.self.inside.tape.bytes c.args.self.now.records c.len-end.result c.read_trailer-size.result.0
     (ap (λ (v : PackedView). v.records) c.self.view_is) c.requires.some c.self.invariant
-    (c.len-end.ensures ∙ ap (λ (t : TapeView). length t.bytes) c.read_trailer-size.ensures.tape) c.read_trailer-size.ensures.size in
+    c.len-end.ensures c.read_trailer-size.ensures.size in
     omega (
       arith,
       p.taken,
