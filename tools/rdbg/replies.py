@@ -163,10 +163,12 @@ class Cores:
 
 @dataclasses.dataclass(frozen=True)
 class Moves:
-    """How many moves are done, and how many `redo` can make again."""
+    """How many moves are done, how many `redo` can make again, and of how many of those done a
+    record is kept, by which `back` takes them back."""
 
     done: int
     undone: int
+    kept: int
 
 
 @dataclasses.dataclass(frozen=True)
@@ -292,7 +294,7 @@ FORMS: Tuple[Form, ...] = (
     Form("ok at N", Moved, (number,)),
     Form("ok at N met", moved("met"), (number,)),
     Form("ok at N limit", moved("limit"), (number,)),
-    Form("ok at 0 start", lambda: Moved(0, "start")),
+    Form("ok at N start", lambda at: Moved(at, "start"), (number,)),
     Form("ok wheel", WheelDone),
     Form("ok watch N", WatchDone, (number,)),
     Form(
@@ -326,7 +328,7 @@ FORMS: Tuple[Form, ...] = (
         Cores,
         (running, NAMES, number, number),
     ),
-    Form("moves N undone N", Moves, (number, number)),
+    Form("moves N undone N kept N", Moves, (number, number, number)),
     Form("wheel N", WheelHolder, (number,)),
     Form("wheel -", lambda: WheelHolder(None)),
     Form("watches LIST", Watches, (listed(holds),)),

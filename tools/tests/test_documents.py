@@ -41,7 +41,7 @@ class Commands(unittest.TestCase):
 
     def test_forms(self) -> None:
         written: Set[str] = set()
-        for title in ("Moves", "Edits", "Views", "Watches and the wheel"):
+        for title in ("Moves", "Long hunts", "Edits", "Views", "Watches and the wheel"):
             for head in LINES:
                 for row in rows(section("COMMANDS.md", title), head):
                     written |= codes(row[:1])

@@ -168,7 +168,7 @@ class Others(unittest.TestCase):
 
     def test_a_look_needs_the_cores(self) -> None:
         with self.assertRaises(replies.Unreadable):
-            Look.of(0, [read("moves 1 undone 0")])
+            Look.of(0, [read("moves 1 undone 0 kept 1")])
         self.assertEqual(Names(("t0",)).lines(), ["show cores", "show task t0"])
 
 

@@ -109,7 +109,7 @@ class Hints(unittest.TestCase):
             output, hints = both(shell, "forward 3", "step 0", "back 5")
             self.assertEqual(output, ["ok at 3", "no MovesFull", "no TooFar 3"])
             self.assertIn("--moves 1000000", hints[0])
-            self.assertIn("only 3 moves are done", hints[1])
+            self.assertIn("only 3 moves can be taken back", hints[1])
         with example("turns", Limits(history=3)) as shell:
             output, hints = both(shell, "step 0", "step 0")
             self.assertEqual(output, ["ok at 1", "no HistoryFull"])

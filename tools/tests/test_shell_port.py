@@ -64,7 +64,7 @@ class Attached(unittest.TestCase):
             self.assertEqual(
                 said(shell, "step 1")[-1].split(",")[0], "# producer 1 send jobs 0 -> 1"
             )
-            self.assertEqual(said(shell, "show moves"), ["moves 3 undone 0"])
+            self.assertEqual(said(shell, "show moves"), ["moves 3 undone 0 kept 3"])
 
     def test_runs_with_the_wheel_for_as_long(self) -> None:
         with two() as (shell, other):
@@ -169,7 +169,7 @@ class Attached(unittest.TestCase):
                 self.assertNotIn("worker", shell.target.names.tasks)
                 said(shell, "until stuck 5")
                 self.assertIn("worker", shell.target.names.tasks)
-                self.assertEqual(said(shell, "show moves"), ["moves 6 undone 0"])
+                self.assertEqual(said(shell, "show moves"), ["moves 6 undone 0 kept 6"])
 
     def test_edits_by_others_are_saved(self) -> None:
         with two() as (shell, other), tempfile.TemporaryDirectory() as folder:

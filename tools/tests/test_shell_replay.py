@@ -44,7 +44,7 @@ class Save(Folder):
         with example("lost_item") as shell:
             answers = said(shell, *lines, f"save {self.saved}")
             self.assertEqual(answers[-2:], [f"# 8 moves are in {self.saved}", REPLAYED])
-            self.assertEqual(said(shell, "show moves"), ["moves 8 undone 1"])
+            self.assertEqual(said(shell, "show moves"), ["moves 8 undone 1 kept 8"])
             here = shell.target.look()
         commands = self.saved.read_text().splitlines()
         expected = ["step 0", "step 1", "tick", "step 0", "step 1", "step 1", "step 1"]
@@ -111,21 +111,21 @@ class Reload(Folder):
         self.assertEqual(answers[0], f"# 6 of 9 moves are the same on {self.app}; the next one")
         self.assertEqual(answers[1], "#   was  7  core 1  poller 1 jump 0")
         self.assertEqual(answers[2], "#   is   7  core 1  poller 1 end, left core 1 (ended)")
-        self.assertEqual(answers[3:], ["moves 6 undone 1", "ok at 7"])
+        self.assertEqual(answers[3:], ["moves 6 undone 1 kept 6", "ok at 7"])
 
     def test_a_move_that_is_refused(self) -> None:
         with file(self.app) as shell:
             said(shell, "poke reg producer 1 5", "step 0")
             self.edit("producer", "sender")
             answers = said(shell, "reload", "show moves")
-        expected = ["#   is   poke reg producer 1 5: no NoSuch", "moves 0 undone 0"]
+        expected = ["#   is   poke reg producer 1 5: no NoSuch", "moves 0 undone 0 kept 0"]
         self.assertEqual(answers[2:], expected)
 
     def test_files_that_are_wrong(self) -> None:
         self.changes = ("recv jobs max", "recv job max")
         answers = self.reload("show moves")
         self.assertRegex(answers[0], r"^# .*app\.json:6:\d+: task worker, instruction 0: ")
-        self.assertEqual(answers[1:], ["# the target stays as it is", "moves 9 undone 0"])
+        self.assertEqual(answers[1:], ["# the target stays as it is", "moves 9 undone 0 kept 9"])
         self.app.unlink()
         with example("builtin") as shell, mock.patch.object(shell, "source", None):
             self.assertIn("`rdbg sh FILE`", said(shell, "reload")[0])
@@ -137,7 +137,7 @@ class Reload(Folder):
             with mock.patch("rdbg.shell.replay.in_chunks", side_effect=Interrupted):
                 answers = said(shell, "reload", "show moves")
             stopped = f"# stopped by Ctrl-C, at 9: the target is that of {self.app} as it was read"
-            self.assertEqual(answers, [f"{stopped} before", "moves 9 undone 0"])
+            self.assertEqual(answers, [f"{stopped} before", "moves 9 undone 0 kept 9"])
 
     def test_it_is_said_how_far_it_is(self) -> None:
         with file(self.app) as shell, mock.patch("rdbg.shell.shell.MOMENT", 0.0):
@@ -165,7 +165,7 @@ class Places(unittest.TestCase):
             self.assertEqual([row.split()[1] for row in answers[3:5]], ["27", "28"])
             self.assertEqual(answers[5], "# at 28; `redo` can make 2 more")
             self.assertEqual(len(said(shell, "moves all")), 29)
-            self.assertEqual(said(shell, "show moves"), ["moves 28 undone 2"])
+            self.assertEqual(said(shell, "show moves"), ["moves 28 undone 2 kept 28"])
 
     def test_goto(self) -> None:
         with example("lost_item") as shell:
@@ -181,7 +181,7 @@ class Places(unittest.TestCase):
             self.assertRegex(
                 answers[1], r"^# that takes \d+ places of the history, and 6\d\d are left$"
             )
-            self.assertEqual(answers[2], "moves 100 undone 0")
+            self.assertEqual(answers[2], "moves 100 undone 0 kept 100")
 
 
 if __name__ == "__main__":

@@ -78,7 +78,7 @@ class AtATerminal(unittest.TestCase):
         place = int(answer.split()[-1])
         terminal.expect(PROMPT)
         self.assertGreater(place, 0)
-        self.assertIn(f"moves {place} undone 0\n", terminal.ask("show moves"))
+        self.assertIn(f"moves {place} undone 0 kept {place}\n", terminal.ask("show moves"))
         self.assertIn("ok at 0\n", terminal.ask("goto 0"))
         terminal.type("until! tick = 400000 900000\n")
         terminal.expect("> until tick = 400000 ")

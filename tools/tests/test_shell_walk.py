@@ -96,7 +96,7 @@ class Pieces(unittest.TestCase):
             answers = said(shell, "step 0", "until tick = 99 20", "show moves", "until tick = 9 99")
             self.assertEqual(answers[:2], ["ok at 1", "no MovesFull"])
             self.assertEqual(answers[2], "# nothing is made; what was tried, `redo` can make again")
-            self.assertEqual(answers[3:], ["moves 1 undone 9", "no MovesFull"])
+            self.assertEqual(answers[3:], ["moves 1 undone 9 kept 1", "no MovesFull"])
 
 
 class Interrupts(unittest.TestCase):
@@ -116,7 +116,7 @@ class Interrupts(unittest.TestCase):
             with mock.patch.object(shell.target, "tell", answer):
                 answers = said(shell, "forward 100")
             self.assertEqual(answers, ["", "# stopped by Ctrl-C, at 6"])
-            self.assertEqual(said(shell, "show moves", "back 6"), ["moves 6 undone 0", "ok at 0"])
+            self.assertEqual(said(shell, "show moves", "back 6"), ["moves 6 undone 0 kept 6", "ok at 0"])
 
     def test_a_goal_goes_back(self) -> None:
         with example("turns") as shell:

@@ -245,7 +245,7 @@ class Moves(unittest.TestCase):
                     output, hints = both(shell, line)
                     self.assertEqual((len(output), hints), (1, []))
                     self.assertTrue(output[0].startswith("# "), output)
-            self.assertEqual(said(shell, "show moves"), ["moves 0 undone 0"])
+            self.assertEqual(said(shell, "show moves"), ["moves 0 undone 0 kept 0"])
 
     def test_what_a_goal_names_is_looked_up(self) -> None:
         with example("lost_item") as shell:

@@ -191,6 +191,7 @@ request_good app there asked.Forward = λ count _. tt
 request_good app there asked.Redo = λ count _. tt
 request_good app there asked.Until = λ condition holds count _. holds
 request_good app there asked.BackUntil = λ condition holds. holds
+request_good app there asked.Trim = λ keep _. tt
 request_good app there (asked.Poke k) = poke_good app there k
 
 search_good : (app : AppView) → (k : SearchKeyword) → RowGood app (λ (found : ℕ × Search). IsWatch found.0) (search_row k)

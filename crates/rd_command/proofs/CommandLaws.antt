@@ -271,6 +271,7 @@ request_again asked.Forward = λ left formed. found_first (Ask asked.Forward) le
 request_again asked.Redo = λ left formed. found_first (Ask asked.Redo) left _ formed
 request_again asked.Until = λ left formed. found_first (Ask asked.Until) left _ formed
 request_again asked.BackUntil = λ left formed. found_first (Ask asked.BackUntil) left _ formed
+request_again asked.Trim = λ left formed. found_first (Ask asked.Trim) left _ formed
 request_again (asked.Poke k) = poke_again k
 
 search_again : (k : SearchKeyword) → IsFound (AskByWatch k)

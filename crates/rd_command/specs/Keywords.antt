@@ -210,6 +210,8 @@ request_row asked.Until =
 request_row asked.BackUntil =
     Spelled (spelled (codes "back") (codes "until" ∷ []) (WithCondition []))
     (λ condition. request.BackUntil condition)
+request_row asked.Trim =
+    Spelled (spelled (codes "trim") [] (Plain (Number ∷ []))) (λ keep. request.Trim keep)
 request_row (asked.Poke of) = edit_row of
 
 -- what asks it by a watch: the watch, and what is looked for
@@ -307,5 +309,5 @@ keywords =
     ∷ Ask (asked.Poke poked.Register) ∷ Ask (asked.Poke poked.Data) ∷ Ask (asked.Poke poked.Pc)
     ∷ Ask (asked.Poke poked.Value) ∷ Ask (asked.Poke poked.Bits) ∷ Ask (asked.Poke poked.Item)
     ∷ Ask (asked.Poke poked.Byte)
-    ∷ TakeWheel ∷ GiveWheel ∷ Watch ∷ Unwatch
+    ∷ TakeWheel ∷ GiveWheel ∷ Ask asked.Trim ∷ Watch ∷ Unwatch
     ∷ []

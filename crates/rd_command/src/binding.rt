@@ -207,6 +207,9 @@ fn read_request<'a>(
         RequestKeyword::BackUntil => Ok(Request::BackUntil {
             condition: read_condition(reader)?,
         }),
+        RequestKeyword::Trim => Ok(Request::Trim {
+            keep: reader.number()? as usize,
+        }),
         RequestKeyword::Poke(keyword) => {
             let edit = read_edit(keyword, reader)?;
             Ok(Request::Go {

@@ -135,5 +135,6 @@ pub fn own(request: &Request<Digits<'_>>) -> Request
         Request::BackUntil { condition } => Request::BackUntil {
             condition: *condition,
         },
+        Request::Trim { keep } => Request::Trim { keep: *keep },
     }
 }

@@ -67,6 +67,7 @@ pub enum RequestKeyword {
     Redo,
     Until,
     BackUntil,
+    Trim,
     Poke(EditKeyword),
 }
 
@@ -178,7 +179,7 @@ pub(crate) type Longer<'a> = (&'a str, Operands<'a>, Keyword);
 pub(crate) type Verb<'a> = (&'a str, &'a [Alone<'a>], &'a [Longer<'a>]);
 
 /// Each keyword of a command, by its first word. What is asked for most comes first.
-pub(crate) static KEYWORDS: [Verb<'static>; 11] = [
+pub(crate) static KEYWORDS: [Verb<'static>; 12] = [
     ("step", &[(Plain(&[CORE]), Ask(RequestKeyword::Step))], &[]),
     ("tick", &[(Plain(&[]), Ask(RequestKeyword::Tick))], &[]),
     (
@@ -271,6 +272,11 @@ pub(crate) static KEYWORDS: [Verb<'static>; 11] = [
             ("take", Plain(&[]), Keyword::TakeWheel),
             ("give", Plain(&[]), Keyword::GiveWheel),
         ],
+    ),
+    (
+        "trim",
+        &[(Plain(&[NUMBER]), Ask(RequestKeyword::Trim))],
+        &[],
     ),
     ("watch", &[(WithCondition(&[]), Keyword::Watch)], &[]),
     ("unwatch", &[(Plain(&[NUMBER]), Keyword::Unwatch)], &[]),

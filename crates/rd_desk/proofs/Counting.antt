@@ -16,8 +16,10 @@ use Rattle.rd_moves.specs.Requests.{PlainRequest, request_for}
 use Rattle.rd_timeline.specs.Answers.{answer_to}
 use Rattle.rd_timeline.specs.History.{state_after}
 use Rattle.rd_timeline.specs.Policy.{state_or}
-use Rattle.rd_timeline.specs.Runs.{Leaves, Moves, Refuses, answered, back_at, moved_on, moves_after}
+use Rattle.rd_timeline.specs.Runs.{Leaves, Moves, Refuses, answered, back_at, kept, moved_on, moves_after}
 use Rattle.rd_timeline.proofs.Offered.{refused_request, went_on}
+use Rattle.rd_command.specs.declared.view.Overview.TheVariants as overview
+use Rattle.rd_command.specs.declared.view.View.TheVariants as view
 use Rattle.rd_command.specs.declared.binding.Bound.{Bound}
 use Rattle.rd_command.specs.declared.binding.Bound.TheVariants as bound
 use Rattle.rd_reply.specs.declared.reply.Reply.TheVariants as short
@@ -25,7 +27,7 @@ use Rattle.rd_reply.specs.Replies.{answer_reply}
 use Rattle.rd_desk.specs.declared.reply.Reply.{Reply}
 use Rattle.rd_desk.specs.declared.reply.Reply.TheVariants.{Told}
 use Rattle.rd_desk.specs.Debugger.{Debugger, is_holder, own_watches}
-use Rattle.rd_desk.specs.Laws.{BackGivesTheTargetBack, IsMade, RefusedCommandsChangeNothing}
+use Rattle.rd_desk.specs.Laws.{BackGivesTheTargetBack, RefusedCommandsChangeNothing, TrimmingIsSeenInMovesAlone}
 use Rattle.rd_desk.specs.Serving.{after_bound, after_dropped, after_kept, after_request, after_search, refused, reply_to_bound, reply_to_dropped, reply_to_giver, reply_to_kept, reply_to_request, reply_to_search}
 use Rattle.rd_desk.specs.Sessions.{watch_at}
 use Rattle.rd_desk.proofs.CommandedLaws.{commanded}
@@ -43,15 +45,15 @@ told_done (given.Done other) at is = cc
 told_done (given.Ended other end) at is = absurd cc
 told_done (given.Refused refusal) at is = absurd cc
 
-same_request : (d : Debugger) (asked : PlainRequest) (refusal : Refusal) → IsMade d → reply_to_request d asked ≡ refused refusal → after_request d asked ≡ d
-same_request d asked refusal made is =
+same_request : (d : Debugger) (asked : PlainRequest) (refusal : Refusal) → reply_to_request d asked ≡ refused refusal → after_request d asked ≡ d
+same_request d asked refusal is =
     ap (λ (moves : Moves). record d { moves = moves })
     (refused_request d.app.runs d.most_moves d.moves asked refusal (told_refused (answer_to d.app.runs d.most_moves d.moves asked) refusal is))
 
-same_search : (d : Debugger) (watch : Option Condition) (search : Search) (refusal : Refusal) → IsMade d → reply_to_search d watch search ≡ refused refusal
+same_search : (d : Debugger) (watch : Option Condition) (search : Search) (refusal : Refusal) → reply_to_search d watch search ≡ refused refusal
     → after_search d watch search ≡ d
-same_search d None search refusal made is = refl
-same_search d (Some condition) search refusal made is = same_request d (request_for search condition) refusal made is
+same_search d None search refusal is = refl
+same_search d (Some condition) search refusal is = same_request d (request_for search condition) refusal is
 
 same_given : (d : Debugger) (who : ℕ) (b : Bool) (refusal : Refusal) → reply_to_giver b ≡ refused refusal
     → record d { wheel = cond b None d.wheel } ≡ d
@@ -68,19 +70,19 @@ same_dropped : (d : Debugger) (who number : ℕ) (watch : Option Condition) (ref
 same_dropped d who number None refusal is = refl
 same_dropped d who number (Some condition) refusal is = absurd cc
 
-same_bound : (d : Debugger) (who : ℕ) (made : Bound) (refusal : Refusal) → IsMade d → reply_to_bound d who made ≡ refused refusal → after_bound d who made ≡ d
-same_bound d who (bound.Asks asked) refusal made is = same_request d asked refusal made is
-same_bound d who (bound.AsksByWatch watch search) refusal made is = same_search d (watch_at (own_watches d who) watch) search refusal made is
-same_bound d who bound.TakesWheel refusal made is = absurd cc
-same_bound d who bound.GivesWheel refusal made is = same_given d who (is_holder d.wheel who) refusal is
-same_bound d who (bound.Keeps condition) refusal made is = same_kept d who condition (position is_none (own_watches d who)) refusal is
-same_bound d who (bound.Drops number) refusal made is = same_dropped d who number (watch_at (own_watches d who) number) refusal is
-same_bound d who (bound.Looks view) refusal made is = refl
+same_bound : (d : Debugger) (who : ℕ) (made : Bound) (refusal : Refusal) → reply_to_bound d who made ≡ refused refusal → after_bound d who made ≡ d
+same_bound d who (bound.Asks asked) refusal is = same_request d asked refusal is
+same_bound d who (bound.AsksByWatch watch search) refusal is = same_search d (watch_at (own_watches d who) watch) search refusal is
+same_bound d who bound.TakesWheel refusal is = absurd cc
+same_bound d who bound.GivesWheel refusal is = same_given d who (is_holder d.wheel who) refusal is
+same_bound d who (bound.Keeps condition) refusal is = same_kept d who condition (position is_none (own_watches d who)) refusal is
+same_bound d who (bound.Drops number) refusal is = same_dropped d who number (watch_at (own_watches d who) number) refusal is
+same_bound d who (bound.Looks view) refusal is = refl
 
 pub refused_commands_change_nothing : RefusedCommandsChangeNothing
-refused_commands_change_nothing d who command refusal made is =
+refused_commands_change_nothing d who command refusal is =
     commanded (λ (after : Debugger) (reply : Reply). reply ≡ refused refusal → after ≡ d) d who command (λ holder _. refl) (λ _. refl)
-    (λ bound _ _. same_bound d who bound refusal made) is
+    (λ bound _ _. same_bound d who bound refusal) is
 
 -- ---- back
 
@@ -96,15 +98,24 @@ back_again done true before moves refusal is same = same
 back_again done false before moves refusal is same = absurd cc
 
 pub back_gives_the_target_back : BackGivesTheTargetBack
-back_gives_the_target_back d move at made is =
+back_gives_the_target_back d move at within is =
     let told : answer_to d.app.runs d.most_moves d.moves (request.Go move) ≡ given.Done at = told_done (answer_to d.app.runs d.most_moves d.moves (request.Go move)) at is in
     let longer : Moves = moved_on d.moves move in
     let went : answered d.app.runs d.most_moves d.moves (request.Go move) ≡ longer =
     went_on d.app.runs d.most_moves d.moves move at told in
-    let there : nat_le 1 (length longer.done) ≡ true = le-leb 1 (length longer.done) (omega (arith, length_push d.moves.done move)) in
+    let there : nat_le 1 (kept longer) ≡ true = le-leb 1 (kept longer) (omega (arith, length_push d.moves.done move, within)) in
     let back : (answered d.app.runs d.most_moves longer (request.Back 1)).done ≡ d.moves.done =
-    back_again d.moves.done (nat_le 1 (length longer.done)) longer (back_at longer (length longer.done - 1)) (TooFar (length longer.done)) there
+    back_again d.moves.done (nat_le 1 (kept longer)) longer (back_at longer (length longer.done - 1)) (TooFar (kept longer)) there
     (taken_back d.moves.done move) in
     let both : (answered d.app.runs d.most_moves (answered d.app.runs d.most_moves d.moves (request.Go move)) (request.Back 1)).done ≡ d.moves.done =
     ap (λ (moves : Moves). (answered d.app.runs d.most_moves moves (request.Back 1)).done) went ∙ back in
     ap (λ (done : List PlainMove). state_or (boot_of d.app.runs) (state_after d.app.runs done)) both
+
+-- ---- trimming
+
+pub trimming_is_seen_in_moves_alone : TrimmingIsSeenInMovesAlone
+trimming_is_seen_in_moves_alone d who keep (view.Thing kind number) other = refl
+trimming_is_seen_in_moves_alone d who keep view.Cores other = refl
+trimming_is_seen_in_moves_alone d who keep (view.Overview overview.Moves) other = absurd (other refl)
+trimming_is_seen_in_moves_alone d who keep (view.Overview overview.Wheel) other = refl
+trimming_is_seen_in_moves_alone d who keep (view.Overview overview.Watches) other = refl

@@ -20,7 +20,7 @@ abbrev pub opening : AppView → ℕ → Debugger
 opening app most_moves = record {
   app = app;
   most_moves = most_moves;
-  moves = record { done = []; undone = [] };
+  moves = record { done = []; undone = []; base = 0 };
   wheel = None;
   sessions = [];
 }

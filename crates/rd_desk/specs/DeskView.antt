@@ -3,8 +3,8 @@ use Rattle.std.specs.Prelude.{ℕ, ◌≡◌, ◌+◌, ◌≤◌, List, [], ◌�
 use Rattle.rd_app.specs.Application.{Application}
 use Rattle.rd_state.specs.Change.{Change}
 use Rattle.rd_state.specs.Snapshot.{Snapshot}
-use Rattle.rd_moves.specs.Moves.{PlainMove}
 use Rattle.rd_timeline.specs.History.{state_after, CanRewind, Retraces}
+use Rattle.rd_timeline.specs.Runs.{Moves, kept}
 use Rattle.rd_desk.specs.declared.entry.Entry.{Entry}
 use Rattle.rd_desk.specs.declared.entry.Event.{Event}
 use Rattle.rd_desk.specs.declared.entry.Receipt.{Receipt}
@@ -31,23 +31,25 @@ pub record RoomedDesk : Type 0 where
 abbrev pub used : DeskView → ℕ
 used d = length d.history + present_count d.debugger.sessions
 
--- There is a record for each of these moves. Going back from the state by the last ones, as many as
--- one likes, can be done, and gives the whole state that the moves before them gave.
-pub record LeadsBack (app : Application) (moves : List PlainMove) (s : Snapshot) : Type 0 where
+-- There is a record for each of the moves done from the base on. Going back from the state by the
+-- last ones, as many as one likes, can be done, and gives the whole state that the moves before
+-- them gave.
+pub record LeadsBack (app : Application) (moves : Moves) (s : Snapshot) : Type 0 where
   pub records : List (List Change)
-  pub each : length records ≡ length moves
+  pub base : moves.base ≤ length moves.done
+  pub each : length records ≡ kept moves
   pub can : CanRewind s records
-  pub back : Retraces app moves records s
+  pub back : Retraces app moves.base moves.done records s
 
 -- The history is one of the sequential debugger, and each session that is present has a place for
--- its departure. The moves done, and not undone, give the target from the start, and a record of
--- each leads back from it. There are as many names as things in it.
+-- its departure. The moves done, and not undone, give the target from the start, and the
+-- records of the last ones, from the base on, lead back from it. There are as many names as things in it.
 pub record IsKept (d : DeskView) : Type 0 where
   pub legal : IsLegal d.history d.debugger
   pub within : used d ≤ d.most_entries
   pub joins : length d.debugger.sessions ≤ MAX_JOINS
   pub leads : state_after d.debugger.app.runs d.debugger.moves.done ≡ Ok (target_of d.debugger)
-  pub leads_back : LeadsBack d.debugger.app.runs d.debugger.moves.done (target_of d.debugger)
+  pub leads_back : LeadsBack d.debugger.app.runs d.debugger.moves (target_of d.debugger)
   pub paired : AreNamesOf (target_of d.debugger) d.debugger.app.names
 
 -- the entry of an event

@@ -1,10 +1,12 @@
 -- What one may count on, whatever is asked by whom.
-use Rattle.std.specs.Prelude.{ℕ, ◌≡◌, ◌≢◌, ◌<◌, List, None, Ok, length, slice_get}
+use Rattle.std.specs.Prelude.{ℕ, ◌≡◌, ◌≢◌, ◌<◌, ◌≤◌, List, None, length, slice_get}
 use Rattle.rd_refusal.specs.declared.refusal.Refusal.{Refusal}
 use Rattle.rd_moves.specs.Moves.{PlainMove}
-use Rattle.rd_moves.specs.declared.request.Request.TheVariants.{Go, Back}
-use Rattle.rd_timeline.specs.History.{state_after}
+use Rattle.rd_moves.specs.declared.request.Request.TheVariants.{Go, Back, Trim}
 use Rattle.rd_command.specs.Commands.{CommandView}
+use Rattle.rd_command.specs.declared.view.Overview.TheVariants as overview
+use Rattle.rd_command.specs.declared.view.View.{View}
+use Rattle.rd_command.specs.declared.view.View.TheVariants.{Overview}
 use Rattle.rd_reply.specs.declared.reply.Reply.TheVariants as short
 use Rattle.rd_desk.specs.declared.entry.Entry.{Entry}
 use Rattle.rd_desk.specs.declared.entry.Event.{Event}
@@ -14,26 +16,31 @@ use Rattle.rd_desk.specs.Debugger.{Debugger, own_watches, target_of, watching}
 use Rattle.rd_desk.specs.DeskView.{DeskView, Does}
 use Rattle.rd_desk.specs.Legal.{IsLegal}
 use Rattle.rd_desk.specs.Serving.{after_command, after_request, refused, reply_of}
-use Rattle.rd_desk.specs.Serving.{reply_to_command, reply_to_request, served, MayAct}
+use Rattle.rd_desk.specs.Serving.{reply_to_command, reply_to_request, served, view_of}
+use Rattle.rd_desk.specs.Serving.{MayAct}
 use Rattle.rd_desk.specs.Sessions.{IsPresent, WatchesView}
 use Rattle.rd_desk.specs.Wheel.{holder_after}
 
--- The moves done, and not undone, give the target from the start.
-abbrev pub IsMade : Debugger → Type 0
-IsMade d = state_after d.app.runs d.moves.done ≡ Ok (target_of d)
-
--- A refused command changes nothing: no move done or undone, no wheel and no watch, so no target.
+-- A refused command changes nothing: no move done or undone, no base, no wheel and no watch, so no
+-- target.
 abbrev pub RefusedCommandsChangeNothing : Type 0
 RefusedCommandsChangeNothing =
-    (d : Debugger) (who : ℕ) (command : CommandView) (refusal : Refusal) → IsMade d
+    (d : Debugger) (who : ℕ) (command : CommandView) (refusal : Refusal)
     → reply_to_command d who command ≡ refused refusal → after_command d who command ≡ d
 
--- Taking back a move that was made, an edit among them, gives back the whole target before it.
+-- Taking back a move that was made, an edit among them, gives back the whole target before it,
+-- whatever was trimmed before.
 abbrev pub BackGivesTheTargetBack : Type 0
 BackGivesTheTargetBack =
-    (d : Debugger) (move : PlainMove) (at : ℕ) → IsMade d
+    (d : Debugger) (move : PlainMove) (at : ℕ) → d.moves.base ≤ length d.moves.done
     → reply_to_request d (Go move) ≡ Told (short.Done at)
     → target_of (after_request (after_request d (Go move)) (Back 1)) ≡ target_of d
+
+-- Trimming is seen in `show moves`, and in nothing else that is shown.
+abbrev pub TrimmingIsSeenInMovesAlone : Type 0
+TrimmingIsSeenInMovesAlone =
+    (d : Debugger) (who keep : ℕ) (view : View) → view ≢ Overview overview.Moves
+    → view_of (after_request d (Trim keep)) who view ≡ view_of d who view
 
 -- Who has the wheel is the last who took it, and neither gave it nor left: the history alone tells.
 abbrev pub TheHolderTookTheWheelLast : Type 0

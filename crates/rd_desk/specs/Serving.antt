@@ -89,7 +89,7 @@ reply_to_dropped number (Some condition) = Told (Watch number)
 -- what is shown of the debugger: of this target, the moves, the wheel, and a session's own watches
 abbrev pub overview_in : Snapshot → runs.Moves → Option ℕ → WatchesView → Overview → Reply
 overview_in s moves wheel watches overview.Moves =
-    Told (Moves (length moves.done) (length moves.undone))
+    Told (Moves (length moves.done) (length moves.undone) (runs.kept moves))
 overview_in s moves wheel watches overview.Wheel = Told (Holder wheel)
 overview_in s moves wheel watches overview.Watches =
     shown (watches_text (watches_shown s watches))

@@ -2,6 +2,7 @@
 
 ghost use Rattle.std.specs.Prelude.{◌≡◌, ◌≢◌, ◌↔◌, ◌+◌, ◌<◌, ◌≤◌, ◌∷◌, ◌++◌, [], length};
 ghost use Rattle.std.specs.Prelude.{IfErr, IfOk, IsErrOf, IsTrue, OnErr, OnOk};
+ghost use Rattle.rd_timeline.specs.Runs.{kept};
 ghost use Rattle.rd_command.specs.Bindings.{known_of};
 ghost use Rattle.rd_desk.specs.declared.entry.Event.TheVariants.{Enter, Ask, Leave};
 ghost use Rattle.rd_desk.specs.Debugger.{opening, target_of};
@@ -209,9 +210,9 @@ impl Desk {
         self.machine.undone()
     }
 
-    /// How many moves have a record kept: each one that is done.
+    /// How many moves have a record kept, by which they can be taken back: the last ones done.
     pub fn kept(&self) -> usize
-        ensures { result ≡ length self.now.desk.debugger.moves.done }
+        ensures { result ≡ kept self.now.desk.debugger.moves }
     {
         self.machine.kept()
     }

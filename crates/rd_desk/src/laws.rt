@@ -2,6 +2,7 @@
 
 ghost use Rattle.rd_desk.specs.Laws.{BackGivesTheTargetBack, RefusedCommandsChangeNothing};
 ghost use Rattle.rd_desk.specs.Laws.{TheHistoryStays, TheHolderTookTheWheelLast};
+ghost use Rattle.rd_desk.specs.Laws.{TrimmingIsSeenInMovesAlone};
 ghost use Rattle.rd_desk.specs.Laws.{WatchesAreDroppedByTheirSession, WatchesAreSeenByTheirSession};
 
 /// A command that is refused changes nothing.
@@ -12,6 +13,11 @@ pub fn refused_commands_change_nothing()
 /// Taking back a move gives back the whole target before it.
 pub fn back_gives_the_target_back()
     ensures { BackGivesTheTargetBack }
+{}
+
+/// Trimming is seen in `show moves`, and in nothing else that is shown.
+pub fn trimming_is_seen_in_moves_alone()
+    ensures { TrimmingIsSeenInMovesAlone }
 {}
 
 /// Who has the wheel is the last who took it, and neither gave it nor left.

@@ -7,7 +7,7 @@ ghost use Rattle.rd_command.specs.declared.binding.Bound.TheVariants as bound;
 ghost use Rattle.rd_condition.specs.Conditions.{IsConditionOf};
 ghost use Rattle.rd_moves.specs.Requests.{IsRequestOf};
 ghost use Rattle.rd_timeline.specs.History.{state_after};
-ghost use Rattle.rd_timeline.specs.Runs.{may_make_moves};
+ghost use Rattle.rd_timeline.specs.Runs.{kept, may_make_moves};
 ghost use Rattle.rd_desk.specs.Debugger.{freed, is_holder, opening, other_holder, own_watches};
 ghost use Rattle.rd_desk.specs.Debugger.{target_of, watching};
 ghost use Rattle.rd_desk.specs.DeskView.{LeadsBack};
@@ -121,13 +121,12 @@ impl Machine {
         })
     }
 
-    /// The moves done, and not undone, give the target from the start, and a record of each leads
-    /// back from it. There are as many names as things in it.
+    /// The moves done, and not undone, give the target from the start, and the records of the last
+    /// ones, from the base on, lead back from it. There are as many names as things in it.
     pub fn keeps(&self)
         ensures leads { state_after self.now.app.runs self.now.moves.done
             ≡ Ok (target_of self.now) }
-        ensures leads_back { LeadsBack self.now.app.runs self.now.moves.done
-            (target_of self.now) }
+        ensures leads_back { LeadsBack self.now.app.runs self.now.moves (target_of self.now) }
         ensures paired { AreNamesOf (target_of self.now) self.now.app.names }
     {
         self.timeline.keeps();
@@ -190,9 +189,9 @@ impl Machine {
         self.timeline.left()
     }
 
-    /// How many moves have a record kept: each one that is done.
+    /// How many moves have a record kept, by which they can be taken back: the last ones done.
     pub fn kept(&self) -> usize
-        ensures { result ≡ length self.now.moves.done }
+        ensures { result ≡ kept self.now.moves }
     {
         self.timeline.keeps();
         self.timeline.kept()
@@ -365,6 +364,7 @@ impl Machine {
             Overview::Moves => Ok(told(Short::Moves {
                 done: self.timeline.at(),
                 undone: self.timeline.left(),
+                kept: self.kept(),
             })),
             Overview::Wheel => Ok(told(Short::Holder { holder: self.wheel })),
             Overview::Watches => self.watches(who),

@@ -1,5 +1,6 @@
 -- What is told of a room at one moment.
 use Rattle.std.specs.Prelude.{length}
+use Rattle.rd_timeline.specs.Runs.{kept}
 use Rattle.rd_desk.specs.DeskView.{DeskView}
 use Rattle.rd_desk.specs.Sessions.{watch_count}
 use Rattle.rd_hall.specs.declared.look.Look.{Look}
@@ -9,7 +10,7 @@ abbrev pub look_of : DeskView → Look
 look_of d = record {
   done = length d.debugger.moves.done;
   undone = length d.debugger.moves.undone;
-  kept = length d.debugger.moves.done;
+  kept = kept d.debugger.moves;
   wheel = d.debugger.wheel;
   watches = watch_count d.debugger.sessions;
   entries = length d.history;

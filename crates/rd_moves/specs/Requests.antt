@@ -1,11 +1,11 @@
 -- Requests: what each names of an application.
-use Rattle.std.specs.Prelude.{ℕ, ◌<◌, List}
+use Rattle.std.specs.Prelude.{ℕ, List}
 use Rattle.rd_app.specs.Application.{Application}
 use Rattle.rd_condition.specs.declared.condition.Condition.{Condition}
 use Rattle.rd_condition.specs.Conditions.{IsConditionOf}
 use Rattle.rd_moves.specs.declared.request.Request as requests
 use Rattle.rd_moves.specs.declared.request.Request.TheVariants.{Go, Back, Forward, Redo, Until}
-use Rattle.rd_moves.specs.declared.request.Request.TheVariants.{BackUntil}
+use Rattle.rd_moves.specs.declared.request.Request.TheVariants.{BackUntil, Trim}
 use Rattle.rd_moves.specs.declared.request.Search.{Search}
 use Rattle.rd_moves.specs.declared.request.Search.TheVariants as search
 use Rattle.rd_moves.specs.Moves.{IsMoveOf}
@@ -22,6 +22,7 @@ IsRequestOf app (Forward count) = Unit {0}
 IsRequestOf app (Redo count) = Unit {0}
 IsRequestOf app (Until condition count) = IsConditionOf app condition
 IsRequestOf app (BackUntil condition) = IsConditionOf app condition
+IsRequestOf app (Trim keep) = Unit {0}
 
 -- the search for a condition, as a request
 abbrev pub request_for : Search → Condition → PlainRequest

@@ -9,7 +9,8 @@ pub enum SearchEnd {
     Met,
     /// It held after none of the moves, of which there may be no more.
     Limit,
-    /// It holds at no earlier place, so that the search went back to the start.
+    /// It holds at none of the places that records lead back to, so that the search went back to
+    /// the first of them.
     Start,
 }
 

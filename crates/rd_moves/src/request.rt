@@ -21,8 +21,10 @@ pub enum Request<B: Drop = Bytes> {
     Redo { count: Count },
     /// Make moves by policy until the condition holds, so many at the most.
     Until { condition: Condition, count: Count },
-    /// Go back to where the condition held, or to the start.
+    /// Go back to where the condition held, or as far as records are kept.
     BackUntil { condition: Condition },
+    /// Keep the records of the last moves, so many, and give up those before.
+    Trim { keep: usize },
 }
 
 /// What one looks for, on or back, where the condition is known otherwise.
@@ -30,7 +32,7 @@ pub enum Request<B: Drop = Bytes> {
 pub enum Search {
     /// Moves by policy until it holds, so many at the most.
     Until { count: Count },
-    /// Back to where it held, or to the start.
+    /// Back to where it held, or as far as records are kept.
     BackUntil,
 }
 

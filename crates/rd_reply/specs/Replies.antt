@@ -83,16 +83,18 @@ refusal_text Full = codes "Full"
 abbrev pub done_text : ℕ → List ℕ
 done_text at = codes "ok at " ++ decimal at
 
--- how a search for a condition ended: where it holds, at the most moves that it might make, or at
--- the start
+-- how a search for a condition ended: where it holds, at the most moves that it might make, or as
+-- far back as records are kept
 abbrev pub end_text : SearchEnd → List ℕ
 end_text Met = codes "met"
 end_text Limit = codes "limit"
 end_text Start = codes "start"
 
--- how many moves are done, and how many are undone
-abbrev pub moves_text : ℕ → ℕ → List ℕ
-moves_text done undone = codes "moves " ++ decimal done ++ codes " undone " ++ decimal undone
+-- how many moves are done, how many are undone, and of how many of those done a record is kept
+abbrev pub moves_text : ℕ → ℕ → ℕ → List ℕ
+moves_text done undone kept =
+    codes "moves " ++ decimal done ++ codes " undone " ++ decimal undone
+    ++ codes " kept " ++ decimal kept
 
 -- which session has the wheel; `-` for nobody
 abbrev pub number_or_dash : Option ℕ → List ℕ
@@ -115,7 +117,7 @@ answer_reply (given.Refused refusal) = answer.Refused refusal
 abbrev pub reply_text : Reply → List ℕ
 reply_text (answer.Done at) = done_text at
 reply_text (answer.Ended at end) = done_text at ++ codes " " ++ end_text end
-reply_text (answer.Moves done undone) = moves_text done undone
+reply_text (answer.Moves done undone kept) = moves_text done undone kept
 reply_text answer.Wheel = codes "ok wheel"
 reply_text (answer.Holder holder) = holder_text holder
 reply_text (answer.Watch number) = watch_text number

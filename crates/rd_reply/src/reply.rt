@@ -17,24 +17,40 @@ use rd_refusal::refusal::Refusal;
 #[derive(Clone, Copy, PartialEq, Eq)]
 pub enum Reply {
     /// So many moves are done now.
-    Done { at: usize },
+    Done {
+        at: usize,
+    },
     /// So many moves are done where a search ended.
-    Ended { at: usize, end: SearchEnd },
-    /// So many moves are done, and so many undone. Nothing has changed.
-    Moves { done: usize, undone: usize },
+    Ended {
+        at: usize,
+        end: SearchEnd,
+    },
+    /// So many moves are done, and so many undone; so many of those done have a record kept, by
+    /// which they can be taken back. Nothing has changed.
+    Moves {
+        done: usize,
+        undone: usize,
+        kept: usize,
+    },
     /// The wheel was taken, or given.
     Wheel,
     /// Which session has the wheel, or that nobody has it. Nothing has changed.
-    Holder { holder: Option<u32> },
+    Holder {
+        holder: Option<u32>,
+    },
     /// The watch with this number is kept, or was dropped.
-    Watch { number: usize },
+    Watch {
+        number: usize,
+    },
     /// Nothing has changed.
-    Refused { refusal: Refusal },
+    Refused {
+        refusal: Refusal,
+    },
 }
 
-/// How many bytes the line of a reply has at the most: a `moves N undone N` with two numbers of 20
-/// digits, as 18446744073709551615 has, and its LF.
-pub const MAX_REPLY: usize = 55;
+/// How many bytes the line of a reply has at the most: a `moves N undone N kept N` with three
+/// numbers of 20 digits, as 18446744073709551615 has, and its LF.
+pub const MAX_REPLY: usize = 81;
 
 /// The line of a reply, which lies in the value itself.
 pub type ReplyLine = ArrayVec<u8, MAX_REPLY>;
@@ -117,16 +133,18 @@ fn append_end(line: &mut ReplyLine, end: SearchEnd)
     }
 }
 
-// How many moves are done and undone.
-fn append_moves(line: &mut ReplyLine, done: usize, undone: usize)
-    requires { array_vec_len line.old + 14 + 2 * MAX_DIGITS ≤ MAX_REPLY }
-    ensures text { line.new.items ≡ line.old.items ++ moves_text done undone }
-    ensures len { array_vec_len line.new ≤ array_vec_len line.old + 14 + 2 * MAX_DIGITS }
+// How many moves are done, undone, and kept.
+fn append_moves(line: &mut ReplyLine, done: usize, undone: usize, kept: usize)
+    requires { array_vec_len line.old + 20 + 3 * MAX_DIGITS ≤ MAX_REPLY }
+    ensures text { line.new.items ≡ line.old.items ++ moves_text done undone kept }
+    ensures len { array_vec_len line.new ≤ array_vec_len line.old + 20 + 3 * MAX_DIGITS }
 {
     append_text(line, b"moves ");
     append_number(line, done);
     append_text(line, b" undone ");
     append_number(line, undone);
+    append_text(line, b" kept ");
+    append_number(line, kept);
 }
 
 // Which session has the wheel; `-` for nobody.
@@ -176,7 +194,7 @@ impl Reply {
                 append_text(&mut line, b" ");
                 append_end(&mut line, end);
             }
-            Reply::Moves { done, undone } => append_moves(&mut line, done, undone),
+            Reply::Moves { done, undone, kept } => append_moves(&mut line, done, undone, kept),
             Reply::Wheel => append_text(&mut line, b"ok wheel"),
             Reply::Holder { holder } => append_holder(&mut line, holder),
             Reply::Watch { number } => append_watch(&mut line, number),

@@ -193,7 +193,7 @@ fn the_wheel(rt: HostRuntime) -> Result<(), Fail> {
 }
 
 // What the wheel refuses comes before all other refusals. It refuses no view and no watch.
-const HELD: [Asked; 16] = [
+const HELD: [Asked; 17] = [
     Asked {
         who: 2,
         line: "wheel take",
@@ -232,6 +232,11 @@ const HELD: [Asked; 16] = [
     Asked {
         who: 1,
         line: "redo 1",
+        reply: "no Held 2\n",
+    },
+    Asked {
+        who: 1,
+        line: "trim 1",
         reply: "no Held 2\n",
     },
     Asked {
@@ -281,6 +286,54 @@ const HELD: [Asked; 16] = [
 fn held(rt: HostRuntime) -> Result<(), Fail> {
     let mut desk = open(&rt, 100)?;
     let ended = two_sessions(&rt, &mut desk, &HELD);
+    desk.close();
+    ended
+}
+
+// One session trims, and another goes back too far.
+const TRIMMED: [Asked; 7] = [
+    Asked {
+        who: 2,
+        line: "forward 3",
+        reply: "ok at 3\n",
+    },
+    Asked {
+        who: 1,
+        line: "trim 1",
+        reply: "ok at 3\n",
+    },
+    Asked {
+        who: 2,
+        line: "back 2",
+        reply: "no TooFar 1\n",
+    },
+    Asked {
+        who: 2,
+        line: "show moves",
+        reply: "moves 3 undone 0 kept 1\n",
+    },
+    Asked {
+        who: 2,
+        line: "back 1",
+        reply: "ok at 2\n",
+    },
+    Asked {
+        who: 1,
+        line: "back until tick = 9",
+        reply: "ok at 2 start\n",
+    },
+    Asked {
+        who: 1,
+        line: "redo 1",
+        reply: "ok at 3\n",
+    },
+];
+
+// What one session trims is gone for all.
+#[test]
+fn trimmed_by_another(rt: HostRuntime) -> Result<(), Fail> {
+    let mut desk = open(&rt, 100)?;
+    let ended = two_sessions(&rt, &mut desk, &TRIMMED);
     desk.close();
     ended
 }

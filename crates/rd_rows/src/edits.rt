@@ -24,7 +24,7 @@ const OF_TASKS: [Row; 4] = [
                   notes 0:idle,0:idle\nok at 0\n\
                   task t0 core 0 pc 0 phase run regs 0,0,0,0,0,0,0,0 data - notes 0:idle,0:idle\n\
                   no NoSuch\nno NoSuch\nno NoSuch\nno Syntax\nno Syntax\nno Syntax\n\
-                  moves 0 undone 1\n",
+                  moves 0 undone 1 kept 0\n",
     },
     Row {
         name: "the data",

@@ -84,6 +84,8 @@ mod tasks;
 #[cfg(test)]
 mod together;
 #[cfg(test)]
+mod trimming;
+#[cfg(test)]
 mod turns;
 #[cfg(test)]
 mod watches;

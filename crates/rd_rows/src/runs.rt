@@ -65,9 +65,9 @@ const FORWARD: [Row; 5] = [
         app: LATE,
         commands: "forward 1\nback 1\nforward 4\nshow moves\nshow cores\nforward 3\nforward 1\n\
                    show moves\n",
-        replies: "ok at 1\nok at 0\nno TickLimit\nmoves 0 undone 1\n\
+        replies: "ok at 1\nok at 0\nno TickLimit\nmoves 0 undone 1 kept 0\n\
                   cores t0 ready - tick 4294967294 turn 0\nok at 3\nno TickLimit\n\
-                  moves 3 undone 0\n",
+                  moves 3 undone 0 kept 3\n",
     },
     Row {
         name: "no runs",
@@ -88,7 +88,7 @@ pub const EDIT_FORGETS_THE_UNDONE: &str = "step 0\nstep 0\nstep 0\nstep 0\nback 
      poke reg t0 0 7\nredo 1\nshow moves\n";
 
 pub const EDIT_FORGETS_THE_UNDONE_REPLIES: &str = "ok at 1\nok at 2\nok at 3\nok at 4\nok at 2\n\
-     moves 2 undone 2\nok at 3\nno NothingUndone\nmoves 3 undone 0\n";
+     moves 2 undone 2 kept 2\nok at 3\nno NothingUndone\nmoves 3 undone 0 kept 3\n";
 
 const REDO: [Row; 5] = [
     Row {
@@ -102,8 +102,8 @@ const REDO: [Row; 5] = [
         app: BUILTIN,
         commands: "step 0\nstep 0\nstep 0\nstep 0\nback 2\nshow moves\nredo 1\nshow moves\n\
                    show queue q0\n",
-        replies: "ok at 1\nok at 2\nok at 3\nok at 4\nok at 2\nmoves 2 undone 2\nok at 3\n\
-                  moves 3 undone 1\nqueue q0 2/2 items 41,41 recv - send - set -\n",
+        replies: "ok at 1\nok at 2\nok at 3\nok at 4\nok at 2\nmoves 2 undone 2 kept 2\nok at 3\n\
+                  moves 3 undone 1 kept 3\nqueue q0 2/2 items 41,41 recv - send - set -\n",
     },
     Row {
         name: "moves are made again as they were",
@@ -130,7 +130,7 @@ const REDO: [Row; 5] = [
         app: BUILTIN,
         commands: "redo 1\nforward 3\nback 2\nredo 3\nshow moves\nstep 0\nredo 1\nredo 0\nredo\n\
                    redo 1000001\n",
-        replies: "no NothingUndone\nok at 3\nok at 1\nno NothingUndone\nmoves 1 undone 2\n\
+        replies: "no NothingUndone\nok at 3\nok at 1\nno NothingUndone\nmoves 1 undone 2 kept 1\n\
                   ok at 2\nno NothingUndone\nno Syntax\nno Syntax\nno Syntax\n",
     },
 ];
@@ -157,14 +157,14 @@ const UNTIL: [Row; 4] = [
         commands: "until pc t0 = 0 1\nback until pc t0 = 1\nuntil pc t0 = 0 2\nuntil pc t0 = 1 1\n\
                    back until pc t0 = 1\nshow moves\n",
         replies: "ok at 1 limit\nok at 0 start\nok at 2 limit\nok at 3 limit\nok at 2 met\n\
-                  moves 2 undone 1\n",
+                  moves 2 undone 1 kept 2\n",
     },
     Row {
         name: "a refused search changes nothing",
         app: LATE,
         commands: "forward 1\nback 1\nuntil pc t0 = 1 9\nshow moves\nshow cores\n\
                    until tick = 4294967295 9\n",
-        replies: "ok at 1\nok at 0\nno TickLimit\nmoves 0 undone 1\n\
+        replies: "ok at 1\nok at 0\nno TickLimit\nmoves 0 undone 1 kept 0\n\
                   cores t0 ready - tick 4294967294 turn 0\nok at 2 met\n",
     },
     Row {
@@ -189,8 +189,8 @@ fn until(rt: HostRuntime) -> Result<(), Fail> {
 fn refused_run_leaves_nothing(rt: HostRuntime) -> Result<(), Fail> {
     let commands = "forward 2\nback 1\nforward 5\nshow moves\nuntil tick = 9 5\nshow moves\n\
                     redo 1\nforward 1\npoke reg t0 0 1\nforward 1\nback 1\npoke pc t0 9\n";
-    let replies = "ok at 2\nok at 1\nno MovesFull\nmoves 1 undone 1\nno MovesFull\n\
-                   moves 1 undone 1\nok at 2\nok at 3\nno MovesFull\nno MovesFull\nok at 2\n\
+    let replies = "ok at 2\nok at 1\nno MovesFull\nmoves 1 undone 1 kept 1\nno MovesFull\n\
+                   moves 1 undone 1 kept 1\nok at 2\nok at 3\nno MovesFull\nno MovesFull\nok at 2\n\
                    no BadEdit\n";
     let words = ["--moves", "3"];
     let ending = run_file(&rt, "few.json", BUILTIN.as_bytes(), &words, commands)?;

@@ -312,12 +312,12 @@ fn assert_beside<H: Abort>(rt: &H, told: Option<Told>) {
     assert_same(
         rt,
         told.first.as_slice(),
-        b"moves 0 undone 0\nwheel -\n".as_slice(),
+        b"moves 0 undone 0 kept 0\nwheel -\n".as_slice(),
     );
     assert_same(
         rt,
         told.second.as_slice(),
-        b"wheel -\nmoves 0 undone 0\n".as_slice(),
+        b"wheel -\nmoves 0 undone 0 kept 0\n".as_slice(),
     );
     assert_same(rt, told.entries, 8);
 }

@@ -77,7 +77,7 @@ const ROWS: [Row; 7] = [
         commands: "show wheel\nwheel give\nwheel take\nshow wheel\nwheel take\nstep 0\nback 1\n\
                    redo 1\nwheel give\nshow wheel\nwheel give\nshow moves\n",
         replies: "wheel -\nno NotHolder\nok wheel\nwheel 1\nok wheel\nok at 1\nok at 0\n\
-                  ok at 1\nok wheel\nwheel -\nno NotHolder\nmoves 1 undone 0\n",
+                  ok at 1\nok wheel\nwheel -\nno NotHolder\nmoves 1 undone 0 kept 1\n",
     },
     Row {
         name: "no wheels",
@@ -105,7 +105,7 @@ fn full_history(rt: HostRuntime) -> Result<(), Fail> {
     assert_ending(&rt, &ending, 0, replies, "");
 
     let commands = "fly\nback 1\nstep\nshow moves\nshow moves\nfly\nstep 9\n";
-    let replies = "no Syntax\nno TooFar 0\nno Syntax\nmoves 0 undone 0\nno HistoryFull\n\
+    let replies = "no Syntax\nno TooFar 0\nno Syntax\nmoves 0 undone 0 kept 0\nno HistoryFull\n\
                    no Syntax\nno HistoryFull\n";
     let ending = run_file(&rt, "history.json", app, &words, commands)?;
     assert_ending(&rt, &ending, 0, replies, "");

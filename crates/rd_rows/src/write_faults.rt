@@ -39,7 +39,7 @@ const REPLIES: [&str; 6] = [
     "queue q0 0/2 items - recv - send - set -\n",
     "ok at 0\n",
     "no NoSuch\n",
-    "moves 0 undone 1\n",
+    "moves 0 undone 1 kept 0\n",
 ];
 
 // How the lines are read: one by one, and each answer is a write of its own; or all by one read,

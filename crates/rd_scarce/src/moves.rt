@@ -31,6 +31,8 @@ enum Call {
     Until { items: u32, most: usize },
     /// So many moves by policy.
     Forward { count: usize },
+    /// The records of so many moves are kept, and no others.
+    Trim { keep: usize },
 }
 
 // Where a call ended: how many moves are done there.
@@ -52,7 +54,7 @@ struct Row {
 }
 
 // The run, and behind it one in whose middle lists grow.
-const ROWS: [Row; 13] = [
+const ROWS: [Row; 17] = [
     Row {
         call: Call::Step,
         end: End::At { at: 1 },
@@ -102,8 +104,24 @@ const ROWS: [Row; 13] = [
         end: End::NotMet { at: 4 },
     },
     Row {
-        call: Call::Forward { count: 20 },
+        call: Call::Trim { keep: 2 },
+        end: End::At { at: 4 },
+    },
+    Row {
+        call: Call::BackUntil { items: 9 },
+        end: End::NotMet { at: 2 },
+    },
+    Row {
+        call: Call::Forward { count: 22 },
         end: End::At { at: 24 },
+    },
+    Row {
+        call: Call::Trim { keep: 10 },
+        end: End::At { at: 24 },
+    },
+    Row {
+        call: Call::Forward { count: 20 },
+        end: End::At { at: 44 },
     },
 ];
 
@@ -164,6 +182,9 @@ fn make_call(timeline: &mut Timeline, call: Call) -> Result<End, Refusal> {
         Call::BackUntil { items } => back_until(timeline, items),
         Call::Until { items, most } => until(timeline, items, most),
         Call::Forward { count } => forward(timeline, count),
+        Call::Trim { keep } => Ok(End::At {
+            at: timeline.trim(keep),
+        }),
     }
 }
 
@@ -179,7 +200,8 @@ fn stands(timeline: &Timeline, at: usize, left: usize) -> Result<(), Wrong> {
     })
 }
 
-// After a refusal: goes back to the start, where all is as at boot, and makes the moves again.
+// After a refusal: goes back as far as records are kept, at the start to what was at boot, and makes
+// the moves again.
 fn go_back_and_on(
     timeline: &mut Timeline,
     boot: &State,
@@ -187,10 +209,11 @@ fn go_back_and_on(
     left: usize,
 ) -> Result<(), Wrong> {
     stands(timeline, at, left)?;
-    if timeline.back(at).is_err() || !timeline.target().same(boot) {
+    let kept = timeline.kept();
+    if timeline.back(kept).is_err() || (kept == at && !timeline.target().same(boot)) {
         return Err(Wrong::Boot);
     }
-    if timeline.redo(at).is_err() {
+    if timeline.redo(kept).is_err() {
         return Err(Wrong::RefusedTwice { at: At::Ask });
     }
     stands(timeline, at, left)

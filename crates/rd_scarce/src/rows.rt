@@ -16,7 +16,7 @@ pub struct Row {
 }
 
 /// What one session asks in `runs_to_a_condition`.
-pub const RUNS: [Row; 12] = [
+pub const RUNS: [Row; 15] = [
     Row {
         who: Who::First,
         line: "step 0",
@@ -76,6 +76,21 @@ pub const RUNS: [Row; 12] = [
         who: Who::First,
         line: "until count q0 = 2 1",
         reply: "ok at 4 limit\n",
+    },
+    Row {
+        who: Who::First,
+        line: "trim 2",
+        reply: "ok at 4\n",
+    },
+    Row {
+        who: Who::First,
+        line: "back 3",
+        reply: "no TooFar 2\n",
+    },
+    Row {
+        who: Who::First,
+        line: "step 0",
+        reply: "ok at 5\n",
     },
 ];
 

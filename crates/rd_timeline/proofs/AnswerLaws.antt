@@ -1,7 +1,8 @@
 -- What comes of each kind of request.
-use Rattle.std.proofs.Common.{◌≡◌, ◌≢◌, ◌∙◌, ℕ, ◌-◌, ◌<◌, ◌≤◌, ◌++◌, List, inl, inr, true, false, cond, length, refl, ap, subst, sym}
+use Rattle.std.proofs.Common.{◌≡◌, ◌≢◌, ◌∙◌, ℕ, ◌-◌, ◌<◌, ◌≤◌, ◌++◌, List, inl, inr, true, false, arith, cond, length, refl, ap, subst, sym, take}
 use Rattle.std.specs.Prelude.{Bool, IsTrue, nat_le, Option, None, Some, Result, Ok, Err, IfErr, IfOk, IsErr, IsErrOf, IsOk, OnErr, OnOk, ◌↔◌}
 use Rattle.std.proofs.lemmas.Bool.{cases_lt, eq-eqb, false≢true, le-leb, lt-leb, ne_eqb}
+use Rattle.std.proofs.lemmas.List.{length-append, length-take-le, length_push}
 use Rattle.rd_app.specs.Application.{Application}
 use Rattle.rd_bytes.specs.declared.no_memory.NoMemory.{NoMemory as NoMemoryError}
 use Rattle.rd_refusal.specs.declared.refusal.Refusal.{Refusal}
@@ -17,10 +18,11 @@ use Rattle.rd_moves.specs.declared.answer.SearchEnd.TheVariants.{Met, Limit}
 use Rattle.rd_moves.specs.declared.request.Request.TheVariants.{Go, Back, Forward, Redo, Until}
 use Rattle.rd_timeline.specs.Answers.{Obeys, answer_at, answer_of}
 use Rattle.rd_timeline.specs.Backward.{GoesBack, HasRedone, IsWhyNoRedo}
-use Rattle.rd_timeline.specs.Course.{Course, GoesOn, IsFull, IsWhyNot}
+use Rattle.rd_timeline.specs.Course.{Course, GoesOn, IsFull, IsWhyNot, base_of}
 use Rattle.rd_timeline.specs.History.{state_after}
 use Rattle.rd_timeline.specs.Policy.{EndsRun, IsWhyNoRun, ended, moves_by_policy}
-use Rattle.rd_timeline.specs.Runs.{Moves, Leaves, Refuses, Lays, ByPolicy, back_at, can_lay, end_of, go_response, laid_on, lays, makes_move, moved_on, moves_after, moves_of, redone, response_to, run_of, run_response}
+use Rattle.rd_timeline.specs.Runs.{Moves, Leaves, Refuses, Lays, ByPolicy, back_at, can_lay, end_of, go_response, kept, laid_on, lays, makes_move, moved_on, moves_after, moves_of, redone, response_to, run_of, run_response}
+use Rattle.rd_timeline.proofs.PolicyLaws.{made_more}
 use Rattle.rd_timeline.proofs.RunsLaws.{moved_given, run_given, run_needs_memory, target_given}
 
 -- ---- what comes of a request
@@ -89,10 +91,16 @@ obeyed_if {T} old new request (Err refusal) (Err error) at end Made Why lacks te
 }
 
 -- the moves that are left are those of the course
-leaves : (moves : Moves) (end : Option SearchEnd) (new : Course) → new.done ≡ moves.done → new.undone ≡ moves.undone → Leaves moves end ≡ Leaves (moves_of new) end
-leaves moves end new done undone =
-    ap (λ (ms : List PlainMove). Leaves (record { done = ms; undone = moves.undone }) end) (sym done)
-    ∙ ap (λ (us : List PlainMove). Leaves (record { done = new.done; undone = us }) end) (sym undone)
+leaves : (moves : Moves) (end : Option SearchEnd) (new : Course) → new.done ≡ moves.done → new.undone ≡ moves.undone → base_of new ≡ moves.base
+    → Leaves moves end ≡ Leaves (moves_of new) end
+leaves moves end new done undone base =
+    ap (λ (ms : List PlainMove). Leaves (record moves { done = ms }) end) (sym done)
+    ∙ ap (λ (us : List PlainMove). Leaves (record moves { done = new.done; undone = us }) end) (sym undone)
+    ∙ ap (λ b. Leaves (record { done = new.done; undone = new.undone; base = b }) end) (sym base)
+
+-- as many moves have a record as there are records
+pub kept_is : (course : Course) → length course.log ≤ length course.done → kept (moves_of course) ≡ length course.log
+kept_is course fewer = omega (arith, fewer)
 
 -- ---- one move
 
@@ -115,7 +123,8 @@ pub go_done : (old new : Course) (move : PlainMove) → state_after old.app old.
 go_done old new move leads made = record {
   comes =
       ap (go_response (moves_of old) move) (moved_given old move false leads (ne_eqb (length old.done) old.limit made.room) ∙ made.goes.step)
-      ∙ leaves (moved_on (moves_of old) move) None new made.goes.done made.goes.undone;
+      ∙ leaves (moved_on (moves_of old) move) None new made.goes.done made.goes.undone
+      (omega (arith, made.goes.records, ap length made.goes.done, length_push old.done move));
   app = made.goes.app;
   limit = made.goes.limit;
   leads = made.leads;
@@ -140,32 +149,58 @@ of_some : (moves : Moves) (refusal : Refusal) (some b : Bool) → some ≡ b
     → cond some (Leaves moves None) (Refuses refusal) ≡ cond b (Leaves moves None) (Refuses refusal)
 of_some moves refusal some b is = ap (λ s. cond s (Leaves moves None) (Refuses refusal)) is
 
-pub back_done : (old new : Course) (count : ℕ) → GoesBack old count new → IsAnswered old (Back count) new None
-back_done old new count goes =
+-- the base, once some moves were taken back by their records
+base_back : (old new : Course) (count : ℕ) → length old.log ≤ length old.done → count ≤ length old.log → new.done ≡ take (length old.done - count) old.done
+    → new.log ≡ take (length old.log - count) old.log → base_of new ≡ base_of old
+base_back old new count fewer some done log =
+    omega (
+      arith,
+      fewer,
+      some,
+      ap length done,
+      length-take-le (length old.done - count) old.done (omega arith),
+      ap length log,
+      length-take-le (length old.log - count) old.log (omega arith),
+    )
+
+pub back_done : (old new : Course) (count : ℕ) → length old.log ≤ length old.done → GoesBack old count new → IsAnswered old (Back count) new None
+back_done old new count fewer goes =
     let moves = back_at (moves_of old) (length old.done - count) in
     record {
       comes =
-          of_some moves (TooFar (length old.done)) (nat_le count (length old.done)) true (le-leb count (length old.done) goes.some)
-          ∙ leaves moves None new goes.done goes.undone;
+          of_some moves (TooFar (kept (moves_of old))) (nat_le count (kept (moves_of old))) true
+          (le-leb count (kept (moves_of old)) (omega (arith, goes.some, fewer)))
+          ∙ leaves moves None new goes.done goes.undone (base_back old new count fewer goes.some goes.done goes.log);
       app = goes.app;
       limit = goes.limit;
       leads = goes.leads;
     }
 
-pub back_not_done : (old : Course) (count : ℕ) (refusal : Refusal) → length old.done < count → refusal ≡ TooFar (length old.done)
-    → IsRefusedAs old (Back count) refusal
-back_not_done old count refusal fewer is =
-    of_some (back_at (moves_of old) (length old.done - count)) (TooFar (length old.done)) (nat_le count (length old.done)) false
-    (lt-leb count (length old.done) fewer)
-    ∙ ap Refuses (sym is)
+pub back_not_done : (old : Course) (count : ℕ) (refusal : Refusal) → length old.log ≤ length old.done → length old.log < count
+    → refusal ≡ TooFar (length old.log) → IsRefusedAs old (Back count) refusal
+back_not_done old count refusal within fewer is =
+    of_some (back_at (moves_of old) (length old.done - count)) (TooFar (kept (moves_of old))) (nat_le count (kept (moves_of old))) false
+    (lt-leb count (kept (moves_of old)) (omega (arith, fewer, within)))
+    ∙ ap (λ n. Refuses (TooFar n)) (kept_is old within) ∙ ap Refuses (sym is)
 
--- There were fewer moves, so that they couldn't be taken back.
+-- There were fewer kept moves, so that they couldn't be taken back.
 pub too_few : {T : Type 0} (made : Result T Refusal) (count done : ℕ) → (IsOk made ↔ (count ≤ done)) → OnErr made (done < count)
 too_few (Ok x) count done iff = tt
 too_few (Err refusal) count done iff = elim (cases_lt done count) [
   | inl fewer ↦ fewer
   | inr there ↦ absurd (false≢true (iff.1 there))
 ]
+
+-- the base, once some moves were made again
+base_redone : (old new : Course) (count : ℕ) → HasRedone old count new → base_of new ≡ base_of old
+base_redone old new count has =
+    omega (
+      arith,
+      has.records,
+      ap length has.done,
+      length-append old.done (take count old.undone),
+      length-take-le count old.undone has.some,
+    )
 
 pub redo_done : (old new : Course) (count : ℕ) → HasRedone old count new → state_after new.app new.done ≡ Ok new.target
     → IsAnswered old (Redo count) new None
@@ -174,7 +209,7 @@ redo_done old new count has leads =
     record {
       comes =
           of_some moves NothingUndone (nat_le count (length old.undone)) true (le-leb count (length old.undone) has.some)
-          ∙ leaves moves None new has.done has.undone;
+          ∙ leaves moves None new has.done has.undone (base_redone old new count has);
       app = has.app;
       limit = has.limit;
       leads = leads;
@@ -222,6 +257,7 @@ run_done old new goal count met leads ends =
     ∙ ap (run_response old.app (moves_of old) goal) (run_given old goal count leads ∙ ends.run)
     ∙ run_ended old.app (moves_of old) goal met ends.made new.target
     ∙ leaves (laid_on old.app (moves_of old) ends.made) (run_end goal met) new done ends.undone
+    (omega (arith, ends.records, made_more old ends.made new ends.done))
 
 run_not_done : (old : Course) (goal : Option Condition) (count : ℕ) (refusal : Refusal) → state_after old.app old.done ≡ Ok old.target → refusal ≢ NoMemory
     → IsWhyNoRun old goal count refusal → IsRefusedAs old (run_request goal count) refusal

@@ -2,7 +2,7 @@
 use Rattle.std.proofs.Common.{◌≡◌, ◌∙◌, ℕ, suc, ◌+◌, ◌-◌, ◌<◌, List, ◌++◌, cond, length, take, drop, ap, sym, refl, arith}
 use Rattle.std.specs.Prelude.{Ok, Some}
 use Rattle.std.proofs.Math.Seq.{drop-append_seam, take-add}
-use Rattle.std.proofs.lemmas.List.{append-nil, append_assoc, drop-append-le, drop-drop, length-take-le, take-append-drop, take-take}
+use Rattle.std.proofs.lemmas.List.{append-nil, append_assoc, drop-append-le, drop-drop, length-append, length-drop, length-take, length-take-le, take-append-drop, take-take}
 use Rattle.rd_app.specs.Application.{Application}
 use Rattle.rd_state.specs.Snapshot.{Snapshot}
 use Rattle.rd_moves.specs.Moves.{PlainMove}
@@ -22,6 +22,7 @@ HasRedone-here course = record {
   limit = refl;
   done = sym (append-nil course.done);
   undone = refl;
+  records = omega arith;
   most_done = refl;
   most_carried = refl;
   most_bytes = refl;
@@ -40,6 +41,18 @@ HasRedone-next old now next count has less stands done undone most_done most_car
       ∙ ap (λ (us : List PlainMove). old.done ++ (take count old.undone ++ take 1 us)) has.undone
       ∙ ap (λ (us : List PlainMove). old.done ++ us) (sym (take-add count 1 old.undone));
   undone = undone ∙ ap (drop 1) has.undone ∙ drop-drop 1 count old.undone;
+  records =
+      omega (
+        arith,
+        has.records,
+        stands.records,
+        ap length done,
+        length-append now.done (take 1 now.undone),
+        length-take 1 now.undone,
+        ap length has.undone,
+        length-drop count old.undone,
+        less,
+      );
   most_done = most_done ∙ has.most_done;
   most_carried = most_carried ∙ has.most_carried;
   most_bytes = most_bytes ∙ has.most_bytes;
@@ -71,7 +84,8 @@ one_back moves undone now count is less =
     )
 
 -- Whether the condition holds after so many moves says where the search goes on.
-pub looked_at : (app : Application) (condition : Condition) (moves : List PlainMove) (count : ℕ) (s : Snapshot) → state_after app (take count moves) ≡ Ok s
-    → last_met app condition moves (suc count) ≡ cond (holds s condition) (Some count) (last_met app condition moves count)
-looked_at app condition moves count s state =
-    ap (λ r. cond (holds_in condition r) (Some count) (last_met app condition moves count)) state
+pub looked_at : (app : Application) (condition : Condition) (base : ℕ) (moves : List PlainMove) (count : ℕ) (s : Snapshot)
+    → state_after app (take (base + count) moves) ≡ Ok s
+    → last_met app condition base moves (suc count) ≡ cond (holds s condition) (Some (base + count)) (last_met app condition base moves count)
+looked_at app condition base moves count s state =
+    ap (λ r. cond (holds_in condition r) (Some (base + count)) (last_met app condition base moves count)) state

@@ -1,9 +1,9 @@
 -- Lists of moves with one more, and with one less.
-use Rattle.std.proofs.Common.{◌≡◌, ◌∙◌, ℕ, zero, suc, ◌+◌, ◌≤◌, List, [], ◌∷◌, ◌++◌, length, take, drop, refl, ap, subst, sym, arith, inl, inr}
+use Rattle.std.proofs.Common.{◌≡◌, ◌∙◌, ℕ, zero, suc, ◌+◌, ◌-◌, ◌≤◌, List, [], ◌∷◌, ◌++◌, length, take, drop, refl, ap, subst, sym, arith, inl, inr}
 use Rattle.std.specs.Prelude.{Err, IfErr, IsOk, Ok, OnOk, Result, fold, is_ok}
 use Rattle.std.proofs.lemmas.Bool.{cases_lt, false≢true}
 use Rattle.std.proofs.lemmas.List.{take_all, drop_all, take-append-le, drop-append-le, length_push, length-take-le}
-use Rattle.std.proofs.lemmas.List.{take-take, take-append-drop}
+use Rattle.std.proofs.lemmas.List.{drop-drop, take-take, take-append-drop}
 use Rattle.std.proofs.lemmas.List.Sums.{fold-append, fold_push}
 use Rattle.rd_refusal.specs.declared.refusal.Refusal.{Refusal}
 use Rattle.rd_app.specs.Application.{Application, priorities_of}
@@ -64,17 +64,18 @@ rewound-back s records m count few within =
     sym (ap (rewound s) whole ∙ rewound-append s (drop count (take m records)) (drop m records))
 
 -- at boot there is nothing to go back
-pub Retraces-boot : (app : Application) (s : Snapshot) → s ≡ boot_of app → IsValid app s → IsSettled (priorities_of app) s → Retraces app [] [] s
-Retraces-boot app s e valid settled zero h = record { state = ap (λ (t : Snapshot). Ok t) (sym e); valid = valid; settled = settled }
-Retraces-boot app s e valid settled (suc count) h = absurd (omega (arith, h))
+pub Retraces-boot : (app : Application) (s : Snapshot) → s ≡ boot_of app → IsValid app s → IsSettled (priorities_of app) s → Retraces app 0 [] [] s
+Retraces-boot app s e valid settled zero from h = record { state = ap (λ (t : Snapshot). Ok t) (sym e); valid = valid; settled = settled }
+Retraces-boot app s e valid settled (suc count) from h = absurd (omega (arith, h))
 
 -- the state now is that after all moves
-pub Retraces-now : (app : Application) (moves : List PlainMove) (records : List (List Change)) (s : Snapshot)
-    → length records ≡ length moves → Retraces app moves records s → IsStateAfter app moves s
-Retraces-now app moves records s same h =
+pub Retraces-now : (app : Application) (base : ℕ) (moves : List PlainMove) (records : List (List Change)) (s : Snapshot)
+    → base + length records ≡ length moves → Retraces app base moves records s → IsStateAfter app moves s
+Retraces-now app base moves records s all h =
     let P : List PlainMove → List (List Change) → Type 0 = λ ms rs. IsStateAfter app ms (rewound s rs) in
-    subst (λ (rs : List (List Change)). P moves rs) (drop_all (length moves) records (omega (arith, same)))
-    (subst (λ (ms : List PlainMove). P ms (drop (length moves) records)) (take_all (length moves) moves (omega arith)) (h (length moves) (omega arith)))
+    subst (λ (rs : List (List Change)). P moves rs) (drop_all (length moves - base) records (omega (arith, all)))
+    (subst (λ (ms : List PlainMove). P ms (drop (length moves - base) records)) (take_all (length moves) moves (omega arith))
+    (h (length moves) (omega (arith, all)) (omega arith)))
 
 -- what stands before the last of one more
 before_last : {X : Type 0} (count : ℕ) (xs : List X) (x : X) → count ≤ length xs → take count (xs ++ x ∷ []) ≡ take count xs
@@ -84,34 +85,44 @@ rewound-before : (count : ℕ) (records : List (List Change)) (last : List Chang
     → rewound s (drop count (records ++ last ∷ [])) ≡ rewound (undone s last) (drop count records)
 rewound-before count records last s h = ap (rewound s) (drop-append-le count records (last ∷ []) h) ∙ rewound-push s (drop count records) last
 
-pub Retraces-push : (app : Application) (moves : List PlainMove) (records : List (List Change)) (move : PlainMove) (last : List Change)
-    (s s' : Snapshot) → length records ≡ length moves → Retraces app moves records s → step app s move ≡ Ok s'
+pub Retraces-push : (app : Application) (base : ℕ) (moves : List PlainMove) (records : List (List Change)) (move : PlainMove) (last : List Change)
+    (s s' : Snapshot) → base + length records ≡ length moves → Retraces app base moves records s → step app s move ≡ Ok s'
     → undone s' last ≡ s → IsValid app s' → IsSettled (priorities_of app) s'
-    → Retraces app (moves ++ move ∷ []) (records ++ last ∷ []) s'
-Retraces-push app moves records move last s s' same h steps back valid settled count within =
+    → Retraces app base (moves ++ move ∷ []) (records ++ last ∷ []) s'
+Retraces-push app base moves records move last s s' all h steps back valid settled count from within =
     elim (cases_lt count (length moves + 1)) [
       | inl earlier ↦ let here : count ≤ length moves = omega (arith, earlier) in
-          let was = h count here in
-          let before : rewound s' (drop count (records ++ last ∷ [])) ≡ rewound s (drop count records) =
-          rewound-before count records last s' (omega (arith, here, same)) ∙ ap (λ (t : Snapshot). rewound t (drop count records)) back in
+          let was = h count from here in
+          let before : rewound s' (drop (count - base) (records ++ last ∷ [])) ≡ rewound s (drop (count - base) records) =
+          rewound-before (count - base) records last s' (omega (arith, here, all)) ∙ ap (λ (t : Snapshot). rewound t (drop (count - base) records)) back in
           subst (λ (t : Snapshot). IsStateAfter app (take count (moves ++ move ∷ [])) t) (sym before)
-          (subst (λ (ms : List PlainMove). IsStateAfter app ms (rewound s (drop count records))) (sym (before_last count moves move here)) was)
+          (subst (λ (ms : List PlainMove). IsStateAfter app ms (rewound s (drop (count - base) records))) (sym (before_last count moves move here)) was)
       | inr at_the_end ↦
-          let all = take_all count (moves ++ move ∷ []) (omega (arith, at_the_end, length_push moves move)) in
-          let none = drop_all count (records ++ last ∷ []) (omega (arith, at_the_end, length_push records last, same)) in
-          subst (λ (ms : List PlainMove). IsStateAfter app ms (rewound s' (drop count (records ++ last ∷ [])))) (sym all)
+          let whole = take_all count (moves ++ move ∷ []) (omega (arith, at_the_end, length_push moves move)) in
+          let none = drop_all (count - base) (records ++ last ∷ []) (omega (arith, at_the_end, length_push records last, all)) in
+          subst (λ (ms : List PlainMove). IsStateAfter app ms (rewound s' (drop (count - base) (records ++ last ∷ [])))) (sym whole)
           (subst (λ (rs : List (List Change)). IsStateAfter app (moves ++ move ∷ []) (rewound s' rs)) (sym none)
-          (record { state = state_after-push app moves move s (Retraces-now app moves records s same h).state ∙ steps; valid = valid; settled = settled }))
+          (record { state = state_after-push app moves move s (Retraces-now app base moves records s all h).state ∙ steps; valid = valid; settled = settled }))
     ]
 
--- Back by the records after the first m, the first m moves are retraced.
-pub Retraces-back : (app : Application) (moves : List PlainMove) (records : List (List Change)) (s : Snapshot) (m : ℕ)
-    → length records ≡ length moves → m ≤ length moves → Retraces app moves records s
-    → Retraces app (take m moves) (take m records) (rewound s (drop m records))
-Retraces-back app moves records s m same within h count few =
-    let fewer : count ≤ m = omega (arith, few, length-take-le m moves within) in
-    subst (λ (t : Snapshot). IsStateAfter app (take count (take m moves)) t) (sym (rewound-back s records m count fewer (omega (arith, within, same))))
-    (subst (λ (ms : List PlainMove). IsStateAfter app ms (rewound s (drop count records))) (sym (take-take count m moves fewer)) (h count (omega (arith, fewer, within))))
+-- Back by the records after the first k, the moves before these are retraced.
+pub Retraces-back : (app : Application) (base : ℕ) (moves : List PlainMove) (records : List (List Change)) (s : Snapshot) (k : ℕ)
+    → base + length records ≡ length moves → k ≤ length records → Retraces app base moves records s
+    → Retraces app base (take (base + k) moves) (take k records) (rewound s (drop k records))
+Retraces-back app base moves records s k all within h count from few =
+    let m = base + k in
+    let fewer : count ≤ m = omega (arith, few, length-take-le m moves (omega (arith, all, within))) in
+    subst (λ (t : Snapshot). IsStateAfter app (take count (take m moves)) t) (sym (rewound-back s records k (count - base) (omega (arith, fewer)) within))
+    (subst (λ (ms : List PlainMove). IsStateAfter app ms (rewound s (drop (count - base) records))) (sym (take-take count m moves fewer))
+    (h count from (omega (arith, fewer, within, all))))
+
+-- Without the first records, the moves are retraced from later on.
+pub Retraces-later : (app : Application) (base : ℕ) (moves : List PlainMove) (records : List (List Change)) (s : Snapshot) (j : ℕ)
+    → Retraces app base moves records s → Retraces app (base + j) moves (drop j records) s
+Retraces-later app base moves records s j h count from within =
+    let rest : j + (count - (base + j)) ≡ count - base = omega (arith, from) in
+    subst (λ (rs : List (List Change)). IsStateAfter app (take count moves) (rewound s rs))
+    (sym (drop-drop (count - (base + j)) j records ∙ ap (λ k. drop k records) rest)) (h count (omega (arith, from)) within)
 
 -- Once a move is refused, there is no state after those behind it either.
 refused_stays : (app : Application) (refusal : Refusal) (moves : List PlainMove) → fold (stepped app) (Err refusal) moves ≡ Err refusal

@@ -11,6 +11,7 @@ pub mod RunsLaws
 pub mod RefusedLaws
 pub mod AnswerLaws
 pub mod Offered
+pub mod TrimLaws
 pub mod WalkLaws
 pub mod Rows
 pub mod WaitingRows

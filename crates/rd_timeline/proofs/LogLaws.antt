@@ -89,16 +89,15 @@ can_one_more s records start m within can =
     subst (CanRewind s) (drop-drop (m - start) start records ∙ ap (λ k. drop k records) rest) (CanRewind-later s (drop start records) (m - start) can)
 
 -- Of a log all but so many records are left, and one more is taken back.
-pub one_record_back : (log left : List (List Change)) (len count done : ℕ) → left ≡ take (len - count) log → done ≡ len - count → count < len
-    → len ≡ length log
-    → (take (done - 1) left ≡ take (len - (count + 1)) log)
-    × (bytes_of (drop (done - 1) left) + bytes_of (drop (len - count) log) ≡ bytes_of (drop (len - (count + 1)) log))
-one_record_back log left len count done is border less all =
-    let m = len - count in
-    let j = len - (count + 1) in
-    let at : done - 1 ≡ j = omega (arith, border, less) in
+pub one_record_back : (log left : List (List Change)) (count : ℕ) → left ≡ take (length log - count) log → count < length log
+    → (take (length left - 1) left ≡ take (length log - (count + 1)) log)
+    × (bytes_of (drop (length left - 1) left) + bytes_of (drop (length log - count) log) ≡ bytes_of (drop (length log - (count + 1)) log))
+one_record_back log left count is less =
+    let m = length log - count in
+    let j = length log - (count + 1) in
+    let at : length left - 1 ≡ j = omega (arith, ap length is, length-take-le m log (omega arith), less) in
     let later : drop j (take m log) ++ drop m log ≡ drop j log =
-    sym (drop-append-le j (take m log) (drop m log) (omega (arith, length-take-le m log (omega (arith, all)), less)))
+    sym (drop-append-le j (take m log) (drop m log) (omega (arith, length-take-le m log (omega arith), less)))
     ∙ ap (drop j) (take-append-drop m log) in (
       ap (λ k. take k left) at ∙ ap (take j) is ∙ take-take j m log (omega (arith, less)),
       omega (

@@ -4,7 +4,7 @@ use Rattle.std.specs.Prelude.{Bool, Option, Some, None, Result, Ok, Err, drop, m
 use Rattle.std.proofs.Math.Numerals.{add-one}
 use Rattle.std.proofs.lemmas.Bool.{cases_lt, false≢true, le-ltb, lt-ltb}
 use Rattle.std.proofs.Common.{cond, ◌≢◌}
-use Rattle.std.proofs.lemmas.List.{append-nil, append_assoc, length-append, length-drop, length_push, take-append-le, take-take, take_all}
+use Rattle.std.proofs.lemmas.List.{append-nil, append_assoc, length-append, length-drop, length-take, length_push, take-append-le, take-take, take_all}
 use Rattle.std.proofs.lemmas.List.Quantifiers.{position-Some}
 use Rattle.rd_app.specs.Application.{Application}
 use Rattle.rd_refusal.specs.declared.refusal.Refusal.{Refusal}
@@ -64,7 +64,7 @@ pub record IsMost (old : Course) (made : ℕ) (now : Course) : Type 0 where
   pub done : now.most_done ≡ max old.most_done (length now.done)
   pub carried : now.most_carried ≡ old.most_carried
   pub none : made ≡ 0 → now.most_bytes ≡ old.most_bytes
-  pub bytes : 0 < made → now.most_bytes ≡ max old.most_bytes (bytes_of (take (length now.done - 1) now.log))
+  pub bytes : 0 < made → now.most_bytes ≡ max old.most_bytes (bytes_of (take (length now.log - 1) now.log))
 
 IsMost-begun : (course : Course) → IsKept course → IsMost course 0 course
 IsMost-begun course kept = record {
@@ -80,16 +80,16 @@ none_carried_from turn None = refl
 none_carried_from turn (Some ahead) = refl
 
 pub IsMost-next : (old : Course) (made : ℕ) (now next : Course) → IsMost old made now → IsKept now
-    → next.done ≡ now.done ++ policy_of now.target ∷ [] → take (length now.done) next.log ≡ now.log
+    → next.done ≡ now.done ++ policy_of now.target ∷ [] → length next.log ≡ length now.log + 1 → take (length now.log) next.log ≡ now.log
     → next.most_done ≡ max now.most_done (length next.done) → next.most_carried ≡ max now.most_carried (carried_in next.done)
     → next.most_bytes ≡ max now.most_bytes (bytes_of now.log) → IsMost old (made + 1) next
-IsMost-next old made now next most kept done log most_done most_carried most_bytes =
+IsMost-next old made now next most kept done records log most_done most_carried most_bytes =
     let move = policy_of now.target in
     let one_more : length next.done ≡ length now.done + 1 = omega (arith, ap length done, length_push now.done move) in
-    let before : bytes_of (take (length next.done - 1) next.log) ≡ bytes_of now.log =
-    ap (λ k. bytes_of (take k next.log)) (omega (arith, one_more)) ∙ ap bytes_of log in
-    let fewer : bytes_of (take (length now.done - 1) now.log) ≤ bytes_of now.log =
-    omega (arith, bytes_of-parts (length now.done - 1) now.log) in
+    let before : bytes_of (take (length next.log - 1) next.log) ≡ bytes_of now.log =
+    ap (λ k. bytes_of (take k next.log)) (omega (arith, records)) ∙ ap bytes_of log in
+    let fewer : bytes_of (take (length now.log - 1) now.log) ≤ bytes_of now.log =
+    omega (arith, bytes_of-parts (length now.log - 1) now.log) in
     let carried : carried_in next.done ≡ carried_in now.done =
     omega (
       arith,
@@ -140,13 +140,18 @@ allowed_full old goal made now at full =
 
 -- ---- what stands, from move to move
 
-pub StandsOn-here : (course : Course) → IsKept course → StandsOn course course
-StandsOn-here course kept = record {
+-- A list that begins with another has as many elements at least.
+longer : {X : Type 0} (old new : List X) → take (length old) new ≡ old → length old ≤ length new
+longer old new is = omega (arith, ap length is, length-take (length old) new)
+
+pub StandsOn-here : (course : Course) → StandsOn course course
+StandsOn-here course = record {
   app = refl;
   limit = refl;
   done = take_all (length course.done) course.done (omega arith);
-  log = take_all (length course.done) course.log (omega (arith, kept.records));
+  log = take_all (length course.log) course.log (omega arith);
   more = omega arith;
+  records = omega arith;
   most_done = omega arith;
   most_carried = omega arith;
   most_bytes = omega arith;
@@ -155,16 +160,18 @@ StandsOn-here course kept = record {
 
 -- Moves are laid on once more.
 pub StandsOn-then : (old now next : Course) (more : List PlainMove) → StandsOn old now → next.app ≡ now.app → next.limit ≡ now.limit
-    → next.done ≡ now.done ++ more → take (length now.done) next.log ≡ now.log → now.most_done ≤ next.most_done
+    → next.done ≡ now.done ++ more → take (length now.log) next.log ≡ now.log → length next.log ≡ length now.log + length more
+    → now.most_done ≤ next.most_done
     → now.most_carried ≤ next.most_carried → now.most_bytes ≤ next.most_bytes → next.read ≡ now.read → StandsOn old next
-StandsOn-then old now next more stands app limit done log most_done most_carried most_bytes read = record {
+StandsOn-then old now next more stands app limit done log records most_done most_carried most_bytes read = record {
   app = app ∙ stands.app;
   limit = limit ∙ stands.limit;
   done =
       ap (take (length old.done)) done ∙ take-append-le (length old.done) now.done more stands.more ∙ stands.done;
   log =
-      sym (take-take (length old.done) (length now.done) next.log stands.more) ∙ ap (take (length old.done)) log ∙ stands.log;
+      sym (take-take (length old.log) (length now.log) next.log (longer old.log now.log stands.log)) ∙ ap (take (length old.log)) log ∙ stands.log;
   more = omega (arith, stands.more, ap length done, length-append now.done more);
+  records = omega (arith, stands.records, records, ap length done, length-append now.done more);
   most_done = omega (arith, stands.most_done, most_done);
   most_carried = omega (arith, stands.most_carried, most_carried);
   most_bytes = omega (arith, stands.most_bytes, most_bytes);
@@ -178,8 +185,9 @@ StandsOn-trans old now next first then = record {
   done =
       sym (take-take (length old.done) (length now.done) next.done first.more) ∙ ap (take (length old.done)) then.done ∙ first.done;
   log =
-      sym (take-take (length old.done) (length now.done) next.log first.more) ∙ ap (take (length old.done)) then.log ∙ first.log;
+      sym (take-take (length old.log) (length now.log) next.log (longer old.log now.log first.log)) ∙ ap (take (length old.log)) then.log ∙ first.log;
   more = omega (arith, first.more, then.more);
+  records = omega (arith, first.records, then.records);
   most_done = omega (arith, first.most_done, then.most_done);
   most_carried = omega (arith, first.most_carried, then.most_carried);
   most_bytes = omega (arith, first.most_bytes, then.most_bytes);
@@ -194,7 +202,7 @@ IsAt-begun course goal kept =
       run = refl;
       state = refl;
       done = sym (append-nil course.done);
-      stands = StandsOn-here course kept;
+      stands = StandsOn-here course;
       most = IsMost-begun course kept;
     }
 
@@ -236,6 +244,11 @@ IsAt-next old goal made now next at within more steps done stands most unmet = r
   most = most;
 }
 
+-- as many moves more as were made
+pub made_more : (old : Course) (made : ℕ) (now : Course) → now.done ≡ done_by_policy old made → length now.done ≡ length old.done + made
+made_more old made now done =
+    omega (arith, ap length done, length-append old.done (moves_by_policy old.app old.target made), moves_made old.app old.target made)
+
 -- The goal is met by it: the run stays there.
 pub EndsRun-met : (old : Course) (goal : Option Condition) (made count : ℕ) (now next : Course) → IsAt old goal made now → made < count
     → length now.done ≤ old.limit → length now.done ≢ old.limit → step old.app now.target (policy_of now.target) ≡ Ok next.target
@@ -250,9 +263,25 @@ EndsRun-met old goal made count now next at less within more steps done undone s
   done = next_done old goal made now next.done at done;
   undone = undone;
   log = stands.log;
+  records = omega (arith, stands.records, made_more old (made + 1) next (next_done old goal made now next.done at done));
   most_done = most.done;
   most_carried = most.carried;
   most_bytes = most.bytes;
+}
+
+-- All its moves were made, and the goal met by none.
+pub EndsRun-through : (old : Course) (goal : Option Condition) (made count : ℕ) (now : Course) → IsAt old goal made now → made ≡ count → now.undone ≡ []
+    → EndsRun old goal count false now
+EndsRun-through old goal made count now at all undone = record {
+  made = made;
+  run = ap (run_from old goal) (sym all) ∙ at.run;
+  done = at.done;
+  undone = undone;
+  log = at.stands.log;
+  records = omega (arith, at.stands.records, made_more old made now at.done);
+  most_done = at.most.done;
+  most_carried = at.most.carried;
+  most_bytes = at.most.bytes;
 }
 
 -- A move of it isn't made.
@@ -299,6 +328,7 @@ runs_from_aside old goal count runs = record {
     done = runs.stands.done;
     log = runs.stands.log;
     more = runs.stands.more;
+    records = runs.stands.records;
     most_done = runs.stands.most_done;
     most_carried = runs.stands.most_carried;
     most_bytes = runs.stands.most_bytes;

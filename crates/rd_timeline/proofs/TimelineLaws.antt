@@ -1,8 +1,8 @@
 -- What a timeline keeps of its fields.
-use Rattle.std.proofs.Common.{ℕ, ◌⊎◌, max, ◌<◌, ◌≤◌, ◌≡◌, ◌≢◌, ◌∙◌, ◌+◌, inl, inr, take, drop, List, [], ◌∷◌, ◌++◌, length, refl, ap, subst, sym, arith}
+use Rattle.std.proofs.Common.{ℕ, ◌⊎◌, max, ◌<◌, ◌≤◌, ◌≡◌, ◌≢◌, ◌∙◌, ◌+◌, ◌-◌, inl, inr, take, drop, List, [], ◌∷◌, ◌++◌, length, refl, ap, subst, sym, arith}
 use Rattle.std.specs.Prelude.{Ok, IsOk, All, is_ok, slice_index_or}
 use Rattle.std.proofs.Math.Seq.{drop-append_seam, take-append_seam}
-use Rattle.std.proofs.lemmas.List.{append_assoc, append-nil, length-append, length-take-le, length_push, take-append-drop}
+use Rattle.std.proofs.lemmas.List.{append_assoc, append-nil, length-append, length-drop, length-take-le, length_push, take-append-drop}
 use Rattle.std.proofs.lemmas.List.Elements.{All-append, All-cons, All-drop, All-nil, All-take}
 use Rattle.rd_app.specs.Application.{Application, IsApplication, priorities_of}
 use Rattle.rd_state.specs.Change.{Change}
@@ -19,16 +19,16 @@ use Rattle.rd_moves.specs.Moves.{IsMoveOf}
 use Rattle.rd_packed.specs.declared.count.ReadCount.{ReadCount}
 use Rattle.rd_timeline.specs.declared.timeline.Start.{Start}
 use Rattle.rd_timeline.specs.declared.timeline.Timeline.TheInside.{Inside}
-use Rattle.rd_timeline.specs.Course.{AreMade, Course, IsKept}
+use Rattle.rd_timeline.specs.Course.{AreMade, Course, IsKept, base_of}
 use Rattle.rd_timeline.specs.Decoded.{carried_in}
-use Rattle.rd_timeline.specs.History.{CanRewind, IsStateAfter, rewound, state_after}
+use Rattle.rd_timeline.specs.History.{CanRewind, IsStateAfter, Retraces, rewound, state_after}
 use Rattle.rd_timeline.specs.Inside.{IsFresh, IsWhole, course_of}
 use Rattle.rd_timeline.specs.JournalView.{HasCarriedRoom, JournalView}
 use Rattle.rd_timeline.specs.LogView.{bytes_of}
 use Rattle.rd_timeline.specs.declared.log.TheConstants.{MAX_KEPT_BYTES}
 use Rattle.rd_timeline.specs.Starts.{CanCancel}
 use Rattle.rd_timeline.proofs.DecodedLaws.{carried_in-append}
-use Rattle.rd_timeline.proofs.HistoryLaws.{CanRewind-back, CanRewind-push, Retraces-back, Retraces-boot, Retraces-now, Retraces-push, first_is_made, state_after-push}
+use Rattle.rd_timeline.proofs.HistoryLaws.{CanRewind-back, CanRewind-later, CanRewind-push, Retraces-back, Retraces-boot, Retraces-later, Retraces-now, Retraces-push, first_is_made, state_after-push}
 
 -- ---- moves that can be made
 
@@ -82,6 +82,23 @@ all_the_same done (move ∷ rest) some = append_assoc done (move ∷ []) rest
 
 -- ---- what is kept
 
+-- The moves done are those without a record and those with one.
+pub all_based : (c : Course) → length c.log ≤ length c.done → base_of c + length c.log ≡ length c.done
+all_based c fewer = omega (arith, fewer)
+
+-- the state now is that after the moves done
+pub kept_now : (c : Course) → IsKept c → IsStateAfter c.app c.done c.target
+kept_now c kept = Retraces-now c.app (base_of c) c.done c.log c.target (all_based c kept.records) kept.retraces
+
+-- one move and its record more
+retraces_push : (c : Course) (move : PlainMove) (last : List Change) (s : Snapshot) → IsKept c → step c.app c.target move ≡ Ok s → undone s last ≡ c.target
+    → IsValid c.app s → IsSettled (priorities_of c.app) s
+    → Retraces c.app (length (c.done ++ move ∷ []) - length (c.log ++ last ∷ [])) (c.done ++ move ∷ []) (c.log ++ last ∷ []) s
+retraces_push c move last s kept steps back valid settled =
+    let same : base_of c ≡ length (c.done ++ move ∷ []) - length (c.log ++ last ∷ []) = omega (arith, length_push c.log last, length_push c.done move) in
+    subst (λ b. Retraces c.app b (c.done ++ move ∷ []) (c.log ++ last ∷ []) s) same
+    (Retraces-push c.app (base_of c) c.done c.log move last c.target s (all_based c kept.records) kept.retraces steps back valid settled)
+
 -- Whether a course is kept hangs on its application, its limit, its target, what is done and undone, and the most that was.
 kept_as : (t : Inside) (c : Course) → IsKept c → t.app ≡ c.app → t.limit ≡ c.limit → t.journal.target ≡ c.target → t.journal.done ≡ c.done
     → t.journal.records ≡ c.log → t.journal.undone ≡ c.undone → t.most_done ≡ c.most_done → t.most_carried ≡ c.most_carried → IsKept (course_of t)
@@ -117,7 +134,7 @@ pub IsWhole-new : (t : Inside) (s : Snapshot) → IsApplication t.app → s ≡ 
     → IsWhole t
 IsWhole-new t s limits boot valid settled target done log undone fresh none_carried =
     let at_boot : IsKept (record (course_of t) { target = s; done = []; log = []; undone = [] }) =
-    record { records = refl; retraces = Retraces-boot t.app s boot valid settled; rewinds = tt; made = AreMade-none t.app t.limit t.most_done t.most_carried } in
+    record { records = omega arith; retraces = Retraces-boot t.app s boot valid settled; rewinds = tt; made = AreMade-none t.app t.limit t.most_done t.most_carried } in
     record {
       kept = kept_as t _ at_boot refl refl target done log undone refl refl;
       limits = limits;
@@ -133,12 +150,12 @@ pub IsKept-push : (c : Course) (move : PlainMove) (last : List Change) (s : Snap
     → IsKept (record c { target = s; done = c.done ++ move ∷ []; log = c.log ++ last ∷ []; undone = []; most_done = most; most_carried = carried })
 IsKept-push c move last s most carried kept named more were carried_were steps back can valid settled = record {
   records = omega (arith, length_push c.log last, length_push c.done move, kept.records);
-  retraces = Retraces-push c.app c.done c.log move last c.target s kept.records kept.retraces steps back valid settled;
+  retraces = retraces_push c move last s kept steps back valid settled;
   rewinds = CanRewind-push s c.log last can (subst (λ (t : Snapshot). CanRewind t c.log) (sym back) kept.rewinds);
   made =
       subst (AreMade c.app c.limit most carried) (sym (append-nil (c.done ++ move ∷ [])))
       (AreMade-push c.app c.limit most carried c.done move c.target s (named_done c.app c.done c.undone kept.made.named) named
-      (Retraces-now c.app c.done c.log c.target kept.records kept.retraces).state steps
+      (kept_now c kept).state steps
       (omega (arith, length-append c.done c.undone, kept.made.within, more)) were carried_were);
 }
 
@@ -149,22 +166,54 @@ pub IsKept-replay : (c : Course) (move : PlainMove) (last : List Change) (s : Sn
     → IsKept (record c { target = s; done = c.done ++ move ∷ []; log = c.log ++ last ∷ []; undone = rest })
 IsKept-replay c move last s rest kept same steps back can valid settled = record {
   records = omega (arith, length_push c.log last, length_push c.done move, kept.records);
-  retraces = Retraces-push c.app c.done c.log move last c.target s kept.records kept.retraces steps back valid settled;
+  retraces = retraces_push c move last s kept steps back valid settled;
   rewinds = CanRewind-push s c.log last can (subst (λ (t : Snapshot). CanRewind t c.log) (sym back) kept.rewinds);
   made = subst (AreMade c.app c.limit c.most_done c.most_carried) (sym same) kept.made;
 }
 
--- the first m moves, with their records
-IsKept-back : (c : Course) (m : ℕ) → m ≤ length c.done → IsKept c
-    → IsKept (record c { target = rewound c.target (drop m c.log); done = take m c.done; log = take m c.log; undone = drop m c.done ++ c.undone })
-IsKept-back c m within kept = record {
-  records = omega (arith, length-take-le m c.done within, length-take-le m c.log (omega (arith, within, kept.records)));
-  retraces = Retraces-back c.app c.done c.log c.target m kept.records within kept.retraces;
-  rewinds = CanRewind-back c.target c.log m kept.rewinds;
-  made =
-      subst (AreMade c.app c.limit c.most_done c.most_carried)
-      (sym (sym (append_assoc (take m c.done) (drop m c.done) c.undone) ∙ ap (λ (ms : List PlainMove). ms ++ c.undone) (take-append-drop m c.done))) kept.made;
-}
+-- all but the last n moves and their records
+IsKept-back : (c : Course) (n : ℕ) → n ≤ length c.log → IsKept c
+    → IsKept (record c {
+      target = rewound c.target (drop (length c.log - n) c.log);
+      done = take (length c.done - n) c.done;
+      log = take (length c.log - n) c.log;
+      undone = drop (length c.done - n) c.done ++ c.undone;
+    })
+IsKept-back c n within kept =
+    let base = base_of c in
+    let k = length c.log - n in
+    let m = length c.done - n in
+    let back = rewound c.target (drop k c.log) in
+    let border : base + k ≡ m = omega (arith, within, kept.records) in
+    let len_done = length-take-le m c.done (omega arith) in
+    let len_log = length-take-le k c.log (omega arith) in
+    let same : base ≡ length (take m c.done) - length (take k c.log) = omega (arith, border, len_done, len_log) in
+    record {
+      records = omega (arith, len_done, len_log, kept.records);
+      retraces =
+          subst (λ b. Retraces c.app b (take m c.done) (take k c.log) back) same
+          (subst (λ i. Retraces c.app base (take i c.done) (take k c.log) back) border
+          (Retraces-back c.app base c.done c.log c.target k (all_based c kept.records) (omega arith) kept.retraces));
+      rewinds = CanRewind-back c.target c.log k kept.rewinds;
+      made =
+          subst (AreMade c.app c.limit c.most_done c.most_carried)
+          (sym (sym (append_assoc (take m c.done) (drop m c.done) c.undone) ∙ ap (λ (ms : List PlainMove). ms ++ c.undone) (take-append-drop m c.done))) kept.made;
+    }
+
+-- the same moves, with fewer records
+IsKept-trim : (c : Course) (keep : ℕ) → IsKept c → IsKept (record c { log = drop (length c.log - keep) c.log })
+IsKept-trim c keep kept =
+    let j = length c.log - keep in
+    let len = length-drop j c.log in
+    let same : base_of c + j ≡ length c.done - length (drop j c.log) = omega (arith, len, kept.records) in
+    record {
+      records = omega (arith, len, kept.records);
+      retraces =
+          subst (λ b. Retraces c.app b c.done (drop j c.log) c.target) same
+          (Retraces-later c.app (base_of c) c.done c.log c.target j kept.retraces);
+      rewinds = CanRewind-later c.target c.log j kept.rewinds;
+      made = kept.made;
+    }
 
 -- Nothing is left to schedule after a move, where nothing was before it.
 pub settled_after : (app : Application) (s : Snapshot) (move : PlainMove) (s' : Snapshot) → IsSettled (priorities_of app) s → LeavesSettled app s move s'
@@ -175,7 +224,7 @@ settled_after app s (variant.Edit edit) s' before leaves = leaves before
 
 -- the state now is that after the moves done
 pub state_now : (t : Inside) → IsWhole t → IsStateAfter t.app t.journal.done t.journal.target
-state_now t whole = Retraces-now t.app t.journal.done t.journal.records t.journal.target whole.kept.records whole.kept.retraces
+state_now t whole = kept_now (course_of t) whole.kept
 
 -- the fields after one move more
 pub IsWhole-push : (t t' : Inside) (move : PlainMove) (last : List Change) → IsWhole t → t'.app ≡ t.app → t'.limit ≡ t.limit
@@ -195,14 +244,27 @@ IsWhole-push t t' move last whole app limit named more steps back can valid sett
       memory = inr memory;
     }
 
--- the fields after the first m moves
-pub IsWhole-back : (t : Inside) (journal : JournalView) (read : ReadCount) (m : ℕ) → m ≤ length t.journal.done → IsWhole t
-    → journal.target ≡ rewound t.journal.target (drop m t.journal.records) → journal.done ≡ take m t.journal.done
-    → journal.records ≡ take m t.journal.records → journal.undone ≡ drop m t.journal.done ++ t.journal.undone → journal.capacity ≡ t.journal.capacity
+-- the fields without the last n moves
+pub IsWhole-back : (t : Inside) (journal : JournalView) (read : ReadCount) (n : ℕ) → n ≤ length t.journal.records → IsWhole t
+    → journal.target ≡ rewound t.journal.target (drop (length t.journal.records - n) t.journal.records)
+    → journal.done ≡ take (length t.journal.done - n) t.journal.done → journal.records ≡ take (length t.journal.records - n) t.journal.records
+    → journal.undone ≡ drop (length t.journal.done - n) t.journal.done ++ t.journal.undone → journal.capacity ≡ t.journal.capacity
     → journal.carried_capacity ≡ t.journal.carried_capacity
     → journal.memory ≡ t.journal.memory → IsWhole (record t { journal = journal; read = read })
-IsWhole-back t journal read m within whole target done log undone capacity carried memory = record {
-  kept = kept_as (record t { journal = journal; read = read }) _ (IsKept-back (course_of t) m within whole.kept) refl refl target done log undone refl refl;
+IsWhole-back t journal read n within whole target done log undone capacity carried memory = record {
+  kept = kept_as (record t { journal = journal; read = read }) _ (IsKept-back (course_of t) n within whole.kept) refl refl target done log undone refl refl;
+  limits = whole.limits;
+  capacity = omega (arith, capacity, whole.capacity);
+  carried = omega (arith, carried, whole.carried);
+  memory = elim whole.memory [ inl fresh ↦ inl fresh | inr room ↦ inr (omega (arith, memory, room)) ];
+}
+
+-- the fields with fewer records
+pub IsWhole-trim : (t : Inside) (journal : JournalView) (keep : ℕ) → IsWhole t → journal.target ≡ t.journal.target → journal.done ≡ t.journal.done
+    → journal.records ≡ drop (length t.journal.records - keep) t.journal.records → journal.undone ≡ t.journal.undone → journal.capacity ≡ t.journal.capacity
+    → journal.carried_capacity ≡ t.journal.carried_capacity → journal.memory ≡ t.journal.memory → IsWhole (record t { journal = journal })
+IsWhole-trim t journal keep whole target done log undone capacity carried memory = record {
+  kept = kept_as (record t { journal = journal }) _ (IsKept-trim (course_of t) keep whole.kept) refl refl target done log undone refl refl;
   limits = whole.limits;
   capacity = omega (arith, capacity, whole.capacity);
   carried = omega (arith, carried, whole.carried);
@@ -227,25 +289,32 @@ IsWhole-aside t journal whole is =
       memory = whole.memory;
     })
 
--- the fields after the first m moves, with those undone and the most of before
-pub IsWhole-cancel : (t : Inside) (journal : JournalView) (start : Start) → IsWhole t → CanCancel (course_of t) start
-    → journal.target ≡ rewound t.journal.target (drop start.done t.journal.records) → journal.done ≡ take start.done t.journal.done
-    → journal.records ≡ take start.done t.journal.records → journal.undone ≡ start.undone → t.journal.capacity ≤ journal.capacity
-    → t.journal.carried_capacity ≤ journal.carried_capacity
+-- the fields without the last n moves, those since a run began, and with those undone and the most of before
+pub IsWhole-cancel : (t : Inside) (journal : JournalView) (start : Start) (n : ℕ) → n ≡ length t.journal.done - start.done → IsWhole t
+    → CanCancel (course_of t) start → journal.target ≡ rewound t.journal.target (drop (length t.journal.records - n) t.journal.records)
+    → journal.done ≡ take (length t.journal.done - n) t.journal.done → journal.records ≡ take (length t.journal.records - n) t.journal.records
+    → journal.undone ≡ start.undone → t.journal.capacity ≤ journal.capacity → t.journal.carried_capacity ≤ journal.carried_capacity
     → journal.memory ≡ t.journal.memory
     → IsWhole (record t { journal = journal; most_done = start.most_done; most_carried = start.most_carried; most_bytes = start.most_bytes })
-IsWhole-cancel t journal start whole can target done log undone capacity carried memory =
+IsWhole-cancel t journal start n is whole can target done log undone capacity carried memory =
     let now : Inside = record t { journal = journal; most_done = start.most_done; most_carried = start.most_carried; most_bytes = start.most_bytes } in
-    let m = start.done in
-    let back = IsKept-back (course_of t) m can.earlier whole.kept in
+    let m = length t.journal.done - n in
+    let first : start.done ≡ m = omega (arith, is, can.earlier) in
+    let back = IsKept-back (course_of t) n (omega (arith, is, can.kept)) whole.kept in
     let kept : IsKept (record (course_of t) {
-      target = rewound t.journal.target (drop m t.journal.records);
+      target = rewound t.journal.target (drop (length t.journal.records - n) t.journal.records);
       done = take m t.journal.done;
-      log = take m t.journal.records;
+      log = take (length t.journal.records - n) t.journal.records;
       undone = start.undone;
       most_done = start.most_done;
       most_carried = start.most_carried;
-    }) = record { records = back.records; retraces = back.retraces; rewinds = back.rewinds; made = can.made } in
+    }) = record {
+      records = back.records;
+      retraces = back.retraces;
+      rewinds = back.rewinds;
+      made =
+          subst (λ k. AreMade t.app t.limit start.most_done start.most_carried (take k t.journal.done ++ start.undone)) first can.made;
+    } in
     record {
       kept = kept_as now _ kept refl refl target done log undone refl refl;
       limits = whole.limits;

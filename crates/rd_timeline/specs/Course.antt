@@ -1,6 +1,6 @@
 -- What a contract sees of a timeline.
-use Rattle.std.specs.Prelude.{ℕ, ◌≡◌, ◌≢◌, ◌<◌, ◌≤◌, ◌⊎◌, List, [], ◌∷◌, ◌++◌, All, length, Ok, Err}
-use Rattle.std.specs.Prelude.{IsOk, IsTrue}
+use Rattle.std.specs.Prelude.{ℕ, ◌≡◌, ◌≢◌, ◌+◌, ◌-◌, ◌<◌, ◌≤◌, ◌⊎◌, List, [], ◌∷◌, ◌++◌, All}
+use Rattle.std.specs.Prelude.{length, Ok, Err, IsOk, IsTrue}
 use Rattle.rd_refusal.specs.declared.refusal.Refusal.{Refusal}
 use Rattle.rd_refusal.specs.declared.refusal.Refusal.TheVariants.{MovesFull, NoMemory}
 use Rattle.rd_app.specs.Application.{Application}
@@ -14,9 +14,10 @@ use Rattle.rd_timeline.specs.History.{Retraces, CanRewind, state_after}
 use Rattle.rd_timeline.specs.LogView.{bytes_of}
 
 -- the application, how many moves may be done, the target as it is now, the moves done from boot in
--- order, the record of each, and the moves undone, the one to be redone next first; how many moves
--- were done at the most so far, how many of those done carried something at the most, and from how
--- many bytes of records a move was made at the most; how many bytes of records were read to go back
+-- order, the records of the last of them, and the moves undone, the one to be redone next first;
+-- how many moves were done at the most so far, how many of those done carried something at the
+-- most, and from how many bytes of records a move was made at the most; how many bytes of records
+-- were read to go back
 pub record Course : Type 0 where
   pub app : Application
   pub limit : ℕ
@@ -29,6 +30,10 @@ pub record Course : Type 0 where
   pub most_bytes : ℕ
   pub read : ℕ
 
+-- how many of the moves done have no record any more
+abbrev pub base_of : Course → ℕ
+base_of course = length course.done - length course.log
+
 -- The moves can be made from boot, one after the other, and as many were done once, of which as
 -- many carried something.
 pub record AreMade (app : Application) (limit most_done most_carried : ℕ) (moves : List PlainMove)
@@ -39,11 +44,11 @@ pub record AreMade (app : Application) (limit most_done most_carried : ℕ) (mov
   pub were : length moves ≤ most_done
   pub carried_were : carried_in moves ≤ most_carried
 
--- There is a record for each move done. Going back by them retraces the moves, and can be done.
--- From there the moves undone lead on.
+-- From the base on there is a record for each move done. Going back by them retraces these moves,
+-- and can be done. From there the moves undone lead on.
 pub record IsKept (course : Course) : Type 0 where
-  pub records : length course.log ≡ length course.done
-  pub retraces : Retraces course.app course.done course.log course.target
+  pub records : length course.log ≤ length course.done
+  pub retraces : Retraces course.app (base_of course) course.done course.log course.target
   pub rewinds : CanRewind course.target course.log
   pub made : AreMade course.app course.limit course.most_done course.most_carried
       (course.done ++ course.undone)
@@ -61,13 +66,14 @@ IsRefusedBy course move refusal =
 abbrev pub CanGo : Course → PlainMove → Type 0
 CanGo course move = (length course.done ≢ course.limit) × IsOk (step course.app course.target move)
 
--- The move is made: it is the last one done, and no move is undone.
+-- The move is made: it is the last one done, with a record more, and no move is undone.
 pub record GoesOn (old : Course) (move : PlainMove) (new : Course) : Type 0 where
   pub app : new.app ≡ old.app
   pub limit : new.limit ≡ old.limit
   pub step : step old.app old.target move ≡ Ok new.target
   pub done : new.done ≡ old.done ++ move ∷ []
   pub undone : new.undone ≡ []
+  pub records : length new.log ≡ length old.log + 1
 
 -- Never were more moves done, or never was a move made from as many bytes of records; or, for a
 -- move that carries something, never did more of those done.

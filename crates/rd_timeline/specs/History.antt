@@ -1,5 +1,6 @@
 -- Lists of moves: the state that they give from the start, and the way back through their records.
-use Rattle.std.specs.Prelude.{ℕ, ◌≡◌, ◌≤◌, List, [], ◌∷◌, length, take, drop, fold, Result, Ok, Err}
+use Rattle.std.specs.Prelude.{ℕ, ◌≡◌, ◌-◌, ◌≤◌, List, [], ◌∷◌, length, take, drop, fold, Result}
+use Rattle.std.specs.Prelude.{Ok, Err}
 use Rattle.rd_refusal.specs.declared.refusal.Refusal.{Refusal}
 use Rattle.rd_app.specs.Application.{Application, priorities_of}
 use Rattle.rd_state.specs.Change.{Change}
@@ -36,7 +37,8 @@ pub record IsStateAfter (app : Application) (moves : List PlainMove) (s : Snapsh
   pub valid : IsValid app s
   pub settled : IsSettled (priorities_of app) s
 
--- Undoing the records from the end until so many moves are left gives the state that they give.
-abbrev pub Retraces : Application → List PlainMove → List (List Change) → Snapshot → Type 0
-Retraces app moves records s = (count : ℕ) → count ≤ length moves
-    → IsStateAfter app (take count moves) (rewound s (drop count records))
+-- The first moves, as many as the base, have no record, and the others have one each. Undoing the
+-- records from the end until so many moves are left gives the state that they give.
+abbrev pub Retraces : Application → ℕ → List PlainMove → List (List Change) → Snapshot → Type 0
+Retraces app base moves records s = (count : ℕ) → base ≤ count → count ≤ length moves
+    → IsStateAfter app (take count moves) (rewound s (drop (count - base) records))

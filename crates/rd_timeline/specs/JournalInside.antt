@@ -18,11 +18,11 @@ journal_of j = record {
   read = j.logged.read;
 }
 
--- So many moves are done, with a record each, and as much is carried as bytes stand for, both by
+-- So many moves are done, and no more have a record. As much is carried as bytes stand for, both by
 -- those done and by those undone.
 pub record IsInOrder (j : Inside) : Type 0 where
   pub border : j.done ≤ length j.moves.items
-  pub records : length j.logged.records ≡ j.done
+  pub records : length j.logged.records ≤ j.done
   pub done : carried_among (take j.done j.moves.items) ≡ length j.carried.done
   pub undone : carried_among (drop j.done j.moves.items) ≡ length j.carried.undone
 

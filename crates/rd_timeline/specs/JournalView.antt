@@ -6,9 +6,9 @@ use Rattle.rd_moves.specs.Moves.{PlainMove}
 use Rattle.rd_moves.specs.declared.moves.Move.TheVariants.{Tick}
 use Rattle.rd_timeline.specs.Decoded.{carried_in, carries}
 
--- The target, the moves done in order, with the record of each, and the moves undone, the one to be
--- redone next first. There is room for so many moves done, for so many among them that carry
--- something, and for so many bytes of their records, of which so many were read so far.
+-- The target, the moves done in order, with the records of the last of them, and the moves undone,
+-- the one to be redone next first. There is room for so many moves done, for so many among them
+-- that carry something, and for so many bytes of their records, of which so many were read so far.
 pub record JournalView : Type 0 where
   pub target : Snapshot
   pub done : List PlainMove

@@ -78,19 +78,21 @@ abbrev pub ended : Bool → ℕ → Snapshot → Run
 ended true made s = Met made s
 ended false made s = Going made s
 
--- The run has come to its end: the target and the moves done are those of the run, and no move is
--- undone. Its moves carry nothing, and its last move was made from the most bytes of records.
+-- The run has come to its end: the target and the moves done are those of the run, each of its
+-- moves has a record, and no move is undone. Its moves carry nothing, and its last move was made
+-- from the most bytes of records.
 pub record EndsRun (old : Course) (goal : Option Condition) (count : ℕ) (met : Bool) (new : Course)
     : Type 0 where
   pub made : ℕ
   pub run : run_from old goal count ≡ ended met made new.target
   pub done : new.done ≡ done_by_policy old made
   pub undone : new.undone ≡ []
-  pub log : take (length old.done) new.log ≡ old.log
+  pub log : take (length old.log) new.log ≡ old.log
+  pub records : length new.log ≡ length old.log + made
   pub most_done : new.most_done ≡ max old.most_done (length new.done)
   pub most_carried : new.most_carried ≡ old.most_carried
   pub most_bytes : 0 < made
-      → new.most_bytes ≡ max old.most_bytes (bytes_of (take (length new.done - 1) new.log))
+      → new.most_bytes ≡ max old.most_bytes (bytes_of (take (length new.log - 1) new.log))
 
 -- There is no memory for a move of the run that could be made.
 pub record LacksMemory (old : Course) (goal : Option Condition) (count : ℕ) : Type 0 where
@@ -110,13 +112,15 @@ IsWhyNoRun old goal count refusal =
 abbrev pub IsWhyNotByPolicy : Course → Refusal → Type 0
 IsWhyNotByPolicy course refusal = IsWhyNot course (policy_of course.target) refusal
 
--- Moves were laid on, nothing was forgotten but the moves undone, and no record was read.
+-- Moves were laid on, with a record each, nothing was forgotten but the moves undone, and no record
+-- was read.
 pub record StandsOn (old new : Course) : Type 0 where
   pub app : new.app ≡ old.app
   pub limit : new.limit ≡ old.limit
   pub done : take (length old.done) new.done ≡ old.done
-  pub log : take (length old.done) new.log ≡ old.log
+  pub log : take (length old.log) new.log ≡ old.log
   pub more : length old.done ≤ length new.done
+  pub records : length new.log + length old.done ≡ length old.log + length new.done
   pub most_done : old.most_done ≤ new.most_done
   pub most_carried : old.most_carried ≤ new.most_carried
   pub most_bytes : old.most_bytes ≤ new.most_bytes

@@ -1,8 +1,8 @@
 -- Whole runs: what comes of a request, and what a list of requests leaves of the moves done and
--- undone. A refused request leaves them.
+-- undone, and of the base. A refused request leaves them.
 use Rattle.std.specs.Prelude.{ℕ, ◌≡◌, ◌-◌, Bool, true, false, IsTrue, List, [], ◌∷◌, ◌++◌}
-use Rattle.std.specs.Prelude.{length, take, drop, fold, slice_get, if◌then◌else◌, nat_eq, nat_le}
-use Rattle.std.specs.Prelude.{Option, None, Some, Result, Ok, Err, is_ok}
+use Rattle.std.specs.Prelude.{length, take, drop, fold, max, slice_get, if◌then◌else◌, nat_eq}
+use Rattle.std.specs.Prelude.{nat_le, Option, None, Some, Result, Ok, Err, is_ok}
 use Rattle.rd_refusal.specs.declared.refusal.Refusal.{Refusal}
 use Rattle.rd_refusal.specs.declared.refusal.Refusal.TheVariants.{MovesFull, NothingUndone, TooFar}
 use Rattle.rd_app.specs.Application.{Application}
@@ -15,19 +15,25 @@ use Rattle.rd_moves.specs.Requests.{PlainRequest}
 use Rattle.rd_moves.specs.declared.answer.SearchEnd.{SearchEnd}
 use Rattle.rd_moves.specs.declared.answer.SearchEnd.TheVariants.{Met, Limit, Start}
 use Rattle.rd_moves.specs.declared.request.Request.TheVariants.{Go, Back, Forward, Redo, Until}
-use Rattle.rd_moves.specs.declared.request.Request.TheVariants.{BackUntil}
+use Rattle.rd_moves.specs.declared.request.Request.TheVariants.{BackUntil, Trim}
 use Rattle.rd_timeline.specs.Backward.{last_met}
-use Rattle.rd_timeline.specs.Course.{Course}
+use Rattle.rd_timeline.specs.Course.{Course, base_of}
 use Rattle.rd_timeline.specs.History.{state_after}
 use Rattle.rd_timeline.specs.Policy.{Run, Going, Met as MetAfter, Refused, moves_by_policy, ran}
 use Rattle.rd_timeline.specs.Policy.{state_or}
 
+-- the moves done and undone, and how many of those done have no record any more
 pub record Moves : Type 0 where
   pub done : List PlainMove
   pub undone : List PlainMove
+  pub base : ℕ
 
 abbrev pub moves_of : Course → Moves
-moves_of course = record { done = course.done; undone = course.undone }
+moves_of course = record { done = course.done; undone = course.undone; base = base_of course }
+
+-- how many of the moves done have a record
+abbrev pub kept : Moves → ℕ
+kept moves = length moves.done - moves.base
 
 -- the state that the moves done give
 abbrev pub state_of : Application → Moves → Snapshot
@@ -52,28 +58,32 @@ run_of app limit goal moves count =
 
 -- the move is the last one done, and the moves undone are forgotten
 abbrev pub moved_on : Moves → PlainMove → Moves
-moved_on moves move = record { done = moves.done ++ move ∷ []; undone = [] }
+moved_on moves move = record moves { done = moves.done ++ move ∷ []; undone = [] }
 
 -- so many moves are done, and those behind them undone
 abbrev pub back_at : Moves → ℕ → Moves
-back_at moves at = record {
+back_at moves at = record moves {
   done = take at moves.done;
   undone = drop at moves.done ++ moves.undone;
 }
 
 -- so many of the moves undone are done again
 abbrev pub redone : Moves → ℕ → Moves
-redone moves count = record {
+redone moves count = record moves {
   done = moves.done ++ take count moves.undone;
   undone = drop count moves.undone;
 }
 
 -- the moves that a run by policy lays on, so many of them; none is undone then
 abbrev pub laid_on : Application → Moves → ℕ → Moves
-laid_on app moves made = record {
+laid_on app moves made = record moves {
   done = moves.done ++ moves_by_policy app (state_of app moves) made;
   undone = [];
 }
+
+-- the records of the last moves, so many of them, are kept, and those before given up
+abbrev pub trimmed : Moves → ℕ → Moves
+trimmed moves keep = record moves { base = max moves.base (length moves.done - keep) }
 
 -- ---- what comes of a request
 
@@ -101,19 +111,18 @@ run_response app moves goal (Refused refusal) = Refuses refusal
 
 -- what comes of a search back, where the condition held last at this place, or at none
 abbrev pub search_response : Moves → Option ℕ → Response
-search_response moves None = Leaves (back_at moves 0) (Some Start)
+search_response moves None = Leaves (back_at moves moves.base) (Some Start)
 search_response moves (Some at) = Leaves (back_at moves at) (Some Met)
 
 -- What comes of each request, where so many moves may be done, and these are done and undone. The
--- last moves done are undone, or the first moves undone are done again, where there are so many. A
--- run is made by policy, or not at all. The way back to where a condition holds is the shortest, or
--- to the start.
+-- last moves done are undone, where so many have a record, or the first moves undone are done
+-- again, where there are so many. A run is made by policy, or not at all. The way back to where a
+-- condition holds is the shortest, or as far as records lead. A trim leaves the moves.
 abbrev pub response_to : Application → ℕ → Moves → PlainRequest → Response
 response_to app limit moves (Go action) = go_response moves action (moved app limit moves action)
 response_to app limit moves (Back count) =
-    if nat_le count (length moves.done)
-    then Leaves (back_at moves (length moves.done - count)) None
-    else Refuses (TooFar (length moves.done))
+    if nat_le count (kept moves) then Leaves (back_at moves (length moves.done - count)) None
+    else Refuses (TooFar (kept moves))
 response_to app limit moves (Forward count) =
     run_response app moves None (run_of app limit None moves count)
 response_to app limit moves (Redo count) =
@@ -122,7 +131,8 @@ response_to app limit moves (Redo count) =
 response_to app limit moves (Until condition count) =
     run_response app moves (Some condition) (run_of app limit (Some condition) moves count)
 response_to app limit moves (BackUntil condition) =
-    search_response moves (last_met app condition moves.done (length moves.done))
+    search_response moves (last_met app condition moves.base moves.done (kept moves))
+response_to app limit moves (Trim keep) = Leaves (trimmed moves keep) None
 
 -- the moves after it, which were these before
 abbrev pub moves_after : Moves → Response → Moves
@@ -150,6 +160,7 @@ lays (Forward count) = ByPolicy
 lays (Redo count) = Again count
 lays (Until condition count) = ByPolicy
 lays (BackUntil condition) = Nothing
+lays (Trim keep) = Nothing
 
 -- Can it be laid on, or the first move of it?
 abbrev pub can_lay : Application → ℕ → Moves → Lays → Bool

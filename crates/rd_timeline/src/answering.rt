@@ -45,7 +45,7 @@ fn go(timeline: &mut Timeline, action: &Move) -> Result<Answer, NoMemory>
     told(timeline.make(action))
 }
 
-// Takes the last moves back. It takes no memory.
+// Takes the last kept moves back. It takes no memory.
 fn back(timeline: &mut Timeline, count: Count) -> Answer
     ensures { Obeys timeline.old (request.Back count) timeline.new (Ok result) }
 {
@@ -102,11 +102,12 @@ fn until(timeline: &mut Timeline, condition: Condition, count: Count) -> Result<
     ended(timeline.until(condition, count.get()))
 }
 
-// Goes back to where a condition held, or to the start.
+// Goes back to where a condition held, or by all kept moves.
 fn back_until(timeline: &mut Timeline, condition: Condition) -> Answer
     requires { IsConditionOf timeline.old.app condition }
     ensures { Obeys timeline.old (request.BackUntil condition) timeline.new (Ok result) }
 {
+    timeline.keeps();
     let Found { at, met } = timeline.back_until(condition);
     let end = if met {
         SearchEnd::Met
@@ -114,6 +115,15 @@ fn back_until(timeline: &mut Timeline, condition: Condition) -> Answer
         SearchEnd::Start
     };
     Answer::Ended { at, end }
+}
+
+// Keeps the records of the last moves, so many. It takes no memory.
+fn trim(timeline: &mut Timeline, keep: usize) -> Answer
+    ensures { Obeys timeline.old (request.Trim keep) timeline.new (Ok result) }
+{
+    timeline.keeps();
+    let at = timeline.trim(keep);
+    Answer::Done { at }
 }
 
 impl Timeline {
@@ -140,6 +150,7 @@ impl Timeline {
             Request::Redo { count } => redo(self, *count),
             Request::Until { condition, count } => until(self, *condition, *count),
             Request::BackUntil { condition } => Ok(back_until(self, *condition)),
+            Request::Trim { keep } => Ok(trim(self, *keep)),
         }
     }
 }

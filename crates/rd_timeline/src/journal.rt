@@ -1,7 +1,9 @@
-//! The moves done and undone, with the target, and the records that lead back through those done.
+//! The moves done and undone, with the target, and the records that lead back through the last of
+//! those done.
 
 ghost use Rattle.std.specs.Prelude.{◌≡◌, ◌-◌, ◌∷◌, ◌++◌, ◌+◌, ◌<◌, ◌≤◌, [], drop, length};
-ghost use Rattle.std.specs.Prelude.{take, IfErr, IfOk, IsErrOf, IsOk, OnErr, OnOk};
+ghost use Rattle.std.specs.Prelude.{◌*◌, if◌then◌else◌, nat_lt, take, IfErr, IfOk, IsErrOf, IsOk};
+ghost use Rattle.std.specs.Prelude.{OnErr, OnOk};
 ghost use Rattle.rd_moves.specs.Moves.{IsMoveOf};
 ghost use Rattle.rd_state.specs.Valid.{IsValid};
 ghost use Rattle.rd_timeline.specs.History.{rewound, CanRewind};
@@ -23,8 +25,8 @@ use rd_state::state::State;
 use std::alloc::Global;
 use std::marker::Model;
 
-/// The moves done and the moves undone, in one list, and the target with the record of each move
-/// done. It can't be dropped: it ends in `retire`.
+/// The moves done and the moves undone, in one list, and the target with the records of the last
+/// moves done. It can't be dropped: it ends in `retire`.
 pub struct Journal {
     // A byte a move: the number of its core, 255 for a tick, or 254 where the move carries
     // something besides.
@@ -327,30 +329,48 @@ impl Journal {
         carried_among(&self.moves[self.done - n..self.done])
     }
 
-    /// Takes the last `n` moves done back: the target goes back by their records, of which each
-    /// byte is read once, and they become the first of the moves undone. It takes no memory, and
-    /// the room stays.
+    /// Takes the last `n` moves done back, which have a record each: the target goes back by these,
+    /// of which each byte is read once, and the moves become the first of the moves undone. It
+    /// takes no memory, and the room stays.
     pub fn take_back(&mut self, n: usize)
-        requires within { n ≤ length self.old.done }
-        requires records { length self.old.records ≡ length self.old.done }
+        requires within { n ≤ length self.old.records }
         requires can_rewind { CanRewind self.old.target
-            (drop (length self.old.done - n) self.old.records) }
+            (drop (length self.old.records - n) self.old.records) }
         ensures target { self.new.target ≡ rewound self.old.target
-            (drop (length self.old.done - n) self.old.records) }
+            (drop (length self.old.records - n) self.old.records) }
         ensures done { self.new.done ≡ take (length self.old.done - n) self.old.done }
         ensures undone { self.new.undone
             ≡ drop (length self.old.done - n) self.old.done ++ self.old.undone }
-        ensures records { self.new.records ≡ take (length self.old.done - n) self.old.records }
+        ensures records { self.new.records
+            ≡ take (length self.old.records - n) self.old.records }
         ensures kept_capacity { self.new.capacity ≡ self.old.capacity }
         ensures kept_carried_capacity { self.new.carried_capacity ≡ self.old.carried_capacity }
         ensures same_memory { self.new.memory ≡ self.old.memory }
         ensures read { self.new.read ≡ self.old.read
-            + bytes_of (drop (length self.old.done - n) self.old.records) }
+            + bytes_of (drop (length self.old.records - n) self.old.records) }
     {
         let count = self.carried_in_last(n);
         self.carried.take_back(count);
         self.done -= n;
         self.logged.take_back(n);
+    }
+
+    /// Keeps the records of the last `n` moves done, or all where they are fewer, and gives up
+    /// those before. The moves stay. It reads 8 bytes of each record that is kept, where any is
+    /// given up. It takes no memory, and the room stays.
+    pub fn keep_last(&mut self, n: usize)
+        ensures target { self.new.target ≡ self.old.target }
+        ensures done { self.new.done ≡ self.old.done }
+        ensures undone { self.new.undone ≡ self.old.undone }
+        ensures records { self.new.records
+            ≡ drop (length self.old.records - n) self.old.records }
+        ensures read { self.new.read
+            ≡ self.old.read + (if nat_lt n (length self.old.records) then 8 * n else 0) }
+        ensures kept_capacity { self.new.capacity ≡ self.old.capacity }
+        ensures kept_carried_capacity { self.new.carried_capacity ≡ self.old.carried_capacity }
+        ensures same_memory { self.new.memory ≡ self.old.memory }
+    {
+        self.logged.keep_last(n);
     }
 
     /// Ends the journal: nobody will go back any more.

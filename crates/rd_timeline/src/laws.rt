@@ -1,10 +1,12 @@
-//! Laws of going on and back, in their own words.
+//! Laws of going on and back, and of trims, in their own words.
 
 ghost use Rattle.rd_timeline.specs.RunLaws.{BackFindsTheLast, EditsLeaveNoTrace, RedoUndoesBack};
-ghost use Rattle.rd_timeline.specs.RunLaws.{RefusedRequestsLeaveAll, RunsAddUp};
+ghost use Rattle.rd_timeline.specs.RunLaws.{KeptGoesAsBefore, OnlyTrimsMoveTheBase};
+ghost use Rattle.rd_timeline.specs.RunLaws.{RefusedRequestsLeaveAll, RunsAddUp, TrimLeavesMoves};
+ghost use Rattle.rd_timeline.specs.RunLaws.{BaseIsWithinMoves, TrimsMeet};
 
 /// Moves that are taken back and then made again leave the target, the moves done and the moves
-/// undone as they were before.
+/// undone as they were before, and how many moves are kept.
 pub fn redo_undoes_back()
     ensures { RedoUndoesBack }
 {}
@@ -15,17 +17,47 @@ pub fn runs_add_up()
 {}
 
 /// Where a search back ends well, the condition holds, and at no later place before the one where
-/// the search began. Where it doesn't end well, the condition holds at no earlier place at all.
+/// the search began. Where it doesn't end well, the condition holds at no earlier place that
+/// records lead back to.
 pub fn back_finds_the_last()
     ensures { BackFindsTheLast }
 {}
 
-/// An edit that is taken back leaves no trace in the target and in the moves done.
+/// An edit that is taken back leaves no trace in the target, in the moves done and in how many of
+/// them are kept.
 pub fn edits_leave_no_trace()
     ensures { EditsLeaveNoTrace }
 {}
 
-/// A refused request of any kind leaves the moves done, so the target too, and the moves undone.
+/// A refused request of any kind leaves the moves done, so the target too, the moves undone and how
+/// many moves are kept.
 pub fn refused_requests_leave_all()
     ensures { RefusedRequestsLeaveAll }
+{}
+
+/// A trim leaves the target, the moves done and the moves undone.
+pub fn trim_leaves_moves()
+    ensures { TrimLeavesMoves }
+{}
+
+/// A trim and then another are one to the smaller of both numbers.
+pub fn trims_meet()
+    ensures { TrimsMeet }
+{}
+
+/// What a trim keeps can be undone, with the same target, moves done and moves undone as without
+/// it, and then be redone.
+pub fn kept_goes_as_before()
+    ensures { KeptGoesAsBefore }
+{}
+
+/// How many of the moves done have no record any more is changed by trims alone, which never make
+/// it less.
+pub fn only_trims_move_the_base()
+    ensures { OnlyTrimsMoveTheBase }
+{}
+
+/// No more moves lack a record than are done, whatever is asked.
+pub fn base_is_within_moves()
+    ensures { BaseIsWithinMoves }
 {}

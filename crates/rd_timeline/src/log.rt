@@ -1,7 +1,7 @@
 //! Records that are kept by themselves.
 
 ghost use Rattle.std.specs.Prelude.{◌≡◌, ◌+◌, ◌-◌, ◌<◌, ◌≤◌, ◌∷◌, ◌++◌, [], length, take};
-ghost use Rattle.std.specs.Prelude.{IfErr, IsOk, OnErr, OnOk};
+ghost use Rattle.std.specs.Prelude.{◌*◌, if◌then◌else◌, drop, nat_lt, IfErr, IsOk, OnErr, OnOk};
 ghost use Rattle.rd_calls.specs.declared.play.TheConstants.{MAX_RECORD_BYTES};
 ghost use Rattle.rd_packed.specs.Records.{last_of_all, record_packed, TakesLittle};
 ghost use Rattle.rd_state.specs.PackedChanges.{all_packed, IsPackable};
@@ -21,7 +21,7 @@ use std::marker::Model;
 /// How many bytes the record of a move takes in a log at the most.
 pub const MAX_KEPT_BYTES: usize = MAX_RECORD_BYTES + TRAILER;
 
-/// The records of the moves done, in order. It can't be dropped: it ends in `retire`.
+/// The records of moves done, in order. It can't be dropped: it ends in `retire`.
 pub struct Log {
     packed: Packed,
 }
@@ -118,6 +118,19 @@ impl Log {
         ensures capacity { self.new.capacity ≡ self.old.capacity }
     {
         self.packed.undo_last(state);
+    }
+
+    /// Keeps the last `n` records, or all where they are fewer, and gives up those before. It reads
+    /// 8 bytes of each that is kept, where any is given up. It takes no memory, and keeps the
+    /// memory that it has.
+    pub fn keep_last(&mut self, n: usize)
+        ensures records { self.new.records
+            ≡ drop (length self.old.records - n) self.old.records }
+        ensures read { self.new.read
+            ≡ self.old.read + (if nat_lt n (length self.old.records) then 8 * n else 0) }
+        ensures capacity { self.new.capacity ≡ self.old.capacity }
+    {
+        self.packed.keep_last(n);
     }
 
     /// Ends the log: nobody will go back by its records.

@@ -1,7 +1,8 @@
 //! The target, and the log of the records that lead back from it.
 
 ghost use Rattle.std.specs.Prelude.{◌≡◌, ◌+◌, ◌-◌, ◌<◌, ◌≤◌, [], drop, length, take};
-ghost use Rattle.std.specs.Prelude.{IfErr, IfOk, IsErrOf, OnErr, OnOk};
+ghost use Rattle.std.specs.Prelude.{◌*◌, if◌then◌else◌, nat_lt, IfErr, IfOk, IsErrOf, OnErr};
+ghost use Rattle.std.specs.Prelude.{OnOk};
 ghost use Rattle.rd_moves.specs.Moves.{IsMoveOf};
 ghost use Rattle.rd_packed.specs.Records.{last_of_all, record_packed};
 ghost use Rattle.rd_state.specs.Undoing.{undone, CanUndo};
@@ -154,6 +155,19 @@ impl Logged {
         for _ in 0..n {
             self.undo_last();
         }
+    }
+
+    /// Keeps the last `n` records, or all where they are fewer, and gives up those before. It reads
+    /// 8 bytes of each that is kept, where any is given up. It takes no memory, and the room stays.
+    pub fn keep_last(&mut self, n: usize)
+        ensures target { self.new.target ≡ self.old.target }
+        ensures records { self.new.records
+            ≡ drop (length self.old.records - n) self.old.records }
+        ensures read { self.new.read
+            ≡ self.old.read + (if nat_lt n (length self.old.records) then 8 * n else 0) }
+        ensures memory { self.new.memory ≡ self.old.memory }
+    {
+        self.log.keep_last(n);
     }
 
     /// Ends it: nobody will go back any more.

@@ -5,6 +5,7 @@ ghost use Rattle.std.specs.Prelude.{Ok, None, Some, IfOk, IfErr, IfSome, OnOk, O
 ghost use Rattle.rd_condition.specs.Conditions.{holds, IsConditionOf};
 ghost use Rattle.rd_timeline.specs.Backward.{GoesBackTo, HasRedone, HasRedonePart};
 ghost use Rattle.rd_timeline.specs.Backward.{IsWhyNoRedo, RedoesMoreThanEver};
+ghost use Rattle.rd_timeline.specs.Course.{base_of};
 ghost use Rattle.rd_timeline.specs.History.{state_after};
 ghost use Rattle.rd_timeline.specs.LogView.{bytes_of};
 ghost use Rattle.rd_timeline.specs.Policy.{meets, EndsRun, IsWhyNoRun, IsWhyNotByPolicy};
@@ -189,19 +190,19 @@ impl Timeline {
         Ok(self.at())
     }
 
-    /// Goes back to the last earlier place where the condition holds, or else to the start. It
-    /// takes no memory and is never refused, and reads each byte of the moves' records once. The
-    /// moves taken back can be redone.
+    /// Goes back to the last earlier place where the condition holds, of those that the kept moves
+    /// lead back to, or else by all kept moves. It takes no memory and is never refused, and reads
+    /// each byte of the moves' records once. The moves taken back can be redone.
     pub fn back_until(&mut self, condition: Condition) -> Found
         requires named { IsConditionOf self.old.app condition }
         ensures at { result.at ≡ length self.new.done }
         ensures place { GoesBackTo self.old condition result self.new }
-        ensures log { self.new.log ≡ take result.at self.old.log }
+        ensures log { self.new.log ≡ take (result.at - base_of self.old) self.old.log }
         ensures read { self.new.read
-            ≡ self.old.read + bytes_of (drop result.at self.old.log) }
+            ≡ self.old.read + bytes_of (drop (result.at - base_of self.old) self.old.log) }
     {
         self.keeps();
-        for _ in 0..self.at() {
+        for _ in 0..self.kept() {
             self.back(1).unwrap();
             if self.meets(Some(condition)) {
                 return Found {
@@ -211,6 +212,9 @@ impl Timeline {
             }
         }
         self.keeps();
-        Found { at: 0, met: false }
+        Found {
+            at: self.at(),
+            met: false,
+        }
     }
 }

@@ -1,4 +1,4 @@
-//! Lists of requests: what they leave of the moves done and undone.
+//! Lists of requests: what they leave of the moves done and undone, and of the base.
 
 ghost use Rattle.std.specs.Prelude.{◌≡◌, All, Ok, OnErr, OnOk};
 ghost use Rattle.rd_timeline.specs.History.{state_after};
@@ -11,9 +11,9 @@ use rd_moves::request::Request;
 
 impl Timeline {
     /// Does all that is asked, in order. After any list of requests the target is the state that
-    /// the moves not undone give from boot, and these moves are what the requests leave of them,
-    /// one by one. Where memory runs out, at a request that makes a move, that holds of the
-    /// requests before it.
+    /// the moves not undone give from boot, and these moves, and how many of them have a record,
+    /// are what the requests leave of them, one by one. Where memory runs out, at a request that
+    /// makes a move, that holds of the requests before it.
     pub fn run(&mut self, requests: &[Request]) -> Result<(), NoMemory>
         requires { All (IsRequestOf self.old.app) requests.now }
         ensures ok { OnOk result (moves_of self.new

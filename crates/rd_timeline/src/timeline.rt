@@ -10,7 +10,7 @@ ghost use Rattle.rd_state.specs.Settled.{IsSettled};
 ghost use Rattle.rd_state.specs.Valid.{IsValid};
 ghost use Rattle.rd_calls.specs.Step.{step};
 ghost use Rattle.rd_moves.specs.Moves.{IsMoveOf};
-ghost use Rattle.rd_timeline.specs.Backward.{GoesBack};
+ghost use Rattle.rd_timeline.specs.Backward.{GoesBack, Trims};
 ghost use Rattle.rd_timeline.specs.Course.{IsKept, IsFull, IsRefusedBy, CanGo, GoesOn};
 ghost use Rattle.rd_timeline.specs.Course.{IsMoreThanEver, IsWhyNot};
 ghost use Rattle.rd_timeline.specs.Decoded.{carried_in};
@@ -43,7 +43,7 @@ pub struct Timeline {
     most_done: usize,
     most_carried: usize,
     most_bytes: usize,
-    // How many bytes of records `back` has read.
+    // How many bytes of records `back` has read. What a trim reads doesn't count.
     read: ReadCount,
 }
 
@@ -102,7 +102,7 @@ impl Timeline {
     }
 
     /// The target is what the moves done give from boot, with nothing left to schedule, and the log
-    /// leads back through them.
+    /// leads back through the last of them.
     pub fn keeps(&self)
         ensures kept { IsKept self.now }
         ensures leads { state_after self.now.app self.now.done ≡ Ok self.now.target }
@@ -147,7 +147,8 @@ impl Timeline {
         self.journal.undone()
     }
 
-    /// How many moves have a record kept. It takes no memory.
+    /// How many moves are kept: the last of the moves done, which have a record, so that one can go
+    /// back by them. It takes no memory.
     pub fn kept(&self) -> usize
         ensures { result ≡ length self.now.log }
     {
@@ -169,7 +170,7 @@ impl Timeline {
         ensures undone { OnOk result (self.new.undone ≡ []) }
         ensures app { OnOk result (self.new.app ≡ self.old.app) }
         ensures limit { OnOk result (self.new.limit ≡ self.old.limit) }
-        ensures log { OnOk result (take (length self.old.done) self.new.log ≡ self.old.log) }
+        ensures log { OnOk result (take (length self.old.log) self.new.log ≡ self.old.log) }
         ensures leads { OnOk result (state_after self.new.app self.new.done ≡ Ok self.new.target) }
         ensures most_done { OnOk result
             (self.new.most_done ≡ max self.old.most_done (length self.new.done)) }
@@ -206,7 +207,7 @@ impl Timeline {
         ensures undone { OnOk result (self.new.undone ≡ []) }
         ensures app { OnOk result (self.new.app ≡ self.old.app) }
         ensures limit { OnOk result (self.new.limit ≡ self.old.limit) }
-        ensures log { OnOk result (take (length self.old.done) self.new.log ≡ self.old.log) }
+        ensures log { OnOk result (take (length self.old.log) self.new.log ≡ self.old.log) }
         ensures leads { OnOk result (state_after self.new.app self.new.done ≡ Ok self.new.target) }
         ensures most_done { OnOk result
             (self.new.most_done ≡ max self.old.most_done (length self.new.done)) }
@@ -246,13 +247,13 @@ impl Timeline {
         Ok(at)
     }
 
-    // Goes back by `n` moves, which are there and can be redone, and counts nothing.
+    // Goes back by `n` kept moves, which are there and can be redone, and counts nothing.
     pub(crate) fn go_back(&mut self, n: usize)
-        requires { n ≤ length self.old.done }
+        requires { n ≤ length self.old.log }
         ensures done { self.new.done ≡ take (length self.old.done - n) self.old.done }
         ensures undone { self.new.undone
             ≡ drop (length self.old.done - n) self.old.done ++ self.old.undone }
-        ensures log { self.new.log ≡ take (length self.old.done - n) self.old.log }
+        ensures log { self.new.log ≡ take (length self.old.log - n) self.old.log }
         ensures app { self.new.app ≡ self.old.app }
         ensures limit { self.new.limit ≡ self.old.limit }
         ensures most_done { self.new.most_done ≡ self.old.most_done }
@@ -265,39 +266,57 @@ impl Timeline {
         self.keeps();
     }
 
-    /// Goes back by `n` moves, which can be redone, the last one undone first. Answers how many
-    /// moves are done then. It takes no memory, and reads each byte of their records once. The only
-    /// refusal is `TooFar` with the number of moves done, where there are fewer; the timeline is
-    /// then as it was.
+    /// Goes back by `n` kept moves, which can be redone, the last one undone first. Answers how
+    /// many moves are done then. It takes no memory, and reads each byte of their records once. The
+    /// only refusal is `TooFar` with the number of kept moves, where there are fewer; the timeline
+    /// is then as it was.
     pub fn back(&mut self, n: usize) -> Result<usize, Refusal>
-        ensures ok { IsOk result ↔ (n ≤ length self.old.done) }
+        ensures ok { IsOk result ↔ (n ≤ length self.old.log) }
         ensures at { IfOk result (λ at. at ≡ length self.new.done) }
         ensures goes { OnOk result (GoesBack self.old n self.new) }
         ensures done { OnOk result (self.new.done ≡ take (length self.old.done - n) self.old.done) }
         ensures undone { OnOk result (self.new.undone
             ≡ drop (length self.old.done - n) self.old.done ++ self.old.undone) }
-        ensures log { OnOk result (self.new.log ≡ take (length self.old.done - n) self.old.log) }
+        ensures log { OnOk result (self.new.log ≡ take (length self.old.log - n) self.old.log) }
         ensures app { OnOk result (self.new.app ≡ self.old.app) }
         ensures limit { OnOk result (self.new.limit ≡ self.old.limit) }
         ensures most_done { OnOk result (self.new.most_done ≡ self.old.most_done) }
         ensures most_carried { OnOk result (self.new.most_carried ≡ self.old.most_carried) }
         ensures most_bytes { OnOk result (self.new.most_bytes ≡ self.old.most_bytes) }
         ensures read { OnOk result (self.new.read
-            ≡ self.old.read + bytes_of (drop (length self.old.done - n) self.old.log)) }
+            ≡ self.old.read + bytes_of (drop (length self.old.log - n) self.old.log)) }
         ensures leads { OnOk result (state_after self.new.app self.new.done ≡ Ok self.new.target) }
         ensures too_far { IfErr result (λ refusal.
-            refusal ≡ Refusal.TooFar (length self.old.done)) }
+            refusal ≡ Refusal.TooFar (length self.old.log)) }
         ensures err { OnErr result (self.new ≡ self.old) }
     {
-        let done = self.at();
-        if n > done {
-            return Err(Refusal::TooFar { done });
+        let kept = self.kept();
+        if n > kept {
+            return Err(Refusal::TooFar { done: kept });
         }
         let before = self.journal.count();
         self.journal.take_back(n);
         self.read = self.read.more(&before, &self.journal.count());
         self.keeps();
         Ok(self.at())
+    }
+
+    /// Trims the timeline: the records of the last `keep` moves done are kept, or all where they
+    /// are fewer, and those before are given up, so that one can go back no further. Answers how
+    /// many moves are done. All else stays, the moves done included. It takes no memory, and gives
+    /// none back.
+    pub fn trim(&mut self, keep: usize) -> usize
+        ensures at { result ≡ length self.new.done }
+        ensures trims { Trims self.old keep self.new }
+        ensures log { self.new.log ≡ drop (length self.old.log - keep) self.old.log }
+        ensures target { self.new.target ≡ self.old.target }
+        ensures done { self.new.done ≡ self.old.done }
+        ensures undone { self.new.undone ≡ self.old.undone }
+        ensures leads { state_after self.new.app self.new.done ≡ Ok self.new.target }
+    {
+        self.journal.keep_last(keep);
+        self.keeps();
+        self.at()
     }
 
     /// A run begins: the moves undone are set aside. An `Err` says that there are some and no
@@ -317,8 +336,8 @@ impl Timeline {
         })
     }
 
-    /// Takes the moves of a run back, and has the moves undone from before it again. It takes no
-    /// memory.
+    /// Takes the moves of a run back, and them alone, and has the moves undone from before it
+    /// again. It takes no memory.
     pub(crate) fn cancel_run(&mut self, start: Start)
         requires { CanCancel self.old start }
         ensures { IsCancelled self.old start self.new }

@@ -97,6 +97,14 @@ def moves_full(shell: "Shell", line: str) -> str:
     return f"{fits} (--moves {limits.moves}){more}"
 
 
+def too_far(shell: "Shell", kept: int) -> str:
+    """How far `back` goes, where so many moves are kept."""
+    base = shell.target.base
+    if not kept:
+        return f"`trim` gave up all before {base}" if base else "no move is done: this is boot"
+    return f"only {kept} moves can be taken back: `goto {base}` goes as far as they lead"
+
+
 def bad_edit(shell: "Shell", line: str) -> str:
     """What an edit of this sort can't do."""
     words = commands.words_of(line)
@@ -126,7 +134,6 @@ REFUSALS: Dict[str, Hint] = {
 
 SENTENCES: Dict[str, str] = {
     "TickLimit": "the tick can't grow any more; `back` takes ticks back",
-    "TooFar": "only {number} moves are done: `goto 0` goes to boot",
     "Held": "session {number} has the wheel: views go on, moves once it gives it",
     "WatchesFull": "there are 16 watches: `info watches`, `unwatch N`",
     "NoWatch": "there is no such watch: `info watches`",
@@ -141,8 +148,8 @@ SENTENCES: Dict[str, str] = {
 
 def refusal(shell: "Shell", line: str, refused: Refused) -> str:
     """A hint on a refusal of a line."""
-    if refused.name == "TooFar" and not refused.number:
-        return "no move is done: this is boot"
+    if refused.name == "TooFar":
+        return too_far(shell, refused.number or 0)
     if refused.name in REFUSALS:
         return REFUSALS[refused.name](shell, line)
     return SENTENCES.get(refused.name, "").format(number=refused.number)

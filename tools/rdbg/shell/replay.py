@@ -26,7 +26,8 @@ VALUE = re.compile("[0-9]+|r[0-7]|max")
 
 def moves(shell: "Shell", words: Sequence[str]) -> None:
     """`moves [COUNT]`: the last moves, each with what it did."""
-    done = shell.target.places().done
+    places = shell.target.places()
+    done, base = places.done, places.done - places.kept
     count = DEFAULT_MOVES
     if words == ["all"]:
         count = max(1, done)
@@ -34,11 +35,11 @@ def moves(shell: "Shell", words: Sequence[str]) -> None:
         if len(words) > 1 or not commands.is_count(words[0]):
             raise Unable("`moves` shows the last 20, `moves 100` the last 100, `moves all` all")
         count = int(words[0])
-    first = max(1, done - count + 1)
+    first = max(base + 1, done - count + 1)
     with shell.wheel():
         found, _ = (
             trail.moves(shell.walk, first, shell.target.places().done, None, shell.progress)
-            if done
+            if done > base
             else ([], None)
         )
     if first > 1:
@@ -55,6 +56,8 @@ def lines_of(shell: "Shell") -> List[str]:
     done = shell.target.places().done
     if not done:
         return []
+    if shell.target.base:
+        raise Unable(f"the first {shell.target.base} moves were trimmed, and can't be told any more")
     names = Names() if shell.target.is_own else shell.target.names
     found, _ = trail.moves(shell.walk, 1, done, names, shell.progress)
     unknown = next((move for move in found if not move.line), None)
@@ -127,6 +130,8 @@ def reload(shell: "Shell", words: Sequence[str]) -> None:
 def replayed(shell: "Shell", source: Source, limits: Limits) -> None:
     """Makes the same moves on a source, and goes on with it."""
     done = shell.target.places().done
+    if shell.target.base:
+        raise Unable(f"the first {shell.target.base} moves were trimmed, and can't be made again")
     # (who was woken and moved is seen from tasks alone; of very many moves only who ran on which
     # core is laid side by side)
     names = Names(shell.target.names.tasks)

@@ -247,7 +247,7 @@ def learn_all(shell: "Shell") -> None:
     if shell.target.application is not None or shell.knows_tasks:
         return
     here = shell.target.places().done
-    shell.walk.goto(0)
+    shell.walk.goto(shell.target.base)
     shell.target.tell("show cores")
     shell.walk.goto(here)
     shell.knows_tasks = True

@@ -126,6 +126,8 @@ def goto(shell: "Shell", words: Sequence[str]) -> None:
     if place > last:
         again = f", and {there.undone} can be made again" if there.undone else ""
         raise Unable(f"{there.done} moves are done{again}: there is no place {place}")
+    if place < there.done - there.kept:
+        raise Unable(shell.target.trimmed(place))
     if place == there.done:
         shell.say(f"at {place} already")
         return

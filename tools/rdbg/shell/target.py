@@ -60,6 +60,8 @@ class Target:
         self.session, self.application, self.limits = session, application, limits
         self.names = Names() if application is None else Names.of(application)
         self.place, self.undone = 0, 0
+        # So many of the moves done have no record any more: `back` goes no further.
+        self.base = 0
         # From where to where others have moved the target since that was last told.
         self.drift: Optional[Tuple[int, int]] = None
         # The lines of the edits that were made here, each by the place behind it.
@@ -96,10 +98,14 @@ class Target:
         return value
 
     def places(self) -> replies.Moves:
-        """How many moves are done, and how many can be made again."""
+        """How many moves are done, how many can be made again, and how many taken back."""
         if self.is_own:
-            return replies.Moves(self.place, self.undone)
+            return replies.Moves(self.place, self.undone, self.place - self.base)
         return self.ask("show moves", replies.Moves)
+
+    def trimmed(self, place: int) -> str:
+        """Why there is no way back to a place before the base."""
+        return f"`trim` gave up what leads back to {place}: `goto {self.base}` is the furthest"
 
     def left(self) -> Optional[int]:
         """How many entries the history has room for; none where that isn't known."""
@@ -170,7 +176,11 @@ class Target:
             return
         if command.form.answers and not isinstance(value, command.form.answers):
             raise Unreadable(reply)
-        if isinstance(value, replies.Moved):
+        if isinstance(value, replies.Moved) and command.form.word == "trim":
+            self._drifted(value.at)
+            self.place = value.at
+            self.base = max(self.base, value.at - int(command.words[1]))
+        elif isinstance(value, replies.Moved):
             self._moved(command, value.at)
         elif isinstance(value, replies.WatchDone):
             self._watched(command, value.number)
@@ -179,6 +189,7 @@ class Target:
         elif isinstance(value, replies.Moves):
             self._drifted(value.done)
             self.place, self.undone = value.done, value.undone
+            self.base = value.done - value.kept
         elif self.application is None:
             self._learn(value)
 

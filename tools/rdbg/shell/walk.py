@@ -6,7 +6,7 @@ from typing import List, Optional, Sequence
 from rdbg import commands, replies
 from rdbg.replies import Refused
 from rdbg.shell.interrupt import Interrupt
-from rdbg.shell.target import Target
+from rdbg.shell.target import Target, Unable
 
 LEAST_PIECE, FIRST_PIECE, MOST_PIECE = 250, 2_000, 64_000
 # A piece should take about so long, in seconds.
@@ -96,7 +96,10 @@ class Walk:
         return None if moved.how == "start" else moved.at
 
     def goto(self, place: int) -> None:
-        """Goes to a place that there is, behind or before this one. Ctrl-C doesn't end it."""
+        """Goes to a place that there is, behind or before this one. Ctrl-C doesn't end it. Raises
+        `Unable` where no record leads there any more."""
+        if place < self.target.base:
+            raise Unable(self.target.trimmed(place))
         while self.place != place:
             word = "back" if place < self.place else "redo"
             piece = self.pace.begin(abs(place - self.place))
@@ -141,7 +144,7 @@ class Pieces:
         if word in ("forward", "until"):
             return self._run(command, count, line)
         places = self.target.places()
-        there_are = places.done if word == "back" else places.undone
+        there_are = places.kept if word == "back" else places.undone
         if not self.target.is_own or count > there_are:
             return self.target.tell(line)
         return self._in_pieces([word], count)[-1]

@@ -12,14 +12,14 @@ returns-in-Ok c =
     let old = c.args.timeline.now in
     let new = c.back.new.self in
     subst (λ count. Obeys old (Back count) new (Ok (Done c.in-Ok.at))) c.get.ensures.number
-    (obeyed old new (Back c.get.result) c.in-Ok.at None c.in-Ok.ensures.at (back_done old new c.get.result c.in-Ok.ensures.goes))
+    (obeyed old new (Back c.get.result) c.in-Ok.at None c.in-Ok.ensures.at (back_done old new c.get.result c.keeps.ensures.kept.records c.in-Ok.ensures.goes))
 
 pub returns-in-Err : goal.returns-in-Err
 returns-in-Err c =
     let old = c.args.timeline.now in
     let new = c.back.new.self in
     let refusal = c.in-Err.refusal in
-    let few = rw c.in-Err.is at (too_few c.back.result c.get.result (length old.done) c.back.ensures.ok) in
+    let few = rw c.in-Err.is at (too_few c.back.result c.get.result (length old.log) c.back.ensures.ok) in
     subst (λ count. Obeys old (Back count) new (Ok (Refused refusal))) c.get.ensures.number
-    (nothing_changed old new (Back c.get.result) refusal (back_not_done old c.get.result refusal few c.in-Err.ensures.too_far) c.in-Err.ensures.err
+    (nothing_changed old new (Back c.get.result) refusal (back_not_done old c.get.result refusal c.keeps.ensures.kept.records few c.in-Err.ensures.too_far) c.in-Err.ensures.err
     c.keeps.ensures.leads)

@@ -1,8 +1,9 @@
 -- The goals of keeps that the check left open.
-use Rattle.std.proofs.Common.{◌≡◌, ap, subst, sym}
+use Rattle.std.proofs.Common.{◌≡◌, ap, arith, subst, sym}
 use Rattle.rd_state.specs.Boot.{boot_of}
 use Rattle.rd_state.specs.Snapshot.{Snapshot}
 use Rattle.rd_timeline.specs.Policy.{state_or}
+use Rattle.rd_timeline.specs.Runs.{moves_of}
 use Rattle.rd_desk.specs.Debugger.{Debugger, target_of}
 use Rattle.rd_desk.specs.DeskView.{LeadsBack}
 use Rattle.rd_desk.specs.MachineInside.{debugger_of}
@@ -23,6 +24,12 @@ returns-clause-leads_back c =
     let m = c.self.inside in
     let target : target_of (debugger_of m) ≡ m.timeline.target = ap (state_or (boot_of m.timeline.app)) c.keeps.ensures.leads in
     let kept = c.keeps.ensures.kept in
-    let back : LeadsBack m.timeline.app m.timeline.done m.timeline.target = record { records = m.timeline.log; each = kept.records; can = kept.rewinds; back = kept.retraces } in
-    subst (λ (d : Debugger). LeadsBack d.app.runs d.moves.done (target_of d)) c.self.view_is
-    (subst (LeadsBack m.timeline.app m.timeline.done) (sym target) back)
+    let back : LeadsBack m.timeline.app (moves_of m.timeline) m.timeline.target = record {
+      records = m.timeline.log;
+      base = omega arith;
+      each = omega (arith, kept.records);
+      can = kept.rewinds;
+      back = kept.retraces;
+    } in
+    subst (λ (d : Debugger). LeadsBack d.app.runs d.moves (target_of d)) c.self.view_is
+    (subst (LeadsBack m.timeline.app (moves_of m.timeline)) (sym target) back)

@@ -4,8 +4,19 @@ use Rattle.std.specs.Prelude.{List}
 use Rattle.std.proofs.lemmas.List.{length-take-le}
 use Rattle.rd_timeline.specs.declared.carried.Carried.{Carried}
 use Rattle.rd_timeline.specs.Decoded.{decoded}
-use Rattle.rd_timeline.proofs.JournalLaws.{border_back}
+use Rattle.rd_timeline.specs.JournalView.{JournalView}
+use Rattle.rd_timeline.proofs.JournalLaws.{border_back, done_count}
 use Rattle.rd_timeline.proofs.journal.Journal.take_back.Goals as goal
+
+pub carried_in_last-count-requires : goal.carried_in_last-count-requires
+carried_in_last-count-requires c =
+    omega (
+      arith,
+      c.requires.within,
+      c.self.invariant.records,
+      ap (λ (v : JournalView). length v.records) c.self.view_is,
+      done_count c.self.inside c.args.self.now c.self.view_is c.self.invariant,
+    )
 
 pub take_back-requires : goal.take_back-requires
 take_back-requires c =

@@ -9,7 +9,7 @@ use Rattle.std.specs.Prelude.{Err, IsErrOf}
 use Rattle.rd_refusal.specs.declared.refusal.Refusal.TheVariants.{NoMemory}
 use Rattle.rd_timeline.specs.Course.{IsMoreThanEver, IsWhyNot}
 use Rattle.rd_timeline.specs.Policy.{IsWhyNoRun, RunsMoreThanEver}
-use Rattle.rd_timeline.proofs.PolicyLaws.{EndsRun-met, IsAt, IsAt-begun, IsAt-next, IsMost-next, StandsOn-then, policy_named, why_no_run}
+use Rattle.rd_timeline.proofs.PolicyLaws.{EndsRun-met, EndsRun-through, IsAt, IsAt-begun, IsAt-next, IsMost-next, StandsOn-then, policy_named, why_no_run}
 use Rattle.rd_timeline.proofs.timeline.Timeline.go_on.Goals as goal
 
 pub loop-init : goal.loop-init
@@ -63,10 +63,10 @@ returns-then-meets-clause-ends c =
     let made = c.in_ok-go.ensures in
     let done = made.done ∙ ap (λ (move : PlainMove). c.loop.self.done ++ move ∷ []) is in
     let stands =
-    StandsOn-then c.args.self.now c.loop.self c.go.new.self (c.policy-action.result ∷ []) i.stands made.app made.limit made.done made.log
+    StandsOn-then c.args.self.now c.loop.self c.go.new.self (c.policy-action.result ∷ []) i.stands made.app made.limit made.done made.log made.goes.records
     (omega (arith, made.most_done)) (omega (arith, made.most_carried)) (omega (arith, made.most_bytes)) made.read in
     let most =
-    IsMost-next c.args.self.now c.loop.counter c.loop.self c.go.new.self i.most c.keeps-in-loop.ensures.kept done made.log made.most_done made.most_carried
+    IsMost-next c.args.self.now c.loop.counter c.loop.self c.go.new.self i.most c.keeps-in-loop.ensures.kept done made.goes.records made.log made.most_done made.most_carried
     made.most_bytes in
     EndsRun-met c.args.self.now c.args.goal c.loop.counter c.args.count c.loop.self c.go.new.self at (omega (arith, c.loop-test.true)) within
     (λ same. more (same ∙ sym i.stands.limit))
@@ -74,6 +74,12 @@ returns-then-meets-clause-ends c =
     ∙ ap (λ (move : PlainMove). step c.loop.self.app c.loop.self.target move) (sym is) ∙ c.in_ok-go.ensures.step)
     done made.undone stands most
     (sym c.meets.ensures ∙ c.if-meets.true)
+
+pub returns-clause-ends : goal.returns-clause-ends
+returns-clause-ends c =
+    let i = c.loop.invariant in
+    EndsRun-through c.args.self.now c.args.goal c.loop.counter c.args.count c.loop.self
+    (record { run = i.run; state = i.state; done = i.done; stands = i.stands; most = i.most }) (omega (arith, c.loop-test.false, c.loop.auto.counter-end)) i.undone
 
 pub loop-preserved : goal.loop-preserved
 loop-preserved c =
@@ -85,11 +91,11 @@ loop-preserved c =
     omega (arith, c.keeps-in-loop.ensures.kept.made.within, length-append c.loop.self.done c.loop.self.undone, i.stands.limit) in
     let more : length c.loop.self.done ≢ c.loop.self.limit = search rules in
     let stands =
-    StandsOn-then c.args.self.now c.loop.self c.go.new.self (c.policy-action.result ∷ []) i.stands made.app made.limit made.done made.log
+    StandsOn-then c.args.self.now c.loop.self c.go.new.self (c.policy-action.result ∷ []) i.stands made.app made.limit made.done made.log made.goes.records
     (omega (arith, made.most_done)) (omega (arith, made.most_carried)) (omega (arith, made.most_bytes)) made.read in
     let done = made.done ∙ ap (λ (move : PlainMove). c.loop.self.done ++ move ∷ []) is in
     let most =
-    IsMost-next c.args.self.now c.loop.counter c.loop.self c.go.new.self i.most c.keeps-in-loop.ensures.kept done made.log made.most_done made.most_carried
+    IsMost-next c.args.self.now c.loop.counter c.loop.self c.go.new.self i.most c.keeps-in-loop.ensures.kept done made.goes.records made.log made.most_done made.most_carried
     made.most_bytes in
     let next =
     IsAt-next c.args.self.now c.args.goal c.loop.counter c.loop.self c.go.new.self at within (λ same. more (same ∙ sym i.stands.limit))

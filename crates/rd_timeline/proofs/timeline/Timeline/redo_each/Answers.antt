@@ -6,7 +6,7 @@ use Rattle.rd_timeline.proofs.PolicyLaws.{StandsOn-here, StandsOn-trans}
 use Rattle.rd_timeline.proofs.timeline.Timeline.redo_each.Goals as goal
 
 pub loop-init : goal.loop-init
-loop-init c = record { has = HasRedone-here c.args.self.now; stands = StandsOn-here c.args.self.now c.keeps.ensures.kept }
+loop-init c = record { has = HasRedone-here c.args.self.now; stands = StandsOn-here c.args.self.now }
 
 pub loop-preserved : goal.loop-preserved
 loop-preserved c =

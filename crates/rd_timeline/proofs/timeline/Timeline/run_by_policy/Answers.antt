@@ -1,5 +1,5 @@
 -- The goals of `run_by_policy` that the check left open.
-use Rattle.std.proofs.Common.{◌∙◌, ap, arith, inr, rules, subst, take}
+use Rattle.std.proofs.Common.{◌≡◌, ◌∙◌, ◌-◌, length, ap, arith, inr, rules, subst, take}
 use Rattle.std.specs.Prelude.{Err, IsErrOf}
 use Rattle.rd_refusal.specs.declared.refusal.Refusal.TheVariants.{NoMemory}
 use Rattle.std.proofs.lemmas.List.{length-append}
@@ -23,7 +23,10 @@ returns-in-Err-clause-err c =
     let stands = subst (λ (course : Course). StandsOn course c.go_on.new.self) c.in-Ok.ensures.emptied c.go_on.ensures.stands in
     let app = cancelled.app ∙ stands.app in
     let done = cancelled.done ∙ ap (λ k. take k c.go_on.new.self.done) start.done ∙ stands.done in
-    let log = cancelled.log ∙ ap (λ k. take k c.go_on.new.self.log) start.done ∙ stands.log in
+    let ran = c.go_on.new.self in
+    let records : length ran.log - (length ran.done - c.in-Ok.start.done) ≡ length old.log =
+    omega (arith, start.done, stands.more, stands.records) in
+    let log = cancelled.log ∙ ap (λ k. take k ran.log) records ∙ stands.log in
     same_course old c.cancel_run.new.self app (cancelled.limit ∙ stands.limit)
     (same_target old c.cancel_run.new.self app done c.keeps.ensures.leads cancelled.leads) done log (cancelled.undone ∙ start.undone)
     (cancelled.most_done ∙ start.most_done) (cancelled.most_carried ∙ start.most_carried) (cancelled.most_bytes ∙ start.most_bytes) (cancelled.read ∙ stands.read)
