@@ -154,7 +154,7 @@ FORMS: Tuple[Form, ...] = (
     Form("show task K", "its core, pc, phase, registers, data and notes", replies.Task),
     Form("show cores", "who is on which core, who is ready, tick and turn", replies.Cores),
     Form("show moves", "how many moves are done, taken back, and kept", replies.Moves),
-    Form("trim N", "keeps the records of the last N moves, and goes back no further", replies.Moved),
+    Form("trim N", "keeps the records of the last N moves, and no others", replies.Moved),
     Form("wheel take", "takes the wheel: no other session moves the target", replies.WheelDone),
     Form("wheel give", "gives the wheel back", replies.WheelDone),
     Form("show wheel", "who has the wheel", replies.WheelHolder),

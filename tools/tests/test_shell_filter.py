@@ -74,7 +74,9 @@ class Filter(unittest.TestCase):
     def test_comments_empty_lines_and_ends_of_lines(self) -> None:
         given = b"# first\n\nstep 0\r\n  tick # a tick\n\xff\nshow moves"
         status, output, errors = run(given)
-        self.assertEqual((status, output), (0, "ok at 1\nok at 2\nno Syntax\nmoves 2 undone 0 kept 2\n"))
+        self.assertEqual(
+            (status, output), (0, "ok at 1\nok at 2\nno Syntax\nmoves 2 undone 0 kept 2\n")
+        )
         self.assertIn("is no word", errors)
 
     def test_quit_ends(self) -> None:

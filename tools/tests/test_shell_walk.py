@@ -116,7 +116,9 @@ class Interrupts(unittest.TestCase):
             with mock.patch.object(shell.target, "tell", answer):
                 answers = said(shell, "forward 100")
             self.assertEqual(answers, ["", "# stopped by Ctrl-C, at 6"])
-            self.assertEqual(said(shell, "show moves", "back 6"), ["moves 6 undone 0 kept 6", "ok at 0"])
+            self.assertEqual(
+                said(shell, "show moves", "back 6"), ["moves 6 undone 0 kept 6", "ok at 0"]
+            )
 
     def test_a_goal_goes_back(self) -> None:
         with example("turns") as shell:

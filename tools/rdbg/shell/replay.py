@@ -57,7 +57,7 @@ def lines_of(shell: "Shell") -> List[str]:
     if not done:
         return []
     if shell.target.base:
-        raise Unable(f"the first {shell.target.base} moves were trimmed, and can't be told any more")
+        raise Unable(f"the first {shell.target.base} moves were trimmed, and can't be told")
     names = Names() if shell.target.is_own else shell.target.names
     found, _ = trail.moves(shell.walk, 1, done, names, shell.progress)
     unknown = next((move for move in found if not move.line), None)
