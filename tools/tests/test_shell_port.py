@@ -171,6 +171,14 @@ class Attached(unittest.TestCase):
                 self.assertIn("worker", shell.target.names.tasks)
                 self.assertEqual(said(shell, "show moves"), ["moves 6 undone 0 kept 6"])
 
+    def test_how_far_back_leads_where_another_trims(self) -> None:
+        with two() as (shell, other):
+            said(shell, "forward 5")
+            other.tell("trim 0")
+            output, hints = both(shell, "back 1")
+            self.assertEqual(output, ["no TooFar 0"])
+            self.assertIn("`trim` gave up all before 5", hints[-1])
+
     def test_edits_by_others_are_saved(self) -> None:
         with two() as (shell, other), tempfile.TemporaryDirectory() as folder:
             file = pathlib.Path(folder) / "x.commands"

@@ -99,7 +99,7 @@ def moves_full(shell: "Shell", line: str) -> str:
 
 def too_far(shell: "Shell", kept: int) -> str:
     """How far `back` goes, where so many moves are kept."""
-    base = shell.target.base
+    base = max(0, shell.target.place - kept)
     if not kept:
         return f"`trim` gave up all before {base}" if base else "no move is done: this is boot"
     return f"only {kept} moves can be taken back: `goto {base}` goes as far as they lead"
