@@ -42,7 +42,7 @@ fn goes_back_to_boot(rt: &impl Abort, alloc: Global, timeline: &mut Timeline) ->
     assert_same(rt, timeline.back(4), Ok(0));
     assert!(rt; timeline.target().same(&boot));
     assert_same(rt, timeline.left(), 4);
-    assert_same(rt, timeline.back(1), Err(Refusal::TooFar { done: 0 }));
+    assert_same(rt, timeline.back(1), Err(Refusal::TooFar { kept: 0 }));
     assert_same(rt, timeline.left(), 4);
     Ok(())
 }

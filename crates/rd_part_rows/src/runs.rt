@@ -61,7 +61,7 @@ fn goes_to_the_limit(rt: &impl Abort, timeline: &mut Timeline) {
 
 // A way back that is too long does nothing.
 fn goes_back_too_far(rt: &impl Abort, timeline: &mut Timeline) {
-    let refusal = Refusal::TooFar { done: 3 };
+    let refusal = Refusal::TooFar { kept: 3 };
     assert_answer(rt, timeline, &back(rt, 4), Answer::Refused { refusal });
     assert_place(rt, timeline, 3, 0, 3);
 }

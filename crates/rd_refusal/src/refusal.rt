@@ -14,9 +14,9 @@ pub enum Refusal {
     /// There is no tick after this one.
     #[error("the tick is the last that there is")]
     TickLimit,
-    /// There are only so many moves to go back.
-    #[error("there are only {done} moves to go back")]
-    TooFar { done: usize },
+    /// Only so many of the moves done have a record to go back by.
+    #[error("there are only {kept} moves to go back")]
+    TooFar { kept: usize },
     /// Fewer moves are undone than would be made again.
     #[error("fewer moves are undone than would be made again")]
     NothingUndone,

@@ -58,12 +58,12 @@ line_of text = text ++ 10 ∷ []
 
 -- ---- answers to moves, and refusals
 
--- the cause of a refusal, by its name; behind TooFar stands how many moves are done, and behind
+-- the cause of a refusal, by its name; behind TooFar stands how many moves have a record, and behind
 -- Held which session has the wheel
 abbrev pub refusal_text : Refusal → List ℕ
 refusal_text NoTask = codes "NoTask"
 refusal_text TickLimit = codes "TickLimit"
-refusal_text (TooFar done) = codes "TooFar " ++ decimal done
+refusal_text (TooFar kept) = codes "TooFar " ++ decimal kept
 refusal_text NothingUndone = codes "NothingUndone"
 refusal_text MovesFull = codes "MovesFull"
 refusal_text (refusal.Held holder) = codes "Held " ++ decimal holder

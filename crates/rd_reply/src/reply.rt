@@ -86,9 +86,9 @@ fn append_refusal(line: &mut ReplyLine, refusal: Refusal)
     match refusal {
         Refusal::NoTask => append_text(line, b"NoTask"),
         Refusal::TickLimit => append_text(line, b"TickLimit"),
-        Refusal::TooFar { done } => {
+        Refusal::TooFar { kept } => {
             append_text(line, b"TooFar ");
-            append_number(line, done);
+            append_number(line, kept);
         }
         Refusal::NothingUndone => append_text(line, b"NothingUndone"),
         Refusal::MovesFull => append_text(line, b"MovesFull"),

@@ -8,7 +8,7 @@ const SENTENCES: [(Refusal, &str); 17] = [
     (Refusal::NoTask, "no task is on this core"),
     (Refusal::TickLimit, "the tick is the last that there is"),
     (
-        Refusal::TooFar { done: 3 },
+        Refusal::TooFar { kept: 3 },
         "there are only 3 moves to go back",
     ),
     (

@@ -292,7 +292,7 @@ impl Timeline {
     {
         let kept = self.kept();
         if n > kept {
-            return Err(Refusal::TooFar { done: kept });
+            return Err(Refusal::TooFar { kept });
         }
         let before = self.journal.count();
         self.journal.take_back(n);
