@@ -43,7 +43,8 @@ pub record LeadsBack (app : Application) (moves : Moves) (s : Snapshot) : Type 0
 
 -- The history is one of the sequential debugger, and each session that is present has a place for
 -- its departure. The moves done, and not undone, give the target from the start, and the
--- records of the last ones, from the base on, lead back from it. There are as many names as things in it.
+-- records of the last ones, from the base on, lead back from it. There are as many names as
+-- things in it.
 pub record IsKept (d : DeskView) : Type 0 where
   pub legal : IsLegal d.history d.debugger
   pub within : used d ≤ d.most_entries

@@ -64,7 +64,7 @@ impl Asked {
     }
 }
 
-// Whether two lines have the same words. (Mostly they have the same bytes, and then no word is cut.)
+// Whether two lines have the same words. (Mostly they have the same bytes; then no word is cut.)
 fn have_same_words(line: &[u8], other: &[u8]) -> bool
     ensures { IsTrue result ↔ (words_of line.now ≡ words_of other.now) }
 {

@@ -2,7 +2,7 @@
 
 ghost use Rattle.std.specs.Prelude.{◌≡◌, ◌↔◌, ◌+◌, ◌<◌, ◌≤◌, [], length, IfOk, IsTrue};
 ghost use Rattle.rd_command.specs.declared.binding.TheConstants.{MAX_WATCHES};
-ghost use Rattle.rd_desk.specs.Sessions.{IsPresent, joined, kept_by, present_count, watch_at};
+ghost use Rattle.rd_desk.specs.Sessions.{IsPresent, joined, kept_by, present_count};
 ghost use Rattle.rd_desk.specs.Sessions.{watch_count, watches_of, with_watches, without};
 
 use crate::watches::Watches;

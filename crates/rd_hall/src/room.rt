@@ -104,8 +104,8 @@ impl<L: Setup> Room<L> {
 
     /// The target: the state that the moves done, and not undone, give from the start, whichever
     /// sessions made them. The history is one of the sequential debugger from its opening on, and
-    /// as long as the ledger's total. There is a record of each move done from the base on, and going
-    /// back by them gives the whole state before each.
+    /// as long as the ledger's total. There is a record of each move done from the base on, and
+    /// going back by them gives the whole state before each.
     pub fn target(&self) -> &State
         ensures legal { IsLegal self.now.desk.history self.now.desk.debugger }
         ensures leads { state_after self.now.desk.debugger.app.runs

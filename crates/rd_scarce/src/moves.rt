@@ -200,8 +200,8 @@ fn stands(timeline: &Timeline, at: usize, left: usize) -> Result<(), Wrong> {
     })
 }
 
-// After a refusal: goes back as far as records are kept, at the start to what was at boot, and makes
-// the moves again.
+// After a refusal: goes back as far as records are kept, at the start to what was at boot, and
+// makes the moves again.
 fn go_back_and_on(
     timeline: &mut Timeline,
     boot: &State,

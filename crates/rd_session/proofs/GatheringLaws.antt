@@ -1,10 +1,10 @@
 -- Answers that are gathered, and written many at a time.
 use Rattle.std.proofs.Common.{◌≡◌, ◌∙◌, ℕ, ◌+◌, ◌-◌, ◌<◌, List, [], ◌∷◌, ◌++◌, length, refl, ap, subst, sym, arith}
-use Rattle.std.specs.Prelude.{Option, Some, None, Result, Ok, Err, slice_get, option_map, is_some, IsTrue}
+use Rattle.std.specs.Prelude.{Option, Some, None, slice_get, option_map, is_some, IsTrue}
 use Rattle.std.specs.Io.KnownBytes.{Appends}
 use Rattle.std.proofs.lemmas.List.{append_assoc, append-nil, length-append, length_push}
 use Rattle.std.proofs.lemmas.Grind.{flat_map-append}
-use Rattle.rd_ends.specs.Ends.{IsFront, Says, SinkView}
+use Rattle.rd_ends.specs.Ends.{IsFront, SinkView}
 use Rattle.rd_ends.proofs.Offered.{Appends-append, Appends-none}
 use Rattle.rd_text.specs.Words.{words_of}
 use Rattle.rd_command.specs.Commands.{CommandView, command_of}
@@ -18,9 +18,9 @@ use Rattle.rd_session.specs.BuffersView.{PendingView}
 use Rattle.rd_session.specs.Calls.{Adds, Before, Call, Called}
 use Rattle.rd_session.specs.Lines.{Line, Whole, Long}
 use Rattle.rd_session.specs.Replies.{Answer, Served, Unserved, Syntax, TooLong, refusal_line, refusal_of, reply_line, text}
-use Rattle.rd_session.specs.Answers.{AreAnswers, BreaksOff, HasNoRoom, IsAnswerTo, Talk, Talks, asked, receipt_in, receipts_in, texts, with_all}
+use Rattle.rd_session.specs.Answers.{AreAnswers, BreaksOff, HasNoRoom, IsAnswerTo, Talk, Talks, receipt_in, receipts_in, texts, with_all}
 use Rattle.rd_session.specs.Gathering.{AreOut, Spot, Talking, spot}
-use Rattle.rd_session.proofs.CallLaws.{Adds-none, Called-begun, Called-none, Called-out, Called-same}
+use Rattle.rd_session.proofs.CallLaws.{Called-begun, Called-none, Called-out, Called-same}
 
 -- ---- texts and receipts
 

@@ -14,7 +14,7 @@ use Rattle.rd_session.specs.declared.session.Ended.TheVariants.{LineTooLong, Wri
 use Rattle.rd_session.specs.Answers.{BreaksOff, Talk, Talks}
 use Rattle.rd_session.specs.Gathering.{BreaksAmid, HearsMore, SaysAll, Spot, Stops, Talking}
 use Rattle.rd_session.specs.Hearing.{ArePages, Heard, NoneIsLong, AtInputEnd, ReadFailed, WriteFailed, LongLine, AllReads, bytes_of}
-use Rattle.rd_session.proofs.GatheringLaws.{BreaksOff-more, Talking-new, Talks-of}
+use Rattle.rd_session.proofs.GatheringLaws.{BreaksOff-more, Talks-of}
 use Rattle.rd_session.proofs.LineLaws.{line_cut, lines_from-append, long_cut, part_cut, rest_from-append}
 
 -- ---- lines behind one another

@@ -8,7 +8,7 @@ use Rattle.rd_desk.specs.declared.entry.Event.TheVariants.{Leave}
 use Rattle.rd_hall.specs.SeatView.{SeatView}
 use Rattle.rd_hall.specs.Seats.{Gained, Joined}
 use Rattle.rd_session.specs.Calls.{Call}
-use Rattle.rd_session.specs.Lines.{Line, lines_of, rest_from}
+use Rattle.rd_session.specs.Lines.{lines_of, rest_from}
 use Rattle.rd_session.specs.Answers.{BreaksOff, Talk, Talks}
 
 -- what reads brought, one behind the other

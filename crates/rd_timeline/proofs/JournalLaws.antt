@@ -3,7 +3,6 @@ use Rattle.std.proofs.Common.{◌≡◌, ◌∙◌, ℕ, ◌+◌, ◌-◌, ◌<�
 use Rattle.std.specs.Global.{Vec}
 use Rattle.std.specs.Prelude.{slice_index_or, vec_capacity}
 use Rattle.std.proofs.Math.ListN.{drop_of_length-le}
-use Rattle.std.proofs.Math.Seq.{drop-append_seam, take-append_seam}
 use Rattle.std.proofs.lemmas.List.{drop-append-le, drop_all, drop_more, length-append, length-drop, length-take-le, length_push, take-append-drop, take-take, take_all, take_more}
 use Rattle.rd_app.specs.Application.{Application, IsApplication}
 use Rattle.rd_app.proofs.Offered.{few_cores_of}
@@ -180,16 +179,6 @@ border_on j old d is order some =
           );
       undone_carried = omega (arith, ap carried_among first, carried_among-cons byte rest, order.undone, length-drop k us);
     }
-
--- ---- other bytes behind the border
-
-pub bytes_apart : (bytes later : List ℕ) (border : ℕ) → border ≤ length bytes
-    → (take border (take border bytes ++ later) ≡ take border bytes) × (drop border (take border bytes ++ later) ≡ later)
-bytes_apart bytes later border within =
-    let count : length (take border bytes) ≡ border = length-take-le border bytes within in (
-      ap (λ k. take k (take border bytes ++ later)) (sym count) ∙ take-append_seam (take border bytes) later,
-      ap (λ k. drop k (take border bytes ++ later)) (sym count) ∙ drop-append_seam (take border bytes) later,
-    )
 
 -- The moves undone are cut off.
 pub moves_set_aside : (j : Inside) (moves : Vec ℕ) (carried : CarriedView) → IsInOrder j → moves.items ≡ take j.done j.moves.items

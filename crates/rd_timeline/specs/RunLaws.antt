@@ -52,7 +52,7 @@ BackFindsTheLast = (old new : Course) (condition : Condition) (found : Found) �
     → (found.met ≡ true → found.at < place)
     → holds_in condition (state_after old.app (take place old.done)) ≡ false)
 
--- An edit that is taken back leaves no trace, in the records neither.
+-- An edit that is taken back leaves no trace: target, moves done and base are as they were.
 abbrev pub EditsLeaveNoTrace : Type 0
 EditsLeaveNoTrace = (old mid new : Course) (edit : PlainEdit) → IsMade old
     → GoesOn old (move.Edit edit) mid → GoesBack mid 1 new

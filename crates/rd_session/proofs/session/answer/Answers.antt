@@ -1,6 +1,5 @@
 -- The goals of answer that the check left open.
-use Rattle.std.proofs.Common.{◌∙◌, sym, ap}
-use Rattle.std.specs.Result.{result_ok}
+use Rattle.std.proofs.Common.{◌∙◌, sym}
 use Rattle.rd_session.proofs.AnsweringLaws.{Answered-gathered}
 use Rattle.rd_session.proofs.GatheringLaws.{answer_syntax}
 use Rattle.rd_session.proofs.session.answer.Goals as goal

@@ -1,8 +1,7 @@
 -- The goals of answer_lines that the check left open.
-use Rattle.std.proofs.Common.{◌∙◌, ◌≡◌, ◌+◌, ◌≤◌, [], length, refl, sym, arith, ap}
+use Rattle.std.proofs.Common.{◌∙◌, ◌≡◌, ◌+◌, ◌≤◌, [], length, sym, arith, ap}
 use Rattle.std.proofs.lemmas.List.{length-drop}
-use Rattle.rd_session.specs.BuffersView.{PendingView}
-use Rattle.rd_session.proofs.AnsweringLaws.{all_heard, all_lost, on_both, on_err}
+use Rattle.rd_session.proofs.AnsweringLaws.{all_heard, all_lost}
 use Rattle.rd_session.proofs.HearingLaws.{Answering-breaks, Answering-long, Answering-long_breaks, Answering-lost, Answering-more, Answering-new, Answering-part, Answering-rest, HearsMore-none}
 use Rattle.rd_session.proofs.LineLaws.{line_cut}
 use Rattle.rd_session.proofs.session.answer_lines.Goals as goal

@@ -1,5 +1,5 @@
 -- The goals of ask that the check left open.
-use Rattle.std.proofs.Common.{◌∙◌, ℕ, ap}
+use Rattle.std.proofs.Common.{◌∙◌, ℕ}
 use Rattle.rd_session.proofs.AnsweringLaws.{Answered-gathered, Answered-told}
 use Rattle.rd_session.proofs.GatheringLaws.{answer_refused, answer_served}
 use Rattle.rd_session.proofs.session.ask.Goals as goal

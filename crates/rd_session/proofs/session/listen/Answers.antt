@@ -1,7 +1,7 @@
 -- The goals of listen that the check left open.
-use Rattle.std.proofs.Common.{◌∙◌, ◌≡◌, ◌+◌, ◌<◌, ◌≤◌, length, refl, arith, rules}
+use Rattle.std.proofs.Common.{◌∙◌, ◌≡◌, ◌+◌, ◌<◌, ◌≤◌, refl, arith, rules}
 use Rattle.rd_session.proofs.GatheringLaws.{Talking-new}
-use Rattle.rd_session.proofs.HearingLaws.{Heard-ended, Heard-failed, Heard-spent, Heard-stops, Hears-more, Hears-new, Read-of, held_short}
+use Rattle.rd_session.proofs.HearingLaws.{Heard-ended, Heard-failed, Heard-spent, Heard-stops, Hears-more, Hears-new, Read-of}
 use Rattle.rd_session.proofs.session.listen.Goals as goal
 
 pub loop-turn-init : goal.loop-turn-init
