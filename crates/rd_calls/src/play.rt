@@ -25,7 +25,7 @@ use rd_bytes::bytes::MAX_BYTES;
 use rd_bytes::no_memory::NoMemory;
 use rd_edits::edit::{is_good, make};
 use rd_kernel::calling::caller_on;
-use rd_moves::edit::Edit;
+use rd_moves::edit::{Edit, Lent};
 use rd_moves::moves::Move;
 use rd_queue::item::MAX_ITEM_SIZE;
 use rd_queue::queue::MAX_ITEMS;
@@ -124,7 +124,7 @@ fn play_edit(editing: &mut Editing, app: &Program, edit: &Edit) -> Result<(), No
 
 /// Why the rules refuse a move, if they do: `NoTask` where the core is idle, `TickLimit` where the
 /// tick is 4,294,967,295, `BadEdit` where the edit can't be made.
-pub fn why_not(app: &Program, state: &State, action: &Move) -> Option<Refusal>
+pub fn why_not(app: &Program, state: &State, action: &Move<Lent<'_>>) -> Option<Refusal>
     requires valid { IsValid app.now state.now }
     requires named { IsMoveOf app.now action.now }
     ensures refused { IfSome result (λ refusal. step app.now state.now action.now ≡ Err refusal) }
@@ -133,7 +133,7 @@ pub fn why_not(app: &Program, state: &State, action: &Move) -> Option<Refusal>
     match action {
         Move::Core { core } if state.core(*core).is_none() => Some(Refusal::NoTask),
         Move::Tick if state.tick() == u32::MAX => Some(Refusal::TickLimit),
-        Move::Edit { edit } if !is_good(edit, app, state) => Some(Refusal::BadEdit),
+        Move::Edit { edit } if !is_good(edit.edit(), app, state) => Some(Refusal::BadEdit),
         Move::Core { .. } | Move::Tick | Move::Edit { .. } => None,
     }
 }
@@ -143,7 +143,11 @@ pub fn why_not(app: &Program, state: &State, action: &Move) -> Option<Refusal>
 /// where the core is idle, `TickLimit` where the tick is 4,294,967,295, `BadEdit` where the edit
 /// can't be made, `NoMemory` where a growth was refused, as none is where the record has room for
 /// the move. There is no other. The record keeps the memory that it has.
-pub fn play_on(editing: &mut Editing, app: &Program, action: &Move) -> Result<(), Refusal>
+pub fn play_on(
+    editing: &mut Editing,
+    app: &Program,
+    action: &Move<Lent<'_>>,
+) -> Result<(), Refusal>
     requires valid { IsValid app.now editing.old.now }
     requires named { IsMoveOf app.now action.now }
     ensures before { OnOk result
@@ -173,15 +177,22 @@ pub fn play_on(editing: &mut Editing, app: &Program, action: &Move) -> Result<()
         }
         Move::Tick if editing.state().tick() == u32::MAX => Err(Refusal::TickLimit),
         Move::Tick => play_tick(editing, app).map_err(Refusal::from),
-        Move::Edit { edit } if !is_good(edit, app, editing.state()) => Err(Refusal::BadEdit),
-        Move::Edit { edit } => play_edit(editing, app, edit).map_err(Refusal::from),
+        Move::Edit { edit } if !is_good(edit.edit(), app, editing.state()) => {
+            Err(Refusal::BadEdit)
+        }
+        Move::Edit { edit } => play_edit(editing, app, edit.edit()).map_err(Refusal::from),
     }
 }
 
 /// Makes a move and returns its record, which undoes it exactly. A refusal leaves the state as it
 /// was: `NoTask` where the core is idle, `TickLimit` where the tick is 4,294,967,295, `BadEdit`
 /// where the edit can't be made, `NoMemory` where a growth was refused. There is no other.
-pub fn play(alloc: Global, state: &mut State, app: &Program, action: Move) -> Result<Undo, Refusal>
+pub fn play(
+    alloc: Global,
+    state: &mut State,
+    app: &Program,
+    action: Move<Lent<'_>>,
+) -> Result<Undo, Refusal>
     requires valid { IsValid app.now state.old }
     requires named { IsMoveOf app.now action }
     ensures step { OnOk result (step app.now state.old action ≡ Ok state.new) }

@@ -2,6 +2,7 @@
 ghost use Rattle.std.specs.Prelude.{◌≡◌, position, is_some};
 ghost use Rattle.rd_calls.specs.Step.{policy_of};
 
+use rd_moves::edit::Lent;
 use rd_moves::moves::Move;
 use rd_state::state::State;
 
@@ -14,7 +15,7 @@ fn busy_from(cores: &[Option<usize>]) -> Option<usize>
 
 /// The move that a run makes next: of the first busy core from
 /// the turn on, or a tick where there is none.
-pub fn policy(state: &State) -> Move
+pub fn policy(state: &State) -> Move<Lent<'static>>
     ensures { result ≡ policy_of state.now }
 {
     let turn = state.turn();

@@ -38,7 +38,9 @@ pub const MAX_WATCHES: usize = 16;
 #[derive(Drop)]
 pub enum Bound<'a> {
     /// It asks the timeline: moves are made, taken back or made again.
-    Asks { request: Request<Digits<'a>> },
+    Asks {
+        request: Request<Edit<Digits<'a>>>,
+    },
     /// It asks the timeline to search for the condition of the session's watch with that number.
     AsksByWatch { watch: usize, search: Search },
     /// Nobody but the session makes moves from now on.
@@ -171,7 +173,7 @@ fn read_edit<'a>(
 }
 
 // The request `until`, of the words after that.
-fn read_until<'a>(reader: &mut Reader<'_, 'a>) -> Result<Request<Digits<'a>>, Unknown>
+fn read_until<'a>(reader: &mut Reader<'_, 'a>) -> Result<Request<Edit<Digits<'a>>>, Unknown>
     ensures { result_ok result ≡ made_by (request_row asked.Until) reader.old }
 {
     let condition = read_condition(reader)?;
@@ -183,7 +185,7 @@ fn read_until<'a>(reader: &mut Reader<'_, 'a>) -> Result<Request<Digits<'a>>, Un
 fn read_request<'a>(
     keyword: RequestKeyword,
     reader: &mut Reader<'_, 'a>,
-) -> Result<Request<Digits<'a>>, Unknown>
+) -> Result<Request<Edit<Digits<'a>>>, Unknown>
     ensures { result_ok result ≡ made_by (request_row keyword) reader.old }
 {
     match keyword {

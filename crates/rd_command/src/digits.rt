@@ -1,12 +1,12 @@
-//! Bytes as they stand in a line, and requests that carry them.
+//! Bytes as they stand in a line, and edits and requests that carry them.
 
-ghost use Rattle.std.specs.Prelude.{◌≡◌};
+ghost use Rattle.std.specs.Prelude.{◌≡◌, IfErr, IfOk};
 ghost use Rattle.rd_text.specs.Words.{bytes_of};
 ghost use Rattle.rd_command.specs.Digits.{is_data};
 ghost use Rattle.rd_command.specs.Keywords.{poke};
 
 use rd_bytes::bytes::Bytes;
-use rd_moves::edit::Edit;
+use rd_moves::edit::{Edit, Lent};
 use rd_moves::moves::Move;
 use rd_moves::request::Request;
 use rd_text::words::bytes;
@@ -56,8 +56,8 @@ pub fn is_data(word: &[u8]) -> bool
     bytes(word).is_some()
 }
 
-// The edit with bytes of its own.
-fn own_edit(edit: &Edit<Digits<'_>>) -> Edit
+/// The edit with bytes of its own, which are read from their digits.
+pub fn own(edit: &Edit<Digits<'_>>) -> Edit
     ensures { result ≡ edit.now }
 {
     match edit {
@@ -98,33 +98,22 @@ fn own_edit(edit: &Edit<Digits<'_>>) -> Edit
     }
 }
 
-// An edit, as a request. (By itself, so that no other request clears room for its bytes twice.)
-#[inline(never)]
-fn own_poke(edit: &Edit<Digits<'_>>) -> Request
-    ensures { result ≡ poke edit.now }
+/// The request as a timeline is asked it, where it lends no edit; else the edit, whose bytes are
+/// still to be read (`own`). (Room for 256 bytes is only where an edit is.)
+pub fn bare<'r, 'a>(
+    request: &'r Request<Edit<Digits<'a>>>,
+) -> Result<Request<Lent<'static>>, &'r Edit<Digits<'a>>>
+    ensures bare { IfOk result (λ bare. bare ≡ request.now) }
+    ensures edit { IfErr result (λ edit. poke edit.now ≡ request.now) }
 {
-    Request::Go {
-        action: Move::Edit {
-            edit: own_edit(edit),
+    Ok(match request {
+        Request::Go { action } => Request::Go {
+            action: match action {
+                Move::Core { core } => Move::Core { core: *core },
+                Move::Tick => Move::Tick,
+                Move::Edit { edit } => return Err(edit),
+            },
         },
-    }
-}
-
-/// The request with bytes of its own. Up to here it takes little room: 256 bytes would be cleared
-/// and moved with every command.
-pub fn own(request: &Request<Digits<'_>>) -> Request
-    ensures { result ≡ request.now }
-{
-    match request {
-        Request::Go {
-            action: Move::Core { core },
-        } => Request::Go {
-            action: Move::Core { core: *core },
-        },
-        Request::Go { action: Move::Tick } => Request::Go { action: Move::Tick },
-        Request::Go {
-            action: Move::Edit { edit },
-        } => own_poke(edit),
         Request::Back { count } => Request::Back { count: *count },
         Request::Forward { count } => Request::Forward { count: *count },
         Request::Redo { count } => Request::Redo { count: *count },
@@ -136,5 +125,5 @@ pub fn own(request: &Request<Digits<'_>>) -> Request
             condition: *condition,
         },
         Request::Trim { keep } => Request::Trim { keep: *keep },
-    }
+    })
 }

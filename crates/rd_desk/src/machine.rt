@@ -3,6 +3,7 @@
 ghost use Rattle.std.specs.Prelude.{◌≡◌, ◌↔◌, ◌+◌, ◌<◌, length, slice_set, true};
 ghost use Rattle.std.specs.Prelude.{IfOk, IfSome, IsErr, IsSome, IsTrue, OnErr, Ok};
 ghost use Rattle.rd_command.specs.Bindings.{IsBoundOf, IsViewOf, known_of};
+ghost use Rattle.rd_command.specs.Keywords.{poke};
 ghost use Rattle.rd_command.specs.declared.binding.Bound.TheVariants as bound;
 ghost use Rattle.rd_condition.specs.Conditions.{IsConditionOf};
 ghost use Rattle.rd_moves.specs.Requests.{IsRequestOf};
@@ -26,10 +27,12 @@ use rd_app::app::Program;
 use rd_bytes::no_memory::NoMemory;
 use rd_command::binding::Bound;
 use rd_command::command::Command;
-use rd_command::digits::own;
+use rd_command::digits::{Digits, bare, own};
 use rd_command::order::Order;
 use rd_command::view::{Overview, View};
 use rd_condition::condition::Condition;
+use rd_moves::edit::{Edit, Lent};
+use rd_moves::moves::Move;
 use rd_moves::request::{Request, Search};
 use rd_names::app::App;
 use rd_names::names::Names;
@@ -232,7 +235,7 @@ impl Machine {
 
     // Asks the timeline.
     #[inline(never)]
-    fn ask(&mut self, request: &Request) -> Result<Reply, NoMemory>
+    fn ask(&mut self, request: &Request<Lent<'_>>) -> Result<Reply, NoMemory>
         requires { IsRequestOf self.old.app.runs request.now }
         ensures after { IfOk result (λ reply. self.new ≡ after_request self.old request.now) }
         ensures reply { IfOk result (λ reply. reply ≡ reply_to_request self.old request.now) }
@@ -241,6 +244,21 @@ impl Machine {
     {
         let answer = self.timeline.answer(request)?;
         Ok(told(Short::of(answer)))
+    }
+
+    // Asks the timeline for an edit, whose bytes are read here and stand here meanwhile.
+    #[inline(never)]
+    fn poke(&mut self, edit: &Edit<Digits<'_>>) -> Result<Reply, NoMemory>
+        requires { IsRequestOf self.old.app.runs (poke edit.now) }
+        ensures after { IfOk result (λ reply. self.new ≡ after_request self.old (poke edit.now)) }
+        ensures reply { IfOk result (λ reply. reply ≡ reply_to_request self.old (poke edit.now)) }
+        ensures err { OnErr result (self.new ≡ self.old) }
+    {
+        let edit = own(edit);
+        let edit = Lent::new(&edit);
+        self.ask(&Request::Go {
+            action: Move::Edit { edit },
+        })
     }
 
     // Asks the timeline to search for the condition of a watch.
@@ -380,7 +398,10 @@ impl Machine {
         ensures err { OnErr result (self.new ≡ self.old) }
     {
         match bound {
-            Bound::Asks { request } => self.ask(&own(request)),
+            Bound::Asks { request } => match bare(request) {
+                Ok(request) => self.ask(&request),
+                Err(edit) => self.poke(edit),
+            },
             Bound::AsksByWatch { watch, search } => self.ask_by_watch(who, *watch, *search),
             Bound::TakesWheel => Ok(self.take_wheel(who)),
             Bound::GivesWheel => Ok(self.give_wheel(who)),

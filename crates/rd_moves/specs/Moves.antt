@@ -1,13 +1,13 @@
 -- Moves: what each names of an application.
-use Rattle.std.specs.Prelude.{ℕ, ◌<◌, List}
+use Rattle.std.specs.Prelude.{◌<◌}
 use Rattle.rd_app.specs.Application.{Application}
 use Rattle.rd_moves.specs.declared.moves.Move as moves
 use Rattle.rd_moves.specs.declared.moves.Move.TheVariants.{Core, Tick, Edit}
-use Rattle.rd_moves.specs.Edits.{IsEditOf}
+use Rattle.rd_moves.specs.Edits.{IsEditOf, PlainEdit}
 
--- a move with the bytes of an edit as a list, wherever they stand
+-- a move with its edit, wherever that stands
 abbrev pub PlainMove : Type 0
-PlainMove = moves.Move (List ℕ)
+PlainMove = moves.Move PlainEdit
 
 -- The move names what the application has.
 abbrev pub IsMoveOf : Application → PlainMove → Type 0

@@ -1,5 +1,4 @@
 -- Requests: what each names of an application.
-use Rattle.std.specs.Prelude.{ℕ, List}
 use Rattle.rd_app.specs.Application.{Application}
 use Rattle.rd_condition.specs.declared.condition.Condition.{Condition}
 use Rattle.rd_condition.specs.Conditions.{IsConditionOf}
@@ -8,11 +7,12 @@ use Rattle.rd_moves.specs.declared.request.Request.TheVariants.{Go, Back, Forwar
 use Rattle.rd_moves.specs.declared.request.Request.TheVariants.{BackUntil, Trim}
 use Rattle.rd_moves.specs.declared.request.Search.{Search}
 use Rattle.rd_moves.specs.declared.request.Search.TheVariants as search
+use Rattle.rd_moves.specs.Edits.{PlainEdit}
 use Rattle.rd_moves.specs.Moves.{IsMoveOf}
 
--- a request with the bytes of an edit as a list, wherever they stand
+-- a request with its edit, wherever that stands
 abbrev pub PlainRequest : Type 0
-PlainRequest = requests.Request (List ℕ)
+PlainRequest = requests.Request PlainEdit
 
 -- The request names what the application has. (That a count is one says its type.)
 abbrev pub IsRequestOf : Application → PlainRequest → Type 0

@@ -1,30 +1,13 @@
 //! Moves.
 
-ghost use Rattle.std.specs.Prelude.{◌≡◌};
-
-use crate::edit::Edit;
-use rd_bytes::bytes::Bytes;
-
-/// One move of the target. The bytes of an edit are its own, or stand where they were read.
+/// One move of the target. An edit is lent, or its bytes stand where they were read: so a move is
+/// small.
 #[derive(Drop)]
-pub enum Move<B: Drop = Bytes> {
+pub enum Move<E: Drop> {
     /// The task on this core does one instruction.
     Core { core: usize },
     /// A tick passes.
     Tick,
     /// One thing is changed by hand.
-    Edit { edit: Edit<B> },
-}
-
-impl Move {
-    /// An equal move.
-    pub fn copy(&self) -> Move
-        ensures { result ≡ self.now }
-    {
-        match self {
-            Move::Core { core } => Move::Core { core: *core },
-            Move::Tick => Move::Tick,
-            Move::Edit { edit } => Move::Edit { edit: edit.copy() },
-        }
-    }
+    Edit { edit: E },
 }

@@ -4,15 +4,15 @@ ghost use Rattle.std.specs.Prelude.{◌≡◌};
 ghost use Rattle.rd_moves.specs.Requests.{request_for};
 
 use crate::count::Count;
+use crate::edit::Lent;
 use crate::moves::Move;
-use rd_bytes::bytes::Bytes;
 use rd_condition::condition::Condition;
 
-/// What one asks of a timeline. Each count is 1 to 1,000,000.
+/// What one asks of a timeline, with edits as moves have them. Each count is 1 to 1,000,000.
 #[derive(Drop)]
-pub enum Request<B: Drop = Bytes> {
+pub enum Request<E: Drop> {
     /// Make this move.
-    Go { action: Move<B> },
+    Go { action: Move<E> },
     /// Go back by so many moves.
     Back { count: Count },
     /// Make so many moves by policy.
@@ -38,7 +38,7 @@ pub enum Search {
 
 impl Search {
     /// The search for that condition.
-    pub fn request(self, condition: Condition) -> Request
+    pub fn request<'a>(self, condition: Condition) -> Request<Lent<'a>>
         ensures { result ≡ request_for self condition }
     {
         match self {

@@ -8,6 +8,7 @@ use crate::asserts::assert_same;
 use crate::files::read;
 use rd_app::app::Program;
 use rd_calls::play::play;
+use rd_moves::edit::Lent;
 use rd_moves::moves::Move;
 use rd_state::state::State;
 use rd_timeline::timeline::Timeline;
@@ -34,7 +35,7 @@ fn weighs(
     alloc: Global,
     app: &Program,
     state: &mut State,
-    action: Move,
+    action: Move<Lent<'_>>,
     want: (usize, usize),
 )
     requires valid { IsValid app.now state.old }

@@ -9,6 +9,7 @@ use rd_app::app::Program;
 use rd_calls::policy::policy;
 use rd_moves::answer::Answer;
 use rd_moves::count::Count;
+use rd_moves::edit::Lent;
 use rd_moves::moves::Move;
 use rd_moves::request::Request;
 use rd_refusal::refusal::Refusal;
@@ -17,13 +18,13 @@ use std::alloc::{AllocError, Global};
 use std::process::Abort;
 use std::test::Fail;
 
-fn go() -> Request
+fn go() -> Request<Lent<'static>>
     ensures { result ≡ Request.Go Move.Tick }
 {
     Request::Go { action: Move::Tick }
 }
 
-fn back(rt: &impl Abort, count: u32) -> Request
+fn back(rt: &impl Abort, count: u32) -> Request<Lent<'static>>
     ensures { result ≡ Request.Back count }
 {
     let Some(count) = Count::new(count) else {
@@ -33,7 +34,12 @@ fn back(rt: &impl Abort, count: u32) -> Request
 }
 
 // The request is answered so.
-fn assert_answer(rt: &impl Abort, timeline: &mut Timeline, request: &Request, wanted: Answer)
+fn assert_answer(
+    rt: &impl Abort,
+    timeline: &mut Timeline,
+    request: &Request<Lent<'_>>,
+    wanted: Answer,
+)
     requires { IsRequestOf timeline.old.app request.now }
 {
     let Ok(answer) = timeline.answer(request) else {

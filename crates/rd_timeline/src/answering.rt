@@ -16,6 +16,7 @@ use rd_bytes::no_memory::NoMemory;
 use rd_condition::condition::Condition;
 use rd_moves::answer::{Answer, SearchEnd};
 use rd_moves::count::Count;
+use rd_moves::edit::Lent;
 use rd_moves::moves::Move;
 use rd_moves::request::Request;
 use rd_refusal::refusal::Refusal;
@@ -37,7 +38,7 @@ fn told(made: Result<usize, Refusal>) -> Result<Answer, NoMemory>
 
 // Makes a move. An `Err` of this and the others says that there is no memory for it; then nothing
 // has changed.
-fn go(timeline: &mut Timeline, action: &Move) -> Result<Answer, NoMemory>
+fn go(timeline: &mut Timeline, action: &Move<Lent<'_>>) -> Result<Answer, NoMemory>
     requires { IsMoveOf timeline.old.app action.now }
     ensures { Obeys timeline.old (request.Go action.now) timeline.new result }
 {
@@ -129,7 +130,7 @@ fn trim(timeline: &mut Timeline, keep: usize) -> Answer
 impl Timeline {
     /// Does what is asked, and answers it; a request that is refused changes nothing. Only a
     /// request that makes a move may find no memory, and then nothing has changed either.
-    pub fn answer(&mut self, request: &Request) -> Result<Answer, NoMemory>
+    pub fn answer(&mut self, request: &Request<Lent<'_>>) -> Result<Answer, NoMemory>
         requires { IsRequestOf self.old.app request.now }
         ensures ok { IfOk result (λ answer.
             answer ≡ answer_to self.old.app self.old.limit (moves_of self.old) request.now) }

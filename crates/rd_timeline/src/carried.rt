@@ -5,7 +5,7 @@ ghost use Rattle.std.specs.Prelude.{IfOk, IsOk, IsTrue, OnErr, OnOk};
 ghost use Rattle.rd_timeline.specs.Decoded.{carried_of, carries, move_carried, next_carried};
 
 use rd_bytes::no_memory::NoMemory;
-use rd_moves::edit::Edit;
+use rd_moves::edit::{Edit, Lent};
 use rd_moves::moves::Move;
 use std::alloc::Global;
 use std::marker::Model;
@@ -19,11 +19,13 @@ pub(crate) enum Carried {
 
 impl Carried {
     // The move that carries it.
-    fn as_move(&self) -> Move
+    fn as_move(&self) -> Move<Lent<'_>>
         ensures { result ≡ move_carried self.now }
     {
         match self {
-            Carried::Edit { edit } => Move::Edit { edit: edit.copy() },
+            Carried::Edit { edit } => Move::Edit {
+                edit: Lent::new(edit),
+            },
         }
     }
 }
@@ -74,7 +76,7 @@ impl CarriedList {
 
     /// Makes room for what a move carries, if it carries something. An `Err` says that there is no
     /// memory for it. What is kept stays.
-    pub(crate) fn reserve(&mut self, action: &Move) -> Result<(), NoMemory>
+    pub(crate) fn reserve(&mut self, action: &Move<Lent<'_>>) -> Result<(), NoMemory>
         ensures done { self.new.done ≡ self.old.done }
         ensures undone { self.new.undone ≡ self.old.undone }
         ensures ok { OnOk result
@@ -95,7 +97,7 @@ impl CarriedList {
 
     /// A move is made: what it carries is the last that is done. What the moves undone carry is
     /// forgotten. It takes no memory.
-    pub(crate) fn lay(&mut self, action: &Move)
+    pub(crate) fn lay(&mut self, action: &Move<Lent<'_>>)
         requires { IsTrue (carries action.now) → length self.old.done < self.old.capacity }
         ensures done { self.new.done ≡ self.old.done ++ carried_of action.now }
         ensures undone { self.new.undone ≡ [] }
@@ -105,14 +107,16 @@ impl CarriedList {
         match action {
             Move::Core { .. } | Move::Tick => (),
             Move::Edit { edit } => {
-                self.kept.push_reserved(Carried::Edit { edit: edit.copy() });
+                self.kept.push_reserved(Carried::Edit {
+                    edit: edit.edit().copy(),
+                });
                 self.done += 1;
             }
         }
     }
 
     /// The first of the moves undone that carry something.
-    pub(crate) fn next(&self) -> Move
+    pub(crate) fn next(&self) -> Move<Lent<'_>>
         requires { 0 < length self.now.undone }
         ensures { result ≡ next_carried self.now.undone }
     {

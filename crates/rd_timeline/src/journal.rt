@@ -3,12 +3,12 @@
 
 ghost use Rattle.std.specs.Prelude.{◌≡◌, ◌-◌, ◌∷◌, ◌++◌, ◌+◌, ◌<◌, ◌≤◌, [], drop, length};
 ghost use Rattle.std.specs.Prelude.{◌*◌, if◌then◌else◌, nat_lt, take, IfErr, IfOk, IsErrOf, IsOk};
-ghost use Rattle.std.specs.Prelude.{OnErr, OnOk};
+ghost use Rattle.std.specs.Prelude.{IsTrue, OnErr, OnOk};
 ghost use Rattle.rd_moves.specs.Moves.{IsMoveOf};
 ghost use Rattle.rd_state.specs.Valid.{IsValid};
 ghost use Rattle.rd_timeline.specs.History.{rewound, CanRewind};
 ghost use Rattle.rd_timeline.specs.Decoded.{byte_of, carried_among, carried_at, carried_in};
-ghost use Rattle.rd_timeline.specs.Decoded.{HasByte};
+ghost use Rattle.rd_timeline.specs.Decoded.{HasByte, is_carried_byte, move_of};
 ghost use Rattle.rd_timeline.specs.JournalView.{next_undone, HasCarriedRoom, IsAsBefore};
 ghost use Rattle.rd_timeline.specs.LogView.{bytes_of, RecordsMove};
 ghost use Rattle.rd_timeline.specs.LoggedView.{IsWhyNotKept};
@@ -18,6 +18,7 @@ use crate::carried::{Carried, CarriedList};
 use crate::logged::Logged;
 use rd_app::app::Program;
 use rd_bytes::no_memory::NoMemory;
+use rd_moves::edit::Lent;
 use rd_moves::moves::Move;
 use rd_packed::count::ReadCount;
 use rd_refusal::refusal::Refusal;
@@ -71,7 +72,7 @@ impl Model for Aside {
 }
 
 // The byte that stands for a move.
-fn byte_of_move(action: &Move) -> u8
+fn byte_of_move(action: &Move<Lent<'_>>) -> u8
     requires { HasByte action.now }
     ensures { result ≡ byte_of action.now }
 {
@@ -94,6 +95,20 @@ fn carried_among(bytes: &[u8]) -> usize
     ensures { result ≡ carried_among bytes.now }
 {
     bytes.iter().filter(|byte| **byte == 254).count()
+}
+
+// The move that a byte stands for, where what it carries is the first of what is undone.
+fn move_of(byte: u8, carried: &CarriedList) -> Move<Lent<'_>>
+    requires { IsTrue (is_carried_byte byte) → 0 < length carried.now.undone }
+    ensures { result ≡ move_of byte carried.now.undone }
+{
+    match byte {
+        255 => Move::Tick,
+        254 => carried.next(),
+        core => Move::Core {
+            core: usize::from(core),
+        },
+    }
 }
 
 impl Journal {
@@ -182,7 +197,7 @@ impl Journal {
     /// Makes room for this move to be done. Where there is no memory for that, nothing else has
     /// changed. It needs none where there is such room, as there is after going back. Only a move
     /// that carries something needs room for that.
-    pub fn reserve_for(&mut self, action: &Move) -> Result<(), NoMemory>
+    pub fn reserve_for(&mut self, action: &Move<Lent<'_>>) -> Result<(), NoMemory>
         ensures same { IsAsBefore self.old self.new }
         ensures ok { OnOk result (length self.new.done < self.new.capacity) }
         ensures ok_carried { OnOk result (HasCarriedRoom self.new action.now) }
@@ -200,7 +215,7 @@ impl Journal {
     /// forgotten. It takes no memory where the log has room for the longest record. A refusal is
     /// one of the kernel's rules, or else `NoMemory` where the log can't grow, and leaves the
     /// target, the moves and their records as they were.
-    pub fn play(&mut self, app: &Program, action: &Move) -> Result<(), Refusal>
+    pub fn play(&mut self, app: &Program, action: &Move<Lent<'_>>) -> Result<(), Refusal>
         requires valid { IsValid app.now self.old.target }
         requires named { IsMoveOf app.now action.now }
         requires capacity { length self.old.done < self.old.capacity }
@@ -231,20 +246,6 @@ impl Journal {
         Ok(())
     }
 
-    // The move that is to be redone next.
-    fn next(&self) -> Move
-        requires { 0 < length self.now.undone }
-        ensures { result ≡ next_undone self.now }
-    {
-        match self.moves[self.done] {
-            255 => Move::Tick,
-            254 => self.carried.next(),
-            core => Move::Core {
-                core: usize::from(core),
-            },
-        }
-    }
-
     /// Makes the move again that is to be redone next. It takes no memory where the log has room
     /// for the longest record. A refusal is one of the kernel's rules, or else `NoMemory` where the
     /// log can't grow, and leaves the target, the moves and their records as they were.
@@ -271,10 +272,10 @@ impl Journal {
         ensures kept_carried_capacity { self.new.carried_capacity ≡ self.old.carried_capacity }
         ensures grows { self.old.memory ≤ self.new.memory }
     {
-        let action = self.next();
+        let byte = self.moves[self.done];
+        let action = move_of(byte, &self.carried);
         self.logged.play(app, &action)?;
-        let count = carried_at(self.moves[self.done]);
-        self.carried.go_on(count);
+        self.carried.go_on(carried_at(byte));
         self.done += 1;
         Ok(())
     }

@@ -16,6 +16,7 @@ use crate::log::Log;
 use rd_app::app::Program;
 use rd_bytes::no_memory::NoMemory;
 use rd_calls::play::{MAX_RECORD_BYTES, play_on};
+use rd_moves::edit::Lent;
 use rd_moves::moves::Move;
 use rd_packed::count::ReadCount;
 use rd_refusal::refusal::Refusal;
@@ -100,7 +101,7 @@ impl Logged {
     /// Makes a move, and its record is the last one then. It takes no memory where the log has room
     /// for the longest record. A refusal is one of the kernel's rules, or else `NoMemory` where the
     /// log can't grow, and leaves the target and the records as they were: the move is taken back.
-    pub fn play(&mut self, app: &Program, action: &Move) -> Result<(), Refusal>
+    pub fn play(&mut self, app: &Program, action: &Move<Lent<'_>>) -> Result<(), Refusal>
         requires valid { IsValid app.now self.old.target }
         requires named { IsMoveOf app.now action.now }
         ensures lays { OnOk result (RecordsMove app.now self.old.target action.now

@@ -7,6 +7,7 @@ ghost use Rattle.rd_moves.specs.Requests.{IsRequestOf};
 
 use crate::timeline::Timeline;
 use rd_bytes::no_memory::NoMemory;
+use rd_moves::edit::Lent;
 use rd_moves::request::Request;
 
 impl Timeline {
@@ -14,7 +15,7 @@ impl Timeline {
     /// the moves not undone give from boot, and these moves, and how many of them have a record,
     /// are what the requests leave of them, one by one. Where memory runs out, at a request that
     /// makes a move, that holds of the requests before it.
-    pub fn run(&mut self, requests: &[Request]) -> Result<(), NoMemory>
+    pub fn run(&mut self, requests: &[Request<Lent<'_>>]) -> Result<(), NoMemory>
         requires { All (IsRequestOf self.old.app) requests.now }
         ensures ok { OnOk result (moves_of self.new
             ≡ all_answered self.old.app self.old.limit (moves_of self.old) requests.now) }

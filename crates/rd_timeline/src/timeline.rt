@@ -24,6 +24,7 @@ use crate::log::Log;
 use rd_app::app::Program;
 use rd_bytes::no_memory::NoMemory;
 use rd_calls::play::why_not;
+use rd_moves::edit::Lent;
 use rd_moves::moves::Move;
 use rd_packed::count::ReadCount;
 use rd_refusal::refusal::Refusal;
@@ -161,7 +162,7 @@ impl Timeline {
     /// further tick and `BadEdit` where the edit can't be made, whatever memory is left, else
     /// `NoMemory` where a growth was refused: where the log can't grow, the move is taken back.
     /// There is no other. No memory is needed for as much as there was once.
-    pub fn go(&mut self, action: Move) -> Result<usize, Refusal>
+    pub fn go(&mut self, action: Move<Lent<'_>>) -> Result<usize, Refusal>
         requires named { IsMoveOf self.old.app action }
         ensures at { IfOk result (λ at. at ≡ length self.new.done) }
         ensures goes { OnOk result (GoesOn self.old action self.new) }
@@ -197,7 +198,7 @@ impl Timeline {
     }
 
     /// The same of a move that stays where it is: what it carries is copied once, to be kept.
-    pub(crate) fn make(&mut self, action: &Move) -> Result<usize, Refusal>
+    pub(crate) fn make(&mut self, action: &Move<Lent<'_>>) -> Result<usize, Refusal>
         requires named { IsMoveOf self.old.app action.now }
         ensures at { IfOk result (λ at. at ≡ length self.new.done) }
         ensures goes { OnOk result (GoesOn self.old action.now self.new) }
