@@ -143,11 +143,7 @@ pub fn why_not(app: &Program, state: &State, action: &Move<Lent<'_>>) -> Option<
 /// where the core is idle, `TickLimit` where the tick is 4,294,967,295, `BadEdit` where the edit
 /// can't be made, `NoMemory` where a growth was refused, as none is where the record has room for
 /// the move. There is no other. The record keeps the memory that it has.
-pub fn play_on(
-    editing: &mut Editing,
-    app: &Program,
-    action: &Move<Lent<'_>>,
-) -> Result<(), Refusal>
+pub fn play_on(editing: &mut Editing, app: &Program, action: &Move<Lent<'_>>) -> Result<(), Refusal>
     requires valid { IsValid app.now editing.old.now }
     requires named { IsMoveOf app.now action.now }
     ensures before { OnOk result
@@ -191,34 +187,34 @@ pub fn play(
     alloc: Global,
     state: &mut State,
     app: &Program,
-    action: Move<Lent<'_>>,
+    action: &Move<Lent<'_>>,
 ) -> Result<Undo, Refusal>
     requires valid { IsValid app.now state.old }
-    requires named { IsMoveOf app.now action }
-    ensures step { OnOk result (step app.now state.old action ≡ Ok state.new) }
+    requires named { IsMoveOf app.now action.now }
+    ensures step { OnOk result (step app.now state.old action.now ≡ Ok state.new) }
     ensures no_task { IsErrOf result Refusal.NoTask
-        ↔ (step app.now state.old action ≡ Err Refusal.NoTask) }
+        ↔ (step app.now state.old action.now ≡ Err Refusal.NoTask) }
     ensures tick_limit { IsErrOf result Refusal.TickLimit
-        ↔ (step app.now state.old action ≡ Err Refusal.TickLimit) }
+        ↔ (step app.now state.old action.now ≡ Err Refusal.TickLimit) }
     ensures bad_edit { IsErrOf result Refusal.BadEdit
-        ↔ (step app.now state.old action ≡ Err Refusal.BadEdit) }
+        ↔ (step app.now state.old action.now ≡ Err Refusal.BadEdit) }
     ensures refusals { IfErr result (λ refusal.
-        (step app.now state.old action ≡ Err refusal) ⊎ (refusal ≡ Refusal.NoMemory)) }
+        (step app.now state.old action.now ≡ Err refusal) ⊎ (refusal ≡ Refusal.NoMemory)) }
     ensures err { OnErr result (state.new ≡ state.old) }
 
     // The record leads back, is small, and can be kept.
     ensures undone { IfOk result (λ undo. undone state.new undo ≡ state.old) }
     ensures can_undo { IfOk result (λ undo. CanUndo state.new undo) }
-    ensures small { IfOk result (λ undo. IsSmall app.now state.old action undo) }
+    ensures small { IfOk result (λ undo. IsSmall app.now state.old action.now undo) }
     ensures packable { IfOk result (λ undo. IsPackable undo) }
 
     // A valid state stays valid, and nothing is left to schedule between moves.
     ensures valid { OnOk result (IsValid app.now state.new) }
-    ensures settled { OnOk result (LeavesSettled app.now state.old action state.new) }
+    ensures settled { OnOk result (LeavesSettled app.now state.old action.now state.new) }
 {
     let before = mem::replace(state, State::hollow(alloc));
     let mut editing = Editing::new(alloc, before);
-    let made = play_on(&mut editing, app, &action);
+    let made = play_on(&mut editing, app, action);
     let undo = editing.end(state);
     match made {
         Ok(()) => Ok(undo),

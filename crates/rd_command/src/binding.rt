@@ -38,9 +38,7 @@ pub const MAX_WATCHES: usize = 16;
 #[derive(Drop)]
 pub enum Bound<'a> {
     /// It asks the timeline: moves are made, taken back or made again.
-    Asks {
-        request: Request<Edit<Digits<'a>>>,
-    },
+    Asks { request: Request<Edit<Digits<'a>>> },
     /// It asks the timeline to search for the condition of the session's watch with that number.
     AsksByWatch { watch: usize, search: Search },
     /// Nobody but the session makes moves from now on.

@@ -111,7 +111,7 @@ fn compares_states(
         let core = *core;
         before = copy_of(rt, alloc, timeline)?;
         assert!(rt; core < timeline.app().cores(), "{}", run.name);
-        assert!(rt; timeline.go(Move::Core { core }).is_ok(), "{}", run.name);
+        assert!(rt; timeline.go(&Move::Core { core }).is_ok(), "{}", run.name);
     }
     let last = copy_of(rt, alloc, timeline)?;
     assert!(rt; !last.same(&before), "{}", run.name);

@@ -126,7 +126,7 @@ fn copy_of(rt: &impl Abort, alloc: Global, timeline: &Timeline) -> Result<State,
 // The task on the core makes its call.
 fn step(rt: &impl Abort, timeline: &mut Timeline, core: usize) {
     assert!(rt; core < timeline.app().cores());
-    assert!(rt; timeline.go(Move::Core { core }).is_ok());
+    assert!(rt; timeline.go(&Move::Core { core }).is_ok());
 }
 
 // The state in which two wait is the same again once they were given bits and the move is taken

@@ -137,7 +137,7 @@ fn go(rt: &impl Abort, timeline: &mut Timeline, cores: &[usize]) {
     for core in cores {
         let core = *core;
         assert!(rt; core < timeline.app().cores());
-        assert!(rt; timeline.go(Move::Core { core }).is_ok());
+        assert!(rt; timeline.go(&Move::Core { core }).is_ok());
     }
 }
 
@@ -175,7 +175,7 @@ fn make_all_moves(rt: &impl Abort, alloc: Global, timeline: &mut Timeline) -> Pa
     go_and_copy(rt, alloc, timeline, all_wait(alloc, 2)?.as_slice())?;
     go(rt, timeline, vec![in alloc; 7; FILLING]?.as_slice());
     compares_full_queue_sets(rt, alloc, timeline)?;
-    assert_same(rt, timeline.go(Move::Tick), Ok(2340));
+    assert_same(rt, timeline.go(&Move::Tick), Ok(2340));
     copy_of(rt, alloc, timeline)?;
     go_and_copy(rt, alloc, timeline, all_wait(alloc, 4)?.as_slice())
 }

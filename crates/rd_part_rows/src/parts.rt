@@ -23,7 +23,7 @@ use std::test::Fail;
 
 fn step_core_0(rt: &impl Abort, timeline: &mut Timeline) -> Result<usize, Refusal> {
     assert!(rt; timeline.app().cores() > 0);
-    timeline.go(Move::Core { core: 0 })
+    timeline.go(&Move::Core { core: 0 })
 }
 
 // A timeline of the built-in application, with room for so many moves.
@@ -86,7 +86,7 @@ fn is_kept(alloc: Global, app: &Program, state: &mut State, log: &mut Log) -> bo
     requires valid { IsValid app.now state.old }
     requires core { 0 < app.now.cores }
 {
-    match play(alloc, state, app, Move::Core { core: 0 }) {
+    match play(alloc, state, app, &Move::Core { core: 0 }) {
         Ok(undo) => match Timeline::keep(log, undo) {
             Ok(()) => true,
             Err(undo) => {

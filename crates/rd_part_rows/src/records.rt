@@ -35,11 +35,11 @@ fn weighs(
     alloc: Global,
     app: &Program,
     state: &mut State,
-    action: Move<Lent<'_>>,
+    action: &Move<Lent<'_>>,
     want: (usize, usize),
 )
     requires valid { IsValid app.now state.old }
-    requires named { IsMoveOf app.now action }
+    requires named { IsMoveOf app.now action.now }
     ensures { IsValid app.now state.new }
 {
     app.limits();
@@ -83,7 +83,7 @@ fn weighs_instrs(rt: &impl Abort, alloc: Global, app: &Program, state: &mut Stat
     ensures { IsValid app.now state.new }
 {
     for want in WEIGHTS {
-        weighs(rt, alloc, app, state, Move::Core { core: 0 }, want);
+        weighs(rt, alloc, app, state, &Move::Core { core: 0 }, want);
     }
 }
 
@@ -95,7 +95,7 @@ fn weighs_moves(rt: &impl Abort, alloc: Global, timeline: &Timeline) -> Result<(
     let mut state = timeline.target().copy(alloc)?;
     weighs_instrs(rt, alloc, app, &mut state);
     // the tick, the turn
-    weighs(rt, alloc, app, &mut state, Move::Tick, (2, 2));
+    weighs(rt, alloc, app, &mut state, &Move::Tick, (2, 2));
     Ok(())
 }
 

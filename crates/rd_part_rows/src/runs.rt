@@ -117,9 +117,9 @@ fn goes_by_policy(rt: &impl Abort, timeline: &mut Timeline) {
         let is_tick = matches!(action, Move::Tick);
         assert_same(rt, is_tick, at == 2);
         let done = if is_tick {
-            timeline.go(Move::Tick)
+            timeline.go(&Move::Tick)
         } else {
-            timeline.go(Move::Core { core: 0 })
+            timeline.go(&Move::Core { core: 0 })
         };
         assert_same(rt, done, Ok(at));
     }

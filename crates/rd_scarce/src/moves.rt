@@ -149,7 +149,7 @@ fn step(timeline: &mut Timeline) -> Result<End, Refusal> {
     if timeline.app().cores() == 0 {
         return Err(Refusal::NoSuch);
     }
-    let at = timeline.go(Move::Core { core: 0 })?;
+    let at = timeline.go(&Move::Core { core: 0 })?;
     Ok(End::At { at })
 }
 

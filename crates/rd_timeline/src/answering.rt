@@ -43,7 +43,7 @@ fn go(timeline: &mut Timeline, action: &Move<Lent<'_>>) -> Result<Answer, NoMemo
     ensures { Obeys timeline.old (request.Go action.now) timeline.new result }
 {
     timeline.keeps();
-    told(timeline.make(action))
+    told(timeline.go(action))
 }
 
 // Takes the last kept moves back. It takes no memory.

@@ -66,7 +66,7 @@ impl Timeline {
         for _ in 0..count {
             self.keeps();
             let action = policy(self.target());
-            self.go(action)?;
+            self.go(&action)?;
             if self.meets(goal) {
                 return Ok(true);
             }

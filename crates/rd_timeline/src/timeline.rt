@@ -162,43 +162,7 @@ impl Timeline {
     /// further tick and `BadEdit` where the edit can't be made, whatever memory is left, else
     /// `NoMemory` where a growth was refused: where the log can't grow, the move is taken back.
     /// There is no other. No memory is needed for as much as there was once.
-    pub fn go(&mut self, action: Move<Lent<'_>>) -> Result<usize, Refusal>
-        requires named { IsMoveOf self.old.app action }
-        ensures at { IfOk result (λ at. at ≡ length self.new.done) }
-        ensures goes { OnOk result (GoesOn self.old action self.new) }
-        ensures step { OnOk result (step self.old.app self.old.target action ≡ Ok self.new.target) }
-        ensures done { OnOk result (self.new.done ≡ self.old.done ++ action ∷ []) }
-        ensures undone { OnOk result (self.new.undone ≡ []) }
-        ensures app { OnOk result (self.new.app ≡ self.old.app) }
-        ensures limit { OnOk result (self.new.limit ≡ self.old.limit) }
-        ensures log { OnOk result (take (length self.old.log) self.new.log ≡ self.old.log) }
-        ensures leads { OnOk result (state_after self.new.app self.new.done ≡ Ok self.new.target) }
-        ensures most_done { OnOk result
-            (self.new.most_done ≡ max self.old.most_done (length self.new.done)) }
-        ensures most_carried { OnOk result
-            (self.new.most_carried ≡ max self.old.most_carried (carried_in self.new.done)) }
-        ensures most_bytes { OnOk result
-            (self.new.most_bytes ≡ max self.old.most_bytes (bytes_of self.old.log)) }
-        ensures read { OnOk result (self.new.read ≡ self.old.read) }
-
-        // When it is refused, and that nothing has changed then.
-        ensures moves_full { IsErrOf result Refusal.MovesFull ↔ IsFull self.old }
-        ensures no_task { IsErrOf result Refusal.NoTask
-            ↔ IsRefusedBy self.old action Refusal.NoTask }
-        ensures tick_limit { IsErrOf result Refusal.TickLimit
-            ↔ IsRefusedBy self.old action Refusal.TickLimit }
-        ensures bad_edit { IsErrOf result Refusal.BadEdit
-            ↔ IsRefusedBy self.old action Refusal.BadEdit }
-        ensures no_memory { IsErrOf result Refusal.NoMemory → CanGo self.old action }
-        ensures short { IsErrOf result Refusal.NoMemory → IsMoreThanEver self.old action }
-        ensures refusals { IfErr result (IsWhyNot self.old action) }
-        ensures err { OnErr result (self.new ≡ self.old) }
-    {
-        self.make(&action)
-    }
-
-    /// The same of a move that stays where it is: what it carries is copied once, to be kept.
-    pub(crate) fn make(&mut self, action: &Move<Lent<'_>>) -> Result<usize, Refusal>
+    pub fn go(&mut self, action: &Move<Lent<'_>>) -> Result<usize, Refusal>
         requires named { IsMoveOf self.old.app action.now }
         ensures at { IfOk result (λ at. at ≡ length self.new.done) }
         ensures goes { OnOk result (GoesOn self.old action.now self.new) }

@@ -9,13 +9,13 @@ use Rattle.rd_timeline.proofs.answering.go.Goals as goal
 pub returns : goal.returns
 returns c =
     let old = c.args.timeline.now in
-    let new = c.make.new.self in
+    let new = c.go.new.self in
     let move = c.args.action.now in
-    let made = c.make.ensures in
+    let made = c.go.ensures in
     let told = c.told.ensures in
     let leads = c.keeps.ensures.leads in
-    obeyed_if old new (Go move) c.make.result c.told.result (λ at. at) (λ at. None) (λ at. IsMade old move new) (IsWhyNot old move)
-    told.no_memory told.ok told.err made.at (is_made old move new c.make.result made.moves_full made.goes made.leads) made.refusals made.err leads
+    obeyed_if old new (Go move) c.go.result c.told.result (λ at. at) (λ at. None) (λ at. IsMade old move new) (IsWhyNot old move)
+    told.no_memory told.ok told.err made.at (is_made old move new c.go.result made.moves_full made.goes made.leads) made.refusals made.err leads
     (λ at is. go_done old new move leads is)
     (λ refusal other why. go_not_done old move refusal leads other why)
     (go_needs_memory old move leads)

@@ -1,4 +1,4 @@
--- The goals of `make` that the check left open.
+-- The goals of `go` that the check left open.
 use Rattle.std.proofs.Common.{◌≡◌, ◌<◌, ◌+◌, ◌∙◌, arith, length, ◌++◌, ◌∷◌, [], List, ap, refl, rules, subst, sym}
 use Rattle.std.specs.Prelude.{Ok}
 use Rattle.rd_moves.specs.Moves.{PlainMove}
@@ -17,7 +17,7 @@ use Rattle.rd_timeline.proofs.DecodedLaws.{carried_in-append}
 use Rattle.rd_timeline.proofs.HistoryLaws.{state_after-push}
 use Rattle.rd_timeline.proofs.TimelineLaws.{IsWhole-push, at_most_room, grown, settled_after, state_now}
 use Rattle.std.proofs.lemmas.List.{length_push}
-use Rattle.rd_timeline.proofs.timeline.Timeline.make.Goals as goal
+use Rattle.rd_timeline.proofs.timeline.Timeline.go.Goals as goal
 
 -- the target is valid, and so it is once there is room for a move more
 pub why_not-cause-requires-clause-valid : goal.why_not-cause-requires-clause-valid
