@@ -23,14 +23,20 @@ PATIENCE = 3
 NOTE = "# the server doesn't answer: are as many attached as it was started for (--sessions)?"
 
 
+def builtin() -> Application:
+    """The application that rdbg has without a file."""
+    application = sources.source("built-in", BUILTIN).application
+    assert application is not None
+    return application
+
+
 def begin(source: Optional[Source], limits: Limits) -> Target:
     """A program of its own with an application as it was read, or the built-in one. Raises
     `Failure` where it can't be started, or refuses the application."""
     if source is None:
         session = Session.run(None, limits.words())
-        application = sources.source("built-in", BUILTIN).application
         greet(session)
-        return Target(session, application, limits)
+        return Target(session, builtin(), limits)
     with as_read(source) as path:
         session = Session.run(path, limits.words())
         greet(session)  # (once it has answered it has read the file)

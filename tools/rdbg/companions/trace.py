@@ -1,0 +1,174 @@
+"""Says of a run who did what: a row a move, or events for a viewer of traces."""
+import argparse
+import contextlib
+import os
+import sys
+import time
+from typing import IO, Iterable, Iterator, Optional, Sequence, Tuple
+
+from rdbg import commands
+from rdbg.companions.sh import bounded, port, read
+from rdbg.effects import Move
+from rdbg.failure import Failure
+from rdbg.replies import Refused
+from rdbg.shell.opening import attach, builtin
+from rdbg.shell.target import Limits, Unable
+from rdbg.source import Source
+from rdbg.tracing.events import Events
+from rdbg.tracing.run import Line, Part, Plan, Run, part_at, parts, plan
+from rdbg.tracing.table import Table, cells, concerns, with_trims
+
+SUMMARY = "says who did what in a run: a row a move, or events for a viewer of traces"
+EPILOG = (
+    "COMMANDS are lines of rdbg, as `save` of rdbg sh writes them; `#` begins a comment, - is"
+    " standard input, which is read, too, where no file is named. They are told to programs of"
+    " trace's own. Lines that rdbg refuses are said on standard error. The status is 0, 1 where the"
+    " application is refused or rdbg has ended, 2 where a file or a port can't be had."
+)
+STANDARD = "-"
+MOST_REFUSED = 10
+# Progress is said after so many seconds, and then as often.
+PATIENCE = 2.0
+
+
+def parser() -> argparse.ArgumentParser:
+    """The words of the command line."""
+    made = argparse.ArgumentParser(prog="rdbg trace", description=SUMMARY, epilog=EPILOG)
+    made.add_argument("file", nargs="?", metavar="FILE", help="the application, JSON or .fw")
+    made.add_argument("commands", nargs="?", metavar="COMMANDS", help="the lines of the run")
+    made.add_argument(
+        "--port", type=port, metavar="P", help="the moves that are done at `rdbg serve` there"
+    )
+    made.add_argument(
+        "--only", metavar="NAMES", help="rows of these tasks, objects and cores: jobs,worker,0"
+    )
+    place = bounded(0)
+    made.add_argument("--from", dest="first", type=place, metavar="N", help="from place N on")
+    made.add_argument("--to", dest="last", type=place, metavar="N", help="up to place N")
+    made.add_argument(
+        "--events", metavar="OUT", help="writes Chrome trace events to OUT; - is standard output"
+    )
+    made.add_argument("--moves", type=bounded(1), metavar="N", help="how many moves may be done")
+    return made
+
+
+def lines_in(text: str) -> Tuple[Line, ...]:
+    """The lines that are told: not empty, and no comments."""
+    whole = enumerate(text.splitlines(), 1)
+    return tuple(Line(at, it.strip()) for at, it in whole if it.strip() and it.strip()[0] != "#")
+
+
+def commands_of(path: Optional[str]) -> Tuple[Line, ...]:
+    """The lines of a file, or of standard input."""
+    if path is None or path == STANDARD:
+        return lines_in(sys.stdin.read())
+    try:
+        with open(path, encoding="utf-8", errors="replace") as file:
+            return lines_in(file.read())
+    except OSError as error:
+        raise Failure(f"cannot read {path}: {error.strerror}", 2) from None
+
+
+def tell_refused(found: Plan, name: str) -> None:
+    """Says which lines were refused."""
+    for line, reply in found.refused[:MOST_REFUSED]:
+        print(f"{name}:{line.number}: {line.text}: {reply}", file=sys.stderr)
+    left = len(found.refused) - MOST_REFUSED
+    if left > 0:
+        print(f"{name}: {left} more lines were refused", file=sys.stderr)
+
+
+def with_progress(found: Iterable[Part], count: int) -> Iterator[Part]:
+    """The parts, while it is said how many of so many moves were looked at."""
+    seen, said = 0, time.monotonic()
+    for part in found:
+        seen += len(part.moves)
+        if time.monotonic() - said > PATIENCE:
+            said = time.monotonic()
+            print(f"rdbg trace: {seen} of {count} moves", file=sys.stderr, flush=True)
+        yield part
+
+
+@contextlib.contextmanager
+def output(path: str) -> Iterator[IO[str]]:
+    """Where events are written."""
+    if path == STANDARD:
+        yield sys.stdout
+        return
+    try:
+        file = open(path, "w", encoding="utf-8")
+    except OSError as error:
+        raise Failure(f"cannot write {path}: {error.strerror}", 2) from None
+    with file:
+        yield file
+
+
+def write_events(found: Iterable[Part], trims: Plan, path: str) -> None:
+    """Writes the events of all parts."""
+    with output(path) as file:
+        events = Events(file.write)
+        for part in found:
+            events.add(part)
+        events.end(trims.trims)
+
+
+def print_rows(rows: Iterable[Sequence[str]], table: Table, only: Optional[str]) -> None:
+    """Prints a table, or the rows of it that concern these names."""
+    names = [] if only is None else [it.strip() for it in only.split(",") if it.strip()]
+    print(table.head())
+    for row in rows:
+        if only is None or concerns(row, names):
+            print(table.row(row))
+
+
+def moves_in(found: Iterable[Part]) -> Iterator[Move]:
+    """The moves of all parts."""
+    for part in found:
+        yield from part.moves
+
+
+def trace_run(given: argparse.Namespace, source: Optional[Source]) -> None:
+    """Traces commands that are told to programs of their own."""
+    lines = commands_of(given.commands)
+    run = Run(source, lines, Limits(given.moves or Limits.moves, commands.MOST_COUNT))
+    whole = plan(run)
+    tell_refused(whole, given.commands or STANDARD)
+    found = whole.within(given.first or 1, given.last)
+    workers = len(os.sched_getaffinity(0))
+    seen = with_progress(parts(run, found.pieces, workers), found.count())
+    if given.events:
+        write_events(seen, found, given.events)
+        return
+    application = (source and source.application) or builtin()
+    table = Table.of(application, whole.done, whole.tick)
+    print_rows(with_trims(moves_in(seen), found), table, given.only)
+
+
+def trace_port(given: argparse.Namespace, source: Optional[Source]) -> None:
+    """Traces the moves that are done at a server."""
+    target = attach(given.port, source)
+    with target.session:
+        part, done = part_at(target, given.first or 1, given.last)
+    empty = Plan((), (), (), done, 0, 0)
+    if given.events:
+        write_events([part], empty, given.events)
+        return
+    rows = [cells(move) for move in part.moves]
+    print_rows(rows, Table.wide_enough(row[:6] for row in rows), given.only)
+
+
+def main(words: Sequence[str]) -> int:
+    """Traces a run, or what is done at a port."""
+    given = parser().parse_args(words)
+    if given.port is not None and given.commands is not None:
+        raise Failure("--port is for the moves that are done there; it takes no COMMANDS", 2)
+    if given.only is not None and given.events:
+        raise Failure("--only is for rows; --events writes all", 2)
+    source = read(given.file)
+    try:
+        trace_run(given, source) if given.port is None else trace_port(given, source)
+    except Unable as unable:
+        raise Failure(str(unable)) from None
+    except Refused as refused:
+        raise Failure(f"rdbg refused it: no {refused}") from None
+    return 0

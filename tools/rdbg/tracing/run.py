@@ -1,0 +1,204 @@
+"""A run that is traced: its commands are told to programs of their own, and its moves looked at.
+
+A look takes a place of the history, of which there are a million at most, so a long run is looked
+at in pieces, by programs side by side.
+"""
+import collections
+import concurrent.futures
+import dataclasses
+import signal
+from typing import Deque, Iterator, List, Optional, Sequence, Tuple
+
+from rdbg.effects import Move
+from rdbg.failure import Failure
+from rdbg.looks import Look
+from rdbg.shell import trail
+from rdbg.shell.interrupt import Interrupt
+from rdbg.shell.opening import begin
+from rdbg.shell.target import RESERVE, Limits, Target
+from rdbg.shell.walk import LEAST_PIECE, Walk
+from rdbg.source import Source
+
+# So many moves are looked at by one program at the most.
+MOST_MOVES = 4_096
+
+
+@dataclasses.dataclass(frozen=True)
+class Line:
+    """A line of the commands, and where it stands, counted from 1."""
+
+    number: int
+    text: str
+
+
+@dataclasses.dataclass(frozen=True)
+class Trim:
+    """A trim that was made, and how many moves were done then."""
+
+    place: int
+    line: str
+
+
+@dataclasses.dataclass(frozen=True)
+class Run:
+    """What is traced: an application, or the built-in one, and the lines that it is told."""
+
+    source: Optional[Source]
+    lines: Tuple[Line, ...]
+    limits: Limits
+
+    def begin(self) -> Target:
+        """A program of its own, at boot."""
+        return begin(self.source, self.limits)
+
+
+@dataclasses.dataclass(frozen=True)
+class Piece:
+    """The moves to the places `first` to `last`, as they are once so many lines were told."""
+
+    told: int
+    first: int
+    last: int
+
+
+@dataclasses.dataclass(frozen=True)
+class Plan:
+    """What there is to look at, where the run ended, and which lines were refused, with replies."""
+
+    pieces: Tuple[Piece, ...]
+    trims: Tuple[Trim, ...]
+    refused: Tuple[Tuple[Line, str], ...]
+    done: int
+    undone: int
+    tick: int
+
+    def within(self, first: int, last: Optional[int]) -> "Plan":
+        """The part of it that leads to places between two."""
+        end = self.done if last is None else last
+        cut = (
+            dataclasses.replace(it, first=max(it.first, first), last=min(it.last, end))
+            for it in self.pieces
+        )
+        pieces = tuple(it for it in cut if it.first <= it.last)
+        trims = tuple(it for it in self.trims if first - 1 <= it.place <= end)
+        return dataclasses.replace(self, pieces=pieces, trims=trims)
+
+    def count(self) -> int:
+        """How many moves are to be looked at."""
+        return sum(it.last - it.first + 1 for it in self.pieces)
+
+
+@dataclasses.dataclass(frozen=True)
+class Part:
+    """Moves in order, the look before the first of them, and the look behind each."""
+
+    before: Look
+    moves: Tuple[Move, ...]
+    looks: Tuple[Look, ...]
+
+
+def room_for_moves(run: Run, target: Target, told: int) -> int:
+    """How many moves the history has room to look at, once so many lines were told."""
+    ways = 2 * run.limits.moves // LEAST_PIECE
+    left = run.limits.history - told - RESERVE - ways - trail.lines_for(0, target.names)
+    return min(MOST_MOVES, left // (trail.lines_for(1, target.names) + 1))
+
+
+def pieces_of(run: Run, target: Target, told: int, first: int, last: int) -> Iterator[Piece]:
+    """The pieces in which moves are looked at. Raises `Failure` where a history has too little
+    room behind the lines."""
+    count = room_for_moves(run, target, told)
+    if first <= last and count < 1:
+        raise Failure(f"the history has no room to look at moves behind {told} lines")
+    for at in range(first, last + 1, max(1, count)):
+        yield Piece(told, at, min(last, at + count - 1))
+
+
+def plan(run: Run) -> Plan:
+    """Tells the lines once, and says what there is to look at. A trim gives up how moves are taken
+    back: they can't change any more, and are looked at as they are before it."""
+    pieces: List[Piece] = []
+    trims: List[Trim] = []
+    refused: List[Tuple[Line, str]] = []
+    target = run.begin()
+    with target.session:
+        seen = 0
+        answers = target.session.tell_all(it.text for it in run.lines)
+        for at, (line, reply) in enumerate(zip(run.lines, answers)):
+            if target.base > seen:
+                pieces += pieces_of(run, target, at, seen + 1, target.base)
+                seen = target.base
+            if reply.startswith("no "):
+                refused.append((line, reply))
+            elif line.text.split()[0] == "trim":
+                trims.append(Trim(target.place, line.text))
+        pieces += pieces_of(run, target, len(run.lines), seen + 1, target.place)
+        tick = target.look().cores.tick
+        return Plan(tuple(pieces), tuple(trims), tuple(refused), target.place, target.undone, tick)
+
+
+def look_through(target: Target, first: int, last: int) -> Part:
+    """The moves to these places, with the looks, of a target that has come to them or further.
+    Stays where it is."""
+    walk = Walk(target, Interrupt())
+    here = walk.place
+    walk.goto(first - 1)
+    try:
+        before = target.look()
+        moves: List[Move] = []
+        looks: List[Look] = []
+        while walk.place < last:
+            for look in trail.again(target, min(trail.CHUNK, last - walk.place), target.names):
+                moves.append(trail.between(target, looks[-1] if looks else before, look))
+                looks.append(look)
+        return Part(before, tuple(moves), tuple(looks))
+    finally:
+        walk.goto(here)
+
+
+def part_of(run: Run, piece: Piece) -> Part:
+    """Looks at a piece, in a program of its own."""
+    target = run.begin()
+    with target.session:
+        for _ in target.session.tell_all(it.text for it in run.lines[: piece.told]):
+            pass
+        return look_through(target, piece.first, piece.last)
+
+
+def ignore_interrupt() -> None:
+    """Leaves Ctrl-C to the process that started this one."""
+    signal.signal(signal.SIGINT, signal.SIG_IGN)
+
+
+def parts(run: Run, pieces: Sequence[Piece], workers: int) -> Iterator[Part]:
+    """Looks at the pieces, so many at a time, and yields each in its order. Of those that are
+    looked at no more are kept than there are workers."""
+    if workers < 2 or len(pieces) < 2:
+        yield from (part_of(run, piece) for piece in pieces)
+        return
+    waiting: Deque["concurrent.futures.Future[Part]"] = collections.deque()
+    with concurrent.futures.ProcessPoolExecutor(workers, initializer=ignore_interrupt) as pool:
+        try:
+            for piece in pieces:
+                if len(waiting) > workers:
+                    yield waiting.popleft().result()
+                waiting.append(pool.submit(part_of, run, piece))
+            while waiting:
+                yield waiting.popleft().result()
+        finally:
+            for it in waiting:
+                it.cancel()
+
+
+def part_at(target: Target, first: int, last: Optional[int]) -> Tuple[Part, int]:
+    """The moves that a target has done which others move too, and how many there are. Nobody else
+    moves it meanwhile. Raises `Unable` where too little is left, `Refused` where another has the
+    wheel."""
+    with target.wheel():
+        places = target.places()
+        least = max(first, places.done - places.kept + 1)
+        most = places.done if last is None else min(last, places.done)
+        if least > most:
+            look = target.look()
+            return Part(look, (), ()), places.done
+        return look_through(target, least, most), places.done
