@@ -107,7 +107,7 @@ found_takes verb more operands k words command e =
     subst (λ (command : CommandView). (command.keyword ≡ k) × (words ≡ more ++ command.operands) × AreOperands operands command.operands) formed.1
     (refl, texts_taken more words left.0 left.1, operands_take operands left.0 formed.0)
 
-spelling_takes : (of : Spelling) (k : Keyword) (first : List ℕ) (words : List (List ℕ)) (command : CommandView) → command_spelled of k first words ≡ Some command
+pub spelling_takes : (of : Spelling) (k : Keyword) (first : List ℕ) (words : List (List ℕ)) (command : CommandView) → command_spelled of k first words ≡ Some command
     → (command.keyword ≡ k) × (first ∷ words ≡ of.verb ∷ (of.more ++ command.operands)) × AreOperands of.operands command.operands
 spelling_takes of k first words command e =
     let found =
@@ -129,7 +129,7 @@ spelled_takes k first words command e =
       formed = subst (λ (k : Keyword). AreOperands (spelling_of k).operands command.operands) same taken.2;
     }
 
-either_takes : (spelled others : Option CommandView) (command : CommandView) (Good : CommandView → Type 0)
+pub either_takes : (spelled others : Option CommandView) (command : CommandView) (Good : CommandView → Type 0)
     → ((found : CommandView) → spelled ≡ Some found → Good found) → (others ≡ Some command → Good command)
     → option_or spelled others ≡ Some command → Good command
 either_takes (Some found) others command Good now later e = let is : found ≡ command = cc in subst Good is (now found refl)

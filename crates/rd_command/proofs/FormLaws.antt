@@ -1,5 +1,5 @@
 -- Where no word is left, none has the form of an operand that is.
-use Rattle.std.proofs.Common.{◌≡◌, ◌<◌, ℕ, zero, suc, List, [], ◌∷◌, drop, length, None, refl, slice_get, arith}
+use Rattle.std.proofs.Common.{◌≡◌, ◌<◌, ℕ, zero, suc, List, [], ◌∷◌, drop, length, None, refl, arith}
 use Rattle.rd_command.specs.declared.keyword.Parameter.{Parameter}
 use Rattle.rd_command.specs.Forms.{after_words}
 
@@ -8,6 +8,6 @@ no_words [] index there = absurd (omega (arith, there))
 no_words (parameter ∷ others) zero there = refl
 no_words (parameter ∷ others) (suc index) there = no_words others index (omega (arith, there))
 
-pub nothing_left : {X : Type 0} (xs : List X) → None ≡ slice_get xs 0 → xs ≡ []
+pub nothing_left : {X : Type 0} (xs : List X) → length xs < 1 → xs ≡ []
 nothing_left [] none = refl
-nothing_left (x ∷ xs) none = absurd cc
+nothing_left (x ∷ xs) none = absurd (omega (arith, none))

@@ -3,6 +3,7 @@ pub mod BindingLaws
 pub mod CommandLaws
 pub mod EffectLaws
 pub mod FormLaws
+pub mod LengthLaws
 pub mod Steps
 pub mod TableLaws
 pub mod ThereLaws

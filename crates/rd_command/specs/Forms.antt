@@ -16,11 +16,6 @@ use Rattle.rd_moves.specs.Counts.{count_in}
 use Rattle.rd_command.specs.Keywords.{Operands, Plain, WithCondition}
 use Rattle.rd_command.specs.Keywords.{condition_keyword_of, condition_row, parameters_of}
 
--- words of which the first, if there is one, stands apart
-abbrev pub rest_of : Option (List ℕ) → List (List ℕ) → List (List ℕ)
-rest_of None others = others
-rest_of (Some first) others = first ∷ others
-
 -- a number of moves
 abbrev pub count_of : List ℕ → Option ℕ
 count_of word = option_and_then count_in (number_of word)

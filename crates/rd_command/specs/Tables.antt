@@ -1,9 +1,10 @@
 -- The code's tables of keywords, and how a keyword is found in them.
 use denote.Ref.{Bor}
-use Rattle.std.specs.Prelude.{ℕ, List, [], ◌∷◌, map, if◌then◌else◌, ◌&&◌}
+use Rattle.std.specs.Prelude.{ℕ, List, [], ◌∷◌, map, drop, if◌then◌else◌, ◌&&◌}
 use Rattle.std.specs.Prelude.{Option, Some, None}
 use Rattle.std.specs.Option.{option_or}
 use Rattle.std.specs.Str.{bytes_eq}
+use Rattle.rd_command.specs.declared.command.Found.{Found}
 use Rattle.rd_command.specs.declared.keyword.Operands as code
 use Rattle.rd_command.specs.declared.keyword.Operands.TheVariants as kept
 use Rattle.rd_command.specs.declared.keyword.ConditionKeyword.{ConditionKeyword}
@@ -70,6 +71,14 @@ verb_view verb = (verb.0.now, alone_view verb.1.now, longer_view verb.2.now)
 
 abbrev pub verbs_view : List VerbKept → List Verb
 verbs_view verbs = map verb_view verbs
+
+-- the command with these words as its operands
+abbrev pub with_operands : List (List ℕ) → Keyword → CommandView
+with_operands words keyword = record { keyword = keyword; operands = words }
+
+-- the command that was found: the first of these words are the keyword's, the others its operands
+abbrev pub found_in : List (List ℕ) → Found → CommandView
+found_in words found = with_operands (drop found.own words) found.keyword
 
 -- the command of the first of these keywords that the words are the operands of
 abbrev pub command_alone : List Alone → List (List ℕ) → Option CommandView

@@ -1,6 +1,6 @@
 //! The commands of a session.
 
-ghost use Rattle.std.specs.Prelude.{◌≡◌, Some, IfOk};
+ghost use Rattle.std.specs.Prelude.{◌≡◌, ◌≤◌, Some, IfOk, IfSome, length, option_map};
 ghost use Rattle.std.specs.Result.{result_ok};
 ghost use Rattle.rd_text.specs.Words.{words_of};
 ghost use Rattle.rd_command.specs.Commands.{AreOperands, CommandView, Spells, command_from};
@@ -9,50 +9,47 @@ ghost use Rattle.rd_command.specs.Keywords.{needs_wheel, spelling_of};
 ghost use Rattle.rd_command.specs.Tables.{alone_view, longer_view, verb_view, verbs_view};
 ghost use Rattle.rd_command.specs.Tables.{command_alone, command_behind, command_by_verb};
 ghost use Rattle.rd_command.specs.Tables.{command_longer, command_with_second};
+ghost use Rattle.rd_command.specs.Tables.{found_in, with_operands};
 
 use crate::form::are_operands;
 use crate::keyword::{Alone, KEYWORDS, Keyword, Longer, Verb};
-use crate::word::Rest;
+use crate::word::{Behind, Word};
 use rd_text::words::Words;
 use std::marker::Model;
 use thiserror::Error;
 
 /// A command of a session: its keyword, and the words of its operands, which have the forms that
 /// the keyword asks for. So the word of a count is a number of 1 to 1,000,000, and `bind` makes a
-/// `Count` of it. What the words name is looked up by `bind` too.
+/// `Count` of it. Each word was cut once, and its number read. What the words name is looked up by
+/// `bind`.
 #[derive(Drop)]
 pub struct Command<'a> {
     line: &'a [u8],
     keyword: Keyword,
-    operands: Rest<'a>,
+    behind: Behind<'a>,
+    // how many of the words behind the first one are the keyword's
+    own: usize,
 }
 
 impl<'a> Model for Command<'a> {
-    ghost use Rattle.std.specs.Prelude.{◌≡◌, Some};
+    ghost use Rattle.std.specs.Prelude.{◌≡◌, ◌≤◌, Some, drop, length};
     ghost use Rattle.rd_text.specs.Words.{words_of};
     ghost use Rattle.rd_command.specs.Commands.{CommandView, command_of};
 
     ghost Value = { CommandView };
 
-    ghost view = { λ c. record { keyword = c.keyword; operands = c.operands } };
+    ghost view = { λ c. record { keyword = c.keyword; operands = drop c.own c.behind } };
 
-    ghost invariant = { λ c. command_of (words_of c.line.now)
-        ≡ Some (record { keyword = c.keyword; operands = c.operands }) };
+    ghost invariant = { λ c. (c.own ≤ length c.behind) × (command_of (words_of c.line.now)
+        ≡ Some (record { keyword = c.keyword; operands = drop c.own c.behind })) };
 }
 
-/// What the words of a line were found to be: a keyword, and the words of its operands.
-#[derive(Drop)]
-struct Found<'a> {
+/// What the words of a line were found to be: a keyword, and how many of the words behind the first
+/// one are its own.
+#[derive(Clone, Copy)]
+struct Found {
     keyword: Keyword,
-    operands: Rest<'a>,
-}
-
-impl<'a> Model for Found<'a> {
-    ghost use Rattle.rd_command.specs.Commands.{CommandView};
-
-    ghost Value = { CommandView };
-
-    ghost view = { λ f. record { keyword = f.keyword; operands = f.operands } };
+    own: usize,
 }
 
 /// The line is no command.
@@ -68,7 +65,8 @@ impl<'a> Command<'a> {
         Command {
             line: self.line,
             keyword: self.keyword,
-            operands: self.operands.copy(),
+            behind: self.behind.copy(),
+            own: self.own,
         }
     }
 
@@ -95,10 +93,10 @@ impl<'a> Command<'a> {
     }
 
     /// The words of the operands.
-    pub(crate) fn operands(&self) -> Rest<'a>
-        ensures { result ≡ self.now.operands }
+    pub(crate) fn operands(&self) -> &[Word<'a>]
+        ensures { result.now ≡ self.now.operands }
     {
-        self.operands.copy()
+        &self.behind.as_slice()[self.own..]
     }
 
     /// The keyword.
@@ -117,23 +115,26 @@ pub fn parse_line(line: &[u8]) -> Result<Command<'_>, Syntax>
     ensures only { (command : CommandView) → Spells (words_of line.now) command
         → result_ok result ≡ Some command }
 {
-    match read_line(line) {
-        Some(Found { keyword, operands }) => Ok(Command {
-            line,
-            keyword,
-            operands,
-        }),
-        None => Err(Syntax),
-    }
+    read_line(line).ok_or(Syntax)
 }
 
 // The command that the words of the line spell, if they do.
-fn read_line(line: &[u8]) -> Option<Found<'_>>
+fn read_line(line: &[u8]) -> Option<Command<'_>>
     ensures { result ≡ command_of (words_of line.now) }
 {
     let mut words = words_in(line);
     let first = words.next()?;
-    command_from(first, &Rest::new(words))
+    let mut behind = Behind::new();
+    if !behind.read(words) {
+        return None;
+    }
+    let Found { keyword, own } = command_from(first, behind.as_slice())?;
+    Some(Command {
+        line,
+        keyword,
+        behind,
+        own,
+    })
 }
 
 // The words of a line. Of the reader's contract only this matters here.
@@ -144,15 +145,18 @@ fn words_in(line: &[u8]) -> Words<'_>
 }
 
 // The command that the words spell, of which the first stands apart, if they do.
-fn command_from<'a>(first: &[u8], words: &Rest<'a>) -> Option<Found<'a>>
-    ensures { result ≡ command_from first.now words.now }
+fn command_from(first: &[u8], words: &[Word<'_>]) -> Option<Found>
+    ensures command { option_map (found_in words.now) result ≡ command_from first.now words.now }
+    ensures own { IfSome result (λ found. found.own ≤ length words.now) }
 {
     command_by_verb(first, words, &KEYWORDS)
 }
 
 // The command of the keywords that begin with the first word, which stands apart.
-fn command_by_verb<'a>(first: &[u8], words: &Rest<'a>, verbs: &[Verb<'_>]) -> Option<Found<'a>>
-    ensures { result ≡ command_by_verb (verbs_view verbs.now) first.now words.now }
+fn command_by_verb(first: &[u8], words: &[Word<'_>], verbs: &[Verb<'_>]) -> Option<Found>
+    ensures command { option_map (found_in words.now) result
+        ≡ command_by_verb (verbs_view verbs.now) first.now words.now }
+    ensures own { IfSome result (λ found. found.own ≤ length words.now) }
 {
     for verb in verbs {
         if first == verb.0.as_bytes() {
@@ -163,8 +167,10 @@ fn command_by_verb<'a>(first: &[u8], words: &Rest<'a>, verbs: &[Verb<'_>]) -> Op
 }
 
 // The command that the words spell behind this first word.
-fn command_behind<'a>(words: &Rest<'a>, verb: &Verb<'_>) -> Option<Found<'a>>
-    ensures { result ≡ command_behind (verb_view verb.now) words.now }
+fn command_behind(words: &[Word<'_>], verb: &Verb<'_>) -> Option<Found>
+    ensures command { option_map (found_in words.now) result
+        ≡ command_behind (verb_view verb.now) words.now }
+    ensures own { IfSome result (λ found. found.own ≤ length words.now) }
 {
     let (_, alone, longer) = *verb;
     let found = command_alone(words, alone);
@@ -176,43 +182,41 @@ fn command_behind<'a>(words: &Rest<'a>, verb: &Verb<'_>) -> Option<Found<'a>>
 }
 
 // The command of the first of these keywords that the words are the operands of.
-fn command_alone<'a>(words: &Rest<'a>, rows: &[Alone<'_>]) -> Option<Found<'a>>
-    ensures { result ≡ command_alone (alone_view rows.now) words.now }
+fn command_alone(words: &[Word<'_>], rows: &[Alone<'_>]) -> Option<Found>
+    ensures command { option_map (found_in words.now) result
+        ≡ command_alone (alone_view rows.now) words.now }
+    ensures own { IfSome result (λ found. found.own ≤ length words.now) }
 {
     for (operands, keyword) in rows {
         if are_operands(words, *operands) {
             return Some(Found {
                 keyword: *keyword,
-                operands: words.copy(),
+                own: 0,
             });
         }
     }
     None
 }
 
-// The command of the keywords that have a second word. It is read once for all of them.
-fn command_longer<'a>(words: &Rest<'a>, rows: &[Longer<'_>]) -> Option<Found<'a>>
-    ensures { result ≡ command_longer (longer_view rows.now) words.now }
+// The command of the keywords that have a second word.
+fn command_longer(words: &[Word<'_>], rows: &[Longer<'_>]) -> Option<Found>
+    ensures command { option_map (found_in words.now) result
+        ≡ command_longer (longer_view rows.now) words.now }
+    ensures own { IfSome result (λ found. found.own ≤ length words.now) }
 {
-    let mut left = words.copy();
-    let second = left.next()?;
-    command_with_second(second.text(), &left, rows)
+    let (second, others) = words.split_first()?;
+    let keyword = keyword_with_second(second.text(), others, rows)?;
+    Some(Found { keyword, own: 1 })
 }
 
-// The command of the first of these keywords that has this second word, and the words as operands.
-fn command_with_second<'a>(
-    second: &[u8],
-    words: &Rest<'a>,
-    rows: &[Longer<'_>],
-) -> Option<Found<'a>>
-    ensures { result ≡ command_with_second (longer_view rows.now) second.now words.now }
+// The first of these keywords that has this second word, and the words as operands.
+fn keyword_with_second(second: &[u8], words: &[Word<'_>], rows: &[Longer<'_>]) -> Option<Keyword>
+    ensures { option_map (with_operands words.now) result
+        ≡ command_with_second (longer_view rows.now) second.now words.now }
 {
     for (text, operands, keyword) in rows {
         if second == text.as_bytes() && are_operands(words, *operands) {
-            return Some(Found {
-                keyword: *keyword,
-                operands: words.copy(),
-            });
+            return Some(*keyword);
         }
     }
     None

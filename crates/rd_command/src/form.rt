@@ -1,6 +1,7 @@
 //! The forms of the words of a command, whatever they name.
 
 ghost use Rattle.std.specs.Prelude.{◌≡◌};
+ghost use Rattle.std.specs.Option.{option_copied};
 ghost use Rattle.rd_command.specs.Forms.{count_of, operator_of, phase_of, is_formed};
 ghost use Rattle.rd_command.specs.Forms.{watch_number, watch_of};
 ghost use Rattle.rd_command.specs.Forms.{after_words, after_condition};
@@ -10,7 +11,7 @@ ghost use Rattle.rd_command.specs.Tables.{operands_view};
 use crate::binding::MAX_WATCHES;
 use crate::digits::is_data;
 use crate::keyword::{Operands, Parameter, condition_keyword_of};
-use crate::word::{Rest, Word};
+use crate::word::Word;
 use rd_condition::condition::{Comparison, PhaseName};
 use rd_moves::count::Count;
 use rd_text::words::{is_name, number};
@@ -89,52 +90,50 @@ fn is_formed(parameter: Parameter, word: &Word<'_>) -> bool
 }
 
 // What is left of the words behind one for each of these operands, if they have the forms.
-fn after_words<'a>(words: &Rest<'a>, parameters: &[Parameter]) -> Option<Rest<'a>>
-    ensures { result ≡ after_words parameters.now words.now }
+fn after_words<'w, 'a>(words: &'w [Word<'a>], parameters: &[Parameter]) -> Option<&'w [Word<'a>]>
+    ensures { option_copied result ≡ after_words parameters.now words.now }
 {
-    let mut left = words.copy();
+    let mut left = words;
     for parameter in parameters {
-        if !is_formed(*parameter, &left.next()?) {
+        let [word, others @ ..] = left else {
+            return None;
+        };
+        if !is_formed(*parameter, word) {
             return None;
         }
+        left = others;
     }
     Some(left)
 }
 
 // What is left of the words behind a condition, if they begin with one.
-fn after_condition<'a>(words: &Rest<'a>) -> Option<Rest<'a>>
-    ensures { result ≡ after_condition words.now }
+fn after_condition<'w, 'a>(words: &'w [Word<'a>]) -> Option<&'w [Word<'a>]>
+    ensures { option_copied result ≡ after_condition words.now }
 {
-    let mut left = words.copy();
-    let (parameters, _) = condition_keyword_of(left.next()?.text())?;
-    after_words(&left, parameters)
+    let (first, others) = words.split_first()?;
+    let (parameters, _) = condition_keyword_of(first.text())?;
+    after_words(others, parameters)
 }
 
 // Whether the words are one for each of these operands, with the forms, and no more.
-fn are_formed(words: &Rest<'_>, parameters: &[Parameter]) -> bool
+fn are_formed(words: &[Word<'_>], parameters: &[Parameter]) -> bool
     ensures { result ≡ is_all (after_words parameters.now words.now) }
 {
-    let mut left = words.copy();
-    for parameter in parameters {
-        let Some(word) = left.next() else {
-            return false;
-        };
-        if !is_formed(*parameter, &word) {
-            return false;
-        }
+    match after_words(words, parameters) {
+        Some(left) => left.is_empty(),
+        None => false,
     }
-    left.is_empty()
 }
 
 /// Whether the words are such operands, and no more.
 #[inline(always)]
-pub(crate) fn are_operands(words: &Rest<'_>, operands: Operands<'_>) -> bool
+pub(crate) fn are_operands(words: &[Word<'_>], operands: Operands<'_>) -> bool
     ensures { result ≡ are_operands (operands_view operands.entry) words.now }
 {
     match operands {
         Operands::Plain(parameters) => are_formed(words, parameters),
         Operands::WithCondition(parameters) => match after_condition(words) {
-            Some(left) => are_formed(&left, parameters),
+            Some(left) => are_formed(left, parameters),
             None => false,
         },
     }

@@ -1,16 +1,17 @@
 //! The operands of a command, looked up in an application one after another.
 
-ghost use Rattle.std.specs.Prelude.{◌≡◌};
+ghost use Rattle.std.specs.Prelude.{◌≡◌, IfSome, slice_get};
+ghost use Rattle.std.specs.Option.{option_copied};
 ghost use Rattle.std.specs.Result.{result_ok};
 ghost use Rattle.rd_command.specs.declared.keyword.Parameter.TheVariants as parameter;
-ghost use Rattle.rd_command.specs.Bindings.{Takes, next_keyword, next_value};
+ghost use Rattle.rd_command.specs.Bindings.{Takes, after_word, next_keyword, next_value};
 ghost use Rattle.rd_command.specs.Bindings.{made_known, number_below, number_named};
 
 use crate::binding::Unknown;
 use crate::digits::Digits;
 use crate::form::{count_of, operator_of, phase_of, watch_of};
 use crate::keyword::{ConditionKeyword, condition_keyword_of};
-use crate::word::{Rest, Word};
+use crate::word::Word;
 use rd_app::instr::REGISTERS;
 use rd_condition::condition::{Comparison, PhaseName};
 use rd_moves::count::Count;
@@ -44,18 +45,23 @@ pub(crate) struct Reader<'r, 'a> {
     names: &'r Names,
     cores: usize,
     entries: usize,
-    words: Rest<'a>,
+    words: &'r [Word<'a>],
+    // how many of the words are read
+    read: usize,
 }
 
 impl<'r, 'a> Model for Reader<'r, 'a> {
+    ghost use Rattle.std.specs.Prelude.{◌≤◌, drop, length};
     ghost use Rattle.rd_command.specs.Bindings.{Reading, made_known};
 
     ghost Value = { Reading };
 
     ghost view = { λ r. record {
       known = made_known r.names.now r.cores r.entries;
-      words = r.words;
+      words = drop r.read r.words.now;
     } };
+
+    ghost invariant = { λ r. r.read ≤ length r.words.now };
 }
 
 impl<'r, 'a> Reader<'r, 'a> {
@@ -64,17 +70,28 @@ impl<'r, 'a> Reader<'r, 'a> {
         names: &'r Names,
         cores: usize,
         entries: usize,
-        words: Rest<'a>,
+        words: &'r [Word<'a>],
     ) -> Reader<'r, 'a>
         ensures { result
-            ≡ record { known = made_known names.now cores entries; words = words.entry } }
+            ≡ record { known = made_known names.now cores entries; words = words.now } }
     {
         Reader {
             names,
             cores,
             entries,
             words,
+            read: 0,
         }
+    }
+
+    // The next word, which is read now.
+    fn next(&mut self) -> Option<&'r Word<'a>>
+        ensures word { option_copied result ≡ slice_get self.old.words 0 }
+        ensures left { IfSome result (λ word. self.new ≡ after_word self.old) }
+    {
+        let word = self.words.get(self.read)?;
+        self.read += 1;
+        Some(word)
     }
 
     /// The next word, as the keyword of a condition.
@@ -82,7 +99,7 @@ impl<'r, 'a> Reader<'r, 'a> {
     pub(crate) fn condition_keyword(&mut self) -> Result<ConditionKeyword, Unknown>
         ensures { Takes (next_keyword self.old) result self.new }
     {
-        match condition_keyword_of(self.words.next().ok_or(Unknown)?.text()) {
+        match condition_keyword_of(self.next().ok_or(Unknown)?.text()) {
             Some((_, keyword)) => Ok(keyword),
             None => Err(Unknown),
         }
@@ -93,7 +110,7 @@ impl<'r, 'a> Reader<'r, 'a> {
     pub(crate) fn core(&mut self) -> Result<usize, Unknown>
         ensures { Takes (next_value parameter.Core self.old) result self.new }
     {
-        number_below(&self.words.next().ok_or(Unknown)?, self.cores)
+        number_below(self.next().ok_or(Unknown)?, self.cores)
     }
 
     /// The next word, as a number of moves.
@@ -101,7 +118,7 @@ impl<'r, 'a> Reader<'r, 'a> {
     pub(crate) fn count(&mut self) -> Result<Count, Unknown>
         ensures { Takes (next_value parameter.Count self.old) result self.new }
     {
-        count_of(&self.words.next().ok_or(Unknown)?).ok_or(Unknown)
+        count_of(self.next().ok_or(Unknown)?).ok_or(Unknown)
     }
 
     /// The next word, as a register.
@@ -109,7 +126,7 @@ impl<'r, 'a> Reader<'r, 'a> {
     pub(crate) fn register(&mut self) -> Result<usize, Unknown>
         ensures { Takes (next_value parameter.Register self.old) result self.new }
     {
-        number_below(&self.words.next().ok_or(Unknown)?, REGISTERS)
+        number_below(self.next().ok_or(Unknown)?, REGISTERS)
     }
 
     /// The next word, as the index of a notification entry.
@@ -117,7 +134,7 @@ impl<'r, 'a> Reader<'r, 'a> {
     pub(crate) fn index(&mut self) -> Result<usize, Unknown>
         ensures { Takes (next_value parameter.Index self.old) result self.new }
     {
-        number_below(&self.words.next().ok_or(Unknown)?, self.entries)
+        number_below(self.next().ok_or(Unknown)?, self.entries)
     }
 
     /// The next word, as a number.
@@ -125,7 +142,7 @@ impl<'r, 'a> Reader<'r, 'a> {
     pub(crate) fn number(&mut self) -> Result<u32, Unknown>
         ensures { Takes (next_value parameter.Number self.old) result self.new }
     {
-        self.words.next().ok_or(Unknown)?.number().ok_or(Unknown)
+        self.next().ok_or(Unknown)?.number().ok_or(Unknown)
     }
 
     /// The next word, as the digits of bytes.
@@ -133,7 +150,7 @@ impl<'r, 'a> Reader<'r, 'a> {
     pub(crate) fn data(&mut self) -> Result<Digits<'a>, Unknown>
         ensures { Takes (next_value parameter.Data self.old) result self.new }
     {
-        Digits::new(self.words.next().ok_or(Unknown)?.text()).ok_or(Unknown)
+        Digits::new(self.next().ok_or(Unknown)?.text()).ok_or(Unknown)
     }
 
     /// The next word, as how an amount is compared.
@@ -141,7 +158,7 @@ impl<'r, 'a> Reader<'r, 'a> {
     pub(crate) fn operator(&mut self) -> Result<Comparison, Unknown>
         ensures { Takes (next_value parameter.Operator self.old) result self.new }
     {
-        operator_of(self.words.next().ok_or(Unknown)?.text()).ok_or(Unknown)
+        operator_of(self.next().ok_or(Unknown)?.text()).ok_or(Unknown)
     }
 
     /// The next word, as what a phase is called.
@@ -149,7 +166,7 @@ impl<'r, 'a> Reader<'r, 'a> {
     pub(crate) fn phase(&mut self) -> Result<PhaseName, Unknown>
         ensures { Takes (next_value parameter.Phase self.old) result self.new }
     {
-        phase_of(self.words.next().ok_or(Unknown)?.text()).ok_or(Unknown)
+        phase_of(self.next().ok_or(Unknown)?.text()).ok_or(Unknown)
     }
 
     /// The next word, as the number of a watch.
@@ -157,7 +174,7 @@ impl<'r, 'a> Reader<'r, 'a> {
     pub(crate) fn watch(&mut self) -> Result<usize, Unknown>
         ensures { Takes (next_value parameter.Watch self.old) result self.new }
     {
-        watch_of(self.words.next().ok_or(Unknown)?.text()).ok_or(Unknown)
+        watch_of(self.next().ok_or(Unknown)?.text()).ok_or(Unknown)
     }
 
     /// The next word, as the number of the thing of that kind that it names.
@@ -165,6 +182,6 @@ impl<'r, 'a> Reader<'r, 'a> {
     pub(crate) fn named(&mut self, kind: Kind) -> Result<usize, Unknown>
         ensures { Takes (next_value (parameter.Name kind) self.old) result self.new }
     {
-        number_named(self.words.next().ok_or(Unknown)?.text(), kind, self.names)
+        number_named(self.next().ok_or(Unknown)?.text(), kind, self.names)
     }
 }

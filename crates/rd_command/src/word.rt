@@ -1,10 +1,15 @@
-//! The words of a line, of which the first one that is left is cut and read.
+//! The words of a line, each cut once, with the number that it is.
 
-ghost use Rattle.std.specs.Prelude.{◌≡◌, drop, is_none, slice_get};
+ghost use Rattle.std.specs.Prelude.{◌≡◌, ◌≤◌, [], IsTrue, length, nat_le};
 ghost use Rattle.rd_text.specs.Words.{number_of};
+ghost use Rattle.rd_command.specs.declared.word.TheConstants.{MAX_WORDS};
 
+use arrayvec::ArrayVec;
 use rd_text::words::{Words, number};
 use std::marker::Model;
+
+/// How many words a command has at the most behind its first one, as in `until` for a register.
+pub(crate) const MAX_WORDS: usize = 6;
 
 /// A word of a line. Its number, if it is one, was read with it.
 #[derive(Drop)]
@@ -22,6 +27,15 @@ impl<'a> Model for Word<'a> {
     ghost view = { λ w. w.text.now };
 
     ghost invariant = { λ w. w.number ≡ number_of w.text.now };
+}
+
+impl<'a> Default for Word<'a> {
+    fn default() -> Word<'a> {
+        Word {
+            text: &[],
+            number: None,
+        }
+    }
 }
 
 impl<'a> Word<'a> {
@@ -60,59 +74,63 @@ impl<'a> Word<'a> {
     }
 }
 
-/// The words of a line that are left. The first of them is cut, and its number read, so that a
-/// command with one operand, as most are, is read once for its form and its value.
+/// The words behind the first one of a line, as many as a command may have.
 #[derive(Drop)]
-pub(crate) struct Rest<'a> {
-    first: Option<Word<'a>>,
-    others: Words<'a>,
+pub(crate) struct Behind<'a> {
+    words: ArrayVec<Word<'a>, MAX_WORDS>,
 }
 
-impl<'a> Model for Rest<'a> {
-    ghost use Rattle.std.specs.Prelude.{◌≡◌, ℕ, List, None, []};
-    ghost use Rattle.rd_command.specs.Forms.{rest_of};
+impl<'a> Model for Behind<'a> {
+    ghost use Rattle.std.specs.Prelude.{ℕ, List};
 
     ghost Value = { List (List ℕ) };
 
-    ghost view = { λ r. rest_of r.first r.others };
-
-    ghost invariant = { λ r. r.first ≡ None → r.others ≡ [] };
+    ghost view = { λ b. b.words.items };
 }
 
-impl<'a> Rest<'a> {
-    /// These words.
-    pub(crate) fn new(words: Words<'a>) -> Rest<'a>
-        ensures { result ≡ words.entry }
+impl<'a> Behind<'a> {
+    /// No words yet.
+    pub(crate) fn new() -> Behind<'a>
+        ensures { result ≡ [] }
     {
-        let mut others = words;
-        let first = others.next().map(Word::new);
-        Rest { first, others }
-    }
-
-    /// The same words, to be read a second time.
-    pub(crate) fn copy(&self) -> Rest<'a>
-        ensures { result ≡ self.now }
-    {
-        Rest {
-            first: self.first.as_ref().map(Word::copy),
-            others: self.others.copy(),
+        Behind {
+            words: ArrayVec::new(),
         }
     }
 
-    /// The first word, which is read now. The one behind it is cut.
-    pub(crate) fn next(&mut self) -> Option<Word<'a>>
-        ensures word { result ≡ slice_get self.old 0 }
-        ensures left { self.new ≡ drop 1 self.old }
+    /// Reads these words, where none is read yet. Answers whether they are no more than a command
+    /// may have; of more not all are read. (They are read where they are kept: an array that is
+    /// handed on is copied each time.)
+    pub(crate) fn read(&mut self, words: Words<'a>) -> bool
+        requires { self.old ≡ [] }
+        ensures few { result ≡ nat_le (length words.entry) MAX_WORDS }
+        ensures all { IsTrue result → self.new ≡ words.entry }
     {
-        let first = self.first.take()?;
-        self.first = self.others.next().map(Word::new);
-        Some(first)
+        for text in words {
+            if self.words.is_full() {
+                return false;
+            }
+            self.words.push(Word::new(text));
+        }
+        true
     }
 
-    /// Whether no word is left.
-    pub(crate) fn is_empty(&self) -> bool
-        ensures { result ≡ is_none (slice_get self.now 0) }
+    /// An equal list of words.
+    pub(crate) fn copy(&self) -> Behind<'a>
+        ensures { result ≡ self.now }
     {
-        self.first.is_none()
+        let mut words = ArrayVec::new();
+        for word in self.words.as_slice() {
+            words.push(word.copy());
+        }
+        Behind { words }
+    }
+
+    /// The words.
+    pub(crate) fn as_slice(&self) -> &[Word<'a>]
+        ensures words { result.now ≡ self.now }
+        ensures few { length self.now ≤ MAX_WORDS }
+    {
+        self.words.as_slice()
     }
 }

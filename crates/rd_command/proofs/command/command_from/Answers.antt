@@ -4,6 +4,6 @@ use Rattle.rd_command.specs.Commands.{command_from}
 use Rattle.rd_command.proofs.TableLaws.{command_found}
 use Rattle.rd_command.proofs.command.command_from.Goals as goal
 
-pub returns : goal.returns
+pub returns-clause-command : goal.returns-clause-command
 unfolding command_from
-returns c = c.command_by_verb.ensures ∙ command_found c.args.first.now c.args.words.now
+returns-clause-command c = c.command_by_verb.ensures.command ∙ command_found c.args.first.now c.args.words.now

@@ -1,7 +1,7 @@
--- What holds in each turn of command_with_second's loop.
+-- What holds in each turn of keyword_with_second's loop.
 use Rattle.std.proofs.Common.{◌≡◌, drop}
 use Rattle.rd_command.specs.Tables.{command_with_second, longer_view}
-use Rattle.rd_command.proofs.command.command_with_second.Given as goal
+use Rattle.rd_command.proofs.command.keyword_with_second.Given as goal
 
 -- the keywords that are left decide
 abbrev pub invariant-loop-text : goal.invariant-loop-text
