@@ -15,7 +15,7 @@ from rdbg.effects import LOCAL
 from rdbg.shell.target import Limits
 from rdbg.source import load
 from rdbg.tracing.run import Line, Run, parts, plan
-from rdbg.tracing.table import cells
+from rdbg.tracing.table import row_of
 from tests.made import Maker
 
 SEEDS = range(100)
@@ -92,7 +92,7 @@ def traced(run: Run) -> List[Traced]:
     found: List[Traced] = []
     for part in parts(run, plan(run).pieces, 1):
         for move, look in zip(part.moves, part.looks):
-            place, tick, core, who, pc, _, _ = cells(move)
+            place, tick, core, who, pc, _, _ = row_of(move).cells
             does = move.instruction if move.kind == "step" else ""
             woken = [it.name for it in move.effects if it.kind in ("woke", "given", "time up")]
             held = [it.name for it in move.effects if it.kind == "holds"]

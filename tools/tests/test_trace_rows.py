@@ -108,6 +108,20 @@ class Rows(unittest.TestCase):
         errors = self.traced(["redo 1"] * 12)[2]
         self.assertEqual("run.commands: 2 more lines were refused", errors[-1])
 
+    def test_lines_that_are_no_text(self) -> None:
+        pathlib.Path("run.commands").write_bytes(b"step 0\n\xff\xfe\n")
+        status, rows, errors = self.said(LOST, "run.commands")
+        self.assertEqual((0, [HEAD, ROWS[0]]), (status, rows))
+        self.assertEqual(1, len(errors))
+        with mock.patch.object(sys, "stdin", io.TextIOWrapper(io.BytesIO(b"step 0\n\xff\n"))):
+            output = io.StringIO()
+            with contextlib.redirect_stdout(output), contextlib.redirect_stderr(io.StringIO()):
+                self.assertEqual(0, main(["trace", LOST]))
+        self.assertEqual([HEAD, ROWS[0]], output.getvalue().splitlines())
+
+    def test_names_are_no_words_of_effects(self) -> None:
+        self.assertEqual([HEAD], self.traced(RUN, "--only", "left,core,waits")[1])
+
     def test_no_moves(self) -> None:
         self.assertEqual((0, [HEAD], []), self.traced(["show cores"]))
 
@@ -128,6 +142,7 @@ class Rows(unittest.TestCase):
             ["rdbg trace: cannot read none.commands: No such file or directory"], errors
         )
         self.assertEqual(2, self.said(LOST, "run.commands", "--port", "5000")[0])
+        self.assertEqual(2, self.said("--port", "5000", "--moves", "5")[0])
         self.assertEqual(2, self.said("--only", "q0", "--events", "o.json")[0])
         pathlib.Path("wrong.json").write_text("{}")
         self.assertEqual(1, self.said("wrong.json", "-")[0])
@@ -154,6 +169,17 @@ class Port(unittest.TestCase):
             # (what was there stays, and what was taken back can be made again)
             self.assertEqual("moves 6 undone 1 kept 3", other.tell("show moves"))
             self.assertEqual("wheel -", other.tell("show wheel"))
+
+    def test_the_last_moves_where_nothing_is_said(self) -> None:
+        with server(sessions=3) as (port, _), Session.attach(port) as other:
+            other.tell("forward 1200")
+            errors = io.StringIO()
+            with contextlib.redirect_stderr(errors):
+                rows = self.rows(port, LOST)
+            self.assertEqual((1001, "201"), (len(rows), rows[1].split()[0]))
+            self.assertIn("the last 1000 moves", errors.getvalue())
+            rows = self.rows(port, LOST, "--from", "1191")
+            self.assertEqual((11, "1191"), (len(rows), rows[1].split()[0]))
 
 
 if __name__ == "__main__":

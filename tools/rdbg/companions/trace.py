@@ -1,6 +1,7 @@
 """Says of a run who did what: a row a move, or events for a viewer of traces."""
 import argparse
 import contextlib
+import io
 import os
 import sys
 import time
@@ -15,8 +16,8 @@ from rdbg.shell.opening import attach, builtin
 from rdbg.shell.target import Limits, Unable
 from rdbg.source import Source
 from rdbg.tracing.events import Events
-from rdbg.tracing.run import Line, Part, Plan, Run, part_at, parts, plan
-from rdbg.tracing.table import Table, cells, concerns, with_trims
+from rdbg.tracing.run import AT_A_PORT, Line, Part, Plan, Run, Trim, part_at, parts, plan
+from rdbg.tracing.table import Row, Table, rows
 
 SUMMARY = "says who did what in a run: a row a move, or events for a viewer of traces"
 EPILOG = (
@@ -61,7 +62,10 @@ def lines_in(text: str) -> Tuple[Line, ...]:
 def commands_of(path: Optional[str]) -> Tuple[Line, ...]:
     """The lines of a file, or of standard input."""
     if path is None or path == STANDARD:
-        return lines_in(sys.stdin.read())
+        try:
+            return lines_in(sys.stdin.buffer.read().decode("utf-8", "replace"))
+        except (AttributeError, OSError):
+            raise Failure("cannot read standard input", 2) from None
     try:
         with open(path, encoding="utf-8", errors="replace") as file:
             return lines_in(file.read())
@@ -103,22 +107,22 @@ def output(path: str) -> Iterator[IO[str]]:
         yield file
 
 
-def write_events(found: Iterable[Part], trims: Plan, path: str) -> None:
+def write_events(found: Iterable[Part], trims: Sequence[Trim], path: str) -> None:
     """Writes the events of all parts."""
     with output(path) as file:
         events = Events(file.write)
         for part in found:
             events.add(part)
-        events.end(trims.trims)
+        events.end(trims)
 
 
-def print_rows(rows: Iterable[Sequence[str]], table: Table, only: Optional[str]) -> None:
+def print_rows(found: Iterable[Row], table: Table, only: Optional[str]) -> None:
     """Prints a table, or the rows of it that concern these names."""
-    names = [] if only is None else [it.strip() for it in only.split(",") if it.strip()]
+    names = [] if only is None else [it.strip() for it in only.split(",")]
     print(table.head())
-    for row in rows:
-        if only is None or concerns(row, names):
-            print(table.row(row))
+    for row in found:
+        if only is None or row.concerns(names):
+            print(table.row(row.cells))
 
 
 def moves_in(found: Iterable[Part]) -> Iterator[Move]:
@@ -137,24 +141,25 @@ def trace_run(given: argparse.Namespace, source: Optional[Source]) -> None:
     workers = len(os.sched_getaffinity(0))
     seen = with_progress(parts(run, found.pieces, workers), found.count())
     if given.events:
-        write_events(seen, found, given.events)
+        write_events(seen, found.trims, given.events)
         return
     application = (source and source.application) or builtin()
     table = Table.of(application, whole.done, whole.tick)
-    print_rows(with_trims(moves_in(seen), found), table, given.only)
+    print_rows(rows(moves_in(seen), found.trims), table, given.only)
 
 
 def trace_port(given: argparse.Namespace, source: Optional[Source]) -> None:
     """Traces the moves that are done at a server."""
     target = attach(given.port, source)
     with target.session:
-        part, done = part_at(target, given.first or 1, given.last)
-    empty = Plan((), (), (), done, 0, 0)
+        part, first = part_at(target, given.first, given.last)
+    if given.first is None and part.before.place >= first:
+        print(f"rdbg trace: the last {AT_A_PORT} moves; --from N looks at more", file=sys.stderr)
     if given.events:
-        write_events([part], empty, given.events)
+        write_events([part], (), given.events)
         return
-    rows = [cells(move) for move in part.moves]
-    print_rows(rows, Table.wide_enough(row[:6] for row in rows), given.only)
+    found = list(rows(part.moves))
+    print_rows(found, Table.wide_enough(row.cells[:6] for row in found), given.only)
 
 
 def main(words: Sequence[str]) -> int:
@@ -162,8 +167,13 @@ def main(words: Sequence[str]) -> int:
     given = parser().parse_args(words)
     if given.port is not None and given.commands is not None:
         raise Failure("--port is for the moves that are done there; it takes no COMMANDS", 2)
+    if given.port is not None and given.moves is not None:
+        raise Failure("--moves is the server's own, where --port attaches to one", 2)
     if given.only is not None and given.events:
         raise Failure("--only is for rows; --events writes all", 2)
+    for stream in (sys.stdout, sys.stderr):
+        if isinstance(stream, io.TextIOWrapper):
+            stream.reconfigure(errors="backslashreplace")
     source = read(given.file)
     try:
         trace_run(given, source) if given.port is None else trace_port(given, source)

@@ -21,6 +21,8 @@ from rdbg.source import Source
 
 # So many moves are looked at by one program at the most.
 MOST_MOVES = 4_096
+# So many of the moves at a port are looked at where nothing is said: the history there is of all.
+AT_A_PORT = 1_000
 
 
 @dataclasses.dataclass(frozen=True)
@@ -190,15 +192,15 @@ def parts(run: Run, pieces: Sequence[Piece], workers: int) -> Iterator[Part]:
                 it.cancel()
 
 
-def part_at(target: Target, first: int, last: Optional[int]) -> Tuple[Part, int]:
-    """The moves that a target has done which others move too, and how many there are. Nobody else
-    moves it meanwhile. Raises `Unable` where too little is left, `Refused` where another has the
-    wheel."""
+def part_at(target: Target, first: Optional[int], last: Optional[int]) -> Tuple[Part, int]:
+    """The moves that a target has done which others move too, the last of them where nothing says
+    from where on, and the first place from which one could look. Nobody else moves it meanwhile.
+    Raises `Refused` where another has the wheel."""
     with target.wheel():
         places = target.places()
-        least = max(first, places.done - places.kept + 1)
+        base = places.done - places.kept
+        least = max(base + 1, places.done - AT_A_PORT + 1 if first is None else first)
         most = places.done if last is None else min(last, places.done)
         if least > most:
-            look = target.look()
-            return Part(look, (), ()), places.done
-        return look_through(target, least, most), places.done
+            return Part(target.look(), (), ()), base + 1
+        return look_through(target, least, most), base + 1

@@ -1,15 +1,26 @@
 """Moves as the rows of a table."""
 import dataclasses
-from typing import Iterable, Iterator, List, Sequence, Tuple
+from typing import FrozenSet, Iterable, Iterator, Sequence, Tuple
 
 from rdbg.application import Application
 from rdbg.effects import Move
-from rdbg.tracing.run import Plan, Trim
+from rdbg.tracing.run import Trim
 
 HEADS = ("place", "tick", "core", "who", "pc", "does")
 WIDEST = 40
-# Of a tick, an edit and a trim stands what they are where the task of a step stands.
-NOT_TASKS = ("tick", "edit", "trim")
+
+
+@dataclasses.dataclass(frozen=True)
+class Row:
+    """What stands in the columns, and what a row is of or speaks of: tasks and objects by name, its
+    core by number. Of a tick, an edit and a trim stands what they are in place of a task."""
+
+    cells: Tuple[str, ...]
+    about: FrozenSet[str]
+
+    def concerns(self, names: Sequence[str]) -> bool:
+        """Whether it is of one of these, or speaks of it."""
+        return not self.about.isdisjoint(names)
 
 
 @dataclasses.dataclass(frozen=True)
@@ -51,9 +62,19 @@ class Table:
         return self.row([*HEADS, "effects"])
 
 
-def cells(move: Move) -> List[str]:
-    """What stands in the columns for a move."""
-    who = move.task if move.kind == "step" else move.kind
+def about(move: Move) -> FrozenSet[str]:
+    """Whom a move is of, and of what its instruction or line and its effects speak."""
+    words = (move.instruction or move.line).split()[1:]
+    named = [word for word in words if not word.isdigit()]
+    spoken = [it.name for it in move.effects] + [
+        it.how for it in move.effects if it.kind == "turns"
+    ]
+    core = [] if move.core is None else [str(move.core)]
+    return frozenset([move.task or move.kind, *core, *named, *spoken])
+
+
+def row_of(move: Move) -> Row:
+    """The row of a move."""
     does = move.written or move.instruction or ""
     if move.kind == "edit":
         does = move.line or "by somebody else"
@@ -62,26 +83,20 @@ def cells(move: Move) -> List[str]:
     numbers = ["" if it is None else str(it) for it in (move.place, move.tick, move.core)]
     pc = "" if move.pc is None else str(move.pc)
     effects = ", ".join(it.text(move.task) for it in move.effects)
-    return [*numbers, who or "", pc, does, effects]
+    return Row((*numbers, move.task or move.kind, pc, does, effects), about(move))
 
 
-def cells_of_trim(trim: Trim) -> List[str]:
-    """What stands in the columns for a trim."""
-    return [str(trim.place), "", "", "trim", "", trim.line, "records of earlier moves given up"]
+def row_of_trim(trim: Trim) -> Row:
+    """The row of a trim."""
+    cells = (str(trim.place), "", "", "trim", "", trim.line, "records of earlier moves given up")
+    return Row(cells, frozenset(["trim"]))
 
 
-def with_trims(moves: Iterable[Move], plan: Plan) -> Iterator[List[str]]:
-    """The cells of moves, and of trims behind the moves that were done then."""
-    left = sorted(plan.trims, key=lambda it: it.place)
+def rows(moves: Iterable[Move], trims: Sequence[Trim] = ()) -> Iterator[Row]:
+    """The rows of moves, and of trims behind the moves that were done then."""
+    left = sorted(trims, key=lambda it: it.place)
     for move in moves:
         while left and left[0].place < move.place:
-            yield cells_of_trim(left.pop(0))
-        yield cells(move)
-    yield from (cells_of_trim(it) for it in left)
-
-
-def concerns(row: Sequence[str], names: Sequence[str]) -> bool:
-    """Whether a row is of one of these cores, tasks or objects, or speaks of it."""
-    core, who, does, effects = row[2], row[3], row[5], row[6]
-    words = {who, *does.split(), *effects.replace(",", " ").replace("'s", " ").split()}
-    return any(name == core if name.isdigit() else name in words for name in names)
+            yield row_of_trim(left.pop(0))
+        yield row_of(move)
+    yield from (row_of_trim(it) for it in left)
