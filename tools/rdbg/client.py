@@ -173,6 +173,13 @@ class Session:
         self._errors.seek(0)
         return self._errors.read().decode("utf-8", "replace")
 
+    def kill(self) -> None:
+        """Ends the session and its program at once, without the look at its history that the
+        program has at its end."""
+        if self._process is not None:
+            self._process.kill()
+        self.close()
+
     def close(self) -> int:
         """Ends the session, and answers the status of its program; 0 where it was a port."""
         for stream in (self._lines, self._answers):

@@ -13,6 +13,7 @@ MOST_NUMBER = 4_294_967_295
 MOST_COUNT = 1_000_000
 MOST_WATCHES = 16
 MOST_BYTES = 1_024
+ACTIONS = ("none", "bits", "inc", "set", "setif")
 PHASES = ("run", "again", "given", "wait", "ended", "failed")
 OPERATORS = ("=", "<", ">")
 CONDITION = "COND"
@@ -65,6 +66,7 @@ SYMBOLS: Dict[str, Symbol] = {
         Symbol("HEX", "bytes", "pairs of hexadecimal digits, or -", is_bytes),
         Symbol("OP", "=, < or >", "=, < or >", OPERATORS.__contains__),
         Symbol("WORD", "a phase", ", ".join(PHASES), PHASES.__contains__),
+        Symbol("ACTION", "an action", "none, bits, inc, set or setif", ACTIONS.__contains__),
         Symbol("wN", "a watch", "w0 to w15", is_watch),
         Symbol("K", "a task", "its name", is_name),
         Symbol("Q", "a queue", "its name", is_name),
@@ -146,6 +148,8 @@ FORMS: Tuple[Form, ...] = (
     move("poke group G N", "the bits of the event group become N"),
     move("poke item Q N HEX", "item N of the queue, 0 the front one, becomes these bytes"),
     move("poke byte B N N", "the byte at the first number, 0 the front one, becomes the second"),
+    move("isr send Q HEX", "an interrupt sends these bytes to the queue (xQueueSendFromISR)"),
+    move("isr notify K I N ACTION", "an interrupt notifies the task (xTaskNotifyIndexedFromISR)"),
     Form("show queue Q", "the items, oldest first, and who waits", replies.Queue),
     Form("show set S", "the handles, oldest first, and who waits", replies.QueueSet),
     Form("show stream B", "the bytes, and who waits", replies.Stream),

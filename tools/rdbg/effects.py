@@ -3,6 +3,7 @@ import dataclasses
 from typing import Callable, Dict, Iterator, List, Optional, Sequence, Tuple
 
 from rdbg import replies
+from rdbg.by_hand import INTERRUPT, ByHand, edit_of, interrupt_of
 from rdbg.looks import Look, Object, content_of, hexadecimal, holding, time_of
 
 # (instructions that don't call the kernel, so that r0 is no answer of theirs)
@@ -47,10 +48,10 @@ TEXTS: Dict[str, str] = {
 
 @dataclasses.dataclass(frozen=True)
 class Move:
-    """A move: the place behind it, its kind (`step`, `tick` or `edit`), the tick behind it, who did
-    which instruction on which core (of a step), what it was answered where it returned, and what
-    it did. `line` is what makes it again; `written` is the instruction as its file has it, where
-    that is another text."""
+    """A move: the place behind it, its kind (`step`, `tick`, `edit` or `isr`), the tick behind it,
+    who did which instruction on which core (of a step; of an interrupt its line stands there), what
+    it was answered where it returned, and what it did. `line` is what makes it again; `written` is
+    the instruction as its file has it, where that is another text."""
 
     place: int
     kind: str
@@ -165,62 +166,48 @@ def own(was: replies.Task, now: replies.Task, word: str) -> Iterator[Effect]:
         yield Effect("goes on", now.name, None, str(now.pc))
 
 
-def edit_of(before: Look, after: Look) -> Optional[str]:
-    """The edit that makes the second look of the first, or none where no single one does. Where
-    nothing differs there are many; it is one of them."""
-    found: List[str] = []
-    for name, now in after.tasks.items():
-        was = before.tasks.get(name, now)
-        if was.pc != now.pc:
-            found.append(f"poke pc {name} {now.pc}")
-        if was.data != now.data:
-            found.append(f"poke data {name} {now.data.hex() or '-'}")
-        pairs = zip(was.registers, now.registers)
-        changed = [(at, value) for at, (old, value) in enumerate(pairs) if old != value]
-        found += [f"poke reg {name} {at} {value}" for at, value in changed]
-        entries = enumerate(zip(was.notes, now.notes))
-        found += [f"poke note {name} {at} {new.value}" for at, (old, new) in entries if old != new]
-    for key, it in after.objects.items():
-        if content_of(it) != content_of(before.objects.get(key, it)):
-            found.append(edit_of_object(before.objects[key], it))
-    if not found and after.tasks:
-        name, task = next(iter(after.tasks.items()))
-        found = [f"poke reg {name} 0 {task.registers[0]}"]
-    return found[0] if len(found) == 1 and found[0] else None
-
-
-def edit_of_object(was: Object, now: Object) -> str:
-    """The edit of an object that makes the second of the first, empty where there is none."""
-    if isinstance(now, replies.Group):
-        return f"poke group {now.name} {now.bits}"
-    if isinstance(now, replies.Queue) and isinstance(was, replies.Queue):
-        items = zip(was.items, now.items)
-        changed = [(at, new.hex()) for at, (old, new) in enumerate(items) if old != new]
-        if len(changed) == 1 and was.count == now.count:
-            return f"poke item {now.name} {changed[0][0]} {changed[0][1]}"
-    if isinstance(now, replies.Stream) and isinstance(was, replies.Stream):
-        pairs = enumerate(zip(was.content, now.content))
-        values = [(at, new) for at, (old, new) in pairs if old != new]
-        if len(values) == 1 and was.held == now.held:
-            return f"poke byte {now.name} {values[0][0]} {values[0][1]}"
-    return ""
-
-
 Script = Callable[[str, int], Optional[str]]
 
 
-def move_between(before: Look, after: Look, script: Script, edit: Optional[str] = None) -> Move:
+def move_between(before: Look, after: Look, script: Script, known: Optional[ByHand] = None) -> Move:
     """The move from one look to the next. `script` says the instruction of a task at a `pc`, where
-    that is known; `edit` the line of the edit where the move is known to be one."""
-    if edit is not None:
-        return Move(after.place, "edit", edit, after.cores.tick)
+    that is known; `known` the edit or the interrupt where the move is known to be one."""
+    if known is not None:
+        return done_by_hand(before, after, known)
     if after.cores.tick != before.cores.tick:
         return ticked(before, after)
     core = after.cores.turn - 1
     task = before.cores.running[core] if 0 <= core < len(before.cores.running) else None
     if task is None or not could_step(before, after, task, script):
-        return Move(after.place, "edit", edit_of(before, after) or "", after.cores.tick)
+        return done_by_hand(before, after, found_by_hand(before, after))
     return stepped(before, after, core, task, script)
+
+
+def found_by_hand(before: Look, after: Look) -> ByHand:
+    """An edit or an interrupt of which nothing is known but the looks."""
+    edit, interrupt = edit_of(before, after), interrupt_of(before, after)
+    if edit is None and interrupt is not None:
+        return ByHand(interrupt, 1)
+    return ByHand(edit or "")
+
+
+def done_by_hand(before: Look, after: Look, known: ByHand) -> Move:
+    """An edit, or an interrupt, which has effects."""
+    line, tick = known.line, after.cores.tick
+    if line.split(" ")[0] != INTERRUPT:
+        return Move(after.place, "edit", line, tick)
+    awake = list(woken(before, after, False))
+    effects = [*holdings(before, after), *notes(before, after), *awake]
+    effects += seats(before, after, [it.name for it in awake], None)
+    return Move(
+        place=after.place,
+        kind="isr",
+        line=line,
+        tick=tick,
+        instruction=line,
+        answer=known.answer,
+        effects=tuple(effects),
+    )
 
 
 def ticked(before: Look, after: Look) -> Move:
@@ -233,13 +220,17 @@ def ticked(before: Look, after: Look) -> Move:
 
 def could_step(before: Look, after: Look, task: str, script: Script) -> bool:
     """Whether a move that left the tick can have been one of this task: an edit, which leaves the
-    turn, changes one thing alone."""
-    if before.cores.turn != after.cores.turn or task not in after.tasks:
+    turn, changes one thing alone, and an interrupt, which leaves it too, nothing of the task but
+    its core."""
+    was, now = before.tasks.get(task), after.tasks.get(task)
+    if before.cores.turn != after.cores.turn or was is None or now is None:
         return True
-    was, now = before.tasks[task], after.tasks[task]
-    if now.pc == was.pc and now.phase == was.phase and now.core == was.core:
+    if now.pc == was.pc and now.phase == was.phase:
         text = script(task, was.pc)
-        return text is None or text.split()[0] in ("jump", "jumpz")
+        if now.core != was.core or interrupt_of(before, after) is not None:
+            return False
+        words = (text or f"jump {now.pc}").split()
+        return words[0] in ("jump", "jumpz") and words[-1] == str(now.pc)
     text = script(task, was.pc)
     word = text.split()[0] if text else ""
     return word in ("", "jump", "jumpz") or now.pc in (was.pc, was.pc + 1)

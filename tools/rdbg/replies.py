@@ -31,10 +31,11 @@ class Unreadable(Failure):
 @dataclasses.dataclass(frozen=True)
 class Moved:
     """So many moves are done. `how` is `met`, `limit` or `start` after a run or a way back to a
-    condition, else empty."""
+    condition, else empty. `answer` is that of an interrupt, 0 or 1, and none behind other moves."""
 
     at: int
     how: str = ""
+    answer: Optional[int] = None
 
 
 @dataclasses.dataclass(frozen=True)
@@ -198,6 +199,13 @@ def number(text: str) -> int:
     return int(text)
 
 
+def bit(text: str) -> int:
+    """0 or 1."""
+    if text not in ("0", "1"):
+        raise ValueError(text)
+    return int(text)
+
+
 def name(text: str) -> str:
     """A name of the application."""
     if not re.fullmatch(r"[a-z][a-z0-9_]{0,15}", text):
@@ -292,6 +300,7 @@ NAMES = listed(name)
 SOMEBODY = or_nobody(name)
 FORMS: Tuple[Form, ...] = (
     Form("ok at N", Moved, (number,)),
+    Form("ok at N isr A", lambda at, answer: Moved(at, "", answer), (number, bit)),
     Form("ok at N met", moved("met"), (number,)),
     Form("ok at N limit", moved("limit"), (number,)),
     Form("ok at N start", lambda at: Moved(at, "start"), (number,)),
@@ -344,6 +353,7 @@ REFUSALS: Dict[str, bool] = {
     "Held": True,
     "NoSuch": False,
     "BadEdit": False,
+    "NoIsr": False,
     "WatchesFull": False,
     "NoWatch": False,
     "NotHolder": False,

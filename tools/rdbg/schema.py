@@ -1,7 +1,7 @@
 """The JSON Schema (draft 7) of application files, for editors: made from the tables of keys and of
 instructions. `python3 -m rdbg.schema` prints it; docs/application.schema.json is what it prints."""
 import json
-from typing import Any, Dict
+from typing import Any, Dict, List
 
 from rdbg.instructions import FORMS, InstructionForm
 from rdbg.operands import NAME, PATTERN_OF
@@ -28,8 +28,6 @@ def value_of(key: Key) -> Schema:
     made: Schema = {"description": described(key.text, key.freertos)}
     if key.name in DEFAULTS:
         made["default"] = DEFAULTS[key.name]
-    if key.holds == "number" and key.least == key.most:
-        return {**made, "const": key.least}
     if key.holds == "number":
         return {**made, "type": "integer", "minimum": key.least, "maximum": key.most}
     if key.holds == "name":
@@ -52,6 +50,18 @@ def object_of(shape: Shape) -> Schema:
         "required": [key.name for key in shape.keys if key.is_needed],
         "properties": {key.name: value_of(key) for key in shape.keys},
     }
+
+
+def bounded(key: Key) -> List[Schema]:
+    """What the profiles say of a key whose bound hangs on them."""
+    mosts = [(it, most) for it, most in enumerate(key.most_by_profile, 1) if most < key.most]
+    return [
+        {
+            "if": {"properties": {"profile": {"const": profile}}, "required": ["profile"]},
+            "then": {"properties": {key.name: {"maximum": most}}},
+        }
+        for profile, most in mosts
+    ]
 
 
 def line_of(form: InstructionForm) -> Schema:
@@ -87,6 +97,7 @@ def schema() -> Schema:
         "title": "rdbg application",
         "description": ABOUT,
         **object_of(FILE),
+        "allOf": [each for key in FILE.keys for each in bounded(key)],
         "definitions": {"instruction": instruction()},
     }
 

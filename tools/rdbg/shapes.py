@@ -10,7 +10,9 @@ MOST_INSTRUCTIONS = 256
 class Key:
     """A key: what is said of it, and what its value is. `holds` is `number`, `name`, `code`,
     `members`, or `objects` of the shape `of`; `least` and `most` bound the number or the length of
-    the list. `most_key` names a key whose number is the bound in place of `most`."""
+    the list. `most_key` names a key whose number is the bound in place of `most`.
+    `most_by_profile` has the bounds of profile 1, profile 2 and so on, of which `most` is the
+    largest."""
 
     name: str
     text: str
@@ -20,7 +22,12 @@ class Key:
     is_needed: bool = True
     of: Optional["Shape"] = None
     most_key: str = ""
+    most_by_profile: Tuple[int, ...] = ()
     freertos: str = ""
+
+    def most_in(self, profile: Optional[int]) -> int:
+        """The bound in that profile; the largest where the profile isn't known."""
+        return dict(enumerate(self.most_by_profile, 1)).get(profile or 0, self.most)
 
 
 @dataclasses.dataclass(frozen=True)
@@ -168,8 +175,16 @@ FILE = Shape(
     "applications",
     "",
     (
-        Key("profile", "the version of this form of file", "number", 1, 1),
-        Key("cores", "how many cores there are", "number", 1, 8, freertos="configNUMBER_OF_CORES"),
+        Key("profile", "the profile, which says what an application may have", "number", 1, 2),
+        Key(
+            "cores",
+            "how many cores there are; more than 8 in profile 2 alone",
+            "number",
+            1,
+            16,
+            most_by_profile=(8, 16),
+            freertos="configNUMBER_OF_CORES",
+        ),
         Key(
             "notes",
             "how many notification entries each task has; 1 if it is left out",

@@ -233,7 +233,8 @@ def change_number(app: Any, choose: random.Random) -> None:
         return
     held, key = choose.choice(numbers)
     most = dict(held).get(key.most_key)
-    edge = choose.choice((key.least, key.most, most if isinstance(most, int) else key.most))
+    mosts = (*key.most_by_profile, most if isinstance(most, int) else key.most)
+    edge = choose.choice((key.least, key.most, *mosts))
     held[:] = [it for it in held if it[0] != key.name]
     held.append((key.name, edge + choose.choice((-1, 0, 0, 1))))
 

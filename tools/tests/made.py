@@ -19,7 +19,8 @@ class Maker:
 
     def __init__(self, seed: int) -> None:
         self.dice = random.Random(seed)
-        self.file: Dict[str, Any] = {"profile": 1, "cores": self.dice.randint(1, 8)}
+        profile, cores = self.dice.choice([(1, 8), (2, 16)])
+        self.file: Dict[str, Any] = {"profile": profile, "cores": self.dice.randint(1, cores)}
         self.members: Set[str] = set()
 
     def application(self) -> Dict[str, Any]:

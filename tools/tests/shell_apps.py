@@ -56,7 +56,7 @@ def text(seed: int) -> str:
     chance = random.Random(seed)
     tasks = [f"t{number}" for number in range(chance.randint(1, 5))]
     made = {
-        "profile": 1,
+        "profile": 2,
         "cores": chance.randint(1, 3),
         "notes": 1,
         "queues": [{"name": "q0", "length": 2, "item": 1}, {"name": "q1", "length": 1, "item": 2}],
@@ -96,12 +96,20 @@ def random_line(chance: random.Random, target: Target) -> str:
         f"poke item q1 0 {chance.choice(['0101', '0202'])}",
         f"poke byte b0 0 {chance.randint(0, 3)}",
     ]
+    action = word(chance, "ACTION", [], 0)
+    interrupts = [
+        f"isr send q0 {chance.choice(['41', '4142', '-'])}",
+        f"isr send q1 {chance.choice(['43', '4344'])}",
+        f"isr notify {task} 0 {chance.randint(0, 2)} {action}",
+    ]
     kind = chance.random()
     if kind < 0.55:
         return f"step {chance.randrange(cores)}"
     if kind < 0.7:
         return "tick"
-    return f"forward {chance.randint(1, 3)}" if kind < 0.8 else chance.choice(edits)
+    if kind < 0.8:
+        return f"forward {chance.randint(1, 3)}"
+    return chance.choice(edits if kind < 0.92 else interrupts)
 
 
 def wander(chance: random.Random, target: Target, lines: int) -> None:

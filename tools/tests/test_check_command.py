@@ -15,7 +15,7 @@ from tests.paths import COMPANION, EXAMPLES
 
 LOST = (EXAMPLES / "lost_item.json").read_text()
 WRONG = LOST.replace("recv jobs max", "recv jobs").replace('"cores": 2', '"cores": 9')
-FIRST = "wrong.json:3:12: cores is 9, and is to be 1 to 8"
+FIRST = "wrong.json:3:12: cores is 9, and is to be 1 to 8 in profile 1; profile 2 allows 16"
 SECOND = (
     'wrong.json:6:48: task worker, instruction 0: "recv jobs": recv Q T lacks its block time'
     " (max, a number, or r0 to r7)"

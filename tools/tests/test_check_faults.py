@@ -9,6 +9,7 @@ from rdbg.tree import Node, Place
 from tests.paths import EXAMPLES
 
 LOST = (EXAMPLES / "lost_item.json").read_text()
+MORE = "and is to be 1 to 8 in profile 1; profile 2 allows 16"
 FILE = """{
   "profile": 1, "cores": 1, "notes": 2,
   "queues": [{"name": "jobs", "length": 4, "item": 1}, {"name": "done", "length": 1, "item": 1}],
@@ -118,8 +119,19 @@ class Instructions(unittest.TestCase):
                 "vTaskDelay is written recv never T, with a queue never that nobody fills"
             ),
             "xQueueSendFromISR jobs": (
-                "xQueueSendFromISR is written send Q T; an interrupt is a task with a core of its"
-                " own (docs/FROM_C.md)"
+                "xQueueSendFromISR is the command isr send Q HEX, in profile 2 (docs/FROM_C.md)"
+            ),
+            "vTaskNotifyGiveFromISR(worker, &woken);": (
+                "vTaskNotifyGiveFromISR is the command isr notify K 0 0 inc, in profile 2"
+                " (docs/FROM_C.md)"
+            ),
+            "xTaskNotifyFromISR(t, 1, eSetBits, &woken);": (
+                "xTaskNotifyFromISR is the command isr notify K 0 N ACTION, in profile 2"
+                " (docs/FROM_C.md)"
+            ),
+            "xQueueReceiveFromISR jobs": (
+                "xQueueReceiveFromISR is written recv Q T; of an interrupt it is a call of a task"
+                " with a core of its own (docs/FROM_C.md)"
             ),
             "vTaskSuspend": ("nothing stands for vTaskSuspend: a task can't be stopped"),
         }
@@ -204,7 +216,9 @@ class Files(unittest.TestCase):
 
     def test_numbers_out_of_limits_or_of_another_form(self) -> None:
         cases = {
-            '"cores": 9': "L3 Limit: 2:26: cores is 9, and is to be 1 to 8",
+            '"cores": 0': "L3 Limit: 2:26: cores is 0, and is to be 1 to 8",
+            '"cores": 9': f"L3 Limit: 2:26: cores is 9, {MORE}",
+            '"cores": 17': f"L3 Limit: 2:26: cores is 17, {MORE}",
             '"cores": -1': "L2 Shape: 2:26: cores is -1, and is to be 1 to 8, digits alone",
             '"cores": 1.0': "L2 Shape: 2:26: cores is 1.0, and is to be 1 to 8, digits alone",
             '"cores": "2"': (
@@ -215,6 +229,23 @@ class Files(unittest.TestCase):
         }
         for new, expected in cases.items():
             self.assertEqual([expected], edited('"cores": 1', new))
+
+    def test_a_profile_and_its_cores(self) -> None:
+        cases = {
+            '"profile": 2, "cores": 16': [],
+            '"profile": 2, "cores": 17': ["L3 Limit: 2:26: cores is 17, and is to be 1 to 16"],
+            '"profile": 3, "cores": 16': ["L3 Limit: 2:14: profile is 3, and is to be 1 to 2"],
+            '"profile": 0, "cores": 17': [
+                "L3 Limit: 2:14: profile is 0, and is to be 1 to 2",
+                "L3 Limit: 2:26: cores is 17, and is to be 1 to 16",
+            ],
+            '"profile": "2", "cores": 9': [
+                "L2 Shape: 2:14: profile is a text, and is to be a number, 1 to 2;"
+                " a number has no quotes"
+            ],
+        }
+        for new, expected in cases.items():
+            self.assertEqual(expected, edited('"profile": 1, "cores": 1', new))
 
     def test_a_trigger_level_above_the_size(self) -> None:
         self.assertEqual(

@@ -164,6 +164,16 @@ class Text(unittest.TestCase):
         )
         self.assertEqual(wanted, back_and_made(values)[0])
 
+    def test_a_profile_that_is_not_1(self) -> None:
+        values = {
+            "profile": 2,
+            "cores": 16,
+            "tasks": [{"name": "t", "priority": 1, "code": ["end"]}],
+        }
+        text, made = back_and_made(values)
+        self.assertEqual("profile 2\ncores 16\n\ntask t priority 1\n    end\n", text)
+        self.assertEqual(values, json.loads(made))
+
     def test_nothing_stands_at_the_end_of_a_line(self) -> None:
         for seed in SEEDS:
             text = of_seed(seed)[0]

@@ -76,6 +76,10 @@ class Reads(unittest.TestCase):
             made,
         )
 
+    def test_a_profile_with_more_cores(self) -> None:
+        made = self.values("profile 2\ncores 16\ntask t priority 1\nend\n")
+        self.assertEqual([("profile", 2), ("cores", 16)], list(made.items())[:2])
+
     def test_lines_stand_in_any_order(self) -> None:
         made = self.values("task t priority 1\nrecv q 0\nqueue q length 1 item 1\nend\ncores 1")
         self.assertEqual(["recv q 0", "end"], made["tasks"][0]["code"])

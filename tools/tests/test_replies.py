@@ -52,6 +52,9 @@ class Reading(unittest.TestCase):
         self.assertEqual(group.waiters, waiters)
         self.assertEqual(read("wheel -"), replies.WheelHolder(None))
         self.assertEqual(read("ok at 0 start"), replies.Moved(0, "start"))
+        self.assertEqual(read("ok at 3"), replies.Moved(3))
+        self.assertEqual(read("ok at 2 isr 1"), replies.Moved(2, answer=1))
+        self.assertEqual(read("ok at 10 isr 0"), replies.Moved(10, answer=0))
 
     def test_refusals_carry_their_number(self) -> None:
         with self.assertRaises(Refused) as caught:
@@ -81,6 +84,13 @@ class Reading(unittest.TestCase):
             "group g0 bits 0 wait t0:1:some:clear",
             "wheel 1 ",
             "ok at 1\r",
+        ]
+        broken += [
+            "ok at 1 isr",
+            "ok at 1 isr 2",
+            "ok at 1 isr 01",
+            "ok at 1 isr 1 met",
+            "no NoIsr 1",
         ]
         broken += ["stream b0 0/8 trigger 1 bytes 0g reader - writer -", "watches 0:maybe"]
         for line in broken:

@@ -3,7 +3,8 @@ import unittest
 from typing import List
 
 from rdbg import replies
-from rdbg.effects import Effect, edit_of, move_between
+from rdbg.by_hand import ByHand, could_be, edit_of, interrupt_of
+from rdbg.effects import Effect, move_between
 from rdbg.looks import Look, Names
 from rdbg.replies import read
 from rdbg.shell import trail
@@ -84,13 +85,37 @@ class Examples(unittest.TestCase):
             self.assertRegex(comments(answers)[1], "^tick 1, .* took core 0 in turn after ")
 
     def test_notifications(self) -> None:
+        # (docs/HUNTING.md, a count without its data)
+        woken = "worker's note 0 = 1:received, woke worker (core 1)"
+        with example("early_count") as shell:
+            answers = said(shell, "step 0", "step 1", "set moves on", "step 0")
+            self.assertEqual(comments(answers), [f"sender 1 notify worker 0 0 inc -> 1, {woken}"])
+        # (docs/LOST_NOTIFICATION.md, where the control loop has the core)
         expected = [
-            "uart 0 notify worker 1 0 inc -> 1, worker's note 1 = 1:received",
-            "uart 1 notify worker 0 1 set -> 1, worker's note 0 = 1:received, woke worker (ready)",
+            "isr notify worker 1 0 inc -> 1, worker's note 1 = 1:received",
+            "isr notify worker 0 1 set -> 1, worker's note 0 = 1:received, woke worker (ready)",
         ]
         with example("lost_notification") as shell:
-            answers = said(shell, "step 0", "set moves on", "step 1", "step 1")
+            lines = [it[: it.index(" ->")] for it in expected]
+            answers = said(shell, "forward 7", "set moves on", *lines)
             self.assertEqual(comments(answers), expected)
+
+    def test_interrupts(self) -> None:
+        lines = ["step 0", "isr notify worker 0 0 inc", "isr notify worker 0 0 inc", "step 0"]
+        lines += ["isr send rx 4142", "isr send rx 43", "isr send rx 44", "back 1", "redo 1"]
+        expected = [
+            "worker 0 take 0 dec max, left core 0 (waits without end), console took core 0",
+            "isr notify worker 0 0 inc -> 1, worker's note 0 = 1:received, woke worker (core 0),"
+            " console left core 0 (displaced)",
+            "isr notify worker 0 0 inc -> 1, worker's note 0 = 2:received",
+            "worker 0 take 0 dec max -> 2, worker's note 0 = 1:idle",
+            "isr send rx 4142 -> 1, rx 1/2",
+            "isr send rx 43 -> 1, rx 2/2",
+            "isr send rx 44 -> 0",
+            "at 6, next: worker 1 add r1 1 (core 0)",
+            "isr send rx 44 -> 0",
+        ]
+        self.check("interrupt", lines, expected)
 
     def test_many_moves_show_the_last(self) -> None:
         with example("turns") as shell:
@@ -138,6 +163,111 @@ def look(place: int, turn: int, pc: int = 0, register: int = 0, note: int = 0) -
         f"group g0 bits {place} wait -",
     ]
     return Look.of(place, [read(line) for line in lines])
+
+
+AT_QUEUE = (
+    "task t0 core {} pc 0 phase {} regs 0,0,0,0,0,0,0,0 data - notes {}",
+    "task t1 core {} pc 0 phase run regs 0,0,0,0,0,0,0,0 data - notes 0:idle",
+    "queue q0 {}/2 items {} recv {} send - set s0",
+    "set s0 {}/4 handles {} wait -",
+)
+
+
+def waiting(note: str = "0:idle", items: str = "", handles: str = "") -> Look:
+    """A look at a target whose first task waits for an item, and whose second runs."""
+    t0, t1, queue, queue_set = AT_QUEUE
+    count, held = len(items.split(",")) if items else 0, len(handles.split(",")) if handles else 0
+    lines = [
+        "cores t1 ready - tick 3 turn 1",
+        t0.format("-", "wait:recv:q0:max", note),
+        t1.format(0),
+        queue.format(count, items or "-", "t0"),
+        queue_set.format(held, handles or "-"),
+    ]
+    return Look.of(4, [read(line) for line in lines])
+
+
+def awake(note: str = "0:idle", items: str = "") -> Look:
+    """The same once the first task was woken, which has displaced the second."""
+    t0, t1, queue, queue_set = AT_QUEUE
+    lines = [
+        "cores t0 ready t1 tick 3 turn 1",
+        t0.format("0", "again:max", note),
+        t1.format("-"),
+        queue.format(len(items.split(",")) if items else 0, items or "-", "-"),
+        queue_set.format(0, "-"),
+    ]
+    return Look.of(5, [read(line) for line in lines])
+
+
+class Interrupts(unittest.TestCase):
+    """Interrupts whose lines are known, and those that looks alone tell of."""
+
+    def test_one_that_is_known(self) -> None:
+        cases = {
+            "isr send q0 41 -> 1, q0 1/2, woke t0 (core 0), t1 left core 0 (displaced)": (
+                ByHand("isr send q0 41", 1),
+                awake(items="41"),
+            ),
+            "isr send q0 41 -> 1, q0 1/2, s0 1/4 handles": (
+                ByHand("isr send q0 41", 1),
+                waiting(items="41", handles="q0"),
+            ),
+            "isr send q0 41 -> 0": (ByHand("isr send q0 41", 0), waiting()),
+            "isr notify t0 0 5 bits -> 1, t0's note 0 = 5:received": (
+                ByHand("isr notify t0 0 5 bits", 1),
+                waiting("5:received"),
+            ),
+        }
+        for text, (known, after) in cases.items():
+            move = move_between(waiting(), after, lambda task, pc: "jump 0", known)
+            self.assertEqual((move.text(), move.kind, move.line), (text, "isr", known.line))
+
+    def test_one_that_is_not(self) -> None:
+        cases = {
+            "isr send q0 41": awake(items="41"),
+            "isr send q0 42": waiting(items="42", handles="q0"),
+            "isr notify t0 0 5 set": waiting("5:received"),
+            "isr notify t0 0 0 set": awake("0:received"),
+        }
+        for line, after in cases.items():
+            move = move_between(waiting(), after, lambda task, pc: "jump 0")
+            self.assertEqual((move.kind, move.line, move.answer), ("isr", line, 1))
+        edit = move_between(waiting("5:received"), waiting("6:received"), lambda task, pc: "end")
+        self.assertEqual((edit.kind, edit.line), ("edit", "poke note t0 0 6"))
+
+    def test_what_no_single_interrupt_does(self) -> None:
+        self.assertIsNone(interrupt_of(waiting(), waiting()))
+        self.assertIsNone(interrupt_of(waiting(), waiting("1:received", "41")))
+        self.assertIsNone(interrupt_of(waiting(), waiting("1:waiting")))
+        self.assertIsNone(interrupt_of(waiting(), waiting(items="41,42")))
+        self.assertIsNone(interrupt_of(waiting(items="41"), waiting()))
+        self.assertIsNone(edit_of(waiting(), waiting("0:received")))
+
+    def test_what_can_have_been_done_at_a_place(self) -> None:
+        sent, told = waiting(items="4100"), waiting("7:received")
+        held = {
+            ByHand("isr send q0 41", 1): (waiting(), sent),
+            ByHand("isr send q0 410041", 1): (waiting(), sent),
+            ByHand("isr send q0 42", 0): (sent, sent),
+            ByHand("isr notify t0 0 7 set", 1): (waiting("9:received"), told),
+            ByHand("isr notify t0 0 7 setif", 0): (told, told),
+            ByHand("isr notify t0 0 6 bits", 1): (waiting("1:idle"), told),
+            ByHand("isr notify t0 0 9 inc", 1): (waiting("6:idle"), told),
+            ByHand("isr notify t0 0 9 none", 1): (waiting("7:idle"), told),
+            ByHand("isr notify t9 0 9 none", 1): (waiting(), waiting()),
+        }
+        for known, (before, after) in held.items():
+            self.assertTrue(could_be(before, after, known), known)
+        others = {
+            ByHand("isr send q0 42", 1): (waiting(), sent),
+            ByHand("isr send q0 41", 0): (waiting(), sent),
+            ByHand("isr notify t0 0 8 set", 1): (waiting(), told),
+            ByHand("isr notify t0 0 7 setif", 0): (waiting(), told),
+            ByHand("poke reg t0 0 9"): (waiting(), told),
+        }
+        for known, (before, after) in others.items():
+            self.assertFalse(could_be(before, after, known), known)
 
 
 class Others(unittest.TestCase):

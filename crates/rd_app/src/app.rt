@@ -8,6 +8,7 @@ ghost use Rattle.rd_app.specs.Builtin.{builtin, builtin_code};
 ghost use Rattle.rd_app.specs.Inside.{application_of};
 ghost use Rattle.rd_app.specs.Objects.{objects_view};
 ghost use Rattle.rd_app.specs.Profiles.{max_cores};
+ghost use Rattle.rd_app.specs.declared.profile.TheConstants.{MAX_CORES};
 
 use crate::both::both;
 use crate::instr::{Instr, LocalInstr, Operand, QueueCall};
@@ -193,6 +194,13 @@ impl Program {
         let _ = &self.priorities;
     }
 
+    /// The profile.
+    pub fn profile(&self) -> Profile
+        ensures { result ≡ self.now.profile }
+    {
+        self.parts.profile
+    }
+
     /// How many cores there are.
     pub fn cores(&self) -> usize
         ensures { result ≡ self.now.cores }
@@ -243,6 +251,8 @@ impl Program {
 /// The limits of applications, as numbers.
 pub fn limits_of_applications()
     ensures cores { max_cores Profile.One ≡ 8 }
+    ensures more_cores { max_cores Profile.Two ≡ 16 }
+    ensures room_for_cores { MAX_CORES ≡ 16 }
     ensures tasks { MAX_TASKS ≡ 32 }
     ensures priority { MAX_PRIORITY ≡ 31 }
     ensures code { MAX_CODE ≡ 256 }

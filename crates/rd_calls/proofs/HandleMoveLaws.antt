@@ -8,11 +8,9 @@ use Rattle.rd_kernel.specs.declared.waking.Waking.TheVariants.{TriesAgain}
 use Rattle.rd_kernel.specs.Waking.{due_below}
 use Rattle.rd_queue_calls.specs.QueueSetLaws.{handles_in}
 use Rattle.rd_queue_calls.proofs.Offered.{handles_woken_all}
-use Rattle.rd_refusal.specs.declared.refusal.Refusal.TheVariants as refusal
-use Rattle.rd_edits.specs.Edits.{edited, is_good_edit}
-use Rattle.rd_edits.proofs.Offered.{edited-handles}
 use Rattle.rd_moves.specs.declared.moves.Move.TheVariants as move
 use Rattle.rd_calls.specs.HandleMoves.{HandlesGoByMoves, handles_run}
+use Rattle.rd_calls.proofs.CarriedLaws.{carried-handles, carried_out-is}
 use Rattle.rd_calls.proofs.InstrLaws.{handles_performed-is}
 use Rattle.rd_calls.specs.Step.{core_step, last_tick, next_instr, step_of_core, tick_step}
 
@@ -31,9 +29,4 @@ handles_go_by_moves app s s' move.Tick e =
           ap handles_in same ∙ handles_woken_all (priorities_of app) TriesAgain now (due_below now (length s.tasks))
       | false ↦ λ none. cc
     ] e
-handles_go_by_moves app s s' (move.Edit edit) e =
-    elim (is_good_edit app s edit) as (λ b. cond b (Ok (edited s edit)) (Err refusal.BadEdit) ≡ Ok s' → handles_in s' ≡ handles_in s) [
-      | true ↦ λ made. let same : s' ≡ edited s edit = cc in
-          ap handles_in same ∙ edited-handles s edit
-      | false ↦ λ none. cc
-    ] e
+handles_go_by_moves app s s' (move.Carried carried) e = ap handles_in (carried_out-is app s s' carried e) ∙ carried-handles app s carried

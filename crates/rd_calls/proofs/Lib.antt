@@ -1,4 +1,5 @@
 -- The files of lemmas of rd_calls.
+pub mod CarriedLaws
 pub mod InstrLaws
 pub mod HandleMoveLaws
 pub mod ReceivedLaws

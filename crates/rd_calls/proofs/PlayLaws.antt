@@ -6,7 +6,7 @@ use Rattle.std.proofs.Common.{None, inl, inr}
 use Rattle.std.proofs.lemmas.Bool.{cases_lt}
 use Rattle.std.proofs.lemmas.List.{get_or_past}
 use Rattle.std.specs.List.{concat}
-use Rattle.rd_app.specs.Application.{Application, IsApplication, priorities_of}
+use Rattle.rd_app.specs.Application.{Application, IsApplication}
 use Rattle.rd_app.specs.declared.instr.Instr.{Instr}
 use Rattle.rd_app.specs.declared.instr.Instr.TheVariants.{Group, Local, Queue, QueueSet, Stream, Message, Notify}
 use Rattle.rd_app.specs.declared.instr.GroupCall.{GroupCall}
@@ -35,21 +35,15 @@ use Rattle.rd_stream.specs.StreamSnapshot.{StreamSnapshot}
 use Rattle.rd_state.specs.Change.{Change}
 use Rattle.rd_state.specs.Change.{weight_of}
 use Rattle.rd_state.specs.Edit.{Base, Edit, GivesUp, GoesOn, Reaches, added, begun_at, capacity_of, room_for}
-use Rattle.rd_state.specs.Settled.{IsSettled}
 use Rattle.rd_state.specs.Sizes.{IsSized}
 use Rattle.rd_state.specs.Snapshot.{Snapshot, core_at, queue_at}
 use Rattle.rd_state.specs.Undoing.{undone, CanUndo}
 use Rattle.rd_state.specs.Valid.{IsValid}
 use Rattle.rd_moves.specs.Moves.{PlainMove}
-use Rattle.rd_moves.specs.declared.moves.Move.TheVariants.{Core, Tick}
-use Rattle.rd_moves.specs.declared.moves.Move.TheVariants as move
+use Rattle.rd_moves.specs.declared.moves.Move.TheVariants.{Carried, Core, Tick}
 use Rattle.rd_calls.specs.Step.{core_step, dropped_by_instr, dropped_by_move, dropped_by_task, instr_cost, last_tick, next_instr, record_limit, step, step_of_core, tick_step}
 use Rattle.rd_calls.specs.Step.{IsPlayed, LeavesSettled}
 use Rattle.rd_calls.specs.declared.play.TheConstants.{CHANGES_BESIDES, CHANGES_PER_CORE, CHANGES_PER_TASK, DROPPED_BYTES, MAX_RECORD_BYTES, MAX_RECORD_WEIGHT, SAVED_BYTES}
-use Rattle.rd_edits.proofs.Offered.{IsValid-edited, edited-settled}
-use Rattle.rd_moves.specs.declared.edit.Edit.TheVariants as edit
-use Rattle.rd_edits.specs.Edits.{edit_cost, edited, is_good_edit}
-use Rattle.rd_moves.specs.Edits.{IsEditOf, PlainEdit}
 use Rattle.rd_calls.proofs.StepLaws.{IsSettled-step, IsSettled-tick, IsValid-step, IsValid-tick}
 
 -- The items that a move drops are those of one queue at the most.
@@ -108,9 +102,9 @@ dropped_by_task_few app s (Some task) sized = dropped_by_instr_few s (next_instr
 pub dropped_few : (app : Application) (s : Snapshot) (move : PlainMove) → IsSized s → dropped_by_move app s move ≤ DROPPED_BYTES
 dropped_few app s (Core core) sized = dropped_by_task_few app s (core_at s core) sized
 dropped_few app s Tick sized = omega arith
-dropped_few app s (move.Edit edit) sized = omega arith
+dropped_few app s (Carried carried) sized = omega arith
 
-most_is_few : (app : Application) (s : Snapshot) (move : PlainMove) → IsSized s → record_limit app s move ≤ MAX_RECORD_WEIGHT
+pub most_is_few : (app : Application) (s : Snapshot) (move : PlainMove) → IsSized s → record_limit app s move ≤ MAX_RECORD_WEIGHT
 most_is_few app s move sized = omega (arith, dropped_few app s move sized, sized.tasks.few, sized.scheduling.few_cores)
 
 -- Whatever the move, its record has room in so many bytes.
@@ -245,25 +239,6 @@ Leads-tick app s limits valid later =
       valid = λ s' is sized. IsValid-tick app s s' limits valid is sized;
       settled = λ s' is. IsSettled-tick app s s' limits valid is;
     }
-
-edit_cost_few : (edit : PlainEdit) → edit_cost edit ≤ 300
-edit_cost_few (edit.Register task register value) = omega arith
-edit_cost_few (edit.Data task bytes) = omega arith
-edit_cost_few (edit.Pc task pc) = omega arith
-edit_cost_few (edit.Value task index value) = omega arith
-edit_cost_few (edit.Bits group bits) = omega arith
-edit_cost_few (edit.Item queue index bytes) = omega arith
-edit_cost_few (edit.Byte stream index value) = omega arith
-
-pub Leads-edit : (app : Application) (s : Snapshot) (edit : PlainEdit) → IsValid app s → IsEditOf app edit → is_good_edit app s edit ≡ true
-    → Leads app s (move.Edit edit) (edited s edit) (edit_cost edit)
-Leads-edit app s edit valid named good = record {
-  step = rw good refl;
-  few = omega (arith, edit_cost_few edit);
-  most_few = most_is_few app s (move.Edit edit) valid.in_limits.sized;
-  valid = λ s' is sized. subst (λ (t : Snapshot). IsSized t → IsValid app t) (sym is) (IsValid-edited app s edit valid named good) sized;
-  settled = λ s' is before. subst (IsSettled (priorities_of app)) (sym is) (edited-settled (priorities_of app) s edit before);
-}
 
 -- No memory is given back, whether the move was made or gave up.
 pub grows-from : {T E : Type 0} (r : Result T E) (target : Snapshot) (cost : ℕ) (begun made : Edit) → OnOk r (Reaches begun made target cost)

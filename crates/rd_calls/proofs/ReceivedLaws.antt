@@ -29,18 +29,15 @@ use Rattle.rd_app.specs.declared.instr.NotifyCall.TheVariants.{ClearState, Clear
 use Rattle.rd_stream_calls.specs.StreamCalls.{stream_outcome}
 use Rattle.rd_stream_calls.specs.MessageCalls.{message_outcome}
 use Rattle.rd_stream_calls.proofs.Offered.{message_call-received, stream_call-received}
+use Rattle.rd_notify_calls.proofs.Offered.{notified-received}
 use Rattle.rd_notify_calls.specs.NotifyCalls.{entry_closed, entry_opened, notify_call_outcome}
-use Rattle.rd_refusal.specs.declared.refusal.Refusal.TheVariants as refusal
-use Rattle.rd_edits.specs.Edits.{edited, is_good_edit}
-use Rattle.rd_edits.proofs.Offered.{edited-entry_state}
-use Rattle.rd_moves.specs.declared.moves.Move.TheVariants.{Core, Tick}
-use Rattle.rd_moves.specs.declared.moves.Move.TheVariants as move
+use Rattle.rd_moves.specs.declared.moves.Move.TheVariants.{Carried, Core, Tick}
 use Rattle.rd_kernel.specs.Waking.{due_below, operand_value, woken_all}
 use Rattle.rd_refusal.specs.declared.refusal.Refusal.TheVariants.{TickLimit}
+use Rattle.rd_calls.proofs.CarriedLaws.{carried-come, carried_out-is}
 use Rattle.rd_calls.specs.Received.{ReceivedStays, call_looks_at, is_entry, looks_at}
-use Rattle.rd_kernel.specs.Telling.{if_waiting_for, notified, told, waits_for_entry, waits_once}
-use Rattle.rd_notify.specs.Entries.{entry_cleared, entry_idle, entry_notified, entry_taken, entry_waiting, has_received, idle_entry, is_left_alone}
-use Rattle.rd_notify.specs.declared.action.Action.{Action}
+use Rattle.rd_kernel.specs.Telling.{waits_for_entry, waits_once}
+use Rattle.rd_notify.specs.Entries.{entry_cleared, entry_idle, entry_taken, entry_waiting, has_received, idle_entry}
 use Rattle.rd_notify.specs.declared.entries.Entry.{Entry}
 use Rattle.rd_notify.specs.declared.entries.EntryState.TheVariants.{Received}
 use Rattle.std.proofs.lemmas.Bool.Decides.{nat_tests}
@@ -93,18 +90,6 @@ elsewhere_come : (s : Snapshot) (task i target index : ℕ) (entry : Entry) → 
 elsewhere_come s task i target index entry differs come =
     entry_after s task i target index entry has_come (λ same same_index. absurd (not_it task i target index differs same same_index)) come
 
-notified_come : (priorities : List ℕ) (s : Snapshot) (to i value target index : ℕ) (action : Action) → has_come (entry_at s target index)
-    → has_come (entry_at (notified priorities s to i action value) target index)
-notified_come priorities s to i value target index action come =
-    let entry = entry_notified action value (entry_at s to i) in
-    let tasks = if_waiting_for s to i in
-    let q = woken_all priorities TriesAgain s tasks in
-    elim (is_left_alone action (entry_at s to i).state) as (λ b. has_come (entry_at (cond b s (told priorities s to i entry)) target index)) [
-      | true ↦ come
-      | false ↦ entry_after q to i target index entry has_come (λ same same_index. refl)
-          (stays_come s q target index (EntriesStay-woken_all priorities TriesAgain s tasks) come)
-    ]
-
 -- whichever of two it is
 come_either : (b : Bool) (one other : Called) (target index : ℕ) → has_come (entry_at one.state target index) → has_come (entry_at other.state target index)
     → has_come (entry_at (cond b one other).state target index)
@@ -114,9 +99,9 @@ come_either false one other target index first second = second
 call_come : (priorities : List ℕ) (s : Snapshot) (task : ℕ) (call : NotifyCall) (target index : ℕ) → has_come (entry_at s target index)
     → call_looks_at task call target index ≡ false → has_come (entry_at (notify_call_outcome priorities s task call).state target index)
 call_come priorities s task (notify.Notify to i value action) target index come looks =
-    notified_come priorities s to i (operand_value s task value) target index action come
+    notified-received priorities s to i (operand_value s task value) target index action come
 call_come priorities s task (Query to i value action) target index come looks =
-    notified_come priorities s to i (operand_value s task value) target index action come
+    notified-received priorities s to i (operand_value s task value) target index action come
 call_come priorities s task (Take i exit wait) target index come looks =
     let entry = entry_at s task i in
     come_either (nat_eq entry.value 0 && waits_once s task wait) (waits_for_entry s task i entry wait)
@@ -194,9 +179,5 @@ received_stays app s s' Tick target index e come looks =
           (stays_come now p target index (EntriesStay-woken_all (priorities_of app) TriesAgain now (due_below now (length s.tasks))) come)
       | false ↦ λ none. cc
     ] e
-received_stays app s s' (move.Edit edit) target index e come looks =
-    elim (is_good_edit app s edit) as (λ b. cond b (Ok (edited s edit)) (Err refusal.BadEdit) ≡ Ok s' → has_come (entry_at s' target index)) [
-      | true ↦ λ made. let same : s' ≡ edited s edit = cc in
-          subst (λ q. has_come (entry_at q target index)) (sym same) (edited-entry_state s edit target index ∙ come)
-      | false ↦ λ none. cc
-    ] e
+received_stays app s s' (Carried carried) target index e come looks =
+    subst (λ q. has_come (entry_at q target index)) (sym (carried_out-is app s s' carried e)) (carried-come app s carried target index come)

@@ -44,15 +44,12 @@ use Rattle.rd_stream_calls.proofs.Offered.{HasNoMore, IsBelow, message_call-slee
 use Rattle.rd_group_calls.proofs.Offered.{group_call-sleeps}
 use Rattle.rd_group_calls.specs.GroupCalls.{group_outcome}
 use Rattle.rd_moves.specs.Moves.{PlainMove as AnyMove}
-use Rattle.rd_refusal.specs.declared.refusal.Refusal.TheVariants as refusal
-use Rattle.rd_moves.specs.Edits.{PlainEdit}
-use Rattle.rd_moves.specs.declared.edit.Edit.TheVariants as edit
-use Rattle.rd_edits.specs.Edits.{edited, is_good_edit}
 use Rattle.rd_moves.specs.declared.moves.Move.TheVariants.{Core, Tick}
 use Rattle.rd_moves.specs.declared.moves.Move.TheVariants as any_move
+use Rattle.rd_calls.proofs.CarriedLaws.{carried-sleeps, carried_out-is}
 use Rattle.rd_calls.specs.Local.{local_step, unpacked}
 use Rattle.rd_calls.specs.Received.{is_entry}
-use Rattle.rd_calls.specs.Sleeping.{ReadersSleep, SleepsOn, call_notifies_first, edits_task, is_disturbed, notifies_first}
+use Rattle.rd_calls.specs.Sleeping.{ReadersSleep, SleepsOn, call_notifies_first, is_disturbed, notifies_first}
 use Rattle.rd_calls.specs.Step.{core_step, last_tick, next_instr, performed, step, step_of_core, tick_step}
 
 -- ---- local instructions
@@ -187,31 +184,6 @@ tick_sleeps app s s' task made there early =
       | false ↦ λ none. cc
     ] made
 
--- An edit of another task, or of an entry, or of an object.
-task_apart : (of task : ℕ) → nat_eq of task ≡ false → task ≢ of
-task_apart of task apart same =
-    let one : nat_eq of task ≡ true = grind (arith, nat_tests, same) in
-    false≢true (sym apart ∙ one)
-
-edited_sleeps : (s : Snapshot) (edit : PlainEdit) (task : ℕ) → edits_task edit task ≡ false → Sleeps task s (edited s edit)
-edited_sleeps s (edit.Register of register value) task apart =
-    Sleeps-other s task of (record (task_at s of) { registers = set (task_at s of).registers register value }) (task_apart of task apart)
-edited_sleeps s (edit.Data of bytes) task apart = Sleeps-other s task of (record (task_at s of) { bytes = bytes }) (task_apart of task apart)
-edited_sleeps s (edit.Pc of pc) task apart = Sleeps-other s task of (record (task_at s of) { pc = pc }) (task_apart of task apart)
-edited_sleeps s (edit.Value of index value) task apart = Sleeps-with_entry s task of index (record (entry_at s of index) { value = value })
-edited_sleeps s (edit.Bits group bits) task apart = refl
-edited_sleeps s (edit.Item queue index bytes) task apart = refl
-edited_sleeps s (edit.Byte stream index value) task apart = refl
-
-edit_sleeps : (app : Application) (s s' : Snapshot) (edit : PlainEdit) (task : ℕ) → step app s (any_move.Edit edit) ≡ Ok s' → edits_task edit task ≡ false
-    → Sleeps task s s'
-edit_sleeps app s s' edit task made apart =
-    elim (is_good_edit app s edit) as (λ b. cond b (Ok (edited s edit)) (Err refusal.BadEdit) ≡ Ok s' → Sleeps task s s') [
-      | true ↦ λ made. let same : s' ≡ edited s edit = cc in
-          subst (Sleeps task s) (sym same) (edited_sleeps s edit task apart)
-      | false ↦ λ none. cc
-    ] made
-
 move_sleeps : (app : Application) (s s' : Snapshot) (move : AnyMove) (task : ℕ) (own : Held) → IsValid app s → step app s move ≡ Ok s' → task < length s.tasks
     → waits_at (task_at s task).phase ≡ Some (sort.Held own) → held_side own ≡ Reader → IsQuiet s s' own → is_disturbed app s move task ≡ false
     → SleepsOn s s' task
@@ -222,7 +194,8 @@ move_sleeps app s s' move task own valid made there waits reads quiet other =
     by_move (Core core) made other = core_sleeps app s s' core task own (core_at s core) valid refl made
         (IsSleeper-valid app s task own valid there waits) reads quiet other
     by_move Tick made other = tick_sleeps app s s' task made there other
-    by_move (any_move.Edit edit) made other = edit_sleeps app s s' edit task made other
+    by_move (any_move.Carried carried) made other =
+        subst (Sleeps task s) (sym (carried_out-is app s s' carried made)) (carried-sleeps app s carried task own (IsSleeper-valid app s task own valid there waits) other)
 
 same_stream : (stream other : ℕ) → Stream stream Reader ≡ Stream other Reader → stream ≡ other
 same_stream stream other e = cc

@@ -1,4 +1,5 @@
 -- The files of definitions of rd_calls.
+pub mod Carried
 pub mod HandleMoves
 pub mod Local
 pub mod Received

@@ -11,7 +11,7 @@ use Rattle.rd_app.specs.Application.{Application, side_of_message_call, side_of_
 use Rattle.rd_state.specs.Snapshot.{Snapshot, core_at}
 use Rattle.rd_kernel.specs.Tasks.{entry_at}
 use Rattle.rd_moves.specs.Moves.{PlainMove}
-use Rattle.rd_moves.specs.declared.moves.Move.TheVariants.{Core, Edit, Tick}
+use Rattle.rd_moves.specs.declared.moves.Move.TheVariants.{Carried, Core, Tick}
 use Rattle.rd_calls.specs.Step.{next_instr, step}
 
 -- Is it that entry of that task?
@@ -42,13 +42,13 @@ looks_at task (instr.Message message call) target index =
 looks_at task (instr.Group group call) target index = false
 looks_at task (instr.Notify call) target index = call_looks_at task call target index
 
--- a move, by the instruction of its core's task; ticks and edits look at none
+-- a move, by the instruction of its core's task; ticks look at none, nor does what moves carry
 abbrev pub move_looks_at : Application → Snapshot → PlainMove → ℕ → ℕ → Bool
 move_looks_at app s (Core core) target index =
     option_map_or (λ task. looks_at task (next_instr app s task) target index) (core_at s core)
     false
 move_looks_at app s Tick target index = false
-move_looks_at app s (Edit edit) target index = false
+move_looks_at app s (Carried carried) target index = false
 
 -- Whatever move is made: an entry that has received still has, unless the move looks at it.
 abbrev pub ReceivedStays : Type 0

@@ -1,6 +1,6 @@
 -- Readers of buffers sleep on: a stream buffer's below its trigger level, a message buffer's as
 -- long as no message comes.
-use Rattle.std.specs.Prelude.{ℕ, ◌≡◌, ◌+◌, ◌<◌, ◌≤◌, Bool, false, length, nat_eq, Some, Ok}
+use Rattle.std.specs.Prelude.{ℕ, ◌≡◌, ◌+◌, ◌<◌, ◌≤◌, Bool, false, length, Some, Ok}
 use Rattle.std.specs.Option.{option_map_or}
 use Rattle.rd_stream.specs.declared.side.Side.TheVariants.{Reader}
 use Rattle.rd_app.specs.declared.instr.Instr.{Instr}
@@ -15,10 +15,9 @@ use Rattle.rd_state.specs.Phases.{waits_at}
 use Rattle.rd_state.specs.Snapshot.{Snapshot, core_at, message_at, stream_at, task_at}
 use Rattle.rd_state.specs.Valid.{IsValid}
 use Rattle.rd_kernel.specs.Waking.{is_due}
-use Rattle.rd_moves.specs.Edits.{PlainEdit}
-use Rattle.rd_moves.specs.declared.edit.Edit.TheVariants as edit
 use Rattle.rd_moves.specs.Moves.{PlainMove}
 use Rattle.rd_moves.specs.declared.moves.Move.TheVariants as move
+use Rattle.rd_calls.specs.Carried.{carried_disturbs}
 use Rattle.rd_calls.specs.Received.{is_entry}
 use Rattle.rd_calls.specs.Step.{next_instr, step}
 
@@ -41,23 +40,13 @@ notifies_first (instr.Message message call) task = false
 notifies_first (instr.Group group call) task = false
 notifies_first (instr.Notify call) task = call_notifies_first call task
 
--- Does an edit change what a task has besides its entries?
-abbrev pub edits_task : PlainEdit → ℕ → Bool
-edits_task (edit.Register of register value) task = nat_eq of task
-edits_task (edit.Data of bytes) task = nat_eq of task
-edits_task (edit.Pc of pc) task = nat_eq of task
-edits_task (edit.Value of index value) task = false
-edits_task (edit.Bits group bits) task = false
-edits_task (edit.Item queue index bytes) task = false
-edits_task (edit.Byte stream index value) task = false
-
 -- Does a move disturb a task otherwise than through its buffer: by a notification of its entry 0,
--- by the tick at which its time is up, or by an edit?
+-- by the tick at which its time is up, or by what the move carries?
 abbrev pub is_disturbed : Application → Snapshot → PlainMove → ℕ → Bool
 is_disturbed app s (move.Core core) task =
     option_map_or (λ running. notifies_first (next_instr app s running) task) (core_at s core) false
 is_disturbed app s move.Tick task = is_due (s.tick + 1) (task_at s task).phase
-is_disturbed app s (move.Edit edit) task = edits_task edit task
+is_disturbed app s (move.Carried carried) task = carried_disturbs carried task
 
 -- A task sleeps on: whatever has become of its entries, it is as it was else, and so waits where it
 -- waited, until the same deadline.

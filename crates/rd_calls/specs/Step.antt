@@ -1,5 +1,5 @@
--- A move: one instruction of the task on a core, or a tick, and then scheduling; or an edit, after
--- which nothing is scheduled.
+-- A move: one instruction of the task on a core, or a tick, and then scheduling; or what it carries
+-- is done.
 use Rattle.std.specs.Prelude.{ℕ, ◌≡◌, ◌+◌, ◌*◌, ◌%◌, ◌<◌, ◌≤◌, List, length, drop, position, nat_lt}
 use Rattle.std.specs.Prelude.{if◌then◌else◌, Option, None, Some, is_some, Result, Ok, Err, OnErr}
 use Rattle.std.specs.Prelude.{OnOk, take}
@@ -11,7 +11,7 @@ use Rattle.rd_app.specs.Application.{IsQueueCall, IsQueueSetCall, IsStreamCall, 
 use Rattle.rd_app.specs.Application.{priorities_of}
 use Rattle.rd_group_calls.specs.GroupCalls.{group_call_cost, group_outcome}
 use Rattle.rd_refusal.specs.declared.refusal.Refusal.{Refusal}
-use Rattle.rd_refusal.specs.declared.refusal.Refusal.TheVariants.{BadEdit, NoTask, TickLimit}
+use Rattle.rd_refusal.specs.declared.refusal.Refusal.TheVariants.{NoTask, TickLimit}
 use Rattle.rd_bytes.specs.declared.no_memory.NoMemory.{NoMemory}
 use Rattle.rd_state.specs.Change.{Change}
 use Rattle.rd_state.specs.Change.{weight_of}
@@ -22,6 +22,7 @@ use Rattle.rd_state.specs.PackedChanges.{IsPackable}
 use Rattle.rd_state.specs.Snapshot.{Snapshot, task_at, core_at}
 use Rattle.rd_state.specs.Undoing.{undone, CanUndo}
 use Rattle.rd_state.specs.Valid.{IsValid}
+use Rattle.rd_calls.specs.Carried.{carried_answer, step_of_carried, CarriedLeavesSettled}
 use Rattle.rd_calls.specs.Local.{local_cost, local_step, NamesLocalParts}
 use Rattle.rd_calls.specs.declared.play.TheConstants.{CHANGES_PER_TASK, CHANGES_PER_CORE}
 use Rattle.rd_calls.specs.declared.play.TheConstants.{CHANGES_BESIDES, SAVED_BYTES}
@@ -36,11 +37,8 @@ use Rattle.rd_stream_calls.specs.MessageCalls.{dropped_by_message_call, message_
 use Rattle.rd_stream_calls.specs.MessageCalls.{message_outcome}
 use Rattle.rd_stream_calls.specs.StreamCalls.{dropped_by_stream_call, stream_call_cost}
 use Rattle.rd_stream_calls.specs.StreamCalls.{stream_outcome}
-use Rattle.rd_moves.specs.Edits.{PlainEdit}
-use Rattle.rd_edits.specs.Edits.{edited, is_good_edit}
 use Rattle.rd_moves.specs.Moves.{PlainMove}
-use Rattle.rd_moves.specs.declared.moves.Move.TheVariants.{Core, Tick}
-use Rattle.rd_moves.specs.declared.moves.Move.TheVariants as move
+use Rattle.rd_moves.specs.declared.moves.Move.TheVariants.{Carried, Core, Tick}
 
 -- the state after an instruction of the task on a core
 abbrev pub performed : List ℕ → Snapshot → ℕ → ℕ → Instr → Snapshot
@@ -103,15 +101,17 @@ last_tick = 4294967295
 abbrev pub step_of_tick : Application → Snapshot → Result Snapshot Refusal
 step_of_tick app s = if nat_lt s.tick last_tick then Ok (tick_step app s) else Err TickLimit
 
--- An edit that can't be made is refused.
-abbrev pub step_of_edit : Application → Snapshot → PlainEdit → Result Snapshot Refusal
-step_of_edit app s edit = if is_good_edit app s edit then Ok (edited s edit) else Err BadEdit
-
 -- the state after a move, or why there is none
 abbrev pub step : Application → Snapshot → PlainMove → Result Snapshot Refusal
 step app s (Core core) = step_of_core app s core (core_at s core)
 step app s Tick = step_of_tick app s
-step app s (move.Edit edit) = step_of_edit app s edit
+step app s (Carried carried) = step_of_carried app s carried
+
+-- what a move answers, which an interrupt alone does, if it is made in this state
+abbrev pub move_answer : Snapshot → PlainMove → Option ℕ
+move_answer s (Core core) = None
+move_answer s Tick = None
+move_answer s (Carried carried) = carried_answer s carried
 
 -- The move that a run makes next: of the first busy core
 -- from the turn on, or a tick where there is none.
@@ -140,7 +140,7 @@ dropped_by_task app s (Some task) = dropped_by_instr s (next_instr app s task)
 abbrev pub dropped_by_move : Application → Snapshot → PlainMove → ℕ
 dropped_by_move app s (Core core) = dropped_by_task app s (core_at s core)
 dropped_by_move app s Tick = 0
-dropped_by_move app s (move.Edit edit) = 0
+dropped_by_move app s (Carried carried) = 0
 
 -- The weight that the record of a move has at the most: only the numbers of tasks and cores enter,
 -- apart from the bytes of one task's data, as many that go between it and an object, and those that
@@ -154,13 +154,11 @@ record_limit app s move =
 abbrev pub IsSmall : Application → Snapshot → PlainMove → List Change → Type 0
 IsSmall app s move changes = weight_of changes ≤ record_limit app s move
 
--- Nothing is left to schedule after a move. An edit schedules nothing: it leaves nothing to
--- schedule where nothing was.
+-- Nothing is left to schedule after a move.
 abbrev pub LeavesSettled : Application → Snapshot → PlainMove → Snapshot → Type 0
 LeavesSettled app s (Core core) s' = IsSettled (priorities_of app) s'
 LeavesSettled app s Tick s' = IsSettled (priorities_of app) s'
-LeavesSettled app s (move.Edit edit) s' =
-    IsSettled (priorities_of app) s → IsSettled (priorities_of app) s'
+LeavesSettled app s (Carried carried) s' = CarriedLeavesSettled app s carried s'
 
 -- What a move leaves: the written state, valid and with nothing left to schedule, and few changes,
 -- which lead back from there.

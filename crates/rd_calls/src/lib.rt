@@ -1,6 +1,7 @@
 //! The kernel's rules: what each move does to the target.
 #![tactic(auto)]
 
+mod carried;
 pub mod laws;
 mod local;
 mod perform;

@@ -1,7 +1,7 @@
 //! Moves, made whole or not at all.
 
 ghost use Rattle.std.specs.Prelude.{◌≡◌, ◌↔◌, ◌+◌, ◌*◌, ◌<◌, ◌≤◌, ◌⊎◌, length, take, Ok, Err};
-ghost use Rattle.std.specs.Prelude.{None, Some, true, IfErr, IfOk, IfSome};
+ghost use Rattle.std.specs.Prelude.{None, Some, IfErr, IfOk, IfSome};
 ghost use Rattle.std.specs.Prelude.{IsErrOf, IsOk, OnErr, OnOk};
 ghost use Rattle.rd_state.specs.Edit.{added, capacity_of, room_for, GoesOn};
 ghost use Rattle.rd_state.specs.PackedChanges.{IsPackable};
@@ -11,21 +11,21 @@ ghost use Rattle.rd_state.specs.Undoing.{undone, CanUndo};
 ghost use Rattle.rd_state.specs.Valid.{IsValid};
 ghost use Rattle.rd_kernel.specs.Outcomes.{IsCalling};
 ghost use Rattle.rd_kernel.specs.Waking.{FirstTriesWait};
-ghost use Rattle.rd_edits.specs.Edits.{is_good_edit};
-ghost use Rattle.rd_moves.specs.Edits.{IsEditOf};
-ghost use Rattle.rd_calls.specs.Step.{last_tick, record_limit, step, IsPlayed};
+ghost use Rattle.rd_moves.specs.Carried.{IsCarriedOf};
+ghost use Rattle.rd_calls.specs.Carried.{why_refused};
+ghost use Rattle.rd_calls.specs.Step.{last_tick, move_answer, record_limit, step, IsPlayed};
 ghost use Rattle.rd_moves.specs.Moves.{IsMoveOf};
 ghost use Rattle.rd_calls.specs.Step.{IsSmall, LeavesSettled, Plays};
 
+use crate::carried::{carried_answer, carry_out, why_refused};
 use crate::perform::move_core;
 use crate::tick::move_tick;
 use rd_app::app::{MAX_TASKS, Program};
 use rd_app::profile::MAX_CORES;
 use rd_bytes::bytes::MAX_BYTES;
 use rd_bytes::no_memory::NoMemory;
-use rd_edits::edit::{is_good, make};
 use rd_kernel::calling::caller_on;
-use rd_moves::edit::{Edit, Lent};
+use rd_moves::carried::{Carried, Lent};
 use rd_moves::moves::Move;
 use rd_queue::item::MAX_ITEM_SIZE;
 use rd_queue::queue::MAX_ITEMS;
@@ -110,20 +110,22 @@ fn play_tick(editing: &mut Editing, app: &Program) -> Result<(), NoMemory>
     finish(editing, made)
 }
 
-// An edit that can be made.
-fn play_edit(editing: &mut Editing, app: &Program, edit: &Edit) -> Result<(), NoMemory>
+// What a move carries, where it isn't refused.
+fn play_carried(editing: &mut Editing, app: &Program, carried: &Carried) -> Result<(), NoMemory>
     requires valid { IsValid app.now editing.old.now }
-    requires named { IsEditOf app.now edit.now }
-    requires good { is_good_edit app.now editing.old.now edit.now ≡ true }
-    ensures { Plays app.now (Move.Edit edit.now) editing.old editing.new result }
+    requires named { IsCarriedOf app.now carried.now }
+    requires good { why_refused app.now editing.old.now carried.now ≡ None }
+    ensures { Plays app.now (Move.Carried carried.now) editing.old editing.new result }
 {
+    app.limits();
     editing.begin();
-    let made = make(edit, app, editing);
+    let made = carry_out(carried, app, editing);
     finish(editing, made)
 }
 
 /// Why the rules refuse a move, if they do: `NoTask` where the core is idle, `TickLimit` where the
-/// tick is 4,294,967,295, `BadEdit` where the edit can't be made.
+/// tick is 4,294,967,295, `BadEdit` where the edit can't be made, `NoIsr` where an interrupt comes to
+/// an application of profile 1.
 pub fn why_not(app: &Program, state: &State, action: &Move<Lent<'_>>) -> Option<Refusal>
     requires valid { IsValid app.now state.now }
     requires named { IsMoveOf app.now action.now }
@@ -133,16 +135,29 @@ pub fn why_not(app: &Program, state: &State, action: &Move<Lent<'_>>) -> Option<
     match action {
         Move::Core { core } if state.core(*core).is_none() => Some(Refusal::NoTask),
         Move::Tick if state.tick() == u32::MAX => Some(Refusal::TickLimit),
-        Move::Edit { edit } if !is_good(edit.edit(), app, state) => Some(Refusal::BadEdit),
-        Move::Core { .. } | Move::Tick | Move::Edit { .. } => None,
+        Move::Core { .. } | Move::Tick => None,
+        Move::Carried { carried } => why_refused(carried.carried(), app, state),
+    }
+}
+
+/// What the move will answer, if it is made now: 1 or 0 for an interrupt (`isr_answer`), and none
+/// for any other. It takes no memory.
+pub fn move_answer(app: &Program, state: &State, action: &Move<Lent<'_>>) -> Option<u32>
+    requires valid { IsValid app.now state.now }
+    requires named { IsMoveOf app.now action.now }
+    ensures { result ≡ move_answer state.now action.now }
+{
+    match action {
+        Move::Core { .. } | Move::Tick => None,
+        Move::Carried { carried } => carried_answer(carried.carried(), app, state),
     }
 }
 
 /// Makes a move where the state and the record are, and adds its record, which undoes it exactly,
 /// to those of the moves before. A refusal leaves the state and the record as they were: `NoTask`
 /// where the core is idle, `TickLimit` where the tick is 4,294,967,295, `BadEdit` where the edit
-/// can't be made, `NoMemory` where a growth was refused, as none is where the record has room for
-/// the move. There is no other. The record keeps the memory that it has.
+/// can't be made, `NoIsr` where an interrupt comes to an application of profile 1, `NoMemory` where
+/// a growth was refused, as none is where the record has room for the move. There is no other. The record keeps the memory that it has.
 pub fn play_on(editing: &mut Editing, app: &Program, action: &Move<Lent<'_>>) -> Result<(), Refusal>
     requires valid { IsValid app.now editing.old.now }
     requires named { IsMoveOf app.now action.now }
@@ -156,6 +171,8 @@ pub fn play_on(editing: &mut Editing, app: &Program, action: &Move<Lent<'_>>) ->
         ↔ (step app.now editing.old.now action.now ≡ Err Refusal.TickLimit) }
     ensures bad_edit { IsErrOf result Refusal.BadEdit
         ↔ (step app.now editing.old.now action.now ≡ Err Refusal.BadEdit) }
+    ensures no_isr { IsErrOf result Refusal.NoIsr
+        ↔ (step app.now editing.old.now action.now ≡ Err Refusal.NoIsr) }
     ensures refusals { IfErr result (λ refusal.
         (step app.now editing.old.now action.now ≡ Err refusal) ⊎ (refusal ≡ Refusal.NoMemory)) }
     ensures short { IsErrOf result Refusal.NoMemory
@@ -173,16 +190,20 @@ pub fn play_on(editing: &mut Editing, app: &Program, action: &Move<Lent<'_>>) ->
         }
         Move::Tick if editing.state().tick() == u32::MAX => Err(Refusal::TickLimit),
         Move::Tick => play_tick(editing, app).map_err(Refusal::from),
-        Move::Edit { edit } if !is_good(edit.edit(), app, editing.state()) => {
-            Err(Refusal::BadEdit)
+        Move::Carried { carried } => {
+            let carried = carried.carried();
+            match why_refused(carried, app, editing.state()) {
+                Some(refusal) => Err(refusal),
+                None => play_carried(editing, app, carried).map_err(Refusal::from),
+            }
         }
-        Move::Edit { edit } => play_edit(editing, app, edit.edit()).map_err(Refusal::from),
     }
 }
 
 /// Makes a move and returns its record, which undoes it exactly. A refusal leaves the state as it
 /// was: `NoTask` where the core is idle, `TickLimit` where the tick is 4,294,967,295, `BadEdit`
-/// where the edit can't be made, `NoMemory` where a growth was refused. There is no other.
+/// where the edit can't be made, `NoIsr` where an interrupt comes to an application of profile 1,
+/// `NoMemory` where a growth was refused. There is no other.
 pub fn play(
     alloc: Global,
     state: &mut State,
@@ -198,6 +219,8 @@ pub fn play(
         ↔ (step app.now state.old action.now ≡ Err Refusal.TickLimit) }
     ensures bad_edit { IsErrOf result Refusal.BadEdit
         ↔ (step app.now state.old action.now ≡ Err Refusal.BadEdit) }
+    ensures no_isr { IsErrOf result Refusal.NoIsr
+        ↔ (step app.now state.old action.now ≡ Err Refusal.NoIsr) }
     ensures refusals { IfErr result (λ refusal.
         (step app.now state.old action.now ≡ Err refusal) ⊎ (refusal ≡ Refusal.NoMemory)) }
     ensures err { OnErr result (state.new ≡ state.old) }
@@ -228,7 +251,7 @@ pub fn play(
 /// How many bytes the record of a move takes at the most, as a number: 64 for each task that there
 /// may be, 96 for each core, and 73,984 besides.
 pub fn limits_of_records()
-    ensures bytes { MAX_RECORD_BYTES ≡ 76800 }
+    ensures bytes { MAX_RECORD_BYTES ≡ 77568 }
     ensures grows { MAX_RECORD_BYTES ≡ 64 * MAX_TASKS + 96 * MAX_CORES + 73984 }
 {}
 

@@ -2,7 +2,7 @@
 ghost use Rattle.std.specs.Prelude.{◌≡◌, position, is_some};
 ghost use Rattle.rd_calls.specs.Step.{policy_of};
 
-use rd_moves::edit::Lent;
+use rd_moves::carried::Lent;
 use rd_moves::moves::Move;
 use rd_state::state::State;
 

@@ -21,6 +21,8 @@ use Rattle.rd_command.specs.declared.keyword.ConditionKeyword.{ConditionKeyword}
 use Rattle.rd_command.specs.declared.keyword.ConditionKeyword.TheVariants.{Compares, InPhase}
 use Rattle.rd_command.specs.declared.keyword.EditKeyword.{EditKeyword}
 use Rattle.rd_command.specs.declared.keyword.EditKeyword.TheVariants as poked
+use Rattle.rd_command.specs.declared.keyword.InterruptKeyword.{InterruptKeyword}
+use Rattle.rd_command.specs.declared.keyword.InterruptKeyword.TheVariants as raised
 use Rattle.rd_command.specs.declared.keyword.Keyword.{Keyword}
 use Rattle.rd_command.specs.declared.keyword.Keyword.TheVariants.{Ask, AskByWatch, TakeWheel, GiveWheel, Watch, Unwatch, Show, Look}
 use Rattle.rd_command.specs.declared.keyword.Keyword.TheVariants as keyword
@@ -30,7 +32,7 @@ use Rattle.rd_command.specs.declared.keyword.SearchKeyword.{SearchKeyword}
 use Rattle.rd_command.specs.declared.keyword.SearchKeyword.TheVariants as sought
 use Rattle.rd_command.specs.declared.view.View.TheVariants.{Thing, Cores, Overview}
 use Rattle.rd_command.specs.declared.keyword.Parameter.{Parameter}
-use Rattle.rd_command.specs.declared.keyword.Parameter.TheVariants.{Core, Count, Register, Index, Number, Data, Operator, Phase, Name}
+use Rattle.rd_command.specs.declared.keyword.Parameter.TheVariants.{Core, Count, Register, Index, Number, Data, Operator, Phase, Action, Name}
 use Rattle.rd_command.specs.declared.keyword.Parameter.TheVariants as parameter
 use Rattle.rd_command.specs.Bindings.{IsBoundOf, IsWatch, Known, Reading, after_word, bound_by, bound_of, by_watch, condition_made, known_of, made_by, made_from, made_of, next_condition, next_keyword, next_value, number_below, number_named, value_of}
 use Rattle.rd_command.specs.Commands.{CommandView}
@@ -48,6 +50,7 @@ IsValue known Number number = Unit {0}
 IsValue known Data bytes = Unit {0}
 IsValue known Operator operator = Unit {0}
 IsValue known Phase name = Unit {0}
+IsValue known Action action = Unit {0}
 IsValue known parameter.Watch watch = IsWatch watch
 IsValue known (Name kind) number = number < length (names_of kind known.names)
 
@@ -80,6 +83,7 @@ value_there known Number word value e = tt
 value_there known Data word value e = tt
 value_there known Operator word value e = tt
 value_there known Phase word value e = tt
+value_there known Action word value e = tt
 value_there known parameter.Watch word value e = watch_small word value e
 value_there known (Name kind) word value e = named_there known kind word value e
 
@@ -183,6 +187,10 @@ poke_good app there poked.Bits = λ group named bits _. group_there app there gr
 poke_good app there poked.Item = λ queue named index _ bytes _. queue_there app there queue named
 poke_good app there poked.Byte = λ stream named index _ value _. stream_there app there stream named
 
+raise_good : (app : AppView) → AreThere app → (k : InterruptKeyword) → RowGood app (IsRequestOf app.runs) (request_row (asked.Interrupt k))
+raise_good app there raised.Send = λ queue named bytes _. queue_there app there queue named
+raise_good app there raised.Notify = λ task named index few value _ action _. (task_there app there task named, few)
+
 request_good : (app : AppView) → AreThere app → (k : RequestKeyword) → RowGood app (IsRequestOf app.runs) (request_row k)
 request_good app there asked.Step = λ core few. few
 request_good app there asked.Tick = tt
@@ -193,6 +201,7 @@ request_good app there asked.Until = λ condition holds count _. holds
 request_good app there asked.BackUntil = λ condition holds. holds
 request_good app there asked.Trim = λ keep _. tt
 request_good app there (asked.Poke k) = poke_good app there k
+request_good app there (asked.Interrupt k) = raise_good app there k
 
 search_good : (app : AppView) → (k : SearchKeyword) → RowGood app (λ (found : ℕ × Search). IsWatch found.0) (search_row k)
 search_good app sought.Until = λ watch few count _. few

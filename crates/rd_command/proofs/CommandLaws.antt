@@ -15,6 +15,8 @@ use Rattle.rd_command.specs.declared.keyword.ConditionKeyword.{ConditionKeyword}
 use Rattle.rd_command.specs.declared.keyword.ConditionKeyword.TheVariants.{Compares, InPhase}
 use Rattle.rd_command.specs.declared.keyword.EditKeyword.{EditKeyword}
 use Rattle.rd_command.specs.declared.keyword.EditKeyword.TheVariants as poked
+use Rattle.rd_command.specs.declared.keyword.InterruptKeyword.{InterruptKeyword}
+use Rattle.rd_command.specs.declared.keyword.InterruptKeyword.TheVariants as raised
 use Rattle.rd_command.specs.declared.keyword.Keyword.{Keyword}
 use Rattle.rd_command.specs.declared.keyword.Keyword.TheVariants.{Ask, AskByWatch, TakeWheel, GiveWheel, Watch, Unwatch, Show, Look}
 use Rattle.rd_command.specs.declared.keyword.Keyword.TheVariants as keyword
@@ -204,6 +206,10 @@ poke_again poked.Bits = λ left formed. found_first (Ask (asked.Poke poked.Bits)
 poke_again poked.Item = λ left formed. found_first (Ask (asked.Poke poked.Item)) left _ formed
 poke_again poked.Byte = λ left formed. found_first (Ask (asked.Poke poked.Byte)) left _ formed
 
+raise_again : (k : InterruptKeyword) → IsFound (Ask (asked.Interrupt k))
+raise_again raised.Send = λ left formed. found_first (Ask (asked.Interrupt raised.Send)) left _ formed
+raise_again raised.Notify = λ left formed. found_first (Ask (asked.Interrupt raised.Notify)) left _ formed
+
 show_again : (k : Kind) → IsFound (Show k)
 show_again kind.Queue = λ left formed. found_first (Show kind.Queue) left _ formed
 show_again kind.QueueSet = λ left formed. found_first (Show kind.QueueSet) left _ formed
@@ -273,6 +279,7 @@ request_again asked.Until = λ left formed. found_first (Ask asked.Until) left _
 request_again asked.BackUntil = λ left formed. found_first (Ask asked.BackUntil) left _ formed
 request_again asked.Trim = λ left formed. found_first (Ask asked.Trim) left _ formed
 request_again (asked.Poke k) = poke_again k
+request_again (asked.Interrupt k) = raise_again k
 
 search_again : (k : SearchKeyword) → IsFound (AskByWatch k)
 search_again sought.Until = λ left formed. found_second (AskByWatch sought.Until) (Ask asked.Until) left _ (watch_left (Count ∷ []) (Count ∷ []) left formed) formed

@@ -15,7 +15,7 @@ use Rattle.rd_command.specs.declared.keyword.Keyword.TheVariants.{Ask, AskByWatc
 use Rattle.rd_command.specs.declared.keyword.Keyword.TheVariants as keyword
 use Rattle.rd_command.specs.declared.view.View.TheVariants.{Thing}
 use Rattle.rd_command.specs.declared.keyword.Parameter.{Parameter}
-use Rattle.rd_command.specs.declared.keyword.Parameter.TheVariants.{Core, Count, Register, Index, Number, Data, Operator, Phase, Watch, Name}
+use Rattle.rd_command.specs.declared.keyword.Parameter.TheVariants.{Core, Count, Register, Index, Number, Data, Operator, Phase, Action, Watch, Name}
 use Rattle.rd_command.specs.Bindings.{Known, Reading, are_there, are_there_with, bound_by, bound_in, by_watch, condition_made, has_all, has_operands, is_there, made_by, made_from, made_of, next_condition, next_keyword, next_value, number_named, value_of}
 use Rattle.rd_command.specs.Commands.{AreFormed, AreOperands, CommandView, Spells}
 use Rattle.rd_command.specs.Forms.{is_formed}
@@ -40,6 +40,7 @@ value_there known Number word e = e
 value_there known Data word e = e
 value_there known Operator word e = e
 value_there known Phase word e = e
+value_there known Action word e = e
 value_there known Watch word e = e
 value_there known (Name kind) word e = named_there known kind word e
 

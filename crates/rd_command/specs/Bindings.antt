@@ -14,6 +14,7 @@ use Rattle.rd_condition.specs.declared.condition.Condition.{Condition}
 use Rattle.rd_condition.specs.Conditions.{IsConditionOf}
 use Rattle.rd_moves.specs.declared.request.Search.{Search}
 use Rattle.rd_moves.specs.Requests.{IsRequestOf}
+use Rattle.rd_notify.specs.Words.{action_of}
 use Rattle.rd_command.specs.declared.binding.Bound.{Bound}
 use Rattle.rd_command.specs.declared.binding.Bound.TheVariants as bound
 use Rattle.rd_command.specs.declared.binding.TheConstants.{MAX_WATCHES}
@@ -26,7 +27,7 @@ use Rattle.rd_command.specs.declared.keyword.Keyword.TheVariants as keyword
 use Rattle.rd_command.specs.declared.keyword.Parameter.{Parameter}
 use Rattle.rd_command.specs.declared.keyword.Parameter.TheVariants.{Core, Count, Register, Index}
 use Rattle.rd_command.specs.declared.keyword.Parameter.TheVariants.{Number, Data, Operator}
-use Rattle.rd_command.specs.declared.keyword.Parameter.TheVariants.{Phase, Watch, Name}
+use Rattle.rd_command.specs.declared.keyword.Parameter.TheVariants.{Phase, Action, Watch, Name}
 use Rattle.rd_command.specs.declared.view.View.{View}
 use Rattle.rd_command.specs.declared.view.View.TheVariants.{Thing, Cores, Overview}
 use Rattle.rd_command.specs.Commands.{CommandView}
@@ -111,6 +112,7 @@ value_of known Number word = number_of word
 value_of known Data word = bytes_of word
 value_of known Operator word = operator_of word
 value_of known Phase word = phase_of word
+value_of known Action word = action_of word
 value_of known Watch word = watch_of word
 value_of known (Name kind) word = number_named known.names kind word
 
@@ -215,6 +217,7 @@ is_there known Number word = true
 is_there known Data word = true
 is_there known Operator word = true
 is_there known Phase word = true
+is_there known Action word = true
 is_there known Watch word = true
 is_there known (Name kind) word = is_some (position (bytes_eq word) (names_of kind known.names))
 

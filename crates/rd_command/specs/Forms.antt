@@ -11,8 +11,9 @@ use Rattle.rd_condition.specs.declared.condition.PhaseName.TheVariants as name
 use Rattle.rd_command.specs.declared.keyword.Parameter.{Parameter}
 use Rattle.rd_command.specs.declared.keyword.Parameter.TheVariants.{Core, Count, Register, Index}
 use Rattle.rd_command.specs.declared.keyword.Parameter.TheVariants.{Number, Data, Operator}
-use Rattle.rd_command.specs.declared.keyword.Parameter.TheVariants.{Phase, Watch, Name}
+use Rattle.rd_command.specs.declared.keyword.Parameter.TheVariants.{Phase, Action, Watch, Name}
 use Rattle.rd_moves.specs.Counts.{count_in}
+use Rattle.rd_notify.specs.Words.{action_of}
 use Rattle.rd_command.specs.Keywords.{Operands, Plain, WithCondition}
 use Rattle.rd_command.specs.Keywords.{condition_keyword_of, condition_row, parameters_of}
 
@@ -59,6 +60,7 @@ is_formed Number word = is_some (number_of word)
 is_formed Data word = is_some (bytes_of word)
 is_formed Operator word = is_some (operator_of word)
 is_formed Phase word = is_some (phase_of word)
+is_formed Action word = is_some (action_of word)
 is_formed Watch word = is_some (watch_of word)
 is_formed (Name kind) word = is_name word
 

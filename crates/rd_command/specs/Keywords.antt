@@ -10,17 +10,22 @@ use Rattle.rd_condition.specs.declared.condition.Comparison as comparisons
 use Rattle.rd_condition.specs.declared.condition.Condition as conditions
 use Rattle.rd_condition.specs.declared.condition.Condition.TheVariants as condition
 use Rattle.rd_condition.specs.declared.condition.PhaseName as phases
+use Rattle.rd_notify.specs.declared.action.Action as actions
+use Rattle.rd_moves.specs.declared.carried.Carried.TheVariants as carried
 use Rattle.rd_moves.specs.declared.edit.Edit.TheVariants as edit
+use Rattle.rd_moves.specs.declared.interrupt.Interrupt.TheVariants as interrupt
 use Rattle.rd_moves.specs.declared.moves.Move.TheVariants as move
 use Rattle.rd_moves.specs.declared.request.Request.TheVariants as request
 use Rattle.rd_moves.specs.declared.request.Search.{Search}
 use Rattle.rd_moves.specs.declared.request.Search.TheVariants as search
+use Rattle.rd_moves.specs.Carried.{PlainCarried}
 use Rattle.rd_moves.specs.Edits.{PlainEdit}
+use Rattle.rd_moves.specs.Interrupts.{PlainInterrupt}
 use Rattle.rd_moves.specs.Requests.{PlainRequest}
 use Rattle.rd_command.specs.declared.keyword.Parameter.{Parameter}
 use Rattle.rd_command.specs.declared.keyword.Parameter.TheVariants.{Core, Count, Register, Index}
 use Rattle.rd_command.specs.declared.keyword.Parameter.TheVariants.{Number, Data, Operator}
-use Rattle.rd_command.specs.declared.keyword.Parameter.TheVariants.{Phase, Name}
+use Rattle.rd_command.specs.declared.keyword.Parameter.TheVariants.{Phase, Action, Name}
 use Rattle.rd_command.specs.declared.keyword.Parameter.TheVariants as parameter
 use Rattle.rd_command.specs.declared.keyword.AmountKeyword.{AmountKeyword}
 use Rattle.rd_command.specs.declared.keyword.AmountKeyword.TheVariants as compared
@@ -28,6 +33,8 @@ use Rattle.rd_command.specs.declared.keyword.ConditionKeyword.{ConditionKeyword}
 use Rattle.rd_command.specs.declared.keyword.ConditionKeyword.TheVariants.{Compares, InPhase}
 use Rattle.rd_command.specs.declared.keyword.EditKeyword.{EditKeyword}
 use Rattle.rd_command.specs.declared.keyword.EditKeyword.TheVariants as poked
+use Rattle.rd_command.specs.declared.keyword.InterruptKeyword.{InterruptKeyword}
+use Rattle.rd_command.specs.declared.keyword.InterruptKeyword.TheVariants as raised
 use Rattle.rd_command.specs.declared.keyword.Keyword.{Keyword}
 use Rattle.rd_command.specs.declared.keyword.Keyword.TheVariants.{Ask, AskByWatch, TakeWheel}
 use Rattle.rd_command.specs.declared.keyword.Keyword.TheVariants.{GiveWheel, Watch, Unwatch, Show}
@@ -50,6 +57,7 @@ Value Number = ℕ
 Value Data = List ℕ
 Value Operator = comparisons.Comparison
 Value Phase = phases.PhaseName
+Value Action = actions.Action
 Value parameter.Watch = ℕ
 Value (Name kind) = ℕ
 
@@ -167,9 +175,19 @@ spelled verb more operands = record { verb = verb; more = more; operands = opera
 abbrev poked_by : List ℕ → List Parameter → Spelling
 poked_by word parameters = spelled (codes "poke") (word ∷ []) (Plain parameters)
 
--- an edit, as a request
+-- an interrupt is asked for by `isr` and a second word
+abbrev raised_by : List ℕ → List Parameter → Spelling
+raised_by word parameters = spelled (codes "isr") (word ∷ []) (Plain parameters)
+
+-- what a move carries, as a request, and an edit and an interrupt
+abbrev pub carrying : PlainCarried → PlainRequest
+carrying of = request.Go (move.Carried of)
+
 abbrev pub poke : PlainEdit → PlainRequest
-poke edit = request.Go (move.Edit edit)
+poke edit = carrying (carried.Edit edit)
+
+abbrev pub raise : PlainInterrupt → PlainRequest
+raise interrupt = carrying (carried.Interrupt interrupt)
 
 abbrev pub edit_row : EditKeyword → Row PlainRequest
 edit_row poked.Register =
@@ -193,6 +211,14 @@ edit_row poked.Byte =
     Spelled (poked_by (codes "byte") (stream_name ∷ Number ∷ Number ∷ []))
     (λ stream index value. poke (edit.Byte stream index value))
 
+abbrev pub interrupt_row : InterruptKeyword → Row PlainRequest
+interrupt_row raised.Send =
+    Spelled (raised_by (codes "send") (queue_name ∷ Data ∷ []))
+    (λ queue bytes. raise (interrupt.Send queue bytes))
+interrupt_row raised.Notify =
+    Spelled (raised_by (codes "notify") (task_name ∷ Index ∷ Number ∷ Action ∷ []))
+    (λ task index value action. raise (interrupt.Notify task index value action))
+
 -- what asks the timeline
 abbrev pub request_row : RequestKeyword → Row PlainRequest
 request_row asked.Step =
@@ -213,6 +239,7 @@ request_row asked.BackUntil =
 request_row asked.Trim =
     Spelled (spelled (codes "trim") [] (Plain (Number ∷ []))) (λ keep. request.Trim keep)
 request_row (asked.Poke of) = edit_row of
+request_row (asked.Interrupt of) = interrupt_row of
 
 -- what asks it by a watch: the watch, and what is looked for
 abbrev pub search_row : SearchKeyword → Row (ℕ × Search)
@@ -309,5 +336,6 @@ keywords =
     ∷ Ask (asked.Poke poked.Register) ∷ Ask (asked.Poke poked.Data) ∷ Ask (asked.Poke poked.Pc)
     ∷ Ask (asked.Poke poked.Value) ∷ Ask (asked.Poke poked.Bits) ∷ Ask (asked.Poke poked.Item)
     ∷ Ask (asked.Poke poked.Byte)
+    ∷ Ask (asked.Interrupt raised.Send) ∷ Ask (asked.Interrupt raised.Notify)
     ∷ TakeWheel ∷ GiveWheel ∷ Ask asked.Trim ∷ Watch ∷ Unwatch
     ∷ []

@@ -11,18 +11,21 @@ ghost use Rattle.rd_command.specs.Bindings.{IsBoundOf, Takes, bound_by, bound_in
 ghost use Rattle.rd_command.specs.Bindings.{has_all, known_of, made_by, made_known, made_of};
 ghost use Rattle.rd_command.specs.Bindings.{next_condition};
 ghost use Rattle.rd_command.specs.Commands.{Spells};
-ghost use Rattle.rd_command.specs.Keywords.{amount_row, edit_row, poke, request_row};
-ghost use Rattle.rd_command.specs.Keywords.{search_row, watch_row};
+ghost use Rattle.rd_command.specs.Keywords.{amount_row, edit_row, interrupt_row, poke, raise};
+ghost use Rattle.rd_command.specs.Keywords.{request_row, search_row, watch_row};
 
 use crate::command::Command;
 use crate::digits::Digits;
 use crate::keyword::{
-    AmountKeyword, ConditionKeyword, EditKeyword, Keyword, RequestKeyword, SearchKeyword,
+    AmountKeyword, ConditionKeyword, EditKeyword, InterruptKeyword, Keyword, RequestKeyword,
+    SearchKeyword,
 };
 use crate::reader::Reader;
 use crate::view::View;
 use rd_condition::condition::{Amount, Condition};
+use rd_moves::carried::Carried;
 use rd_moves::edit::Edit;
+use rd_moves::interrupt::Interrupt;
 use rd_moves::moves::Move;
 use rd_moves::request::{Request, Search};
 use rd_names::names::Names;
@@ -38,19 +41,30 @@ pub const MAX_WATCHES: usize = 16;
 #[derive(Drop)]
 pub enum Bound<'a> {
     /// It asks the timeline: moves are made, taken back or made again.
-    Asks { request: Request<Edit<Digits<'a>>> },
+    Asks {
+        request: Request<Carried<Digits<'a>>>,
+    },
     /// It asks the timeline to search for the condition of the session's watch with that number.
-    AsksByWatch { watch: usize, search: Search },
+    AsksByWatch {
+        watch: usize,
+        search: Search,
+    },
     /// Nobody but the session makes moves from now on.
     TakesWheel,
     /// Everybody may make moves again.
     GivesWheel,
     /// The session keeps the condition.
-    Keeps { condition: Condition },
+    Keeps {
+        condition: Condition,
+    },
     /// The session drops its watch with this number.
-    Drops { number: usize },
+    Drops {
+        number: usize,
+    },
     /// It is shown something.
-    Looks { view: View },
+    Looks {
+        view: View,
+    },
 }
 
 /// The application has no core, register, notification entry or name like this.
@@ -170,8 +184,29 @@ fn read_edit<'a>(
     })
 }
 
+// The interrupt of such a keyword, of the words after it.
+fn read_interrupt<'a>(
+    keyword: InterruptKeyword,
+    reader: &mut Reader<'_, 'a>,
+) -> Result<Interrupt<Digits<'a>>, Unknown>
+    ensures { option_map raise (result_ok result) ≡ made_by (interrupt_row keyword) reader.old }
+{
+    Ok(match keyword {
+        InterruptKeyword::Send => Interrupt::Send {
+            queue: reader.named(Kind::Queue)?,
+            bytes: reader.data()?,
+        },
+        InterruptKeyword::Notify => Interrupt::Notify {
+            task: reader.named(Kind::Task)?,
+            index: reader.index()?,
+            value: reader.number()?,
+            action: reader.action()?,
+        },
+    })
+}
+
 // The request `until`, of the words after that.
-fn read_until<'a>(reader: &mut Reader<'_, 'a>) -> Result<Request<Edit<Digits<'a>>>, Unknown>
+fn read_until<'a>(reader: &mut Reader<'_, 'a>) -> Result<Request<Carried<Digits<'a>>>, Unknown>
     ensures { result_ok result ≡ made_by (request_row asked.Until) reader.old }
 {
     let condition = read_condition(reader)?;
@@ -183,7 +218,7 @@ fn read_until<'a>(reader: &mut Reader<'_, 'a>) -> Result<Request<Edit<Digits<'a>
 fn read_request<'a>(
     keyword: RequestKeyword,
     reader: &mut Reader<'_, 'a>,
-) -> Result<Request<Edit<Digits<'a>>>, Unknown>
+) -> Result<Request<Carried<Digits<'a>>>, Unknown>
     ensures { result_ok result ≡ made_by (request_row keyword) reader.old }
 {
     match keyword {
@@ -212,8 +247,16 @@ fn read_request<'a>(
         }),
         RequestKeyword::Poke(keyword) => {
             let edit = read_edit(keyword, reader)?;
+            let carried = Carried::Edit { edit };
             Ok(Request::Go {
-                action: Move::Edit { edit },
+                action: Move::Carried { carried },
+            })
+        }
+        RequestKeyword::Interrupt(keyword) => {
+            let interrupt = read_interrupt(keyword, reader)?;
+            let carried = Carried::Interrupt { interrupt };
+            Ok(Request::Go {
+                action: Move::Carried { carried },
             })
         }
     }

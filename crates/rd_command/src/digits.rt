@@ -1,12 +1,14 @@
-//! Bytes as they stand in a line, and edits and requests that carry them.
+//! Bytes as they stand in a line, and what carries them: edits, interrupts, moves and requests.
 
 ghost use Rattle.std.specs.Prelude.{◌≡◌, IfErr, IfOk};
 ghost use Rattle.rd_text.specs.Words.{bytes_of};
 ghost use Rattle.rd_command.specs.Digits.{is_data};
-ghost use Rattle.rd_command.specs.Keywords.{poke};
+ghost use Rattle.rd_command.specs.Keywords.{carrying};
 
 use rd_bytes::bytes::Bytes;
-use rd_moves::edit::{Edit, Lent};
+use rd_moves::carried::{Carried, Lent};
+use rd_moves::edit::Edit;
+use rd_moves::interrupt::Interrupt;
 use rd_moves::moves::Move;
 use rd_moves::request::Request;
 use rd_text::words::bytes;
@@ -56,8 +58,8 @@ pub fn is_data(word: &[u8]) -> bool
     bytes(word).is_some()
 }
 
-/// The edit with bytes of its own, which are read from their digits.
-pub fn own(edit: &Edit<Digits<'_>>) -> Edit
+// The edit with bytes of its own.
+fn own_edit(edit: &Edit<Digits<'_>>) -> Edit
     ensures { result ≡ edit.now }
 {
     match edit {
@@ -98,20 +100,57 @@ pub fn own(edit: &Edit<Digits<'_>>) -> Edit
     }
 }
 
-/// The request as a timeline is asked it, where it lends no edit; else the edit, whose bytes are
-/// still to be read (`own`). (Room for 256 bytes is only where an edit is.)
+// The interrupt with bytes of its own.
+fn own_interrupt(interrupt: &Interrupt<Digits<'_>>) -> Interrupt
+    ensures { result ≡ interrupt.now }
+{
+    match interrupt {
+        Interrupt::Send { queue, bytes } => Interrupt::Send {
+            queue: *queue,
+            bytes: bytes.bytes(),
+        },
+        &Interrupt::Notify {
+            task,
+            index,
+            value,
+            action,
+        } => Interrupt::Notify {
+            task,
+            index,
+            value,
+            action,
+        },
+    }
+}
+
+/// What a move carries with bytes of its own, which are read from their digits.
+pub fn own(carried: &Carried<Digits<'_>>) -> Carried
+    ensures { result ≡ carried.now }
+{
+    match carried {
+        Carried::Edit { edit } => Carried::Edit {
+            edit: own_edit(edit),
+        },
+        Carried::Interrupt { interrupt } => Carried::Interrupt {
+            interrupt: own_interrupt(interrupt),
+        },
+    }
+}
+
+/// The request as a timeline is asked it, where its move carries nothing; else what it carries,
+/// whose bytes are still to be read (`own`). (Room for 256 bytes is only where bytes are.)
 pub fn bare<'r, 'a>(
-    request: &'r Request<Edit<Digits<'a>>>,
-) -> Result<Request<Lent<'static>>, &'r Edit<Digits<'a>>>
+    request: &'r Request<Carried<Digits<'a>>>,
+) -> Result<Request<Lent<'static>>, &'r Carried<Digits<'a>>>
     ensures bare { IfOk result (λ bare. bare ≡ request.now) }
-    ensures edit { IfErr result (λ edit. poke edit.now ≡ request.now) }
+    ensures carried { IfErr result (λ carried. carrying carried.now ≡ request.now) }
 {
     Ok(match request {
         Request::Go { action } => Request::Go {
             action: match action {
                 Move::Core { core } => Move::Core { core: *core },
                 Move::Tick => Move::Tick,
-                Move::Edit { edit } => return Err(edit),
+                Move::Carried { carried } => return Err(carried),
             },
         },
         Request::Back { count } => Request::Back { count: *count },

@@ -14,6 +14,7 @@ use crate::keyword::{Operands, Parameter, condition_keyword_of};
 use crate::word::Word;
 use rd_condition::condition::{Comparison, PhaseName};
 use rd_moves::count::Count;
+use rd_notify::action::action_of;
 use rd_text::words::{is_name, number};
 
 /// A number of moves: 1 to 1,000,000.
@@ -84,6 +85,7 @@ fn is_formed(parameter: Parameter, word: &Word<'_>) -> bool
         Parameter::Data => is_data(word.text()),
         Parameter::Operator => operator_of(word.text()).is_some(),
         Parameter::Phase => phase_of(word.text()).is_some(),
+        Parameter::Action => action_of(word.text()).is_some(),
         Parameter::Watch => watch_of(word.text()).is_some(),
         Parameter::Name(_) => is_name(word.text()),
     }

@@ -30,6 +30,8 @@ pub(crate) enum Parameter {
     Operator,
     /// What a phase is called: `run`, `again`, `given`, `wait`, `ended` or `failed`.
     Phase,
+    /// What a notification does: `none`, `bits`, `inc`, `set` or `setif`.
+    Action,
     /// A watch of the session: `w` and its number, 0 to 15.
     Watch,
     /// The name of a thing of that kind.
@@ -57,6 +59,13 @@ pub enum EditKeyword {
     Byte,
 }
 
+/// What an interrupt does.
+#[derive(Clone, Copy)]
+pub enum InterruptKeyword {
+    Send,
+    Notify,
+}
+
 /// What a request of the timeline is, as its first words say.
 #[derive(Clone, Copy)]
 pub enum RequestKeyword {
@@ -69,6 +78,7 @@ pub enum RequestKeyword {
     BackUntil,
     Trim,
     Poke(EditKeyword),
+    Interrupt(InterruptKeyword),
 }
 
 /// What is looked for by a watch.
@@ -155,6 +165,8 @@ const OPERATOR: Parameter = Parameter::Operator;
 
 const PHASE: Parameter = Parameter::Phase;
 
+const ACTION: Parameter = Parameter::Action;
+
 const WATCH: Parameter = Parameter::Watch;
 
 const QUEUE: Parameter = Parameter::Name(Kind::Queue);
@@ -179,7 +191,7 @@ pub(crate) type Longer<'a> = (&'a str, Operands<'a>, Keyword);
 pub(crate) type Verb<'a> = (&'a str, &'a [Alone<'a>], &'a [Longer<'a>]);
 
 /// Each keyword of a command, by its first word. What is asked for most comes first.
-pub(crate) static KEYWORDS: [Verb<'static>; 12] = [
+pub(crate) static KEYWORDS: [Verb<'static>; 13] = [
     ("step", &[(Plain(&[CORE]), Ask(RequestKeyword::Step))], &[]),
     ("tick", &[(Plain(&[]), Ask(RequestKeyword::Tick))], &[]),
     (
@@ -262,6 +274,22 @@ pub(crate) static KEYWORDS: [Verb<'static>; 12] = [
                 "byte",
                 Plain(&[STREAM, NUMBER, NUMBER]),
                 Ask(RequestKeyword::Poke(EditKeyword::Byte)),
+            ),
+        ],
+    ),
+    (
+        "isr",
+        &[],
+        &[
+            (
+                "send",
+                Plain(&[QUEUE, DATA]),
+                Ask(RequestKeyword::Interrupt(InterruptKeyword::Send)),
+            ),
+            (
+                "notify",
+                Plain(&[TASK, INDEX, NUMBER, ACTION]),
+                Ask(RequestKeyword::Interrupt(InterruptKeyword::Notify)),
             ),
         ],
     ),

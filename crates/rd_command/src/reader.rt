@@ -16,6 +16,7 @@ use rd_app::instr::REGISTERS;
 use rd_condition::condition::{Comparison, PhaseName};
 use rd_moves::count::Count;
 use rd_names::names::Names;
+use rd_notify::action::{Action, action_of};
 use rd_text::kind::Kind;
 use rd_text::words::name;
 use std::marker::Model;
@@ -167,6 +168,14 @@ impl<'r, 'a> Reader<'r, 'a> {
         ensures { Takes (next_value parameter.Phase self.old) result self.new }
     {
         phase_of(self.next().ok_or(Unknown)?.text()).ok_or(Unknown)
+    }
+
+    /// The next word, as what a notification does.
+    #[tactic(auto, unfolding(crate::specs::Bindings::next_value))]
+    pub(crate) fn action(&mut self) -> Result<Action, Unknown>
+        ensures { Takes (next_value parameter.Action self.old) result self.new }
+    {
+        action_of(self.next().ok_or(Unknown)?.text()).ok_or(Unknown)
     }
 
     /// The next word, as the number of a watch.

@@ -1,5 +1,5 @@
 -- What one may count on.
-use Rattle.std.proofs.Common.{◌≡◌, ◌∙◌, ℕ, ◌-◌, List, [], ◌∷◌, ◌++◌, true, false, cond, length, take, refl, ap, arith}
+use Rattle.std.proofs.Common.{◌≡◌, ◌≢◌, ◌∙◌, ℕ, ◌-◌, List, [], ◌∷◌, ◌++◌, true, false, cond, length, take, refl, ap, arith}
 use Rattle.std.specs.Prelude.{Bool, nat_le, is_none, Option, None, Some, position}
 use Rattle.std.proofs.lemmas.Bool.{le-leb}
 use Rattle.std.proofs.lemmas.List.{length_push, take-append-le, take_all}
@@ -13,16 +13,16 @@ use Rattle.rd_moves.specs.declared.request.Request.TheVariants as request
 use Rattle.rd_moves.specs.declared.request.Search.{Search}
 use Rattle.rd_moves.specs.Moves.{PlainMove}
 use Rattle.rd_moves.specs.Requests.{PlainRequest, request_for}
-use Rattle.rd_timeline.specs.Answers.{answer_to}
+use Rattle.rd_timeline.specs.Answers.{answer_of, answer_to}
+use Rattle.rd_timeline.specs.RunLaws.{is_refusal}
 use Rattle.rd_timeline.specs.History.{state_after}
 use Rattle.rd_timeline.specs.Policy.{state_or}
-use Rattle.rd_timeline.specs.Runs.{Leaves, Moves, Refuses, answered, back_at, kept, moved_on, moves_after}
+use Rattle.rd_timeline.specs.Runs.{Leaves, Moves, Plain, Refuses, Response, answered, back_at, kept, moved_on, moves_after, response_to}
 use Rattle.rd_timeline.proofs.Offered.{refused_request, went_on}
 use Rattle.rd_command.specs.declared.view.Overview.TheVariants as overview
 use Rattle.rd_command.specs.declared.view.View.TheVariants as view
 use Rattle.rd_command.specs.declared.binding.Bound.{Bound}
 use Rattle.rd_command.specs.declared.binding.Bound.TheVariants as bound
-use Rattle.rd_reply.specs.declared.reply.Reply.TheVariants as short
 use Rattle.rd_reply.specs.Replies.{answer_reply}
 use Rattle.rd_desk.specs.declared.reply.Reply.{Reply}
 use Rattle.rd_desk.specs.declared.reply.Reply.TheVariants.{Told}
@@ -37,13 +37,14 @@ use Rattle.rd_desk.proofs.CommandedLaws.{commanded}
 -- what is told of an answer tells which it was
 told_refused : (answer : Answer) (refusal : Refusal) → Told (answer_reply answer) ≡ refused refusal → answer ≡ given.Refused refusal
 told_refused (given.Done at) refusal is = absurd cc
+told_refused (given.Answered at answer) refusal is = absurd cc
 told_refused (given.Ended at end) refusal is = absurd cc
 told_refused (given.Refused other) refusal is = cc
 
-told_done : (answer : Answer) (at : ℕ) → Told (answer_reply answer) ≡ Told (short.Done at) → answer ≡ given.Done at
-told_done (given.Done other) at is = cc
-told_done (given.Ended other end) at is = absurd cc
-told_done (given.Refused refusal) at is = absurd cc
+-- what is told of what came of a request tells whether that was refused
+goes_on : (response : Response) → ((refusal : Refusal) → Told (answer_reply (answer_of response)) ≢ refused refusal) → is_refusal response ≡ false
+goes_on (Leaves moves end) not_refused = refl
+goes_on (Refuses refusal) not_refused = absurd (not_refused refusal refl)
 
 same_request : (d : Debugger) (asked : PlainRequest) (refusal : Refusal) → reply_to_request d asked ≡ refused refusal → after_request d asked ≡ d
 same_request d asked refusal is =
@@ -93,16 +94,15 @@ taken_back moves move =
     ∙ take_all (length moves) moves (omega arith)
 
 back_again : (done : List PlainMove) (b : Bool) (before moves : Moves) (refusal : Refusal) → b ≡ true → moves.done ≡ done
-    → (moves_after before (cond b (Leaves moves None) (Refuses refusal))).done ≡ done
+    → (moves_after before (cond b (Leaves moves Plain) (Refuses refusal))).done ≡ done
 back_again done true before moves refusal is same = same
 back_again done false before moves refusal is same = absurd cc
 
 pub back_gives_the_target_back : BackGivesTheTargetBack
-back_gives_the_target_back d move at within is =
-    let told : answer_to d.app.runs d.most_moves d.moves (request.Go move) ≡ given.Done at = told_done (answer_to d.app.runs d.most_moves d.moves (request.Go move)) at is in
+back_gives_the_target_back d move within not_refused =
     let longer : Moves = moved_on d.moves move in
-    let went : answered d.app.runs d.most_moves d.moves (request.Go move) ≡ longer =
-    went_on d.app.runs d.most_moves d.moves move at told in
+    let goes = goes_on (response_to d.app.runs d.most_moves d.moves (request.Go move)) not_refused in
+    let went : answered d.app.runs d.most_moves d.moves (request.Go move) ≡ longer = went_on d.app.runs d.most_moves d.moves move goes in
     let there : nat_le 1 (kept longer) ≡ true = le-leb 1 (kept longer) (omega (arith, length_push d.moves.done move, within)) in
     let back : (answered d.app.runs d.most_moves longer (request.Back 1)).done ≡ d.moves.done =
     back_again d.moves.done (nat_le 1 (kept longer)) longer (back_at longer (length longer.done - 1)) (TooFar (kept longer)) there

@@ -7,11 +7,9 @@ use Rattle.rd_command.specs.Commands.{CommandView}
 use Rattle.rd_command.specs.declared.view.Overview.TheVariants as overview
 use Rattle.rd_command.specs.declared.view.View.{View}
 use Rattle.rd_command.specs.declared.view.View.TheVariants.{Overview}
-use Rattle.rd_reply.specs.declared.reply.Reply.TheVariants as short
 use Rattle.rd_desk.specs.declared.entry.Entry.{Entry}
 use Rattle.rd_desk.specs.declared.entry.Event.{Event}
 use Rattle.rd_desk.specs.declared.entry.Receipt.{Receipt}
-use Rattle.rd_desk.specs.declared.reply.Reply.TheVariants.{Told}
 use Rattle.rd_desk.specs.Debugger.{Debugger, own_watches, target_of, watching}
 use Rattle.rd_desk.specs.DeskView.{DeskView, Does}
 use Rattle.rd_desk.specs.Legal.{IsLegal}
@@ -28,12 +26,12 @@ RefusedCommandsChangeNothing =
     (d : Debugger) (who : ℕ) (command : CommandView) (refusal : Refusal)
     → reply_to_command d who command ≡ refused refusal → after_command d who command ≡ d
 
--- Taking back a move that was made, an edit among them, gives back the whole target before it,
--- whatever was trimmed before.
+-- Taking back a move that was made, an edit or an interrupt among them, gives back the whole target
+-- before it, whatever was trimmed before. It was made if it wasn't refused.
 abbrev pub BackGivesTheTargetBack : Type 0
 BackGivesTheTargetBack =
-    (d : Debugger) (move : PlainMove) (at : ℕ) → d.moves.base ≤ length d.moves.done
-    → reply_to_request d (Go move) ≡ Told (short.Done at)
+    (d : Debugger) (move : PlainMove) → d.moves.base ≤ length d.moves.done
+    → ((refusal : Refusal) → reply_to_request d (Go move) ≢ refused refusal)
     → target_of (after_request (after_request d (Go move)) (Back 1)) ≡ target_of d
 
 -- Trimming is seen in `show moves`, and in nothing else that is shown.

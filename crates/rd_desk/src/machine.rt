@@ -3,7 +3,7 @@
 ghost use Rattle.std.specs.Prelude.{◌≡◌, ◌↔◌, ◌+◌, ◌<◌, length, slice_set, true};
 ghost use Rattle.std.specs.Prelude.{IfOk, IfSome, IsErr, IsSome, IsTrue, OnErr, Ok};
 ghost use Rattle.rd_command.specs.Bindings.{IsBoundOf, IsViewOf, known_of};
-ghost use Rattle.rd_command.specs.Keywords.{poke};
+ghost use Rattle.rd_command.specs.Keywords.{carrying};
 ghost use Rattle.rd_command.specs.declared.binding.Bound.TheVariants as bound;
 ghost use Rattle.rd_condition.specs.Conditions.{IsConditionOf};
 ghost use Rattle.rd_moves.specs.Requests.{IsRequestOf};
@@ -31,7 +31,7 @@ use rd_command::digits::{Digits, bare, own};
 use rd_command::order::Order;
 use rd_command::view::{Overview, View};
 use rd_condition::condition::Condition;
-use rd_moves::edit::{Edit, Lent};
+use rd_moves::carried::{Carried, Lent};
 use rd_moves::moves::Move;
 use rd_moves::request::{Request, Search};
 use rd_names::app::App;
@@ -246,18 +246,21 @@ impl Machine {
         Ok(told(Short::of(answer)))
     }
 
-    // Asks the timeline for an edit, whose bytes are read here and stand here meanwhile.
+    // Asks the timeline for a move, with what it carries, whose bytes are read here and stand here
+    // meanwhile.
     #[inline(never)]
-    fn poke(&mut self, edit: &Edit<Digits<'_>>) -> Result<Reply, NoMemory>
-        requires { IsRequestOf self.old.app.runs (poke edit.now) }
-        ensures after { IfOk result (λ reply. self.new ≡ after_request self.old (poke edit.now)) }
-        ensures reply { IfOk result (λ reply. reply ≡ reply_to_request self.old (poke edit.now)) }
+    fn carry(&mut self, carried: &Carried<Digits<'_>>) -> Result<Reply, NoMemory>
+        requires { IsRequestOf self.old.app.runs (carrying carried.now) }
+        ensures after { IfOk result
+            (λ reply. self.new ≡ after_request self.old (carrying carried.now)) }
+        ensures reply { IfOk result
+            (λ reply. reply ≡ reply_to_request self.old (carrying carried.now)) }
         ensures err { OnErr result (self.new ≡ self.old) }
     {
-        let edit = own(edit);
-        let edit = Lent::new(&edit);
+        let carried = own(carried);
+        let carried = Lent::new(&carried);
         self.ask(&Request::Go {
-            action: Move::Edit { edit },
+            action: Move::Carried { carried },
         })
     }
 
@@ -400,7 +403,7 @@ impl Machine {
         match bound {
             Bound::Asks { request } => match bare(request) {
                 Ok(request) => self.ask(&request),
-                Err(edit) => self.poke(edit),
+                Err(carried) => self.carry(carried),
             },
             Bound::AsksByWatch { watch, search } => self.ask_by_watch(who, *watch, *search),
             Bound::TakesWheel => Ok(self.take_wheel(who)),

@@ -36,7 +36,7 @@ use Rattle.rd_kernel.proofs.MovingLaws.{waits_nowhere}
 use Rattle.rd_kernel.specs.declared.waking.Waking.TheVariants.{TriesAgain}
 use Rattle.rd_kernel.specs.Outcomes.{Called, IsCalling, blocked, call_fails, call_returns, concluded, passed, returned, stopped}
 use Rattle.rd_kernel.specs.Tasks.{advanced, with_idle_core, with_pc, with_phase}
-use Rattle.rd_kernel.proofs.WakingLaws.{AfterWaking, AfterWaking-woken_all, IsConsistent-woken_all, MayWakeAll-first}
+use Rattle.rd_kernel.proofs.WakingLaws.{AfterWaking, AfterWaking-woken_all, IsConsistent-woken_first}
 use Rattle.rd_app.specs.declared.instr.Operand.{Operand}
 use Rattle.rd_state.specs.declared.phase.Cause.{Cause}
 use Rattle.rd_kernel.specs.declared.outcome.Outcome.TheVariants.{Waits}
@@ -308,7 +308,7 @@ IsConsistent-done app s p core task waiting done =
     let D = all_have_time_left s.tick in
     IsConsistent-passed app s.tick p (woken_first (priorities_of app) p waiting) task 1 first done.there done.runs done.free done.within
     (AfterWaking-woken_all (priorities_of app) TriesAgain p first)
-    (IsConsistent-woken_all app D TriesAgain p first (MayWakeAll-first app D p waiting done.waiters (λ t deadline. tt) done.consistent) done.consistent)
+    (IsConsistent-woken_first app D p waiting done.waiters (λ t deadline. tt) done.consistent)
 
 -- A call that changes nothing but what its caller is given.
 pub IsConsistent-returned_alone : (app : Application) (s : Snapshot) (core task value : ℕ) (instr : Instr) → RunsInstr app s core task instr → entry_of_call instr ≡ None

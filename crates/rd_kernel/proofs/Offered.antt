@@ -6,7 +6,7 @@ pub use Rattle.rd_kernel.proofs.CallLaws.{IsConsistent-advanced, IsConsistent-re
 pub use Rattle.rd_kernel.proofs.CallLaws.{IsConsistent-or_blocked, IsConsistent-returned, IsConsistent-stopped, IsConsistent-with_pc}
 pub use Rattle.rd_kernel.proofs.CallLaws.{IsConsistent-with_values, IsDone, RunsInstr, due_idle, is_task_on_core, or_blocked-tick}
 pub use Rattle.rd_kernel.proofs.CallLaws.{room_in_ready, runs_on_core, runs_outside_calls, waits_is_task, woken_first-tick}
-pub use Rattle.rd_kernel.proofs.TaskListLaws.{first_waits, other_none, same_one}
+pub use Rattle.rd_kernel.proofs.TaskListLaws.{first_is_listed, first_waits, other_none, same_one}
 pub use Rattle.rd_kernel.proofs.CallLaws.{free_at}
 pub use Rattle.rd_kernel.proofs.MovingLaws.{IsFree, IsFree-objects, free_in_call, free_in_run, has_seat, none_is_some, runner_waits_nowhere}
 pub use Rattle.rd_kernel.proofs.EntryLaws.{IsConsistent-told, IsConsistent-waiting_for_entry, IsConsistent-with_entry, StaysThere, StaysThere-told}
@@ -25,3 +25,4 @@ pub use Rattle.rd_kernel.proofs.GivingLaws.{IsConsistent-given, IsOn-given, IsOn
 pub use Rattle.rd_kernel.proofs.CallLaws.{room_in_list}
 pub use Rattle.rd_kernel.proofs.EntryLaws.{EachStays-woken_all}
 pub use Rattle.rd_kernel.proofs.CallLaws.{room_while_a_list_has_one, room_while_one_waits, who_waits_leaves_room}
+pub use Rattle.rd_kernel.proofs.WakingLaws.{IsConsistent-woken_first}

@@ -25,7 +25,7 @@ use Rattle.rd_kernel.proofs.ConsistentLaws.{IsConsistent, IsConsistent-deadlines
 use Rattle.rd_kernel.proofs.TaskListLaws.{find_in_list, first_is_listed, other_none, same_one}
 use Rattle.std.specs.Option.{option_and_then, option_to_list}
 use Rattle.rd_kernel.specs.Waking.{FirstTriesWait, deadline_after, due_below, if_due, is_due, objects_left, objects_without, operand_value, phase_woken, timed_out}
-use Rattle.rd_kernel.specs.Waking.{woken, woken_all, woken_at}
+use Rattle.rd_kernel.specs.Waking.{woken, woken_all, woken_at, woken_first}
 use Rattle.rd_kernel.proofs.MovingLaws.{IsConsistent-moves, ListGoes-left, ObjectsGo-list, ObjectsGo-stay, SeatsGo-ready, none_is_some}
 use Rattle.rd_kernel.proofs.MovingLaws.{waiter_is_idle, waits_nowhere}
 use Rattle.rd_kernel.specs.declared.waking.Waking.{Waking}
@@ -297,6 +297,13 @@ MayWakeAll-first app D s place members asked at =
       there = λ t some. members t (first_is_listed (waiting_at s place) t some);
       each = λ t some. may_try_again app D s t (members t (first_is_listed (waiting_at s place) t some)) (asked t) at;
     }
+
+-- The first who waits in a list is woken, if anybody does.
+pub IsConsistent-woken_first : (app : Application) (D : ℕ → Phase → Type 0) (s : Snapshot) (place : Listed)
+    → ((t : ℕ) → 1 ≤ times_in_list t (waiting_at s place) → t < length s.tasks) → ((t : ℕ) (deadline : Option ℕ) → D t (Again deadline)) → IsConsistent app D s
+    → IsConsistent app D (woken_first (priorities_of app) s place)
+IsConsistent-woken_first app D s place members asked at =
+    IsConsistent-woken_all app D TriesAgain s (option_to_list (slice_get (waiting_at s place) 0)) (MayWakeAll-first app D s place members asked at) at
 
 -- ---- those whose time is up
 

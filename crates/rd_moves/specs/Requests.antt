@@ -2,17 +2,17 @@
 use Rattle.rd_app.specs.Application.{Application}
 use Rattle.rd_condition.specs.declared.condition.Condition.{Condition}
 use Rattle.rd_condition.specs.Conditions.{IsConditionOf}
+use Rattle.rd_moves.specs.Carried.{PlainCarried}
 use Rattle.rd_moves.specs.declared.request.Request as requests
 use Rattle.rd_moves.specs.declared.request.Request.TheVariants.{Go, Back, Forward, Redo, Until}
 use Rattle.rd_moves.specs.declared.request.Request.TheVariants.{BackUntil, Trim}
 use Rattle.rd_moves.specs.declared.request.Search.{Search}
 use Rattle.rd_moves.specs.declared.request.Search.TheVariants as search
-use Rattle.rd_moves.specs.Edits.{PlainEdit}
 use Rattle.rd_moves.specs.Moves.{IsMoveOf}
 
--- a request with its edit, wherever that stands
+-- a request with what its move carries, wherever that stands
 abbrev pub PlainRequest : Type 0
-PlainRequest = requests.Request PlainEdit
+PlainRequest = requests.Request PlainCarried
 
 -- The request names what the application has. (That a count is one says its type.)
 abbrev pub IsRequestOf : Application → PlainRequest → Type 0

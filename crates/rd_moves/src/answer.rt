@@ -19,6 +19,8 @@ pub enum SearchEnd {
 pub enum Answer {
     /// So many moves are done now.
     Done { at: usize },
+    /// So many moves are done now, of which the last is an interrupt that had this answer, 1 or 0.
+    Answered { at: usize, answer: u32 },
     /// So many moves are done where a search ended.
     Ended { at: usize, end: SearchEnd },
     /// Nothing has changed.

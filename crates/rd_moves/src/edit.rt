@@ -5,7 +5,6 @@ ghost use Rattle.rd_bytes.specs.declared.bytes.TheConstants.{MAX_BYTES};
 ghost use Rattle.rd_moves.specs.Edits.{IsSizedEdit};
 
 use rd_bytes::bytes::Bytes;
-use std::marker::Model;
 
 /// One thing that is changed by hand, to see what would come of it. An edit wakes nobody, schedules
 /// nothing, and leaves the turn where it is. Tasks, objects and their parts go by number, from 0.
@@ -131,35 +130,5 @@ impl Edit {
             Edit::Data { bytes, .. } => are_few(bytes),
             Edit::Pc { .. } | Edit::Bits { .. } | Edit::Item { .. } | Edit::Byte { .. } => (),
         }
-    }
-}
-
-/// An edit that stands elsewhere. A move that has it is as small as any other.
-#[derive(Drop)]
-pub struct Lent<'a> {
-    edit: &'a Edit,
-}
-
-impl<'a> Model for Lent<'a> {
-    ghost use Rattle.rd_moves.specs.Edits.{PlainEdit};
-
-    ghost Value = { PlainEdit };
-
-    ghost view = { λ l. l.edit.now };
-}
-
-impl<'a> Lent<'a> {
-    /// This edit.
-    pub fn new(edit: &'a Edit) -> Lent<'a>
-        ensures { result ≡ edit.now }
-    {
-        Lent { edit }
-    }
-
-    /// The edit.
-    pub fn edit(&self) -> &'a Edit
-        ensures { result.now ≡ self.now }
-    {
-        self.edit
     }
 }

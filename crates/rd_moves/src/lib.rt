@@ -3,7 +3,9 @@
 #![tactic(auto)]
 
 pub mod answer;
+pub mod carried;
 pub mod count;
 pub mod edit;
+pub mod interrupt;
 pub mod moves;
 pub mod request;

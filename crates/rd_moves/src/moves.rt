@@ -1,13 +1,13 @@
 //! Moves.
 
-/// One move of the target. An edit is lent, or its bytes stand where they were read: so a move is
-/// small.
+/// One move of the target. What it carries is lent, or its bytes stand where they were read: so a
+/// move is small.
 #[derive(Drop)]
-pub enum Move<E: Drop> {
+pub enum Move<C: Drop> {
     /// The task on this core does one instruction.
     Core { core: usize },
     /// A tick passes.
     Tick,
-    /// One thing is changed by hand.
-    Edit { edit: E },
+    /// What it carries says what is done.
+    Carried { carried: C },
 }

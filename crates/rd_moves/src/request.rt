@@ -3,16 +3,16 @@
 ghost use Rattle.std.specs.Prelude.{◌≡◌};
 ghost use Rattle.rd_moves.specs.Requests.{request_for};
 
+use crate::carried::Lent;
 use crate::count::Count;
-use crate::edit::Lent;
 use crate::moves::Move;
 use rd_condition::condition::Condition;
 
-/// What one asks of a timeline, with edits as moves have them. Each count is 1 to 1,000,000.
+/// What one asks of a timeline, with moves that have what they carry. Each count is 1 to 1,000,000.
 #[derive(Drop)]
-pub enum Request<E: Drop> {
+pub enum Request<C: Drop> {
     /// Make this move.
-    Go { action: Move<E> },
+    Go { action: Move<C> },
     /// Go back by so many moves.
     Back { count: Count },
     /// Make so many moves by policy.

@@ -12,6 +12,7 @@ use crate::names::{Counts, NameLists, Names};
 use rd_app::app::Program;
 use rd_app::both::both;
 use rd_app::instr::Instr;
+use rd_app::profile::Profile;
 use rd_text::kind::Kind;
 use std::alloc::{AllocError, Global};
 use std::marker::Model;
@@ -103,6 +104,13 @@ impl App {
     {
         self.program.limits();
         self.names.keeps();
+    }
+
+    /// The profile.
+    pub fn profile(&self) -> Profile
+        ensures { result ≡ self.now.runs.profile }
+    {
+        self.program.profile()
     }
 
     /// What runs.

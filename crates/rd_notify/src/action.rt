@@ -2,6 +2,7 @@
 
 ghost use Rattle.std.specs.Prelude.{◌≡◌};
 ghost use Rattle.rd_notify.specs.Entries.{value_left, value_notified};
+ghost use Rattle.rd_notify.specs.Words.{action_of};
 
 /// What a notification does to the value of its entry (`eNotifyAction`).
 #[derive(Clone, Copy, PartialEq, Eq)]
@@ -29,6 +30,21 @@ impl Action {
             Action::Increment => old.wrapping_add(1),
             Action::Overwrite | Action::WithoutOverwrite => value,
         }
+    }
+}
+
+/// The action that a word of a script or a command stands for: `none`, `bits`, `inc`, `set` or
+/// `setif`. `None` exactly where it is no such word.
+pub fn action_of(word: &[u8]) -> Option<Action>
+    ensures { result ≡ action_of word.now }
+{
+    match word {
+        b"none" => Some(Action::KeepValue),
+        b"bits" => Some(Action::SetBits),
+        b"inc" => Some(Action::Increment),
+        b"set" => Some(Action::Overwrite),
+        b"setif" => Some(Action::WithoutOverwrite),
+        _ => None,
     }
 }
 

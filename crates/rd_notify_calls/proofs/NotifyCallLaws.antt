@@ -86,19 +86,38 @@ pub record IsNotified (app : Application) (s p : Snapshot) (task : ℕ) : Type 0
   pub consistent : IsConsistent app (all_have_time_left s.tick) p
   pub stays : StaysThere s p task
 
+-- A notification leaves what makes a state valid, and the tick, whoever it comes from.
+pub IsConsistent-notified : (app : Application) (s : Snapshot) (target index value : ℕ) (action : Action) → IsValid app s → target < length s.tasks
+    → index < app.entries → IsConsistent app (all_have_time_left s.tick) (notified (priorities_of app) s target index action value)
+IsConsistent-notified app s target index value action valid there within =
+    let has = entry_there app s target index valid there within in
+    let entry = entry_notified action value (entry_at s target index) in
+    let at = IsConsistent-valid app s valid in
+    elim (is_left_alone action (entry_at s target index).state) as (λ b.
+    IsConsistent app (all_have_time_left s.tick) (cond b s (told (priorities_of app) s target index entry))) [
+      | true ↦ at
+      | false ↦ IsConsistent-told app (all_have_time_left s.tick) s target index entry has received_is_not_waiting (λ deadline. tt) at
+    ]
+
+pub notified-tick : (priorities : List ℕ) (s : Snapshot) (target index value : ℕ) (action : Action) → (notified priorities s target index action value).tick ≡ s.tick
+notified-tick priorities s target index value action =
+    let entry = entry_notified action value (entry_at s target index) in
+    elim (is_left_alone action (entry_at s target index).state) as (λ b. (cond b s (told priorities s target index entry)).tick ≡ s.tick) [
+      | true ↦ refl
+      | false ↦ told-tick priorities s target index entry
+    ]
+
 IsNotified-notified : (app : Application) (s : Snapshot) (core task target index value : ℕ) (action : Action) (instr : Instr) → RunsInstr app s core task instr
     → target < length s.tasks → index < app.entries → IsNotified app s (notified (priorities_of app) s target index action value) task
 IsNotified-notified app s core task target index value action instr calls there within =
-    let has = entry_there app s target index calls.valid there within in
     let entry = entry_notified action value (entry_at s target index) in
-    elim (is_left_alone action (entry_at s target index).state) as (λ b. IsNotified app s (cond b s (told (priorities_of app) s target index entry)) task) [
-      | true ↦ record { consistent = IsConsistent-valid app s calls.valid; stays = record { same_length = refl; pc = refl; phase = refl } }
-      | false ↦ record {
-        consistent = IsConsistent-told app (all_have_time_left s.tick) s target index entry has received_is_not_waiting (λ deadline. tt)
-            (IsConsistent-valid app s calls.valid);
-        stays = StaysThere-told (priorities_of app) s task target index entry there calls.runs;
-      }
-    ]
+    record {
+      consistent = IsConsistent-notified app s target index value action calls.valid there within;
+      stays = elim (is_left_alone action (entry_at s target index).state) as (λ b. StaysThere s (cond b s (told (priorities_of app) s target index entry)) task) [
+        | true ↦ record { same_length = refl; pc = refl; phase = refl }
+        | false ↦ StaysThere-told (priorities_of app) s task target index entry there calls.runs
+      ];
+    }
 
 -- An entry of another task changes, and is waiting exactly where it was.
 IsNotified-with_entry : (app : Application) (s : Snapshot) (core task target index : ℕ) (entry : Entry) (instr : Instr) → RunsInstr app s core task instr

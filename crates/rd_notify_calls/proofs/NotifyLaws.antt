@@ -1,18 +1,22 @@
 -- Laws of notifications.
 use Rattle.std.proofs.Common.{◌<◌, ◌∙◌, ◌∷◌, ◌≡◌, Bool, List, [], ap, arith, cond, false, get_or, length, refl, set, subst, sym, true, ℕ}
-use Rattle.rd_kernel.proofs.Offered.{AfterWaking-woken_all, EntriesStay-woken_all, same_one, task_now}
+use Rattle.rd_kernel.proofs.Offered.{AfterWaking-woken_all, EntriesStay-woken_all, entry_after, same_one, task_now}
 use Rattle.rd_kernel.specs.Tasks.{HasEntry, entry_at, with_entry}
-use Rattle.rd_kernel.specs.Telling.{if_waiting_for, is_that_entry, told}
+use Rattle.rd_kernel.specs.Telling.{if_waiting_for, is_that_entry, notified, told}
 use Rattle.rd_kernel.specs.Waking.{woken_all}
 use Rattle.rd_kernel.specs.declared.waking.Waking.TheVariants.{TriesAgain}
-use Rattle.rd_notify.specs.Entries.{entry_notified, has_received, idle_entry}
+use Rattle.rd_notify.specs.Entries.{entry_notified, has_received, idle_entry, is_left_alone}
 use Rattle.rd_notify.specs.declared.entries.Entry.{Entry}
 use Rattle.rd_state.specs.Phases.{waits_at}
 use Rattle.rd_state.specs.Snapshot.{Snapshot, TaskSnapshot, task_at}
 use Rattle.rd_state.specs.Waiting.{entry_of}
 use Rattle.std.proofs.lemmas.List.{get_or-set_same}
 use Rattle.std.specs.Option.{option_and_then}
-use Rattle.rd_notify.specs.declared.action.Action.TheVariants.{WithoutOverwrite}
+use Rattle.rd_notify.specs.declared.action.Action.{Action}
+use Rattle.rd_notify.specs.declared.action.Action.TheVariants.{Increment, KeepValue, Overwrite, SetBits, WithoutOverwrite}
+use Rattle.rd_notify.specs.declared.entries.EntryState.{EntryState}
+use Rattle.rd_notify.specs.declared.entries.EntryState.TheVariants.{Idle, Received, Waiting}
+use Rattle.std.proofs.lemmas.Bool.{false≢true}
 use Rattle.rd_notify_calls.specs.NotifyLaws.{HasArrived, NothingIsOverwritten, NotificationsArrive, TakesCountDown}
 use Rattle.rd_state.proofs.Offered.{times_in_list-cons}
 
@@ -65,3 +69,37 @@ nothing_is_overwritten priorities s target index value received =
 
 pub takes_count_down : TakesCountDown
 takes_count_down = record { some = λ value some. omega (arith, some); none = refl }
+
+-- An entry that has received still has, once a notification has come to any.
+pub notified-received : (priorities : List ℕ) (s : Snapshot) (to i value target index : ℕ) (action : Action) → (entry_at s target index).state ≡ Received
+    → (entry_at (notified priorities s to i action value) target index).state ≡ Received
+notified-received priorities s to i value target index action come =
+    let entry = entry_notified action value (entry_at s to i) in
+    let tasks = if_waiting_for s to i in
+    let q = woken_all priorities TriesAgain s tasks in
+    let stays : (entry_at q target index).state ≡ Received =
+    ap (λ (es : List Entry). (get_or es index idle_entry).state) (EntriesStay-woken_all priorities TriesAgain s tasks target) ∙ come in
+    elim (is_left_alone action (entry_at s to i).state) as (λ b. (entry_at (cond b s (told priorities s to i entry)) target index).state ≡ Received) [
+      | true ↦ come
+      | false ↦ entry_after q to i target index entry (λ (e : Entry). e.state ≡ Received) (λ same same_index. refl) stays
+    ]
+
+-- Once one has come to an entry, or left it alone, that has received.
+pub notified-has_received : (priorities : List ℕ) (s : Snapshot) (target index value : ℕ) (action : Action) → HasEntry s target index
+    → (entry_at (notified priorities s target index action value) target index).state ≡ Received
+notified-has_received priorities s target index value action has =
+    by_action (is_left_alone action (entry_at s target index).state) refl
+  where
+    alone : (a : Action) (state : EntryState) → is_left_alone a state ≡ true → state ≡ Received
+    alone WithoutOverwrite Received left = refl
+    alone WithoutOverwrite Idle left = absurd (false≢true left)
+    alone WithoutOverwrite Waiting left = absurd (false≢true left)
+    alone KeepValue state left = absurd (false≢true left)
+    alone SetBits state left = absurd (false≢true left)
+    alone Increment state left = absurd (false≢true left)
+    alone Overwrite state left = absurd (false≢true left)
+
+    by_action : (b : Bool) → is_left_alone action (entry_at s target index).state ≡ b
+        → (entry_at (notified priorities s target index action value) target index).state ≡ Received
+    by_action true left = notified-received priorities s target index value target index action (alone action (entry_at s target index).state left)
+    by_action false takes = (notifications_arrive priorities s target index value action has takes).received

@@ -18,7 +18,7 @@ struct Run {
     cores: &'static [usize],
 }
 
-const RUNS: [Run; 7] = [
+const RUNS: [Run; 8] = [
     Run {
         name: "overwrite_in_a_set",
         app: concat!(
@@ -79,6 +79,29 @@ const RUNS: [Run; 7] = [
         cores: &[0, 1, 2],
     },
     Run {
+        name: "one_set_wakes_fifteen_on_sixteen_cores",
+        app: concat!(
+            r#"{"profile":2,"cores":16,"groups":[{"name":"g0"}],"tasks":["#,
+            r#"{"name":"t0","priority":1,"code":["gwait g0 1 any keep max","end"]},"#,
+            r#"{"name":"t1","priority":1,"code":["gwait g0 1 any keep max","end"]},"#,
+            r#"{"name":"t2","priority":1,"code":["gwait g0 1 any keep max","end"]},"#,
+            r#"{"name":"t3","priority":1,"code":["gwait g0 1 any keep max","end"]},"#,
+            r#"{"name":"t4","priority":1,"code":["gwait g0 1 any keep max","end"]},"#,
+            r#"{"name":"t5","priority":1,"code":["gwait g0 1 any keep max","end"]},"#,
+            r#"{"name":"t6","priority":1,"code":["gwait g0 1 any keep max","end"]},"#,
+            r#"{"name":"t7","priority":1,"code":["gwait g0 1 any keep max","end"]},"#,
+            r#"{"name":"t8","priority":1,"code":["gwait g0 1 any keep max","end"]},"#,
+            r#"{"name":"t9","priority":1,"code":["gwait g0 1 any keep max","end"]},"#,
+            r#"{"name":"t10","priority":1,"code":["gwait g0 1 any keep max","end"]},"#,
+            r#"{"name":"t11","priority":1,"code":["gwait g0 1 any keep max","end"]},"#,
+            r#"{"name":"t12","priority":1,"code":["gwait g0 1 any keep max","end"]},"#,
+            r#"{"name":"t13","priority":1,"code":["gwait g0 1 any keep max","end"]},"#,
+            r#"{"name":"t14","priority":1,"code":["gwait g0 1 any keep max","end"]},"#,
+            r#"{"name":"t15","priority":1,"code":["gset g0 1","end"]}]}"#,
+        ),
+        cores: &[0, 1, 2, 3, 4, 5, 6, 7, 8, 9, 10, 11, 12, 13, 14, 15],
+    },
+    Run {
         name: "take_counts_down",
         app: concat!(
             r#"{"profile":1,"cores":1,"tasks":[{"name":"t0","priority":1,"#,
@@ -133,7 +156,7 @@ fn compares_states(
 fn last_states(rt: HostRuntime) -> Result<(), Fail> {
     let alloc = rt.alloc();
     for run in RUNS {
-        let mut timeline = Timeline::new(alloc, read(alloc, run.app)?, 10)?;
+        let mut timeline = Timeline::new(alloc, read(alloc, run.app)?, 16)?;
         let result = compares_states(&rt, alloc, &mut timeline, run);
         timeline.close();
         result?;

@@ -13,6 +13,8 @@ mod files;
 #[cfg(test)]
 mod groups;
 #[cfg(test)]
+mod interrupts;
+#[cfg(test)]
 mod items;
 #[cfg(test)]
 mod limits;
@@ -22,6 +24,8 @@ mod packing;
 mod parts;
 #[cfg(test)]
 mod places;
+#[cfg(test)]
+mod profiles;
 #[cfg(test)]
 mod records;
 #[cfg(test)]

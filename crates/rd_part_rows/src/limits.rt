@@ -1,14 +1,14 @@
-//! States at the limits, copied and compared: 8 cores, 32 tasks, 32 queues with room for 64 items
-//! of 64 bytes, 32 queue sets with room for 2,048 handles, 4 notification entries, 256 bytes of
-//! data, 256 instructions, names of 16 characters, and the last ticks. `ci/limits` sees the same
-//! application through its views.
+//! States at the limits, copied and compared: 8 cores of profile 1 and 16 of profile 2, 32 tasks,
+//! 32 queues with room for 64 items of 64 bytes, 32 queue sets with room for 2,048 handles, 4
+//! notification entries, 256 bytes of data, 256 instructions, names of 16 characters, and the last
+//! ticks. `ci/limits` sees the same applications through their views.
 //!
-//! The number of a task tells its priority, task 0 the first: at boot tasks 0 to 7 are on the cores
-//! of these numbers. Task 7 stays on core 7. It fills the queues, all of them members of set 31,
-//! with 64 rounds of one item each, whose first bytes are 0, 1, 2, 3, 0 and so on, and sees by an
-//! answer of 0 that they are full: after 16 times its 134 instructions, and 133 more. Then it takes
-//! handles. Each other task waits for a handle of set 30, for one tick, counts queue 31, and waits
-//! for room in it.
+//! The number of a task tells its priority, task 0 the first: at boot the first tasks are on the
+//! cores of their numbers. Task 7 stays on core 7. It fills the queues, all of them members of set
+//! 31, with 64 rounds of one item each, whose first bytes are 0, 1, 2, 3, 0 and so on, and sees by
+//! an answer of 0 that they are full: after 16 times its 134 instructions, and 133 more. Then it
+//! takes handles. Each other task waits for a handle of set 30, for one tick, counts queue 31, and
+//! waits for room in it.
 
 use crate::asserts::assert_same;
 use crate::files::read;
@@ -105,9 +105,11 @@ fn add_tasks(text: &mut String) -> Result<(), AllocError> {
     Ok(())
 }
 
-fn file(alloc: Global) -> Result<String, AllocError> {
+// The file of an application of that profile, on so many cores.
+fn file(alloc: Global, profile: usize, cores: usize) -> Result<String, AllocError> {
     let mut text = String::new(alloc);
-    text.push_str(r#"{"profile":1,"cores":8,"notes":4,"tick":4294967294,"queues":["#)?;
+    write!(text, r#"{{"profile":{profile},"cores":{cores},"notes":4,"#)?;
+    text.push_str(r#""tick":4294967294,"queues":["#)?;
     add_queues(&mut text)?;
     text.push_str(r#"],"sets":["#)?;
     add_queue_sets(&mut text)?;
@@ -117,19 +119,29 @@ fn file(alloc: Global) -> Result<String, AllocError> {
     Ok(text)
 }
 
+// How many tasks begin to wait on that one of so many cores, one after the other: those that no
+// other core has on core 0, none on core 7, and one on each other.
+fn waiting_on(core: usize, cores: usize) -> usize {
+    if core == 0 {
+        33_usize.saturating_sub(cores)
+    } else if core == 7 {
+        0
+    } else {
+        1
+    }
+}
+
 // The cores whose moves let each task but that of core 7 do so many instructions, where it waits at
-// the last of these: of one task on each of the cores 1 to 6, and of 25 on core 0, one after the
-// other.
-fn all_wait(alloc: Global, each: usize) -> Result<Vec<usize>, AllocError> {
-    let mut cores = Vec::new(alloc);
-    for core in 0..7 {
-        let tasks = if core == 0 { 25 } else { 1 };
-        for _ in 0..tasks {
+// the last of these.
+fn all_wait(alloc: Global, cores: usize, each: usize) -> Result<Vec<usize>, AllocError> {
+    let mut moving = Vec::new(alloc);
+    for core in 0..cores {
+        for _ in 0..waiting_on(core, cores) {
             let moves = vec![in alloc; core; each]?;
-            cores.extend_from_slice(moves.as_slice())?;
+            moving.extend_from_slice(moves.as_slice())?;
         }
     }
-    Ok(cores)
+    Ok(moving)
 }
 
 // Makes moves of these cores.
@@ -172,12 +184,13 @@ fn go_and_copy(rt: &impl Abort, alloc: Global, timeline: &mut Timeline, cores: &
 // All moves: the others wait, the queues fill, handles are taken and put back, and after the last
 // tick the others wait for room.
 fn make_all_moves(rt: &impl Abort, alloc: Global, timeline: &mut Timeline) -> Passed {
-    go_and_copy(rt, alloc, timeline, all_wait(alloc, 2)?.as_slice())?;
+    let cores = timeline.app().cores();
+    go_and_copy(rt, alloc, timeline, all_wait(alloc, cores, 2)?.as_slice())?;
     go(rt, timeline, vec![in alloc; 7; FILLING]?.as_slice());
     compares_full_queue_sets(rt, alloc, timeline)?;
     assert_same(rt, timeline.go(&Move::Tick), Ok(2340));
     copy_of(rt, alloc, timeline)?;
-    go_and_copy(rt, alloc, timeline, all_wait(alloc, 4)?.as_slice())
+    go_and_copy(rt, alloc, timeline, all_wait(alloc, cores, 4)?.as_slice())
 }
 
 fn compares_states(rt: &impl Abort, alloc: Global, timeline: &mut Timeline) -> Passed {
@@ -193,8 +206,12 @@ fn compares_states(rt: &impl Abort, alloc: Global, timeline: &mut Timeline) -> P
 #[test]
 fn states(rt: HostRuntime) -> Result<(), Fail> {
     let alloc = rt.alloc();
-    let mut timeline = Timeline::new(alloc, read(alloc, file(alloc)?.as_str())?, 2464)?;
-    let result = compares_states(&rt, alloc, &mut timeline);
-    timeline.close();
-    result
+    for (profile, cores) in [(1, 8), (2, 16)] {
+        let app = read(alloc, file(alloc, profile, cores)?.as_str())?;
+        let mut timeline = Timeline::new(alloc, app, 2464)?;
+        let result = compares_states(&rt, alloc, &mut timeline);
+        timeline.close();
+        result?;
+    }
+    Ok(())
 }

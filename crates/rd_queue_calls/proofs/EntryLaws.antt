@@ -41,7 +41,7 @@ blocked_stays priorities s task list wait =
     stays_either s (may_wait s task wait)
     (record { state = with_waiter priorities s list task; outcome = Waits (sort.Listed list) (deadline_of s task wait) }) (call_fails s) (λ t. refl) (λ t. refl)
 
-posted_stays : (priorities : List ℕ) (s : Snapshot) (queue : ℕ) (member : Option ℕ) → EntriesStay s (posted priorities s queue member).state
+pub posted_stays : (priorities : List ℕ) (s : Snapshot) (queue : ℕ) (member : Option ℕ) → EntriesStay s (posted priorities s queue member).state
 posted_stays priorities s queue None = first_stays priorities s (Queue queue Receiving)
 posted_stays priorities s queue (Some number) = first_stays priorities (with_handle s number queue) (QueueSet number)
 

@@ -105,7 +105,7 @@ same_either_way : (b : Bool) (handles : List (List ℕ)) → cond b handles hand
 same_either_way true handles = refl
 same_either_way false handles = refl
 
-handles_of_posts : (priorities : List ℕ) (s : Snapshot) (queue : ℕ) (member : Option ℕ)
+pub handles_of_posts : (priorities : List ℕ) (s : Snapshot) (queue : ℕ) (member : Option ℕ)
     → handles_in (posted priorities s queue member).state ≡ handles_posted s queue member
 handles_of_posts priorities s queue None = handles_woken_first priorities s (Queue queue Receiving)
 handles_of_posts priorities s queue (Some number) =

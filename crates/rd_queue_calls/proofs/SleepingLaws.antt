@@ -38,9 +38,9 @@ use Rattle.rd_queue_calls.proofs.QueueCallLaws.{items_keep, put_keeps}
 
 -- ---- a task that is left asleep and stands in no list
 
-record Lies (task : ℕ) (s p : Snapshot) : Type 0 where
-  sleeps : Sleeps task s p
-  unlisted : (list : Listed) → times_in_list task (waiting_at p list) ≡ 0
+pub record Lies (task : ℕ) (s p : Snapshot) : Type 0 where
+  pub sleeps : Sleeps task s p
+  pub unlisted : (list : Listed) → times_in_list task (waiting_at p list) ≡ 0
 
 -- A queue or a set changes in something else than who waits there, if it is there at all.
 waiting_anyway : (s : Snapshot) (queue : ℕ) (now : QueueSnapshot) (list : Listed) → IsSameWaiting now (queue_at s queue)
@@ -91,7 +91,7 @@ or_blocked_sleeps priorities s task caller b list wait other done =
     (either_sleeps s task (may_wait s caller wait)
     (record { state = with_waiter priorities s list caller; outcome = Waits (sort.Listed list) (deadline_of s caller wait) }) (call_fails s) refl refl) done
 
-posted_sleeps : (priorities : List ℕ) (s p : Snapshot) (task queue : ℕ) (member : Option ℕ) → Lies task s p
+pub posted_sleeps : (priorities : List ℕ) (s p : Snapshot) (task queue : ℕ) (member : Option ℕ) → Lies task s p
     → Sleeps task s (posted priorities p queue member).state
 posted_sleeps priorities s p task queue None lies = first_woken priorities s p task (Queue queue Receiving) lies
 posted_sleeps priorities s p task queue (Some number) lies =
@@ -118,7 +118,7 @@ Lies-peeked s task caller queue differs lies = record {
   unlisted = lies.unlisted;
 }
 
-Lies-items : (s p : Snapshot) (task queue : ℕ) (items : List (List ℕ)) → Lies task s p → Lies task s (with_queue p queue (with_items (queue_at p queue) items))
+pub Lies-items : (s p : Snapshot) (task queue : ℕ) (items : List (List ℕ)) → Lies task s p → Lies task s (with_queue p queue (with_items (queue_at p queue) items))
 Lies-items s p task queue items lies = Lies-with_queue s p task queue (with_items (queue_at p queue) items) (items_keep (queue_at p queue) items) lies
 
 pub queue_call-sleeps : (priorities : List ℕ) (s : Snapshot) (task caller queue : ℕ) (own : Held) (call : QueueCall) → task ≢ caller → IsSleeper s task own

@@ -32,6 +32,9 @@ pub enum Refusal {
     /// The edit would leave something that can't be.
     #[error("the edit would leave something that can't be")]
     BadEdit,
+    /// The application has no interrupts: its profile is 1.
+    #[error("an application of profile 1 has no interrupts")]
+    NoIsr,
     /// There is no free place in the history.
     #[error("the history is full")]
     HistoryFull,

@@ -6,8 +6,8 @@ use Rattle.hex.specs.Hex.{encode_lower}
 use Rattle.rd_refusal.specs.declared.refusal.Refusal.{Refusal}
 use Rattle.rd_refusal.specs.declared.refusal.Refusal.TheVariants.{NoTask, TickLimit, TooFar}
 use Rattle.rd_refusal.specs.declared.refusal.Refusal.TheVariants.{NothingUndone, MovesFull, NoSuch}
-use Rattle.rd_refusal.specs.declared.refusal.Refusal.TheVariants.{BadEdit, NoMemory, Syntax}
-use Rattle.rd_refusal.specs.declared.refusal.Refusal.TheVariants.{LineTooLong, HistoryFull}
+use Rattle.rd_refusal.specs.declared.refusal.Refusal.TheVariants.{BadEdit, NoIsr, NoMemory}
+use Rattle.rd_refusal.specs.declared.refusal.Refusal.TheVariants.{Syntax, LineTooLong, HistoryFull}
 use Rattle.rd_refusal.specs.declared.refusal.Refusal.TheVariants.{WatchesFull, NoWatch, NotHolder}
 use Rattle.rd_refusal.specs.declared.refusal.Refusal.TheVariants.{Broken, Full}
 use Rattle.rd_refusal.specs.declared.refusal.Refusal.TheVariants as refusal
@@ -69,6 +69,7 @@ refusal_text MovesFull = codes "MovesFull"
 refusal_text (refusal.Held holder) = codes "Held " ++ decimal holder
 refusal_text NoSuch = codes "NoSuch"
 refusal_text BadEdit = codes "BadEdit"
+refusal_text NoIsr = codes "NoIsr"
 refusal_text HistoryFull = codes "HistoryFull"
 refusal_text NoMemory = codes "NoMemory"
 refusal_text Syntax = codes "Syntax"
@@ -82,6 +83,10 @@ refusal_text Full = codes "Full"
 -- how many moves are done now
 abbrev pub done_text : ℕ → List ℕ
 done_text at = codes "ok at " ++ decimal at
+
+-- how many moves are done now, and the answer of the interrupt that was the last of them
+abbrev pub answered_text : ℕ → ℕ → List ℕ
+answered_text at answer = done_text at ++ codes " isr " ++ decimal answer
 
 -- how a search for a condition ended: where it holds, at the most moves that it might make, or as
 -- far back as records are kept
@@ -111,11 +116,13 @@ watch_text number = codes "ok watch " ++ decimal number
 -- what is replied to a request of the timeline
 abbrev pub answer_reply : Answer → Reply
 answer_reply (given.Done at) = answer.Done at
+answer_reply (given.Answered at said) = answer.Answered at said
 answer_reply (given.Ended at end) = answer.Ended at end
 answer_reply (given.Refused refusal) = answer.Refused refusal
 
 abbrev pub reply_text : Reply → List ℕ
 reply_text (answer.Done at) = done_text at
+reply_text (answer.Answered at answer) = answered_text at answer
 reply_text (answer.Ended at end) = done_text at ++ codes " " ++ end_text end
 reply_text (answer.Moves done undone kept) = moves_text done undone kept
 reply_text answer.Wheel = codes "ok wheel"

@@ -3,9 +3,9 @@
 ghost use Rattle.std.specs.Prelude.{◌≡◌, ◌+◌, ◌*◌, ◌++◌, ◌≤◌, decimal, length};
 ghost use Rattle.std.specs.Prelude.{vec_capacity, vec_len};
 ghost use Rattle.arrayvec.specs.ArrayVec.{array_vec_len};
-ghost use Rattle.rd_reply.specs.Replies.{answer_reply, done_text, end_text, holder_text, line_of};
-ghost use Rattle.rd_reply.specs.Replies.{moves_text};
-ghost use Rattle.rd_reply.specs.Replies.{refusal_text, reply_text, watch_text};
+ghost use Rattle.rd_reply.specs.Replies.{answer_reply, answered_text, done_text, end_text};
+ghost use Rattle.rd_reply.specs.Replies.{holder_text, line_of, moves_text, refusal_text};
+ghost use Rattle.rd_reply.specs.Replies.{reply_text, watch_text};
 
 use arrayvec::ArrayVec;
 use itoa::Buffer;
@@ -19,6 +19,11 @@ pub enum Reply {
     /// So many moves are done now.
     Done {
         at: usize,
+    },
+    /// So many moves are done now, of which the last is an interrupt that had this answer, 1 or 0.
+    Answered {
+        at: usize,
+        answer: u32,
     },
     /// So many moves are done where a search ended.
     Ended {
@@ -98,6 +103,7 @@ fn append_refusal(line: &mut ReplyLine, refusal: Refusal)
         }
         Refusal::NoSuch => append_text(line, b"NoSuch"),
         Refusal::BadEdit => append_text(line, b"BadEdit"),
+        Refusal::NoIsr => append_text(line, b"NoIsr"),
         Refusal::HistoryFull => append_text(line, b"HistoryFull"),
         Refusal::NoMemory => append_text(line, b"NoMemory"),
         Refusal::Syntax => append_text(line, b"Syntax"),
@@ -118,6 +124,17 @@ fn append_done(line: &mut ReplyLine, at: usize)
 {
     append_text(line, b"ok at ");
     append_number(line, at);
+}
+
+// How many moves are done now, and the answer that an interrupt had.
+fn append_answered(line: &mut ReplyLine, at: usize, answer: u32)
+    requires { array_vec_len line.old + 11 + 2 * MAX_DIGITS ≤ MAX_REPLY }
+    ensures text { line.new.items ≡ line.old.items ++ answered_text at answer }
+    ensures len { array_vec_len line.new ≤ array_vec_len line.old + 11 + 2 * MAX_DIGITS }
+{
+    append_done(line, at);
+    append_text(line, b" isr ");
+    append_number(line, answer as usize);
 }
 
 // How a search ended. No word is longer than `limit`.
@@ -177,6 +194,7 @@ impl Reply {
     {
         match answer {
             Answer::Done { at } => Reply::Done { at },
+            Answer::Answered { at, answer } => Reply::Answered { at, answer },
             Answer::Ended { at, end } => Reply::Ended { at, end },
             Answer::Refused { refusal } => Reply::Refused { refusal },
         }
@@ -189,6 +207,7 @@ impl Reply {
         let mut line = ArrayVec::new();
         match self {
             Reply::Done { at } => append_done(&mut line, at),
+            Reply::Answered { at, answer } => append_answered(&mut line, at, answer),
             Reply::Ended { at, end } => {
                 append_done(&mut line, at);
                 append_text(&mut line, b" ");

@@ -193,7 +193,7 @@ fn the_wheel(rt: HostRuntime) -> Result<(), Fail> {
 }
 
 // What the wheel refuses comes before all other refusals. It refuses no view and no watch.
-const HELD: [Asked; 17] = [
+const HELD: [Asked; 18] = [
     Asked {
         who: 2,
         line: "wheel take",
@@ -242,6 +242,11 @@ const HELD: [Asked; 17] = [
     Asked {
         who: 1,
         line: "poke pc t9 0",
+        reply: "no Held 2\n",
+    },
+    Asked {
+        who: 1,
+        line: "isr send q9 41",
         reply: "no Held 2\n",
     },
     Asked {

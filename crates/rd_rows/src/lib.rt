@@ -36,6 +36,8 @@ mod groups;
 #[cfg(test)]
 mod hall;
 #[cfg(test)]
+mod interrupts;
+#[cfg(test)]
 mod last_reads;
 #[cfg(test)]
 mod lines;
@@ -49,6 +51,8 @@ mod memory;
 mod messages;
 #[cfg(test)]
 mod notifications;
+#[cfg(test)]
+mod profiles;
 #[cfg(test)]
 mod programs;
 #[cfg(test)]

@@ -76,8 +76,8 @@ pub fn assert_ending(rt: &impl Abort, ending: &Ending, status: u8, output: &str,
     assert_same(rt, ending.errors.as_slice(), errors.as_bytes());
 }
 
-// Fails unless each run on some words and these commands ends with this status, and writes this.
-fn assert_runs<H>(
+/// Fails unless each run on some words and these commands ends with this status, and writes this.
+pub fn assert_runs<H>(
     rt: &H,
     runs: &[&[&str]],
     commands: &str,

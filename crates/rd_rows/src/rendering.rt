@@ -92,6 +92,8 @@ fn nothing(rt: HostRuntime) {
 fn few_words(rt: HostRuntime) {
     let told = Short::Done { at: 3 };
     assert_line(&rt, &Reply::Told { told }, "ok at 3\n", "o");
+    let told = Short::Answered { at: 3, answer: 0 };
+    assert_line(&rt, &Reply::Told { told }, "ok at 3 isr 0\n", "o");
     let refusal = Refusal::TooFar { kept: 0 };
     let told = Short::Refused { refusal };
     assert_line(&rt, &Reply::Told { told }, "no TooFar 0\n", "n");

@@ -4,7 +4,7 @@ use crate::asserts::assert_same;
 use rd_refusal::refusal::Refusal;
 use std::test::Fail;
 
-const SENTENCES: [(Refusal, &str); 17] = [
+const SENTENCES: [(Refusal, &str); 18] = [
     (Refusal::NoTask, "no task is on this core"),
     (Refusal::TickLimit, "the tick is the last that there is"),
     (
@@ -24,6 +24,10 @@ const SENTENCES: [(Refusal, &str); 17] = [
     (
         Refusal::BadEdit,
         "the edit would leave something that can't be",
+    ),
+    (
+        Refusal::NoIsr,
+        "an application of profile 1 has no interrupts",
     ),
     (Refusal::HistoryFull, "the history is full"),
     (Refusal::NoMemory, "there is no memory"),

@@ -15,11 +15,40 @@ const TWICE: &str = concat!(
     r#""data 42","send q0 0","recv q0 0","set r1 9","end"]}]}"#,
 );
 
+// Three tasks wait: for an item of a queue in no set, for a handle of a set with room for one, and
+// for a notification. The last one goes on for ever.
+const INTERRUPTED: &str = concat!(
+    r#"{"profile":2,"cores":1,"queues":[{"name":"q0","length":1,"item":1},"#,
+    r#"{"name":"q1","length":2,"item":1}],"#,
+    r#""sets":[{"name":"s0","length":1,"members":["q1"]}],"#,
+    r#""tasks":[{"name":"t0","priority":3,"code":["recv q0 max","jump 0"]},"#,
+    r#"{"name":"t1","priority":2,"code":["select s0 max","recv q1 0","jump 0"]},"#,
+    r#"{"name":"t2","priority":1,"code":["take 0 clear max","jump 0"]},"#,
+    r#"{"name":"t3","priority":0,"code":["set r1 9","jump 0"]}]}"#,
+);
+
 /// Which application a run has.
 #[derive(Clone, Copy)]
 pub enum Which {
     Builtin,
     Twice,
+    Interrupted,
+}
+
+// Reads it. `Err(None)` says that there is no memory for it.
+fn try_to_read(alloc: Global, text: &str) -> Result<App, Option<Wrong>> {
+    match read_app(alloc, text.as_bytes()) {
+        Ok(app) => Ok(app),
+        Err(AppError::Memory) => Err(None),
+        Err(
+            AppError::NotJson
+            | AppError::Shape
+            | AppError::Limit
+            | AppError::Name
+            | AppError::Instr
+            | AppError::OverwriteLength,
+        ) => Err(Some(Wrong::Application)),
+    }
 }
 
 // Makes it. `Err(None)` says that there is no memory for it.
@@ -29,18 +58,8 @@ fn try_to_make(alloc: Global, which: Which) -> Result<App, Option<Wrong>> {
             Ok(app) => Ok(app),
             Err(_) => Err(None),
         },
-        Which::Twice => match read_app(alloc, TWICE.as_bytes()) {
-            Ok(app) => Ok(app),
-            Err(AppError::Memory) => Err(None),
-            Err(
-                AppError::NotJson
-                | AppError::Shape
-                | AppError::Limit
-                | AppError::Name
-                | AppError::Instr
-                | AppError::OverwriteLength,
-            ) => Err(Some(Wrong::Application)),
-        },
+        Which::Twice => try_to_read(alloc, TWICE),
+        Which::Interrupted => try_to_read(alloc, INTERRUPTED),
     }
 }
 

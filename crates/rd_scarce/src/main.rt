@@ -5,7 +5,9 @@
 mod applications;
 mod attending;
 mod before;
+mod calls;
 mod hall;
+mod interrupted;
 mod moves;
 mod order;
 mod refused;
@@ -14,8 +16,10 @@ mod sitting;
 mod told;
 mod wrong;
 
+use crate::applications::Which;
 use crate::hall::{Sitting, sit};
-use crate::moves::go_both_ways;
+use crate::interrupted::INTERRUPTED;
+use crate::moves::{TWICE, go_both_ways};
 use crate::order::{Order, ROOM, Run, read_text};
 use crate::refused::Refused;
 use crate::wrong::Wrong;
@@ -36,7 +40,8 @@ fn run<H: Wait + AllocGlobal>(rt: &H, run: Run, refused: &mut Refused) -> Result
         Run::Hall => sit(rt, rt.alloc(), Sitting::Alone, refused),
         Run::Wheel => sit(rt, rt.alloc(), Sitting::Both, refused),
         Run::Session => sit(rt, rt.alloc(), Sitting::Session, refused),
-        Run::Timeline => go_both_ways(rt.alloc(), refused),
+        Run::Timeline => go_both_ways(rt.alloc(), Which::Twice, &TWICE, refused),
+        Run::Interrupts => go_both_ways(rt.alloc(), Which::Interrupted, &INTERRUPTED, refused),
     }
 }
 

@@ -1,60 +1,20 @@
-//! `runs_to_a_condition` by the calls of a timeline, and a longer run behind it.
-
-ghost use Rattle.std.specs.Prelude.{◌≡◌};
-ghost use Rattle.rd_condition.specs.declared.condition.Amount.TheVariants.{Items};
-ghost use Rattle.rd_condition.specs.declared.condition.Comparison.TheVariants.{Equal};
-ghost use Rattle.rd_condition.specs.declared.condition.Condition.TheVariants.{Compares};
+//! Runs by the calls of a timeline.
 
 use crate::applications::{Which, make};
+use crate::calls::{Call, End, Row, make_call};
 use crate::refused::{At, Refused, TRIES};
 use crate::wrong::Wrong;
 use rd_app::app::Program;
-use rd_condition::condition::{Amount, Comparison, Condition};
-use rd_moves::moves::Move;
 use rd_refusal::refusal::Refusal;
 use rd_state::state::State;
-use rd_timeline::running::Found;
 use rd_timeline::timeline::Timeline;
 use std::alloc::Global;
 
 // How many moves may be done.
 const LIMIT: usize = 100;
 
-// A call of a timeline, and where it must lead.
-#[derive(Clone, Copy)]
-enum Call {
-    /// The task on core 0 does one instruction.
-    Step,
-    /// Back to where the queue had so many items: there, or at the start.
-    BackUntil { items: u32 },
-    /// On until the queue has so many items, so many moves at the most.
-    Until { items: u32, most: usize },
-    /// So many moves by policy.
-    Forward { count: usize },
-    /// The records of so many moves are kept, and no others.
-    Trim { keep: usize },
-}
-
-// Where a call ended: how many moves are done there.
-#[derive(Clone, Copy, PartialEq, Eq)]
-enum End {
-    /// It made moves.
-    At { at: usize },
-    /// It looked for something, which is there.
-    Met { at: usize },
-    /// It looked for something, and found it nowhere.
-    NotMet { at: usize },
-}
-
-// A call, and where it must end.
-#[derive(Clone, Copy)]
-struct Row {
-    call: Call,
-    end: End,
-}
-
-// The run, and behind it one in whose middle lists grow.
-const ROWS: [Row; 17] = [
+/// `runs_to_a_condition`, and behind it a run in whose middle lists grow.
+pub const TWICE: [Row; 17] = [
     Row {
         call: Call::Step,
         end: End::At { at: 1 },
@@ -125,69 +85,6 @@ const ROWS: [Row; 17] = [
     },
 ];
 
-// The first queue has so many items.
-fn has_items(items: u32) -> Condition
-    ensures { result ≡ Compares (Items 0) Equal items }
-{
-    Condition::Compares {
-        amount: Amount::Items { queue: 0 },
-        comparison: Comparison::Equal,
-        bound: items,
-    }
-}
-
-fn ended(found: Found) -> End {
-    let at = found.at;
-    if found.met {
-        End::Met { at }
-    } else {
-        End::NotMet { at }
-    }
-}
-
-fn step(timeline: &mut Timeline) -> Result<End, Refusal> {
-    if timeline.app().cores() == 0 {
-        return Err(Refusal::NoSuch);
-    }
-    let at = timeline.go(&Move::Core { core: 0 })?;
-    Ok(End::At { at })
-}
-
-fn until(timeline: &mut Timeline, items: u32, most: usize) -> Result<End, Refusal> {
-    if most == 0 || timeline.app().objects().queues().is_empty() {
-        return Err(Refusal::NoSuch);
-    }
-    Ok(ended(timeline.until(has_items(items), most)?))
-}
-
-fn back_until(timeline: &mut Timeline, items: u32) -> Result<End, Refusal> {
-    if timeline.app().objects().queues().is_empty() {
-        return Err(Refusal::NoSuch);
-    }
-    Ok(ended(timeline.back_until(has_items(items))))
-}
-
-fn forward(timeline: &mut Timeline, count: usize) -> Result<End, Refusal> {
-    if count == 0 {
-        return Err(Refusal::NoSuch);
-    }
-    let at = timeline.forward(count)?;
-    Ok(End::At { at })
-}
-
-// Makes a call.
-fn make_call(timeline: &mut Timeline, call: Call) -> Result<End, Refusal> {
-    match call {
-        Call::Step => step(timeline),
-        Call::BackUntil { items } => back_until(timeline, items),
-        Call::Until { items, most } => until(timeline, items, most),
-        Call::Forward { count } => forward(timeline, count),
-        Call::Trim { keep } => Ok(End::At {
-            at: timeline.trim(keep),
-        }),
-    }
-}
-
 // So many moves are done and undone, as before.
 fn stands(timeline: &Timeline, at: usize, left: usize) -> Result<(), Wrong> {
     if timeline.at() == at && timeline.left() == left {
@@ -226,30 +123,32 @@ fn follow(
     row: Row,
     refused: &mut Refused,
 ) -> Result<(), Wrong> {
+    let refused_at = row.call.refused_at();
     for _ in 0..TRIES {
         let (at, left) = (timeline.at(), timeline.left());
         match make_call(timeline, row.call) {
             Ok(end) if end == row.end => return Ok(()),
             Err(Refusal::NoMemory) => {
-                refused.note(At::Ask);
+                refused.note(refused_at);
                 go_back_and_on(timeline, boot, at, left)?;
             }
             Ok(_) => return Err(Wrong::End {
                 done: timeline.at(),
             }),
-            Err(_) => return Err(Wrong::Refusal { at: At::Ask }),
+            Err(_) => return Err(Wrong::Refusal { at: refused_at }),
         }
     }
-    Err(Wrong::RefusedTwice { at: At::Ask })
+    Err(Wrong::RefusedTwice { at: refused_at })
 }
 
 // Makes all calls: so many moves are done at the end.
 fn follow_all(
     timeline: &mut Timeline,
     boot: &State,
+    rows: &[Row],
     refused: &mut Refused,
 ) -> Result<usize, Wrong> {
-    for row in &ROWS {
+    for row in rows {
         follow(timeline, boot, *row, refused)?;
     }
     Ok(timeline.at())
@@ -266,16 +165,21 @@ fn make_boot(alloc: Global, app: &Program, refused: &mut Refused) -> Result<Stat
     Err(Wrong::RefusedTwice { at: At::Copy })
 }
 
-/// The run on a timeline of its own: so many moves are done at the end. Where the timeline is
-/// refused, it is made again, with an application that is made anew.
-pub fn go_both_ways(alloc: Global, refused: &mut Refused) -> Result<usize, Wrong> {
+/// These calls on a timeline of their own, of that application: so many moves are done at the end.
+/// Where the timeline is refused, it is made again, with an application that is made anew.
+pub fn go_both_ways(
+    alloc: Global,
+    which: Which,
+    rows: &[Row],
+    refused: &mut Refused,
+) -> Result<usize, Wrong> {
     for _ in 0..TRIES {
-        let (program, _names) = make(alloc, Which::Twice, refused)?.split();
+        let (program, _names) = make(alloc, which, refused)?.split();
         let boot = make_boot(alloc, &program, refused)?;
         match Timeline::new(alloc, program, LIMIT) {
             Ok(timeline) => {
                 let mut timeline = timeline;
-                let ended = follow_all(&mut timeline, &boot, refused);
+                let ended = follow_all(&mut timeline, &boot, rows, refused);
                 timeline.close();
                 return ended;
             }

@@ -10,6 +10,8 @@ pub enum Run {
     Hall,
     /// The same, by the timeline's calls.
     Timeline,
+    /// Interrupts, by the timeline's calls.
+    Interrupts,
     /// `the_wheel`, by the hall's calls.
     Wheel,
     /// `runs_to_a_condition`, by a session over memory.
@@ -21,6 +23,7 @@ impl fmt::Display for Run {
         f.write_str(match self {
             Run::Hall => "hall",
             Run::Timeline => "timeline",
+            Run::Interrupts => "interrupts",
             Run::Wheel => "wheel",
             Run::Session => "session",
         })
@@ -41,6 +44,7 @@ impl Order {
         let run = match word {
             "hall" => Run::Hall,
             "timeline" => Run::Timeline,
+            "interrupts" => Run::Interrupts,
             "wheel" => Run::Wheel,
             "session" => Run::Session,
             _ => return None,

@@ -17,8 +17,10 @@ pub enum At {
     Open,
     /// To join.
     Join,
-    /// To ask, or a move of a timeline.
+    /// To ask, or a call of a timeline.
     Ask,
+    /// An interrupt, by a call of a timeline.
+    Interrupt,
 }
 
 impl At {
@@ -29,6 +31,7 @@ impl At {
             At::Open => "open",
             At::Join => "join",
             At::Ask => "ask",
+            At::Interrupt => "interrupt",
         }
     }
 }

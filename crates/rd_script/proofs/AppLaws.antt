@@ -4,13 +4,14 @@ use Rattle.std.proofs.Common.{rules, IsSome, MatchOption, Some, None, IsUtf8, co
 use Rattle.std.specs.List.{AllByRecursion}
 use Rattle.std.specs.Str.{is_utf8}
 use Rattle.std.proofs.lemmas.List.Elements.{All-from_recursion, recursion_from_All}
+use Rattle.std.proofs.lemmas.Bool.Decides.{nat_tests}
 use Rattle.std.proofs.lemmas.Str.{IsUtf8-from_is_utf8, is_utf8-from_IsUtf8}
 use Rattle.serde_json.specs.Read.{read}
 use Rattle.serde_json.proofs.OnLiterals.{serde_json_on_literals}
 use Rattle.serde_json.specs.Data.{Data, number, unsigned, array, Items}
 use Rattle.serde_json.specs.Find.{get}
 use Rattle.rd_app.specs.declared.profile.Profile.{Profile}
-use Rattle.rd_app.specs.declared.profile.Profile.TheVariants.{One}
+use Rattle.rd_app.specs.declared.profile.Profile.TheVariants.{One, Two}
 use Rattle.rd_app.specs.Application.{IsScript}
 use Rattle.rd_app.specs.Application.{Application}
 use Rattle.rd_app.specs.Profiles.{max_cores}
@@ -25,7 +26,7 @@ use Rattle.rd_script.specs.declared.error.AppError.{AppError}
 use Rattle.rd_script.specs.declared.error.AppError.TheVariants as fault
 use Rattle.rd_script.specs.Values.{object_with, field, number_in, number_or, array_in, nothing_named, IsNumberOr}
 use Rattle.rd_script.specs.Objects.{file_keys, objects_of}
-use Rattle.rd_script.specs.File.{TaskDraft, task_of, tasks_after, scripts_after, AppDraft, draft_of, profile_in, profile_number, program_of, with_scripts, app_of, app_of_text, app_of_bytes, checked}
+use Rattle.rd_script.specs.File.{TaskDraft, task_of, tasks_after, scripts_after, AppDraft, draft_of, profile_in, profile_number, profile_of, program_of, with_scripts, app_of, app_of_text, app_of_bytes, checked}
 use Rattle.rd_script.specs.File.{GivesFaultFirst, GivesOrNoMemory, scope_of_draft}
 use Rattle.rd_script.specs.Scope.{scope_of}
 use Rattle.rd_script.specs.Says.{Says, FileSays}
@@ -42,13 +43,18 @@ number_or_ok : (otherwise least most : ℕ) (o : Option Data) (n : ℕ) → leas
 number_or_ok otherwise least most None n low high e = let is : otherwise ≡ n = cc in (sym is, omega arith, omega arith)
 number_or_ok otherwise least most (Some d) n low high e = number_ok least most d n e
 
+-- the number of a profile is that of which it is the profile
+number_of : (n : ℕ) (profile : Profile) → 1 ≤ n → n ≤ 2 → profile_of n ≡ profile → n ≡ profile_number profile
+number_of n One low high e = grind (arith, nat_tests)
+number_of n Two low high e = grind (arith, nat_tests)
+
 -- what stands where a profile was read is its number
 profile_ok : (d : Data) (profile : Profile) → profile_in d ≡ Ok profile → d ≡ number (unsigned (profile_number profile))
-profile_ok d One e =
-    let n = bind_ok (number_in 1 1 d) _ One e in
-    let read = number_ok 1 1 d n.0 n.1 in
-    let is : n.0 ≡ 1 = omega (arith, read.1, read.2) in
-    read.0 ∙ ap (λ (n : ℕ). number (unsigned n)) is
+profile_ok d profile e =
+    let n = bind_ok (number_in 1 2 d) _ profile e in
+    let read = number_ok 1 2 d n.0 n.1 in
+    let is : profile_of n.0 ≡ profile = cc in
+    read.0 ∙ ap (λ (n : ℕ). number (unsigned n)) (number_of n.0 profile read.1 read.2 is)
 
 -- drafts with the names of the tasks
 abbrev drafts_of : NamedApplication → List TaskDraft → Named TaskDraft
@@ -189,6 +195,7 @@ number_or_again otherwise least most (Some d) n h low high = number_again least 
 
 profile_again : (d : Data) (profile : Profile) → d ≡ number (unsigned (profile_number profile)) → profile_in d ≡ Ok profile
 profile_again d One e = ap profile_in e
+profile_again d Two e = ap profile_in e
 
 -- the draft of an application whose scripts are those of drafts
 abbrev draft_from : NamedApplication → List TaskDraft → AppDraft

@@ -2,7 +2,7 @@
 -- keys, and then what stands at them, in the order below.
 use Rattle.std.specs.Prelude.{ℕ, ◌≡◌, ◌≢◌, ◌-◌, ◌^◌, ◌&&◌, ◌⊎◌, Bool, true, false, codes}
 use Rattle.std.specs.Prelude.{List, [], ◌∷◌, ◌++◌, length, slice_get, if◌then◌else◌}
-use Rattle.std.specs.Prelude.{is_some, option_map, unwrap_or, Result, Ok, Err, IsOk, ok_or, ⊤}
+use Rattle.std.specs.Prelude.{is_some, option_map, unwrap_or, nat_eq, Result, Ok, Err, IsOk, ok_or, ⊤}
 use Rattle.std.specs.Str.{is_utf8}
 use Rattle.serde_json.specs.Data.{Data, Items, no_items, item}
 use Rattle.serde_json.specs.Events.{items_len}
@@ -12,7 +12,7 @@ use Rattle.rd_notify.specs.declared.entries.TheConstants.{MAX_ENTRIES}
 use Rattle.rd_app.specs.declared.app.TheConstants.{MAX_CODE, MAX_PRIORITY, MAX_TASKS}
 use Rattle.rd_app.specs.declared.instr.Instr.{Instr}
 use Rattle.rd_app.specs.declared.profile.Profile.{Profile}
-use Rattle.rd_app.specs.declared.profile.Profile.TheVariants.{One}
+use Rattle.rd_app.specs.declared.profile.Profile.TheVariants.{One, Two}
 use Rattle.rd_app.specs.Application.{Application, is_final}
 use Rattle.rd_app.specs.Profiles.{max_cores}
 use Rattle.rd_app.specs.TaskScript.{TaskScript}
@@ -101,12 +101,16 @@ scripts_after scope scripts (draft ∷ drafts) = do
 -- the number that stands for a profile
 abbrev pub profile_number : Profile → ℕ
 profile_number One = 1
+profile_number Two = 2
 
--- the profile of a number
+-- the profile of a number, which is 1 or 2
+abbrev pub profile_of : ℕ → Profile
+profile_of n = if nat_eq n 1 then One else Two
+
 abbrev pub profile_in : Data → Result Profile AppError
 profile_in d = do
-  _ ← number_in 1 1 d
-  Ok One
+  n ← number_in 1 2 d
+  Ok (profile_of n)
 
 -- ---- the file
 

@@ -9,8 +9,7 @@ use Rattle.std.specs.Option.{option_map_or, option_or}
 use Rattle.std.specs.Str.{bytes_eq}
 use Rattle.rd_bytes.specs.declared.bytes.TheConstants.{MAX_BYTES}
 use Rattle.rd_text.specs.Words.{number_of, bytes_of, is_name, name_of}
-use Rattle.rd_notify.specs.declared.action.Action as notified
-use Rattle.rd_notify.specs.declared.action.Action.TheVariants as act
+use Rattle.rd_notify.specs.Words.{action_of}
 use Rattle.rd_notify.specs.declared.action.OnExit as taken
 use Rattle.rd_notify.specs.declared.action.OnExit.TheVariants as exit
 use Rattle.rd_group.specs.declared.wish.OnMet as met
@@ -70,16 +69,6 @@ abbrev pub room_of : List ℕ → Option ℕ
 room_of word =
     option_and_then (λ room. if nat_le 1 room && nat_le room MAX_BYTES then Some room else None)
     (number_of word)
-
--- what a notification does (eNotifyAction)
-abbrev pub action_of : List ℕ → Option notified.Action
-action_of word =
-    if bytes_eq word (codes "none") then Some act.KeepValue
-    else (if bytes_eq word (codes "bits") then Some act.SetBits
-    else (if bytes_eq word (codes "inc") then Some act.Increment
-    else (if bytes_eq word (codes "set") then Some act.Overwrite
-    else (if bytes_eq word (codes "setif") then Some act.WithoutOverwrite
-    else None))))
 
 -- what a task that takes a value leaves of it (xClearCountOnExit)
 abbrev pub on_exit_of : List ℕ → Option taken.OnExit

@@ -110,12 +110,16 @@ impl<'a> AppDraft<'a> {
     }
 }
 
-// The profile of a number.
+// The profile of a number: that of 1 is profile 1, and that of 2 profile 2.
 fn read_profile(value: &Value) -> Result<Profile, AppError>
     ensures { result ≡ profile_in (view value.now) }
 {
-    number(value, 1, 1)?;
-    Ok(Profile::One)
+    let profile = number(value, 1, 2)?;
+    Ok(if profile == 1 {
+        Profile::One
+    } else {
+        Profile::Two
+    })
 }
 
 #[tactic(auto, unfolding(crate::specs::File::draft_of))]

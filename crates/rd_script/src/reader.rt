@@ -4,7 +4,7 @@ ghost use Rattle.std.specs.Prelude.{◌≡◌};
 ghost use Rattle.rd_script.specs.declared.keyword.Parameter.TheVariants as parameter;
 ghost use Rattle.rd_script.specs.Draft.{scope_view};
 ghost use Rattle.rd_script.specs.Spelling.{register_of, number_below, operand_of, time_of};
-ghost use Rattle.rd_script.specs.Spelling.{action_of, on_exit_of, on_met_of, room_of, wait_for_of};
+ghost use Rattle.rd_script.specs.Spelling.{on_exit_of, on_met_of, room_of, wait_for_of};
 ghost use Rattle.rd_script.specs.Spelling.{index_named, index_of, is_formed, are_formed};
 ghost use Rattle.rd_script.specs.Spelling.{Takes};
 ghost use Rattle.rd_text.specs.Words.{texts};
@@ -15,7 +15,7 @@ use crate::scope::Scope;
 use rd_app::instr::{MAX_DELAY, Operand};
 use rd_bytes::bytes::{Bytes, MAX_BYTES};
 use rd_group::wish::{OnMet, WaitFor};
-use rd_notify::action::{Action, OnExit};
+use rd_notify::action::{Action, OnExit, action_of};
 use rd_text::kind::Kind;
 use rd_text::words::{Words, bytes, name, number};
 use std::marker::Model;
@@ -69,20 +69,6 @@ fn room_of(word: &[u8]) -> Option<usize>
         Some(room)
     } else {
         None
-    }
-}
-
-// What a notification does (`eNotifyAction`).
-fn action_of(word: &[u8]) -> Option<Action>
-    ensures { result ≡ action_of word.now }
-{
-    match word {
-        b"none" => Some(Action::KeepValue),
-        b"bits" => Some(Action::SetBits),
-        b"inc" => Some(Action::Increment),
-        b"set" => Some(Action::Overwrite),
-        b"setif" => Some(Action::WithoutOverwrite),
-        _ => None,
     }
 }
 

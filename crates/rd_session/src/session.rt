@@ -186,8 +186,9 @@ fn answer<R: Wait, L: Setup, G: Gate, W: Sink>(
     ensures out { OnOk result.1 (pending.new.out ≤ pending.new.begun) }
     ensures faults { (W.seen sink.new).faults ≡ faults_after (W.seen sink.old).faults result.1 }
 {
-    match parse_line(line) {
-        Ok(command) => ask(host, gate, seat, line, &command, pending, sink),
+    // (by reference, since a command with its words is large)
+    match &parse_line(line) {
+        Ok(command) => ask(host, gate, seat, line, command, pending, sink),
         Err(_) => {
             let refusal = Refusal::Syntax;
             pending.put_short(Short::Refused { refusal });

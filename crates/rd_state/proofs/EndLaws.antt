@@ -1,7 +1,7 @@
 -- Scheduling ends: each round that changes something leaves one core less that a ready task could take.
-use Rattle.std.proofs.Common.{◌≡◌, ◌∙◌, ℕ, zero, suc, ◌+◌, ◌-◌, ◌<◌, ◌≤◌, Bool, true, cond, List, [], ◌∷◌, length}
+use Rattle.std.proofs.Common.{◌≡◌, ◌∙◌, ℕ, zero, suc, ◌+◌, ◌-◌, ◌<◌, ◌≤◌, Bool, true, false, cond, List, [], ◌∷◌, length}
 use Rattle.std.proofs.Common.{set, drop, Option, Some, None, refl, ap, subst, sym, arith, ◌⊎◌, inl, inr}
-use Rattle.std.specs.Prelude.{All, count_by, slice_index, nat_eq, nat_lt, ◌&&◌}
+use Rattle.std.specs.Prelude.{All, count_by, slice_index, nat_eq, nat_le, nat_lt, ◌&&◌}
 use Rattle.std.specs.List.{prefix_len, AllByRecursion}
 use Rattle.std.proofs.Math.Dec.{leb}
 use Rattle.std.proofs.lemmas.List.Elements.{All-drop, All-from_recursion, All-from_get_or, All-get_or, All-set, All-weaker}
@@ -10,7 +10,7 @@ use Rattle.std.proofs.lemmas.Bool.{cases_lt, le-leb}
 use Rattle.std.proofs.lemmas.Bool.Decides.{eqb_tells, leb_tells, nat_tests}
 use Rattle.rd_wait.specs.Joined.{is_at_least, IsInOrder}
 use Rattle.rd_wait.proofs.Offered.{All-insert, AllByRecursion-insert}
-use Rattle.rd_state.specs.Settled.{Seating, running_on, rank_of, weakest_up_to, weakest_of, head_of, with_displaced, with_seats, seated_on}
+use Rattle.rd_state.specs.Settled.{Seating, running_on, rank_of, weakest_up_to, weakest_of, head_of, takes_core, with_displaced, with_seats, seated_on}
 use Rattle.rd_state.specs.Settled.{after_one_round, after_rounds, seating_of, settled, rotated, IsSettled, SchedulingSettles}
 use Rattle.rd_state.specs.Snapshot.{Snapshot}
 use Rattle.rd_state.proofs.ScheduleLaws.{SeatsKept-after_one_round, SeatsKept-after_rounds, one_if, weakest_of-lt}
@@ -182,6 +182,27 @@ scheduling_settles priorities s some order =
           (outranks priorities end (omega (arith, kept.cores, some)) (kept.order order) still);
       stays = settled_in-still priorities (length end.cores) (settled priorities s) still;
     }
+
+-- Where nobody who is ready outranks a running task, the head takes no core.
+takes_none : (priorities : List ℕ) (cores : List (Option ℕ)) (ready : List ℕ) (core : ℕ) → core < length cores
+    → All (λ task. All (λ running. slice_index priorities task < rank_of priorities running) cores) ready
+    → takes_core priorities (record { cores = cores; ready = ready }) core ≡ false
+takes_none priorities cores [] core there all = refl
+takes_none priorities cores (first ∷ rest) core there all =
+    let Outranked : ℕ → Type 0 = λ task. All (λ running. slice_index priorities task < rank_of priorities running) cores in
+    let top : Outranked first = All-get_or Outranked (first ∷ rest) 0 0 (omega arith) all in
+    let above = All-get_or (λ running. slice_index priorities first < rank_of priorities running) cores core None there top in
+    let none : nat_le (rank_of priorities (running_on cores core)) (slice_index priorities first) ≡ false = grind (arith, nat_tests, above) in
+    let some : nat_lt 0 (length (first ∷ rest)) ≡ true = grind (arith, nat_tests) in
+    ap (λ b. b && nat_le (rank_of priorities (running_on cores core)) (slice_index priorities first)) some ∙ none
+
+-- So scheduling changes nothing there.
+pub settled-still : (priorities : List ℕ) (s : Snapshot) → 0 < length s.cores → IsSettled priorities s → settled priorities s ≡ s
+settled-still priorities s some before =
+    let core = weakest_of priorities s.cores in
+    settled_in-still priorities (length s.cores) s
+    (ap (λ b. cond b (seated_on priorities (seating_of s) core) (seating_of s))
+    (takes_none priorities s.cores s.ready core (weakest_of-lt priorities s.cores some) before))
 
 -- a task that no running one is outranked by, once the head of the ready list runs instead of its equal
 below_all : (priorities : List ℕ) (seats : Seating) (core task : ℕ) → slice_index priorities task ≤ slice_index priorities (head_of seats.ready)

@@ -13,7 +13,6 @@ use Rattle.rd_moves.specs.Moves.{PlainMove}
 use Rattle.rd_moves.specs.Requests.{PlainRequest}
 use Rattle.rd_moves.specs.declared.answer.Answer.{Answer}
 use Rattle.rd_moves.specs.declared.answer.Answer.TheVariants.{Refused}
-use Rattle.rd_moves.specs.declared.answer.SearchEnd.{SearchEnd}
 use Rattle.rd_moves.specs.declared.answer.SearchEnd.TheVariants.{Met, Limit}
 use Rattle.rd_moves.specs.declared.request.Request.TheVariants.{Go, Back, Forward, Redo, Until}
 use Rattle.rd_timeline.specs.Answers.{Obeys, answer_at, answer_of}
@@ -21,6 +20,8 @@ use Rattle.rd_timeline.specs.Backward.{GoesBack, HasRedone, IsWhyNoRedo}
 use Rattle.rd_timeline.specs.Course.{Course, GoesOn, IsFull, IsWhyNot, base_of}
 use Rattle.rd_timeline.specs.History.{state_after}
 use Rattle.rd_timeline.specs.Policy.{EndsRun, IsWhyNoRun, ended, moves_by_policy}
+use Rattle.rd_calls.specs.Step.{move_answer}
+use Rattle.rd_timeline.specs.Runs.{Ending, Plain, ending_of, moved, state_of}
 use Rattle.rd_timeline.specs.Runs.{Moves, Leaves, Refuses, Lays, ByPolicy, back_at, can_lay, end_of, go_response, kept, laid_on, lays, makes_move, moved_on, moves_after, moves_of, redone, response_to, run_of, run_response}
 use Rattle.rd_timeline.proofs.PolicyLaws.{made_more}
 use Rattle.rd_timeline.proofs.RunsLaws.{moved_given, run_given, run_needs_memory, target_given}
@@ -28,7 +29,7 @@ use Rattle.rd_timeline.proofs.RunsLaws.{moved_given, run_given, run_needs_memory
 -- ---- what comes of a request
 
 -- A request was done: these are the moves that it leaves, and where it was a search, this is how that came to its end.
-pub record IsAnswered (old : Course) (request : PlainRequest) (new : Course) (end : Option SearchEnd) : Type 0 where
+pub record IsAnswered (old : Course) (request : PlainRequest) (new : Course) (end : Ending) : Type 0 where
   pub comes : response_to old.app old.limit (moves_of old) request ≡ Leaves (moves_of new) end
   pub app : new.app ≡ old.app
   pub limit : new.limit ≡ old.limit
@@ -42,7 +43,7 @@ leads_as_before : (old new : Course) → new ≡ old → state_after old.app old
 leads_as_before old new same leads = subst (λ (course : Course). state_after course.app course.done ≡ Ok course.target) (sym same) leads
 
 -- What is told then, where no memory is needed.
-pub obeyed : (old new : Course) (request : PlainRequest) (at : ℕ) (end : Option SearchEnd) → at ≡ length new.done → IsAnswered old request new end
+pub obeyed : (old new : Course) (request : PlainRequest) (at : ℕ) (end : Ending) → at ≡ length new.done → IsAnswered old request new end
     → Obeys old request new (Ok (answer_at at end))
 obeyed old new request at end at_is is = record {
   ok = ap (λ n. answer_at n end) at_is ∙ sym (ap answer_of is.comes);
@@ -68,7 +69,7 @@ nothing_changed old new request refusal refused same leads = record {
 
 -- What follows where a request is made, where it is refused for another cause than memory, and where memory ran out, holds of what is told.
 pub obeyed_if : {T : Type 0} (old new : Course) (request : PlainRequest) (made : Result T Refusal) (result : Result Answer NoMemoryError) (at : T → ℕ)
-    (end : T → Option SearchEnd) (Made : T → Type 0) (Why : Refusal → Type 0) → (IsErr result ↔ IsErrOf made NoMemory)
+    (end : T → Ending) (Made : T → Type 0) (Why : Refusal → Type 0) → (IsErr result ↔ IsErrOf made NoMemory)
     → IfOk made (λ x. result ≡ Ok (answer_at (at x) (end x))) → IfErr made (λ refusal. refusal ≢ NoMemory → result ≡ Ok (Refused refusal))
     → IfOk made (λ x. at x ≡ length new.done) → IfOk made Made → IfErr made Why → OnErr made (new ≡ old)
     → state_after old.app old.done ≡ Ok old.target → ((x : T) → Made x → IsAnswered old request new (end x))
@@ -91,7 +92,7 @@ obeyed_if {T} old new request (Err refusal) (Err error) at end Made Why lacks te
 }
 
 -- the moves that are left are those of the course
-leaves : (moves : Moves) (end : Option SearchEnd) (new : Course) → new.done ≡ moves.done → new.undone ≡ moves.undone → base_of new ≡ moves.base
+leaves : (moves : Moves) (end : Ending) (new : Course) → new.done ≡ moves.done → new.undone ≡ moves.undone → base_of new ≡ moves.base
     → Leaves moves end ≡ Leaves (moves_of new) end
 leaves moves end new done undone base =
     ap (λ (ms : List PlainMove). Leaves (record moves { done = ms }) end) (sym done)
@@ -119,11 +120,23 @@ is_made old move new (Ok at) full goes leads = record {
 }
 is_made old move new (Err refusal) full goes leads = tt
 
-pub go_done : (old new : Course) (move : PlainMove) → state_after old.app old.done ≡ Ok old.target → IsMade old move new → IsAnswered old (Go move) new None
+-- how a move ends, made from there
+abbrev pub move_end : Course → PlainMove → Ending
+move_end old move = ending_of (move_answer old.target move)
+
+-- the target is the state that the moves give
+end_given : (old : Course) (move : PlainMove) → state_after old.app old.done ≡ Ok old.target
+    → ending_of (move_answer (state_of old.app (moves_of old)) move) ≡ move_end old move
+end_given old move leads = ap (λ (s : Snapshot). ending_of (move_answer s move)) (target_given old leads)
+
+pub go_done : (old new : Course) (move : PlainMove) → state_after old.app old.done ≡ Ok old.target → IsMade old move new
+    → IsAnswered old (Go move) new (move_end old move)
 go_done old new move leads made = record {
   comes =
-      ap (go_response (moves_of old) move) (moved_given old move false leads (ne_eqb (length old.done) old.limit made.room) ∙ made.goes.step)
-      ∙ leaves (moved_on (moves_of old) move) None new made.goes.done made.goes.undone
+      ap (λ (end : Ending). go_response (moves_of old) move end (moved old.app old.limit (moves_of old) move)) (end_given old move leads)
+      ∙ ap (go_response (moves_of old) move (move_end old move))
+      (moved_given old move false leads (ne_eqb (length old.done) old.limit made.room) ∙ made.goes.step)
+      ∙ leaves (moved_on (moves_of old) move) (move_end old move) new made.goes.done made.goes.undone
       (omega (arith, made.goes.records, ap length made.goes.done, length_push old.done move));
   app = made.goes.app;
   limit = made.goes.limit;
@@ -134,10 +147,10 @@ pub go_not_done : (old : Course) (move : PlainMove) (refusal : Refusal) → stat
     → IsWhyNot old move refusal → IsRefusedAs old (Go move) refusal
 go_not_done old move refusal leads other why = elim why [
   | inl full ↦
-      ap (go_response (moves_of old) move) (moved_given old move true leads (eq-eqb (length old.done) old.limit full.0)) ∙ ap Refuses (sym full.1)
+      ap (go_response (moves_of old) move (ending_of (move_answer (state_of old.app (moves_of old)) move))) (moved_given old move true leads (eq-eqb (length old.done) old.limit full.0)) ∙ ap Refuses (sym full.1)
   | inr others ↦ elim others [
     | inl by_rules ↦
-        ap (go_response (moves_of old) move) (moved_given old move false leads (ne_eqb (length old.done) old.limit by_rules.0) ∙ by_rules.1)
+        ap (go_response (moves_of old) move (ending_of (move_answer (state_of old.app (moves_of old)) move))) (moved_given old move false leads (ne_eqb (length old.done) old.limit by_rules.0) ∙ by_rules.1)
     | inr lacks ↦ absurd (other lacks.1)
   ]
 ]
@@ -146,8 +159,8 @@ go_not_done old move refusal leads other why = elim why [
 
 -- what comes of a request for moves that are there, or not
 of_some : (moves : Moves) (refusal : Refusal) (some b : Bool) → some ≡ b
-    → cond some (Leaves moves None) (Refuses refusal) ≡ cond b (Leaves moves None) (Refuses refusal)
-of_some moves refusal some b is = ap (λ s. cond s (Leaves moves None) (Refuses refusal)) is
+    → cond some (Leaves moves Plain) (Refuses refusal) ≡ cond b (Leaves moves Plain) (Refuses refusal)
+of_some moves refusal some b is = ap (λ s. cond s (Leaves moves Plain) (Refuses refusal)) is
 
 -- the base, once some moves were taken back by their records
 base_back : (old new : Course) (count : ℕ) → length old.log ≤ length old.done → count ≤ length old.log → new.done ≡ take (length old.done - count) old.done
@@ -163,14 +176,14 @@ base_back old new count fewer some done log =
       length-take-le (length old.log - count) old.log (omega arith),
     )
 
-pub back_done : (old new : Course) (count : ℕ) → length old.log ≤ length old.done → GoesBack old count new → IsAnswered old (Back count) new None
+pub back_done : (old new : Course) (count : ℕ) → length old.log ≤ length old.done → GoesBack old count new → IsAnswered old (Back count) new Plain
 back_done old new count fewer goes =
     let moves = back_at (moves_of old) (length old.done - count) in
     record {
       comes =
           of_some moves (TooFar (kept (moves_of old))) (nat_le count (kept (moves_of old))) true
           (le-leb count (kept (moves_of old)) (omega (arith, goes.some, fewer)))
-          ∙ leaves moves None new goes.done goes.undone (base_back old new count fewer goes.some goes.done goes.log);
+          ∙ leaves moves Plain new goes.done goes.undone (base_back old new count fewer goes.some goes.done goes.log);
       app = goes.app;
       limit = goes.limit;
       leads = goes.leads;
@@ -203,13 +216,13 @@ base_redone old new count has =
     )
 
 pub redo_done : (old new : Course) (count : ℕ) → HasRedone old count new → state_after new.app new.done ≡ Ok new.target
-    → IsAnswered old (Redo count) new None
+    → IsAnswered old (Redo count) new Plain
 redo_done old new count has leads =
     let moves = redone (moves_of old) count in
     record {
       comes =
           of_some moves NothingUndone (nat_le count (length old.undone)) true (le-leb count (length old.undone) has.some)
-          ∙ leaves moves None new has.done has.undone (base_redone old new count has);
+          ∙ leaves moves Plain new has.done has.undone (base_redone old new count has);
       app = has.app;
       limit = has.limit;
       leads = leads;
@@ -240,7 +253,7 @@ run_lays None count = refl
 run_lays (Some condition) count = refl
 
 -- how a run to a goal came to its end
-abbrev run_end : Option Condition → Bool → Option SearchEnd
+abbrev run_end : Option Condition → Bool → Ending
 run_end goal met = end_of goal (cond met Met Limit)
 
 run_ended : (app : Application) (moves : Moves) (goal : Option Condition) (met : Bool) (made : ℕ) (s : Snapshot)

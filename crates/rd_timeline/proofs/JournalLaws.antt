@@ -7,8 +7,7 @@ use Rattle.std.proofs.lemmas.List.{drop-append-le, drop_all, drop_more, length-a
 use Rattle.rd_app.specs.Application.{Application, IsApplication}
 use Rattle.rd_app.proofs.Offered.{few_cores_of}
 use Rattle.rd_moves.specs.Moves.{PlainMove}
-use Rattle.rd_moves.specs.declared.moves.Move.TheVariants.{Core, Tick}
-use Rattle.rd_moves.specs.declared.moves.Move.TheVariants as variant
+use Rattle.rd_moves.specs.declared.moves.Move.TheVariants.{Carried, Core, Tick}
 use Rattle.rd_moves.specs.Moves.{IsMoveOf}
 use Rattle.rd_timeline.specs.declared.journal.Journal.TheInside.{Inside}
 use Rattle.rd_timeline.specs.Decoded.{HasByte, byte_of, decoded, carried_of, carried_among, carried_at, carried_in, move_of}
@@ -241,4 +240,4 @@ moves_laid j move bytes order has is =
 pub has_byte : (app : Application) (move : PlainMove) → IsApplication app → IsMoveOf app move → HasByte move
 has_byte app (Core core) limits named = omega (arith, named, few_cores_of app limits)
 has_byte app Tick limits named = tt
-has_byte app (variant.Edit edit) limits named = tt
+has_byte app (Carried carried) limits named = tt

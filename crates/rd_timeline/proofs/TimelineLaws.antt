@@ -12,8 +12,8 @@ use Rattle.rd_state.specs.Undoing.{undone, CanUndo}
 use Rattle.rd_state.specs.Settled.{IsSettled}
 use Rattle.rd_state.specs.Valid.{IsValid}
 use Rattle.rd_moves.specs.Moves.{PlainMove}
-use Rattle.rd_moves.specs.declared.moves.Move.TheVariants.{Core, Tick}
-use Rattle.rd_moves.specs.declared.moves.Move.TheVariants as variant
+use Rattle.rd_moves.specs.declared.moves.Move.TheVariants.{Carried, Core, Tick}
+use Rattle.rd_calls.proofs.Offered.{carried-settled}
 use Rattle.rd_calls.specs.Step.{step, LeavesSettled}
 use Rattle.rd_moves.specs.Moves.{IsMoveOf}
 use Rattle.rd_packed.specs.declared.count.ReadCount.{ReadCount}
@@ -220,7 +220,7 @@ pub settled_after : (app : Application) (s : Snapshot) (move : PlainMove) (s' : 
     → IsSettled (priorities_of app) s'
 settled_after app s (Core core) s' before leaves = leaves
 settled_after app s Tick s' before leaves = leaves
-settled_after app s (variant.Edit edit) s' before leaves = leaves before
+settled_after app s (Carried carried) s' before leaves = carried-settled app s carried s' before leaves
 
 -- the state now is that after the moves done
 pub state_now : (t : Inside) → IsWhole t → IsStateAfter t.app t.journal.done t.journal.target
@@ -363,4 +363,4 @@ at_most_room move old carried most reserved journal is count done capacity befor
     one_more : (m : PlainMove) → HasCarriedRoom reserved m → carried_in reserved.done + carried_in (m ∷ []) ≤ max (carried_in reserved.done) reserved.carried_capacity
     one_more (Core core) room = omega arith
     one_more Tick room = omega arith
-    one_more (variant.Edit edit) room = omega (arith, room refl)
+    one_more (Carried carried) room = omega (arith, room refl)

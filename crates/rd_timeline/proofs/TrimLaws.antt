@@ -16,6 +16,8 @@ use Rattle.rd_timeline.specs.Backward.{holds_in, last_met}
 use Rattle.rd_timeline.specs.History.{state_after}
 use Rattle.rd_timeline.specs.Policy.{Run, Going, Met, Refused, moves_by_policy}
 use Rattle.rd_timeline.specs.RunLaws.{BaseIsWithinMoves, KeptGoesAsBefore, OnlyTrimsMoveTheBase, TrimLeavesMoves, TrimsMeet, is_refusal, is_refused}
+use Rattle.rd_calls.specs.Step.{move_answer}
+use Rattle.rd_timeline.specs.Runs.{Ending, Plain, ending_of}
 use Rattle.rd_timeline.specs.Runs.{Moves, Leaves, Refuses, answered, back_at, go_response, kept, moved, moves_after, redone, response_to, run_of, run_response, search_response, state_of, trimmed}
 
 pub trim_leaves_moves : TrimLeavesMoves
@@ -31,14 +33,14 @@ trims_meet app limit moves first then =
 
 -- Moves that have a record are undone.
 back_made : (app : Application) (limit : ℕ) (moves : Moves) (count : ℕ) → count ≤ kept moves
-    → response_to app limit moves (Back count) ≡ Leaves (back_at moves (length moves.done - count)) None
+    → response_to app limit moves (Back count) ≡ Leaves (back_at moves (length moves.done - count)) Plain
 back_made app limit moves count some =
-    ap (λ b. cond b (Leaves (back_at moves (length moves.done - count)) None) (Refuses (TooFar (kept moves)))) (le-leb count (kept moves) some)
+    ap (λ b. cond b (Leaves (back_at moves (length moves.done - count)) Plain) (Refuses (TooFar (kept moves)))) (le-leb count (kept moves) some)
 
 redo_made : (app : Application) (limit : ℕ) (moves : Moves) (count : ℕ) → count ≤ length moves.undone
-    → response_to app limit moves (Redo count) ≡ Leaves (redone moves count) None
+    → response_to app limit moves (Redo count) ≡ Leaves (redone moves count) Plain
 redo_made app limit moves count some =
-    ap (λ b. cond b (Leaves (redone moves count) None) (Refuses NothingUndone)) (le-leb count (length moves.undone) some)
+    ap (λ b. cond b (Leaves (redone moves count) Plain) (Refuses NothingUndone)) (le-leb count (length moves.undone) some)
 
 -- Moves that were undone and are made again are as they were.
 back_and_again : (moves : Moves) (count : ℕ) → count ≤ length moves.done → redone (back_at moves (length moves.done - count)) count ≡ moves
@@ -81,12 +83,13 @@ kept_goes_as_before app limit moves keep count few some =
 -- ---- the base
 
 -- It is where it was, whatever comes of a request, unless that is a trim.
-stays_by_move : (moves : Moves) (move : PlainMove) (r : Result Snapshot Refusal) → (moves_after moves (go_response moves move r)).base ≡ moves.base
-stays_by_move moves move (Ok s) = refl
-stays_by_move moves move (Err refusal) = refl
+stays_by_move : (moves : Moves) (move : PlainMove) (end : Ending) (r : Result Snapshot Refusal)
+    → (moves_after moves (go_response moves move end r)).base ≡ moves.base
+stays_by_move moves move end (Ok s) = refl
+stays_by_move moves move end (Err refusal) = refl
 
 stays_if : (moves new : Moves) (refusal : Refusal) (b : Bool) → new.base ≡ moves.base
-    → (moves_after moves (cond b (Leaves new None) (Refuses refusal))).base ≡ moves.base
+    → (moves_after moves (cond b (Leaves new Plain) (Refuses refusal))).base ≡ moves.base
 stays_if moves new refusal true same = same
 stays_if moves new refusal false same = refl
 
@@ -103,7 +106,7 @@ stays : (old new : ℕ) (b : Bool) → new ≡ old → (old ≤ new) × (b ≡ f
 stays old new b same = (omega (arith, same), λ other. same)
 
 pub only_trims_move_the_base : OnlyTrimsMoveTheBase
-only_trims_move_the_base app limit moves (Go action) = stays moves.base _ false (stays_by_move moves action (moved app limit moves action))
+only_trims_move_the_base app limit moves (Go action) = stays moves.base _ false (stays_by_move moves action (ending_of (move_answer (state_of app moves) action)) (moved app limit moves action))
 only_trims_move_the_base app limit moves (Back count) =
     stays moves.base _ false (stays_if moves (back_at moves (length moves.done - count)) (TooFar (kept moves)) (nat_le count (kept moves)) refl)
 only_trims_move_the_base app limit moves (Forward count) =
@@ -121,18 +124,19 @@ only_trims_move_the_base app limit moves (Trim keep) = (omega arith, λ other. a
 abbrev IsWithin : Moves → Type 0
 IsWithin moves = moves.base ≤ length moves.done
 
-within_by_move : (moves : Moves) (move : PlainMove) (r : Result Snapshot Refusal) → IsWithin moves → IsWithin (moves_after moves (go_response moves move r))
-within_by_move moves move (Ok s) within = omega (arith, within, length_push moves.done move)
-within_by_move moves move (Err refusal) within = within
+within_by_move : (moves : Moves) (move : PlainMove) (end : Ending) (r : Result Snapshot Refusal) → IsWithin moves
+    → IsWithin (moves_after moves (go_response moves move end r))
+within_by_move moves move end (Ok s) within = omega (arith, within, length_push moves.done move)
+within_by_move moves move end (Err refusal) within = within
 
 within_by_back : (moves : Moves) (count : ℕ) (b : Bool) → nat_le count (kept moves) ≡ b → IsWithin moves
-    → IsWithin (moves_after moves (cond b (Leaves (back_at moves (length moves.done - count)) None) (Refuses (TooFar (kept moves)))))
+    → IsWithin (moves_after moves (cond b (Leaves (back_at moves (length moves.done - count)) Plain) (Refuses (TooFar (kept moves)))))
 within_by_back moves count true is within =
     omega (arith, within, leb-true count (kept moves) is, length-take-le (length moves.done - count) moves.done (omega arith))
 within_by_back moves count false is within = within
 
 within_by_redo : (moves : Moves) (count : ℕ) (b : Bool) → IsWithin moves
-    → IsWithin (moves_after moves (cond b (Leaves (redone moves count) None) (Refuses NothingUndone)))
+    → IsWithin (moves_after moves (cond b (Leaves (redone moves count) Plain) (Refuses NothingUndone)))
 within_by_redo moves count true within = omega (arith, within, length-append moves.done (take count moves.undone))
 within_by_redo moves count false within = within
 
@@ -168,7 +172,7 @@ within_by_search app condition moves (Some at) is within =
     omega (arith, found.0, length-take-le at moves.done (omega (arith, found.1, within)))
 
 pub base_is_within_moves : BaseIsWithinMoves
-base_is_within_moves app limit moves (Go action) within = within_by_move moves action (moved app limit moves action) within
+base_is_within_moves app limit moves (Go action) within = within_by_move moves action (ending_of (move_answer (state_of app moves) action)) (moved app limit moves action) within
 base_is_within_moves app limit moves (Back count) within = within_by_back moves count (nat_le count (kept moves)) refl within
 base_is_within_moves app limit moves (Forward count) within = within_by_run app moves None (run_of app limit None moves count) within
 base_is_within_moves app limit moves (Redo count) within = within_by_redo moves count (nat_le count (length moves.undone)) within

@@ -9,6 +9,7 @@ use Rattle.rd_refusal.specs.declared.refusal.Refusal.{Refusal}
 use Rattle.rd_refusal.specs.declared.refusal.Refusal.TheVariants.{MovesFull}
 use Rattle.rd_state.specs.Snapshot.{Snapshot}
 use Rattle.rd_moves.specs.Moves.{PlainMove}
+use Rattle.rd_moves.specs.declared.carried.Carried.TheVariants as carried
 use Rattle.rd_moves.specs.declared.moves.Move.TheVariants as move
 use Rattle.rd_calls.specs.Step.{policy_of, step}
 use Rattle.rd_condition.specs.declared.condition.Condition.{Condition}
@@ -63,7 +64,7 @@ one_back old mid new move made on back =
     (same_target old new (back.app ∙ on.app) done made.leads back.leads, done, omega (arith, ap length done, on.records, is.log))
 
 pub edits_leave_no_trace : EditsLeaveNoTrace
-edits_leave_no_trace old mid new edit made on back = one_back old mid new (move.Edit edit) made on back
+edits_leave_no_trace old mid new edit made on back = one_back old mid new (move.Carried (carried.Edit edit)) made on back
 
 -- ---- runs by policy
 

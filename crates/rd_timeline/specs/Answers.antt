@@ -1,23 +1,23 @@
 -- What is answered to a request, and what obeying it means.
 use Rattle.std.specs.Prelude.{ℕ, ◌≡◌, if◌then◌else◌, length, IfOk, IsTrue, OnErr, OnOk}
-use Rattle.std.specs.Prelude.{Option, None, Some, Result, Ok}
+use Rattle.std.specs.Prelude.{Result, Ok}
 use Rattle.rd_bytes.specs.declared.no_memory.NoMemory.{NoMemory}
 use Rattle.rd_app.specs.Application.{Application}
 use Rattle.rd_moves.specs.Requests.{PlainRequest}
 use Rattle.rd_moves.specs.declared.answer.Answer.{Answer}
-use Rattle.rd_moves.specs.declared.answer.Answer.TheVariants.{Done, Ended, Refused}
-use Rattle.rd_moves.specs.declared.answer.SearchEnd.{SearchEnd}
+use Rattle.rd_moves.specs.declared.answer.Answer.TheVariants.{Answered, Done, Ended, Refused}
 use Rattle.rd_moves.specs.declared.answer.SearchEnd.TheVariants.{Met, Limit}
 use Rattle.rd_timeline.specs.declared.running.Found.{Found}
 use Rattle.rd_timeline.specs.Course.{Course}
 use Rattle.rd_timeline.specs.History.{state_after}
-use Rattle.rd_timeline.specs.Runs.{Moves, Response, Leaves, Refuses, answered, makes_move, moves_of}
-use Rattle.rd_timeline.specs.Runs.{response_to}
+use Rattle.rd_timeline.specs.Runs.{Ending, Plain, Searched, Answers, Moves, Response, Leaves}
+use Rattle.rd_timeline.specs.Runs.{Refuses, answered, makes_move, moves_of, response_to}
 
--- so many moves are done now, where a search ended or otherwise
-abbrev pub answer_at : ℕ → Option SearchEnd → Answer
-answer_at at None = Done at
-answer_at at (Some end) = Ended at end
+-- so many moves are done now, and it ended so
+abbrev pub answer_at : ℕ → Ending → Answer
+answer_at at Plain = Done at
+answer_at at (Searched end) = Ended at end
+answer_at at (Answers answer) = Answered at answer
 
 -- where a run to a condition ended
 abbrev pub ended_answer : Found → Answer

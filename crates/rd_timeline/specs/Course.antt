@@ -6,7 +6,10 @@ use Rattle.rd_refusal.specs.declared.refusal.Refusal.TheVariants.{MovesFull, NoM
 use Rattle.rd_app.specs.Application.{Application}
 use Rattle.rd_state.specs.Change.{Change}
 use Rattle.rd_state.specs.Snapshot.{Snapshot}
+use Rattle.rd_moves.specs.Interrupts.{PlainInterrupt}
 use Rattle.rd_moves.specs.Moves.{PlainMove}
+use Rattle.rd_moves.specs.declared.carried.Carried.TheVariants as carried
+use Rattle.rd_moves.specs.declared.moves.Move.TheVariants as move
 use Rattle.rd_calls.specs.Step.{step}
 use Rattle.rd_moves.specs.Moves.{IsMoveOf}
 use Rattle.rd_timeline.specs.Decoded.{carried_in, carries}
@@ -52,6 +55,10 @@ pub record IsKept (course : Course) : Type 0 where
   pub rewinds : CanRewind course.target course.log
   pub made : AreMade course.app course.limit course.most_done course.most_carried
       (course.done ++ course.undone)
+
+-- the move of an interrupt
+abbrev pub by_interrupt : PlainInterrupt → PlainMove
+by_interrupt interrupt = move.Carried (carried.Interrupt interrupt)
 
 -- The moves done are at their limit.
 abbrev pub IsFull : Course → Type 0

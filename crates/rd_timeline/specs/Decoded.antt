@@ -1,11 +1,9 @@
 -- Moves as they are kept: a byte each, and beside what some of them carry.
 use Rattle.std.specs.Prelude.{ℕ, ◌<◌, ◌==◌, if◌then◌else◌, Bool, true, false, List, [], ◌∷◌, drop}
 use Rattle.std.specs.Prelude.{count_by}
+use Rattle.rd_moves.specs.Carried.{PlainCarried}
 use Rattle.rd_moves.specs.Moves.{PlainMove}
-use Rattle.rd_moves.specs.declared.moves.Move.TheVariants.{Core, Tick}
-use Rattle.rd_moves.specs.declared.moves.Move.TheVariants as move
-use Rattle.rd_timeline.specs.declared.carried.Carried.{Carried}
-use Rattle.rd_timeline.specs.declared.carried.Carried.TheVariants as variant
+use Rattle.rd_moves.specs.declared.moves.Move.TheVariants.{Carried, Core, Tick}
 
 -- ---- what moves carry
 
@@ -13,21 +11,17 @@ use Rattle.rd_timeline.specs.declared.carried.Carried.TheVariants as variant
 abbrev pub carries : PlainMove → Bool
 carries (Core core) = false
 carries Tick = false
-carries (move.Edit edit) = true
+carries (Carried carried) = true
 
 -- how many of the moves carry something
 abbrev pub carried_in : List PlainMove → ℕ
 carried_in moves = count_by carries moves
 
 -- what the move carries, if it carries something
-abbrev pub carried_of : PlainMove → List Carried
+abbrev pub carried_of : PlainMove → List PlainCarried
 carried_of (Core core) = []
 carried_of Tick = []
-carried_of (move.Edit edit) = variant.Edit edit ∷ []
-
--- the move that carries this
-abbrev pub move_carried : Carried → PlainMove
-move_carried (variant.Edit edit) = move.Edit edit
+carried_of (Carried carried) = carried ∷ []
 
 -- ---- the bytes
 
@@ -47,25 +41,25 @@ carried_among bytes = count_by is_carried_byte bytes
 abbrev pub byte_of : PlainMove → ℕ
 byte_of (Core core) = core
 byte_of Tick = 255
-byte_of (move.Edit edit) = 254
+byte_of (Carried carried) = 254
 
 -- There are few enough cores for that.
 abbrev pub HasByte : PlainMove → Type 0
 HasByte (Core core) = core < 254
 HasByte Tick = Unit {0}
-HasByte (move.Edit edit) = Unit {0}
+HasByte (Carried carried) = Unit {0}
 
 -- the move that carries the first of these
-abbrev pub next_carried : List Carried → PlainMove
+abbrev pub next_carried : List PlainCarried → PlainMove
 next_carried [] = Tick
-next_carried (first ∷ later) = move_carried first
+next_carried (first ∷ later) = Carried first
 
 -- the move that a byte stands for, where these are carried next
-abbrev pub move_of : ℕ → List Carried → PlainMove
+abbrev pub move_of : ℕ → List PlainCarried → PlainMove
 move_of byte list =
     if is_carried_byte byte then next_carried list else if byte == 255 then Tick else Core byte
 
 -- the moves that bytes stand for, where each that carries something carries the next of these
-abbrev pub decoded : List ℕ → List Carried → List PlainMove
+abbrev pub decoded : List ℕ → List PlainCarried → List PlainMove
 decoded [] list = []
 decoded (byte ∷ bytes) list = move_of byte list ∷ decoded bytes (drop (carried_at byte) list)

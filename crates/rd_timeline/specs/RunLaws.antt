@@ -1,6 +1,7 @@
 -- What one may count on when going on and back, over any courses of a timeline.
 use Rattle.std.specs.Prelude.{ℕ, ◌≡◌, ◌+◌, ◌<◌, ◌≤◌, Bool, true, false, length, min, None, take, Ok}
 use Rattle.rd_app.specs.Application.{Application}
+use Rattle.rd_moves.specs.declared.carried.Carried.TheVariants as carried
 use Rattle.rd_moves.specs.declared.moves.Move.TheVariants as move
 use Rattle.rd_moves.specs.declared.request.Request.TheVariants.{Go, Back, Forward, Redo, Until}
 use Rattle.rd_moves.specs.declared.request.Request.TheVariants.{BackUntil, Trim}
@@ -55,7 +56,7 @@ BackFindsTheLast = (old new : Course) (condition : Condition) (found : Found) �
 -- An edit that is taken back leaves no trace: target, moves done and base are as they were.
 abbrev pub EditsLeaveNoTrace : Type 0
 EditsLeaveNoTrace = (old mid new : Course) (edit : PlainEdit) → IsMade old
-    → GoesOn old (move.Edit edit) mid → GoesBack mid 1 new
+    → GoesOn old (move.Carried (carried.Edit edit)) mid → GoesBack mid 1 new
     → (new.target ≡ old.target) × (new.done ≡ old.done) × (base_of new ≡ base_of old)
 
 -- Is a request refused, however much memory there is?

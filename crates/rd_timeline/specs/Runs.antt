@@ -9,7 +9,7 @@ use Rattle.rd_app.specs.Application.{Application}
 use Rattle.rd_state.specs.Boot.{boot_of}
 use Rattle.rd_state.specs.Snapshot.{Snapshot}
 use Rattle.rd_moves.specs.Moves.{PlainMove}
-use Rattle.rd_calls.specs.Step.{policy_of, step}
+use Rattle.rd_calls.specs.Step.{move_answer, policy_of, step}
 use Rattle.rd_condition.specs.declared.condition.Condition.{Condition}
 use Rattle.rd_moves.specs.Requests.{PlainRequest}
 use Rattle.rd_moves.specs.declared.answer.SearchEnd.{SearchEnd}
@@ -87,21 +87,33 @@ trimmed moves keep = record moves { base = max moves.base (length moves.done - k
 
 -- ---- what comes of a request
 
--- What comes of a request. It is done: these are the moves that it leaves, and where it was a
--- search, this is how that came to its end. Or it is refused, for this cause, and the moves stay.
+-- what is said of a request that is done besides how many moves are done then: nothing, how a
+-- search came to its end, or what an interrupt answered
+pub data Ending : Type 0 where
+  Plain : Ending
+  Searched : SearchEnd → Ending
+  Answers : ℕ → Ending
+
+-- What comes of a request. It is done: these are the moves that it leaves, and how it ends. Or it
+-- is refused, for this cause, and the moves stay.
 pub data Response : Type 0 where
-  Leaves : Moves → Option SearchEnd → Response
+  Leaves : Moves → Ending → Response
   Refuses : Refusal → Response
 
--- what comes of a move, which gives this state or is refused
-abbrev pub go_response : Moves → PlainMove → Result Snapshot Refusal → Response
-go_response moves move (Ok s) = Leaves (moved_on moves move) None
-go_response moves move (Err refusal) = Refuses refusal
+-- a move that answers this, if it answers something
+abbrev pub ending_of : Option ℕ → Ending
+ending_of None = Plain
+ending_of (Some answer) = Answers answer
+
+-- what comes of a move, which ends so and gives this state or is refused
+abbrev pub go_response : Moves → PlainMove → Ending → Result Snapshot Refusal → Response
+go_response moves move end (Ok s) = Leaves (moved_on moves move) end
+go_response moves move end (Err refusal) = Refuses refusal
 
 -- A run that has a goal is a search, which came to this end.
-abbrev pub end_of : Option Condition → SearchEnd → Option SearchEnd
-end_of None end = None
-end_of (Some condition) end = Some end
+abbrev pub end_of : Option Condition → SearchEnd → Ending
+end_of None end = Plain
+end_of (Some condition) end = Searched end
 
 -- what comes of a run to a goal, if it has one
 abbrev pub run_response : Application → Moves → Option Condition → Run → Response
@@ -111,28 +123,30 @@ run_response app moves goal (Refused refusal) = Refuses refusal
 
 -- what comes of a search back, where the condition held last at this place, or at none
 abbrev pub search_response : Moves → Option ℕ → Response
-search_response moves None = Leaves (back_at moves moves.base) (Some Start)
-search_response moves (Some at) = Leaves (back_at moves at) (Some Met)
+search_response moves None = Leaves (back_at moves moves.base) (Searched Start)
+search_response moves (Some at) = Leaves (back_at moves at) (Searched Met)
 
 -- What comes of each request, where so many moves may be done, and these are done and undone. The
 -- last moves done are undone, where so many have a record, or the first moves undone are done
 -- again, where there are so many. A run is made by policy, or not at all. The way back to where a
 -- condition holds is the shortest, or as far as records lead. A trim leaves the moves.
 abbrev pub response_to : Application → ℕ → Moves → PlainRequest → Response
-response_to app limit moves (Go action) = go_response moves action (moved app limit moves action)
+response_to app limit moves (Go action) =
+    go_response moves action (ending_of (move_answer (state_of app moves) action))
+    (moved app limit moves action)
 response_to app limit moves (Back count) =
-    if nat_le count (kept moves) then Leaves (back_at moves (length moves.done - count)) None
+    if nat_le count (kept moves) then Leaves (back_at moves (length moves.done - count)) Plain
     else Refuses (TooFar (kept moves))
 response_to app limit moves (Forward count) =
     run_response app moves None (run_of app limit None moves count)
 response_to app limit moves (Redo count) =
-    if nat_le count (length moves.undone) then Leaves (redone moves count) None
+    if nat_le count (length moves.undone) then Leaves (redone moves count) Plain
     else Refuses NothingUndone
 response_to app limit moves (Until condition count) =
     run_response app moves (Some condition) (run_of app limit (Some condition) moves count)
 response_to app limit moves (BackUntil condition) =
     search_response moves (last_met app condition moves.base moves.done (kept moves))
-response_to app limit moves (Trim keep) = Leaves (trimmed moves keep) None
+response_to app limit moves (Trim keep) = Leaves (trimmed moves keep) Plain
 
 -- the moves after it, which were these before
 abbrev pub moves_after : Moves → Response → Moves

@@ -6,17 +6,19 @@ ghost use Rattle.rd_moves.specs.declared.request.Request.TheVariants as request;
 ghost use Rattle.rd_moves.specs.Moves.{IsMoveOf};
 ghost use Rattle.rd_moves.specs.Requests.{IsRequestOf};
 ghost use Rattle.rd_condition.specs.Conditions.{IsConditionOf};
-ghost use Rattle.rd_timeline.specs.Answers.{Obeys, answer_to, ended_answer};
+ghost use Rattle.rd_timeline.specs.Answers.{Obeys, answer_at, answer_to, ended_answer};
 ghost use Rattle.rd_timeline.specs.History.{state_after};
-ghost use Rattle.rd_timeline.specs.Runs.{moves_of, makes_move, may_make_moves, answered};
+ghost use Rattle.rd_timeline.specs.Runs.{answered, ending_of, makes_move, may_make_moves};
+ghost use Rattle.rd_timeline.specs.Runs.{moves_of};
 
 use crate::running::Found;
 use crate::timeline::Timeline;
 use rd_bytes::no_memory::NoMemory;
+use rd_calls::play::move_answer;
 use rd_condition::condition::Condition;
 use rd_moves::answer::{Answer, SearchEnd};
+use rd_moves::carried::Lent;
 use rd_moves::count::Count;
-use rd_moves::edit::Lent;
 use rd_moves::moves::Move;
 use rd_moves::request::Request;
 use rd_refusal::refusal::Refusal;
@@ -36,6 +38,23 @@ fn told(made: Result<usize, Refusal>) -> Result<Answer, NoMemory>
     }
 }
 
+// What is answered where a move was made, which answers this, if it answers something, or where it
+// was refused.
+fn told_of_move(made: Result<usize, Refusal>, answer: Option<u32>) -> Result<Answer, NoMemory>
+    ensures ok { IfOk made (λ at. result ≡ Ok (answer_at at (ending_of answer))) }
+    ensures err { IfErr made (λ refusal. refusal ≢ Refusal.NoMemory
+        → result ≡ Ok (Answer.Refused refusal)) }
+    ensures no_memory { IsErr result ↔ IsErrOf made Refusal.NoMemory }
+{
+    let Some(answer) = answer else {
+        return told(made);
+    };
+    match made {
+        Ok(at) => Ok(Answer::Answered { at, answer }),
+        Err(refusal) => told(Err(refusal)),
+    }
+}
+
 // Makes a move. An `Err` of this and the others says that there is no memory for it; then nothing
 // has changed.
 fn go(timeline: &mut Timeline, action: &Move<Lent<'_>>) -> Result<Answer, NoMemory>
@@ -43,7 +62,8 @@ fn go(timeline: &mut Timeline, action: &Move<Lent<'_>>) -> Result<Answer, NoMemo
     ensures { Obeys timeline.old (request.Go action.now) timeline.new result }
 {
     timeline.keeps();
-    told(timeline.go(action))
+    let answer = move_answer(timeline.app(), timeline.target(), action);
+    told_of_move(timeline.go(action), answer)
 }
 
 // Takes the last kept moves back. It takes no memory.

@@ -2,33 +2,13 @@
 
 ghost use Rattle.std.specs.Prelude.{◌≡◌, ◌-◌, ◌<◌, ◌≤◌, ◌++◌, ◌+◌, [], drop, length, take};
 ghost use Rattle.std.specs.Prelude.{IfOk, IsOk, IsTrue, OnErr, OnOk};
-ghost use Rattle.rd_timeline.specs.Decoded.{carried_of, carries, move_carried, next_carried};
+ghost use Rattle.rd_timeline.specs.Decoded.{carried_of, carries, next_carried};
 
 use rd_bytes::no_memory::NoMemory;
-use rd_moves::edit::{Edit, Lent};
+use rd_moves::carried::{Carried, Lent};
 use rd_moves::moves::Move;
 use std::alloc::Global;
 use std::marker::Model;
-
-/// What a move carries besides its byte: its operands.
-#[derive(Drop)]
-pub(crate) enum Carried {
-    /// What is changed by hand.
-    Edit { edit: Edit },
-}
-
-impl Carried {
-    // The move that carries it.
-    fn as_move(&self) -> Move<Lent<'_>>
-        ensures { result ≡ move_carried self.now }
-    {
-        match self {
-            Carried::Edit { edit } => Move::Edit {
-                edit: Lent::new(edit),
-            },
-        }
-    }
-}
 
 /// What the moves done and the moves undone carry, in one list. A move that carries nothing needs
 /// none of its memory.
@@ -87,7 +67,7 @@ impl CarriedList {
     {
         match action {
             Move::Core { .. } | Move::Tick => Ok(()),
-            Move::Edit { .. } => {
+            Move::Carried { .. } => {
                 let missing = (self.done + 1).saturating_sub(self.kept.len());
                 self.kept.reserve(missing)?;
                 Ok(())
@@ -106,10 +86,8 @@ impl CarriedList {
         self.kept.truncate(self.done);
         match action {
             Move::Core { .. } | Move::Tick => (),
-            Move::Edit { edit } => {
-                self.kept.push_reserved(Carried::Edit {
-                    edit: edit.edit().copy(),
-                });
+            Move::Carried { carried } => {
+                self.kept.push_reserved(carried.carried().copy());
                 self.done += 1;
             }
         }
@@ -120,7 +98,9 @@ impl CarriedList {
         requires { 0 < length self.now.undone }
         ensures { result ≡ next_carried self.now.undone }
     {
-        self.kept[self.done].as_move()
+        Move::Carried {
+            carried: Lent::new(&self.kept[self.done]),
+        }
     }
 
     /// What the next `n` moves undone carry, of those that carry something, is done again.

@@ -14,11 +14,11 @@ ghost use Rattle.rd_timeline.specs.LogView.{bytes_of, RecordsMove};
 ghost use Rattle.rd_timeline.specs.LoggedView.{IsWhyNotKept};
 ghost use Rattle.rd_timeline.specs.declared.log.TheConstants.{MAX_KEPT_BYTES};
 
-use crate::carried::{Carried, CarriedList};
+use crate::carried::CarriedList;
 use crate::logged::Logged;
 use rd_app::app::Program;
 use rd_bytes::no_memory::NoMemory;
-use rd_moves::edit::Lent;
+use rd_moves::carried::{Carried, Lent};
 use rd_moves::moves::Move;
 use rd_packed::count::ReadCount;
 use rd_refusal::refusal::Refusal;
@@ -79,7 +79,7 @@ fn byte_of_move(action: &Move<Lent<'_>>) -> u8
     match action {
         Move::Core { core } => *core as u8,
         Move::Tick => 255,
-        Move::Edit { .. } => 254,
+        Move::Carried { .. } => 254,
     }
 }
 

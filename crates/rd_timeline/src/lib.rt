@@ -3,6 +3,7 @@
 
 pub mod answering;
 mod carried;
+pub mod interrupts;
 pub mod journal;
 pub mod laws;
 pub mod log;

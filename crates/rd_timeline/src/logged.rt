@@ -16,7 +16,7 @@ use crate::log::Log;
 use rd_app::app::Program;
 use rd_bytes::no_memory::NoMemory;
 use rd_calls::play::{MAX_RECORD_BYTES, play_on};
-use rd_moves::edit::Lent;
+use rd_moves::carried::Lent;
 use rd_moves::moves::Move;
 use rd_packed::count::ReadCount;
 use rd_refusal::refusal::Refusal;

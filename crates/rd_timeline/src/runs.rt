@@ -7,7 +7,7 @@ ghost use Rattle.rd_moves.specs.Requests.{IsRequestOf};
 
 use crate::timeline::Timeline;
 use rd_bytes::no_memory::NoMemory;
-use rd_moves::edit::Lent;
+use rd_moves::carried::Lent;
 use rd_moves::request::Request;
 
 impl Timeline {

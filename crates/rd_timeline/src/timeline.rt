@@ -24,7 +24,7 @@ use crate::log::Log;
 use rd_app::app::Program;
 use rd_bytes::no_memory::NoMemory;
 use rd_calls::play::why_not;
-use rd_moves::edit::Lent;
+use rd_moves::carried::Lent;
 use rd_moves::moves::Move;
 use rd_packed::count::ReadCount;
 use rd_refusal::refusal::Refusal;
@@ -159,9 +159,10 @@ impl Timeline {
     /// Makes a move: it is laid on the moves done, and the moves undone are forgotten. Answers how
     /// many moves are done. A refusal leaves the timeline as it was: `MovesFull` where the moves
     /// done are at their limit, else `NoTask` where the core is idle, `TickLimit` where there is no
-    /// further tick and `BadEdit` where the edit can't be made, whatever memory is left, else
-    /// `NoMemory` where a growth was refused: where the log can't grow, the move is taken back.
-    /// There is no other. No memory is needed for as much as there was once.
+    /// further tick, `BadEdit` where the edit can't be made and `NoIsr` where an interrupt comes to
+    /// an application of profile 1, whatever memory is left, else `NoMemory` where a growth was
+    /// refused: where the log can't grow, the move is taken back. There is no other. No memory is
+    /// needed for as much as there was once.
     pub fn go(&mut self, action: &Move<Lent<'_>>) -> Result<usize, Refusal>
         requires named { IsMoveOf self.old.app action.now }
         ensures at { IfOk result (λ at. at ≡ length self.new.done) }
@@ -190,6 +191,8 @@ impl Timeline {
             ↔ IsRefusedBy self.old action.now Refusal.TickLimit }
         ensures bad_edit { IsErrOf result Refusal.BadEdit
             ↔ IsRefusedBy self.old action.now Refusal.BadEdit }
+        ensures no_isr { IsErrOf result Refusal.NoIsr
+            ↔ IsRefusedBy self.old action.now Refusal.NoIsr }
         ensures no_memory { IsErrOf result Refusal.NoMemory → CanGo self.old action.now }
         ensures short { IsErrOf result Refusal.NoMemory → IsMoreThanEver self.old action.now }
         ensures refusals { IfErr result (IsWhyNot self.old action.now) }

@@ -64,6 +64,16 @@ def bounds(key: Key) -> str:
     return f"{key.text}, {to_text(key.least, key.most)}" if key.holds == "number" else key.text
 
 
+def bound_by(key: Key, value: int, most: int) -> str:
+    """What bounds a number that is too large, where it isn't the key alone: ` (its size)`."""
+    if key.most_key and most < value <= key.most:
+        return f" (its {key.most_key})"
+    if most < value and most < key.most and key.most_by_profile:
+        own, more = (key.most_by_profile.index(it) + 1 for it in (most, key.most))
+        return f" in profile {own}; profile {more} allows {key.most}"
+    return ""
+
+
 class Finder:
     """Goes through a file as rdbg does, and goes on behind a fault."""
 
@@ -87,17 +97,17 @@ class Finder:
     def file(self, root: Node) -> None:
         """The file: its keys in their order, then its scripts."""
         found = self.values(FILE, root, "the application")
-        entries: Optional[int] = 1
+        numbers: Dict[str, Optional[int]] = {"notes": 1}
         for key in FILE.keys:
             node = found.get(key.name)
             if key.of is not None:
                 self.list_of(key, key.of, node)
             elif node is not None:
-                value = self.number(key, node, "", key.most)
-                entries = value if key.name == "notes" else entries
+                most = key.most_in(numbers.get("profile"))
+                numbers[key.name] = self.number(key, node, "", most)
         names = {symbol: list(names) for symbol, names in self.names.items()}
         for label, code in self.scripts:
-            self.script(label, code, Scope(names, entries or MOST_ENTRIES, len(code)))
+            self.script(label, code, Scope(names, numbers["notes"] or MOST_ENTRIES, len(code)))
 
     def list_of(self, key: Key, shape: Shape, node: Optional[Node]) -> None:
         """A list of objects of one kind."""
@@ -204,8 +214,8 @@ class Finder:
             message = f"{subject} is {shown(node.value.text)}, and is to be {limits}, digits alone"
             self.fault(SHAPE, node.place, message)
         elif not key.least <= value <= most:
-            bound = f" (its {key.most_key})" if key.most_key and most < value <= key.most else ""
-            self.fault(LIMIT, node.place, f"{subject} is {value}, and is to be {limits}{bound}")
+            message = f"{subject} is {value}, and is to be {limits}{bound_by(key, value, most)}"
+            self.fault(LIMIT, node.place, message)
             value = None
         return value
 

@@ -79,7 +79,17 @@ BY_NAME: Dict[str, str] = {
     **{name.lower(): it.text for it in FORMS for name in it.freertos},
     **{name.lower(): text for name, text in WRITTEN.items()},
 }
-INTERRUPT = "; an interrupt is a task with a core of its own (docs/FROM_C.md)"
+# Calls from an interrupt, by their names without FromISR, and the command that stands for each.
+FROM_ISR: Dict[str, str] = {
+    "xqueuesend": "isr send Q HEX",
+    "xqueuesendtoback": "isr send Q HEX",
+    "xtasknotify": "isr notify K 0 N ACTION",
+    "xtasknotifyindexed": "isr notify K I N ACTION",
+    "vtasknotifygive": "isr notify K 0 0 inc",
+    "vtasknotifygiveindexed": "isr notify K I 0 inc",
+}
+# What is said of the others.
+INTERRUPT = "; of an interrupt it is a call of a task with a core of its own (docs/FROM_C.md)"
 
 
 def called(word: str) -> str:
@@ -90,10 +100,12 @@ def called(word: str) -> str:
 
 def sentence(word: str, in_lines: bool = False) -> Optional[str]:
     """What to write in place of a word that is a name of FreeRTOS or of C: `xQueueReceive is
-    written recv Q T`. None where it is no such name."""
+    written recv Q T`, or which command it is. None where it is no such name."""
     name = called(word)
     plain = re.sub(r"(?i)FromISR$", "", name)
     end = "" if plain == name else INTERRUPT
+    if end and plain.lower() in FROM_ISR:
+        return f"{name} is the command {FROM_ISR[plain.lower()]}, in profile 2 (docs/FROM_C.md)"
     if plain.lower() in BY_NAME:
         return f"{name} is written {BY_NAME[plain.lower()]}{end}"
     words = {**WORDS, **(IN_LINES if in_lines else {})}

@@ -9,6 +9,8 @@ from rdbg.instructions import FORM_OF
 from rdbg.shapes import FILE
 
 INDENT = "    "
+# The profile of a text that says nothing of it.
+PROFILE = ("profile", 1)
 
 
 def label(number: str) -> str:
@@ -112,6 +114,7 @@ def object_lines(app: Application) -> List[str]:
 
 def text_of(app: Application) -> str:
     """The text of an application, with an end of line. Reading it gives the application again."""
-    blocks = [[f"{name} {value}" for name, value in settings(app) if name != "profile"]]
+    numbers = [pair for pair in settings(app) if pair != PROFILE]
+    blocks = [[f"{name} {value}" for name, value in numbers]]
     blocks += [object_lines(app), *map(task_lines, app.tasks)]
     return "\n\n".join("\n".join(block) for block in blocks if block) + "\n"

@@ -104,8 +104,8 @@ class Changes(Goal):
             return False
         if not self.target.is_own:
             return True
-        edits = self.target.edits
-        return any(edits[place].split()[2] == self.name for place in edits if first < place <= last)
+        made = self.target.by_hand.items()
+        return any(it.line.split()[2] == self.name for place, it in made if first < place <= last)
 
     def _scan_back(self, walk: Walk, first: int) -> Optional[int]:
         """The last place above `first` up to this one where it isn't as it was before the move, by

@@ -72,6 +72,8 @@ def of_symbol(shell: "Shell", symbol: str, begun: str) -> List[str]:
         return list(commands.OPERATORS)
     if symbol == "WORD":
         return list(commands.PHASES)
+    if symbol == "ACTION":
+        return list(commands.ACTIONS)
     if symbol == "R":
         return [str(number) for number in range(8)]
     if symbol == "wN":

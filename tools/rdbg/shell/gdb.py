@@ -28,7 +28,7 @@ HINTS: Dict[str, str] = {
     "record": "all moves are kept, and can be taken back at any time",
     "checkpoint": "each number of moves is a place: remember it, and `goto N`",
     "restart": "`goto N` goes to any place, `goto 0` to boot",
-    "signal": "an interrupt is a task of the highest priority with a core of its own",
+    "signal": "an interrupt is `isr send Q HEX` or `isr notify K I N ACTION`, in profile 2",
     "stop": "Ctrl-C ends a run",
     "interrupt": "Ctrl-C ends a run",
     "shell": "the shell is outside: Ctrl-Z, or another terminal",

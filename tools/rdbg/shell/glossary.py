@@ -19,7 +19,8 @@ PHASES: Dict[str, str] = {
 }
 GOALS: Dict[str, str] = {
     "stuck": "no core is busy, and no task has a deadline: only ticks are left. A task that never"
-    " waits, as an interrupt that ends in a jump, keeps it off: then `until sleeps TASK`",
+    " waits, as one that plays an interrupt and ends in a jump, keeps it off: then `until sleeps"
+    " TASK`",
     "failed": "a task's phase is failed",
     "wakes": "`wakes TASK`: it waited before the move, and doesn't after it",
     "sleeps": "`sleeps TASK`: it begins to wait without a deadline",
@@ -35,6 +36,7 @@ REFUSALS: Dict[str, str] = {
     "NoSuch": "there is no core, register, notification entry or name like this",
     "BadEdit": "the edit can't be made: the pc of a task that isn't in phase run, an item or a byte"
     " that isn't there, or a value too large for it",
+    "NoIsr": "the application's profile is 1, which has no interrupts; profile 2 has them",
     "WatchesFull": "the session has 16 watches",
     "NoWatch": "the session has no watch of this number",
     "NotHolder": "the wheel isn't this session's, so it can't give it",
@@ -50,6 +52,8 @@ TERMS: Dict[str, str] = {
     " GOAL` runs there, `rc GOAL` goes back there; with `!` to where it became so",
     "registers": "each task has r0 to r7; r0 is the answer of its last call (docs/CALLS.md):"
     " `print r0 TASK`, `info registers TASK`; `poke reg TASK R N` sets one",
+    "isr": "an interrupt, a move that no task makes: it is answered 1, or 0 where nothing changed,"
+    " and never waits; whom it woke takes a core at once, if its priority is high enough",
     "turn": "the core after that of the last step, 0 after a tick; it binds you to nothing",
     "tick": "block times are reckoned in ticks; a run makes one after an instruction of each core",
     "ready": "the task can run, and no core is free for it",

@@ -134,6 +134,7 @@ REFUSALS: Dict[str, Hint] = {
 
 SENTENCES: Dict[str, str] = {
     "TickLimit": "the tick can't grow any more; `back` takes ticks back",
+    "NoIsr": 'the application has profile 1: with `"profile": 2` in its file it has interrupts',
     "Held": "session {number} has the wheel: views go on, moves once it gives it",
     "WatchesFull": "there are 16 watches: `info watches`, `unwatch N`",
     "NoWatch": "there is no such watch: `info watches`",

@@ -3,6 +3,7 @@ are attached it is theirs too."""
 import dataclasses
 from typing import Optional
 
+from rdbg.by_hand import INTERRUPT
 from rdbg.commands import KIND_SYMBOLS, Command
 from rdbg.effects import LOCAL
 from rdbg.instructions import form_of
@@ -22,8 +23,19 @@ def names_for(target: Target, command: Command, last: Optional[Look]) -> Names:
     if word == "poke":
         symbol, name = command.symbols[2], command.words[2]
         return Names((name,)) if symbol == "K" else Names((), ((EDITED[symbol], name),))
+    if word == INTERRUPT:
+        return of_interrupt(target, command)
     found = of_step(target, int(command.words[1]), last) if word == "step" and last else None
     return target.names if found is None else found
+
+
+def of_interrupt(target: Target, command: Command) -> Names:
+    """What an interrupt can change: whom it wakes may displace another, and an item that it sends
+    has its handle in a set, if the queue is a member."""
+    if command.symbols[2] != "Q":
+        return Names(target.names.tasks)
+    sets = [key for key in target.names.objects if key[0] == "set"]
+    return Names(target.names.tasks, (("queue", command.words[2]), *sets))
 
 
 def of_step(target: Target, core: int, last: Look) -> Optional[Names]:

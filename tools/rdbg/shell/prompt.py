@@ -12,7 +12,7 @@ MOST_LINES = 2_000
 # Lines with these words aren't repeated by Enter.
 ONCE = (
     "watch", "unwatch", "break", "b", "delete", "d", "save", "reload", "set", "help", "h", "?",
-    "wheel", "poke", "goto", "g",
+    "wheel", "poke", "isr", "goto", "g",
 )  # fmt: skip
 
 

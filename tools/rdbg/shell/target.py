@@ -1,4 +1,5 @@
-"""A session with what is known of its target: names, place, edits, watches, and what was asked."""
+"""A session with what is known of its target: names, place, what was done by hand, watches, and what
+was asked."""
 import contextlib
 import dataclasses
 import functools
@@ -6,6 +7,7 @@ from typing import Callable, Dict, Iterable, Iterator, List, Optional, Tuple, Ty
 
 from rdbg import commands, replies
 from rdbg.application import Application
+from rdbg.by_hand import INTERRUPT, ByHand
 from rdbg.client import Session
 from rdbg.looks import OBJECTS, Key, Look, Names, key_of
 from rdbg.replies import Refused, Unreadable
@@ -13,7 +15,9 @@ from rdbg.replies import Refused, Unreadable
 # Refusals of lines that have no place in the history.
 UNCOUNTED = ("Syntax", "LineTooLong", "HistoryFull", "NoMemory")
 # Words of which a line makes one move.
-SINGLE = ("step", "tick", "poke")
+SINGLE = ("step", "tick", "poke", INTERRUPT)
+# Those of them that are done by hand: no task makes such a move, nor does time.
+BY_HAND = ("poke", INTERRUPT)
 # So many places of the history are left to the lines that are typed.
 RESERVE = 1_000
 # A look is taken anew so many times at the most.
@@ -64,8 +68,8 @@ class Target:
         self.base = 0
         # From where to where others have moved the target since that was last told.
         self.drift: Optional[Tuple[int, int]] = None
-        # The lines of the edits that were made here, each by the place behind it.
-        self.edits: Dict[int, str] = {}
+        # The edits and interrupts that were made here, each by the place behind it.
+        self.by_hand: Dict[int, ByHand] = {}
         self.watches: Dict[int, str] = {}
         self.has_wheel = False
         # How many lines were answered, and how many entries of the history there are. (One is for
@@ -181,7 +185,7 @@ class Target:
             self.place = value.at
             self.base = max(self.base, value.at - int(command.words[1]))
         elif isinstance(value, replies.Moved):
-            self._moved(command, value.at)
+            self._moved(command, value)
         elif isinstance(value, replies.WatchDone):
             self._watched(command, value.number)
         elif isinstance(value, replies.WheelDone):
@@ -198,9 +202,9 @@ class Target:
         if not self.is_own and place != self.place:
             self.drift = (self.drift[0] if self.drift else self.place, place)
 
-    def _moved(self, command: commands.Command, at: int) -> None:
-        """Keeps account of places and edits."""
-        word = command.form.word
+    def _moved(self, command: commands.Command, moved: replies.Moved) -> None:
+        """Keeps account of places, edits and interrupts."""
+        word, at = command.form.word, moved.at
         count = 1 if word in SINGLE else command.count()
         if count is not None and word != "until":
             self._drifted(at + count if word == "back" else at - count)
@@ -210,9 +214,9 @@ class Target:
         else:
             self.undone = 0
             first = at if word in SINGLE else self.place + 1
-            self.edits = {place: line for place, line in self.edits.items() if place < first}
-        if word == "poke":
-            self.edits[at] = " ".join(command.words)
+            self.by_hand = {place: it for place, it in self.by_hand.items() if place < first}
+        if word in BY_HAND:
+            self.by_hand[at] = ByHand(" ".join(command.words), moved.answer)
         self.place = at
 
     def _watched(self, command: commands.Command, number: int) -> None:

@@ -3,7 +3,8 @@ import dataclasses
 from typing import Callable, Iterator, List, Optional, Sequence, Tuple
 
 from rdbg import replies
-from rdbg.effects import Move, edit_of, move_between
+from rdbg.by_hand import could_be
+from rdbg.effects import Move, move_between
 from rdbg.looks import Look, Names
 from rdbg.shell.target import Target, read
 from rdbg.shell.walk import Walk
@@ -15,10 +16,10 @@ Progress = Callable[[int, int, str], None]
 
 def between(target: Target, before: Look, after: Look) -> Move:
     """The move from one look to the next."""
-    edit = target.edits.get(after.place)
-    if edit is not None and not target.is_own and edit_of(before, after) != edit:
-        edit = None  # (others have made another move there since)
-    return written(target, move_between(before, after, target.instruction, edit))
+    known = target.by_hand.get(after.place)
+    if known is not None and not target.is_own and not could_be(before, after, known):
+        known = None  # (others have made another move there since)
+    return written(target, move_between(before, after, target.instruction, known))
 
 
 def written(target: Target, move: Move) -> Move:

@@ -1,6 +1,7 @@
 -- The goals of `back` that the check left open.
 use Rattle.std.proofs.Common.{length, subst}
-use Rattle.std.specs.Prelude.{None, Ok}
+use Rattle.std.specs.Prelude.{Ok}
+use Rattle.rd_timeline.specs.Runs.{Plain}
 use Rattle.rd_moves.specs.declared.answer.Answer.TheVariants.{Done, Refused}
 use Rattle.rd_moves.specs.declared.request.Request.TheVariants.{Back}
 use Rattle.rd_timeline.specs.Answers.{Obeys}
@@ -12,7 +13,7 @@ returns-in-Ok c =
     let old = c.args.timeline.now in
     let new = c.back.new.self in
     subst (λ count. Obeys old (Back count) new (Ok (Done c.in-Ok.at))) c.get.ensures.number
-    (obeyed old new (Back c.get.result) c.in-Ok.at None c.in-Ok.ensures.at (back_done old new c.get.result c.keeps.ensures.kept.records c.in-Ok.ensures.goes))
+    (obeyed old new (Back c.get.result) c.in-Ok.at Plain c.in-Ok.ensures.at (back_done old new c.get.result c.keeps.ensures.kept.records c.in-Ok.ensures.goes))
 
 pub returns-in-Err : goal.returns-in-Err
 returns-in-Err c =

@@ -1,6 +1,6 @@
 -- The goal of `redo` that the check left open.
 use Rattle.std.proofs.Common.{subst}
-use Rattle.std.specs.Prelude.{None}
+use Rattle.rd_timeline.specs.Runs.{Plain}
 use Rattle.rd_moves.specs.declared.request.Request.TheVariants.{Redo}
 use Rattle.rd_timeline.specs.Answers.{Obeys}
 use Rattle.rd_timeline.specs.Backward.{HasRedone, IsWhyNoRedo}
@@ -16,7 +16,7 @@ returns c =
     let made = c.redo.ensures in
     let told = c.told.ensures in
     subst (λ count. Obeys old (Redo count) new c.told.result) c.get.ensures.number
-    (obeyed_if old new (Redo count) c.redo.result c.told.result (λ at. at) (λ at. None) (λ at. HasRedone old count new) (IsWhyNoRedo old count)
+    (obeyed_if old new (Redo count) c.redo.result c.told.result (λ at. at) (λ at. Plain) (λ at. HasRedone old count new) (IsWhyNoRedo old count)
     told.no_memory told.ok told.err made.at made.redone made.refusals made.err c.keeps.ensures.leads
     (λ at has. redo_done old new count has made.leads)
     (λ refusal other why. redo_not_done old count refusal other why)

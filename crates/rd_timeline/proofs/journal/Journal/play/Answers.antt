@@ -2,7 +2,7 @@
 use Rattle.std.proofs.Common.{◌∙◌, ◌+◌, ◌++◌, ◌∷◌, [], ap, arith, length, sym, take}
 use Rattle.std.specs.Prelude.{ℕ, List}
 use Rattle.std.proofs.lemmas.List.{length-take-le, length_push}
-use Rattle.rd_timeline.specs.declared.carried.Carried.{Carried}
+use Rattle.rd_moves.specs.Carried.{PlainCarried}
 use Rattle.rd_timeline.specs.Decoded.{decoded, carried_among}
 use Rattle.rd_timeline.specs.JournalView.{JournalView}
 use Rattle.rd_timeline.proofs.JournalLaws.{done_count, carried_done, has_byte, moves_laid}
@@ -52,7 +52,7 @@ returns-clause-done c =
     let bytes = c.push_reserved.ensures.items ∙ ap (λ (bs : List ℕ). bs ++ c.byte_of_move-byte.result ∷ []) c.truncate.ensures.items
     ∙ ap (λ b. take c.self.inside.done c.self.inside.moves.items ++ b ∷ []) c.byte_of_move-byte.ensures in
     let laid = moves_laid c.self.inside c.args.action.now c.push_reserved.new.self.items c.self.invariant (has_byte c.args.app.now c.args.action.now c.limits.ensures c.requires.named) bytes in
-    ap (λ (es : List Carried). decoded (take (c.self.inside.done + 1) c.push_reserved.new.self.items) es) c.lay.ensures.done ∙ laid.done
+    ap (λ (es : List PlainCarried). decoded (take (c.self.inside.done + 1) c.push_reserved.new.self.items) es) c.lay.ensures.done ∙ laid.done
     ∙ ap (λ (v : JournalView). v.done ++ c.args.action.now ∷ []) c.self.view_is
 
 pub returns-clause-undone : goal.returns-clause-undone

@@ -2,7 +2,7 @@
 use Rattle.std.proofs.Common.{◌∙◌, ◌+◌, ap, arith, drop, length, rules, subst, sym, take}
 use Rattle.std.specs.Prelude.{List}
 use Rattle.std.proofs.lemmas.List.{length_push}
-use Rattle.rd_timeline.specs.declared.carried.Carried.{Carried}
+use Rattle.rd_moves.specs.Carried.{PlainCarried}
 use Rattle.rd_moves.specs.Moves.{PlainMove}
 use Rattle.rd_timeline.specs.Decoded.{decoded, carried_at, move_of}
 use Rattle.rd_timeline.specs.JournalView.{JournalView, next_undone}
@@ -42,14 +42,14 @@ returns-clause-done c =
     let count = c.carried_at.ensures ∙ ap carried_at c.index-byte.ensures in
     let later = subst (IsLater c.self.inside c.args.self.now) (sym count)
     (border_on c.self.inside c.args.self.now c.index-byte.result.now c.self.view_is c.self.invariant c.requires.some) in
-    ap (λ (es : List Carried). decoded (take (c.self.inside.done + 1) c.self.inside.moves.items) es) c.go_on.ensures.done ∙ later.done
+    ap (λ (es : List PlainCarried). decoded (take (c.self.inside.done + 1) c.self.inside.moves.items) es) c.go_on.ensures.done ∙ later.done
 
 pub returns-clause-undone : goal.returns-clause-undone
 returns-clause-undone c =
     let count = c.carried_at.ensures ∙ ap carried_at c.index-byte.ensures in
     let later = subst (IsLater c.self.inside c.args.self.now) (sym count)
     (border_on c.self.inside c.args.self.now c.index-byte.result.now c.self.view_is c.self.invariant c.requires.some) in
-    ap (λ (es : List Carried). decoded (drop (c.self.inside.done + 1) c.self.inside.moves.items) es) c.go_on.ensures.undone ∙ later.undone
+    ap (λ (es : List PlainCarried). decoded (drop (c.self.inside.done + 1) c.self.inside.moves.items) es) c.go_on.ensures.undone ∙ later.undone
 
 pub returns-in_err-play-clause-refusals : goal.returns-in_err-play-clause-refusals
 returns-in_err-play-clause-refusals c =

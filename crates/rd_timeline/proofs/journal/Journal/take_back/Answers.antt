@@ -2,7 +2,7 @@
 use Rattle.std.proofs.Common.{◌∙◌, ◌-◌, ap, arith, drop, length, sym, take}
 use Rattle.std.specs.Prelude.{List}
 use Rattle.std.proofs.lemmas.List.{length-take-le}
-use Rattle.rd_timeline.specs.declared.carried.Carried.{Carried}
+use Rattle.rd_moves.specs.Carried.{PlainCarried}
 use Rattle.rd_timeline.specs.Decoded.{decoded}
 use Rattle.rd_timeline.specs.JournalView.{JournalView}
 use Rattle.rd_timeline.proofs.JournalLaws.{border_back, done_count}
@@ -42,9 +42,9 @@ invariant_of-self c =
 pub returns-clause-done : goal.returns-clause-done
 returns-clause-done c =
     let earlier = border_back c.self.inside c.args.self.now c.args.n c.carried_in_last-count.result c.self.view_is c.self.invariant c.carried_in_last-count.ensures in
-    ap (λ (es : List Carried). decoded (take (c.self.inside.done - c.args.n) c.self.inside.moves.items) es) c.take_back.ensures.done ∙ earlier.done
+    ap (λ (es : List PlainCarried). decoded (take (c.self.inside.done - c.args.n) c.self.inside.moves.items) es) c.take_back.ensures.done ∙ earlier.done
 
 pub returns-clause-undone : goal.returns-clause-undone
 returns-clause-undone c =
     let earlier = border_back c.self.inside c.args.self.now c.args.n c.carried_in_last-count.result c.self.view_is c.self.invariant c.carried_in_last-count.ensures in
-    ap (λ (es : List Carried). decoded (drop (c.self.inside.done - c.args.n) c.self.inside.moves.items) es) c.take_back.ensures.undone ∙ earlier.undone
+    ap (λ (es : List PlainCarried). decoded (drop (c.self.inside.done - c.args.n) c.self.inside.moves.items) es) c.take_back.ensures.undone ∙ earlier.undone

@@ -1,16 +1,17 @@
--- The goals of `play_edit` that the check left open.
+-- The goals of `play_carried` that the check left open.
 use Rattle.std.proofs.Common.{refl, rules}
 use Rattle.rd_state.specs.Edit.{begun_at}
-use Rattle.rd_calls.proofs.PlayLaws.{IsPlayed-from, Leads-edit, grows-from, short-from}
-use Rattle.rd_calls.proofs.play.play_edit.Goals as goal
+use Rattle.rd_calls.proofs.CarriedLaws.{Leads-carried}
+use Rattle.rd_calls.proofs.PlayLaws.{IsPlayed-from, grows-from, short-from}
+use Rattle.rd_calls.proofs.play.play_carried.Goals as goal
 
 pub returns : goal.returns
 returns c =
     let old = c.args.editing.now in
     let app = c.args.app.now in
-    let made = c.make-made in
+    let made = c.carry_out-made in
     let begun = begun_at old.now old.changes old.room in
-    let leads = Leads-edit app old.now c.args.edit.now c.requires.valid c.requires.named c.requires.good in
+    let leads = Leads-carried app old.now c.args.carried.now c.limits.ensures c.requires.valid c.requires.named c.requires.good in
     rw c.finish.ensures.made
     (record {
       before = search rules;

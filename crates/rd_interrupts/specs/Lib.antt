@@ -1,0 +1,3 @@
+-- The files of definitions of rd_interrupts.
+pub mod Interrupts
+pub mod InterruptLaws

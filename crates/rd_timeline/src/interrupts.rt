@@ -1,0 +1,47 @@
+//! Interrupts that are made by themselves.
+
+ghost use Rattle.std.specs.Prelude.{◌≡◌, ◌≢◌, ◌↔◌, ◌⊎◌, IfErr, IfOk, IsErrOf, OnErr, OnOk, false};
+ghost use Rattle.std.specs.Prelude.{length};
+ghost use Rattle.rd_app.specs.Profiles.{has_interrupts};
+ghost use Rattle.rd_interrupts.specs.Interrupts.{isr_answer};
+ghost use Rattle.rd_moves.specs.Interrupts.{IsInterruptOf};
+ghost use Rattle.rd_timeline.specs.Course.{by_interrupt, GoesOn, IsFull, IsMoreThanEver};
+
+use crate::timeline::Timeline;
+use rd_calls::play::move_answer;
+use rd_moves::carried::{Carried, Lent};
+use rd_moves::interrupt::Interrupt;
+use rd_moves::moves::Move;
+use rd_refusal::refusal::Refusal;
+
+impl Timeline {
+    /// Makes an interrupt: it is laid on the moves done, and the moves undone are forgotten, also
+    /// where it answers 0. Answers what it answered: 1 (`pdPASS`), or 0 where its item found no
+    /// room (`errQUEUE_FULL`) or its notification left the entry alone (`pdFAIL`). A refusal leaves
+    /// the timeline as it was: `MovesFull` where the moves done are at their limit, else `NoIsr`
+    /// where the application has profile 1, else `NoMemory` where a growth was refused. There is no
+    /// other.
+    pub fn isr(&mut self, interrupt: Interrupt) -> Result<u32, Refusal>
+        requires named { IsInterruptOf self.old.app interrupt }
+        ensures answer { IfOk result (λ answer. answer ≡ isr_answer self.old.target interrupt) }
+        ensures goes { OnOk result (GoesOn self.old (by_interrupt interrupt) self.new) }
+        ensures moves_full { IsErrOf result Refusal.MovesFull ↔ IsFull self.old }
+        ensures no_isr { IsErrOf result Refusal.NoIsr
+            ↔ ((length self.old.done ≢ self.old.limit)
+            × (has_interrupts self.old.app.profile ≡ false)) }
+        ensures short { IsErrOf result Refusal.NoMemory
+            → IsMoreThanEver self.old (by_interrupt interrupt) }
+        ensures refusals { IfErr result (λ refusal. (refusal ≡ Refusal.MovesFull)
+            ⊎ (refusal ≡ Refusal.NoIsr) ⊎ (refusal ≡ Refusal.NoMemory)) }
+        ensures err { OnErr result (self.new ≡ self.old) }
+    {
+        self.keeps();
+        let carried = Carried::Interrupt { interrupt };
+        let action = Move::Carried {
+            carried: Lent::new(&carried),
+        };
+        let answer = move_answer(self.app(), self.target(), &action).unwrap();
+        self.go(&action)?;
+        Ok(answer)
+    }
+}
