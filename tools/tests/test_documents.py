@@ -4,11 +4,20 @@ import unittest
 from typing import Set
 
 from rdbg import commands, instructions
+from rdbg.checking import freertos
 from tests.tables import codes, rows, section
 
 CALLS = "| FreeRTOS | Instruction | r0 |"
 LINES = ("| Line | What it does |", "| Line | What changes |", "| Line | What it shows |")
+LINED = ("Moves", "Long hunts", "Edits", "Interrupts", "Views", "Watches and the wheel")
+INTERRUPTS = "| FreeRTOS | Command | Answer |"
 OBJECTS = ("Queues and queue sets", "Stream buffers and message buffers", "Notifications")
+
+
+def line_of(form: str) -> str:
+    """A line of a form of interrupts."""
+    words = {"Q": "q0", "K": "t0", "I": "0", "N": "1", "HEX": "41", "ACTION": "set"}
+    return " ".join(words.get(word, word) for word in form.split())
 
 
 class Calls(unittest.TestCase):
@@ -41,11 +50,23 @@ class Commands(unittest.TestCase):
 
     def test_forms(self) -> None:
         written: Set[str] = set()
-        for title in ("Moves", "Long hunts", "Edits", "Views", "Watches and the wheel"):
+        for title in LINED:
             for head in LINES:
                 for row in rows(section("COMMANDS.md", title), head):
                     written |= codes(row[:1])
         self.assertEqual(written, {form.text for form in commands.FORMS})
+
+    def test_interrupts(self) -> None:
+        table = rows(section("CALLS.md", "Calls from an interrupt"), INTERRUPTS)
+        forms = {form.text for form in commands.FORMS if form.word == "isr"}
+        self.assertLessEqual(forms, codes([form for _, form, _ in table]))
+        for calls, form, _ in table:
+            for name in codes([calls]):
+                said = freertos.sentence(name)
+                assert said is not None, name
+                self.assertIn(f"{name} is the command {form.split('`')[1]}, in profile 2", said)
+                found = commands.read(line_of(form.split("`")[1]))
+                self.assertIsNotNone(found, form)
 
     def test_conditions(self) -> None:
         written: Set[str] = set()

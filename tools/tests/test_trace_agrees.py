@@ -11,6 +11,7 @@ import unittest
 from typing import Any, Dict, List, Optional, Tuple
 
 from rdbg.client import Session
+from rdbg.commands import ACTIONS
 from rdbg.effects import LOCAL
 from rdbg.shell.target import Limits
 from rdbg.source import load
@@ -44,7 +45,8 @@ class ByViews:
 
     def after(self, line: str, before: Dict[str, str]) -> Tuple[Dict[str, str], Row]:
         """The views behind a line that makes a move, and the move as a row."""
-        place = self.session.tell(line).split()[2]
+        reply = self.session.tell(line).split()
+        place = reply[2]
         now = self.views()
         tick, turn = word_behind(now["cores"], "tick"), int(word_behind(now["cores"], "turn"))
         woken = [name for name in self.tasks if was_woken(before, now, name)]
@@ -52,6 +54,8 @@ class ByViews:
         names = " ".join(sorted([*woken, *(of.split()[1] for of in held)]))
         if line.startswith("poke"):
             return now, (place, tick, "", "edit", "", line, "", names)
+        if line.startswith("isr"):
+            return now, (place, tick, "", "isr", "", line, reply[4], names)
         if line == "tick":
             return now, (place, tick, "", "tick", "", "", "", names)
         task = before["cores"].split()[1].split(",")[turn - 1]
@@ -97,7 +101,7 @@ def traced(run: Run) -> List[Traced]:
             woken = [it.name for it in move.effects if it.kind in ("woke", "given", "time up")]
             held = [it.name for it in move.effects if it.kind == "holds"]
             answer = "" if move.answer is None else str(move.answer)
-            text = move.line if move.kind == "edit" else does or ""
+            text = move.line if move.kind in ("edit", "isr") else does or ""
             row = (place, tick, core, who, pc, text, answer, " ".join(sorted([*woken, *held])))
             seats: Dict[int, Optional[str]] = {}
             for it in move.effects:
@@ -122,7 +126,8 @@ class Agrees(unittest.TestCase):
         for _ in range(25):
             task = dice.choice(target.tasks)
             steps = [f"step {dice.randrange(cores)}" for _ in range(8)]
-            line = dice.choice([*steps, "tick", "tick", f"poke reg {task} {dice.randrange(8)} 5"])
+            others = ["tick", "tick", f"poke reg {task} {dice.randrange(8)} 5"]
+            line = dice.choice([*steps, *others, *self.interrupts(dice, target, task)])
             if not target.session.tell(line).startswith("ok at"):
                 continue
             target.session.tell("back 1")
@@ -130,6 +135,15 @@ class Agrees(unittest.TestCase):
             made.append(line)
             rows.append(row)
         return made, rows
+
+    def interrupts(self, dice: random.Random, target: ByViews, task: str) -> List[str]:
+        """An interrupt of each sort, if the application has them."""
+        if target.application["profile"] == 1:
+            return []
+        action = dice.choice(ACTIONS)
+        told = [f"isr notify {task} 0 {dice.randrange(4)} {action}"]
+        queues = [it["name"] for it in target.application.get("queues", ())]
+        return [*told, f"isr send {dice.choice(queues)} 4142"] if queues else told
 
     def check(self, seed: int, path: pathlib.Path) -> int:
         """How many moves of this application were compared."""

@@ -60,6 +60,20 @@ class Rows(unittest.TestCase):
     def test_a_run(self) -> None:
         self.assertEqual((0, [HEAD, *ROWS], []), self.traced(RUN))
 
+    def test_interrupts(self) -> None:
+        lines = ["step 0", "isr notify worker 0 0 inc", "isr send rx 41", "back 1", "isr send rx 4"]
+        pathlib.Path("run.commands").write_text("".join(f"{line}\n" for line in lines))
+        status, rows, errors = self.said(str(EXAMPLES / "interrupt.json"), "run.commands")
+        expected = [
+            "place  tick  core  who      pc  does                            effects",
+            "    1     0     0  worker    0  take 0 dec max                  left core 0 (waits without"
+            " end), console took core 0",
+            "    2     0        isr          isr notify worker 0 0 inc -> 1  worker's note 0 ="
+            " 1:received, woke worker (core 0), console left core 0 (displaced)",
+        ]
+        refused = ["run.commands:5: isr send rx 4: no Syntax"]
+        self.assertEqual((0, expected, refused), (status, rows, errors))
+
     def test_what_was_taken_back_is_no_row(self) -> None:
         lines = ["# a way back", "", *RUN, "back 2", "tick"]
         expected = [HEAD, *ROWS[:7], "    8     2        tick"]

@@ -120,6 +120,16 @@ class Wrapper(unittest.TestCase):
             version = run(prefix / "bin" / "rdbg", "--version").stdout
             self.assertRegex(version, "^rdbg at commit .*; .*; .*proved.*\n$")
 
+    def test_installed_pages(self) -> None:
+        with tempfile.TemporaryDirectory() as folder:
+            prefix, page = pathlib.Path(folder) / "prefix", pathlib.Path(folder) / "page.html"
+            self.assertEqual(run(WRAPPER, "install", str(prefix)).returncode, 0)
+            words = ["trace", str(EXAMPLES / "lost_item.json"), "--page", str(page)]
+            ran = run(prefix / "bin" / "rdbg", *words, given="forward 3\n")
+            self.assertEqual((0, ""), (ran.returncode, ran.stderr))
+            self.assertIn('"first":0,"last":3', page.read_text())
+            self.assertTrue((prefix / "share" / "rdbg" / "docs" / "images" / "page.png").exists())
+
     def test_words_that_are_none(self) -> None:
         self.assertEqual(run(WRAPPER, "fly").returncode, 2)
         self.assertEqual(run(WRAPPER, "install").returncode, 2)

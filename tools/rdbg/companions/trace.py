@@ -1,11 +1,12 @@
-"""Says of a run who did what: a row a move, or events for a viewer of traces."""
+"""Says of a run who did what: a row a move, events for a viewer of traces, or a page."""
 import argparse
 import contextlib
+import functools
 import io
 import os
 import sys
 import time
-from typing import IO, Iterable, Iterator, Optional, Sequence, Tuple
+from typing import IO, Callable, Dict, Iterable, Iterator, Optional, Sequence, Tuple
 
 from rdbg import commands
 from rdbg.companions.sh import bounded, port, read
@@ -16,10 +17,13 @@ from rdbg.shell.opening import attach, builtin
 from rdbg.shell.target import Limits, Unable
 from rdbg.source import Source
 from rdbg.tracing.events import Events
+from rdbg.tracing.page import ways
+from rdbg.tracing.page.document import page
+from rdbg.tracing.page.recorder import Recorder
 from rdbg.tracing.run import AT_A_PORT, Line, Part, Plan, Run, Trim, part_at, parts, plan
 from rdbg.tracing.table import Row, Table, rows
 
-SUMMARY = "says who did what in a run: a row a move, or events for a viewer of traces"
+SUMMARY = "says who did what in a run: a row a move, events for a viewer of traces, or a page"
 EPILOG = (
     "COMMANDS are lines of rdbg, as `save` of rdbg sh writes them; `#` begins a comment, - is"
     " standard input, which is read, too, where no file is named. They are told to programs of"
@@ -30,6 +34,8 @@ STANDARD = "-"
 MOST_REFUSED = 10
 # Progress is said after so many seconds, and then as often.
 PATIENCE = 2.0
+# What leads to the places of a page, by what the page has.
+Way = Callable[[Recorder], Dict[str, object]]
 
 
 def parser() -> argparse.ArgumentParser:
@@ -41,13 +47,18 @@ def parser() -> argparse.ArgumentParser:
         "--port", type=port, metavar="P", help="the moves that are done at `rdbg serve` there"
     )
     made.add_argument(
-        "--only", metavar="NAMES", help="rows of these tasks, objects and cores: jobs,worker,0"
+        "--only",
+        metavar="NAMES",
+        help="rows of these tasks, objects and cores: jobs,worker,0; of rows alone",
     )
     place = bounded(0)
     made.add_argument("--from", dest="first", type=place, metavar="N", help="from place N on")
     made.add_argument("--to", dest="last", type=place, metavar="N", help="up to place N")
     made.add_argument(
         "--events", metavar="OUT", help="writes Chrome trace events to OUT; - is standard output"
+    )
+    made.add_argument(
+        "--page", metavar="OUT.html", help="writes the run as one page of HTML; - as above"
     )
     made.add_argument("--moves", type=bounded(1), metavar="N", help="how many moves may be done")
     return made
@@ -95,7 +106,7 @@ def with_progress(found: Iterable[Part], count: int) -> Iterator[Part]:
 
 @contextlib.contextmanager
 def output(path: str) -> Iterator[IO[str]]:
-    """Where events are written."""
+    """Where events or a page are written."""
     if path == STANDARD:
         yield sys.stdout
         return
@@ -114,6 +125,16 @@ def write_events(found: Iterable[Part], trims: Sequence[Trim], path: str) -> Non
         for part in found:
             events.add(part)
         events.end(trims)
+
+
+def write_page(
+    found: Iterable[Part], trims: Sequence[Trim], path: str, recorder: Recorder, way: Way
+) -> None:
+    """Writes the page of all parts, of which there is one at the least."""
+    with output(path) as file:
+        for part in found:
+            recorder.add(part)
+        file.write(page(recorder.values(trims), way(recorder)))
 
 
 def print_rows(found: Iterable[Row], table: Table, only: Optional[str]) -> None:
@@ -140,11 +161,17 @@ def trace_run(given: argparse.Namespace, source: Optional[Source]) -> None:
     found = whole.within(given.first or 1, given.last)
     workers = len(os.sched_getaffinity(0))
     seen = with_progress(parts(run, found.pieces, workers), found.count())
+    application = (source and source.application) or builtin()
     if given.events:
         write_events(seen, found.trims, given.events)
         return
-    application = (source and source.application) or builtin()
-    table = Table.of(application, whole.done, whole.tick)
+    if given.page:
+        way = ways.of_run(source, whole.told, given.moves, whole.base)
+        shown = seen if found.pieces else [Part(whole.end, (), ())]
+        write_page(shown, found.trims, given.page, Recorder(application), lambda _: way)
+        return
+    told = [it.text for it in lines]
+    table = Table.of(application, whole.done, whole.end.cores.tick, told)
     print_rows(rows(moves_in(seen), found.trims), table, given.only)
 
 
@@ -153,10 +180,16 @@ def trace_port(given: argparse.Namespace, source: Optional[Source]) -> None:
     target = attach(given.port, source)
     with target.session:
         part, first = part_at(target, given.first, given.last)
+        done = target.place
     if given.first is None and part.before.place >= first:
         print(f"rdbg trace: the last {AT_A_PORT} moves; --from N looks at more", file=sys.stderr)
     if given.events:
         write_events([part], (), given.events)
+        return
+    if given.page:
+        recorder = Recorder(source.application if source else None)
+        way = functools.partial(ways.of_port, source, given.port, done)
+        write_page([part], (), given.page, recorder, way)
         return
     found = list(rows(part.moves))
     print_rows(found, Table.wide_enough(row.cells[:6] for row in found), given.only)
@@ -169,8 +202,11 @@ def main(words: Sequence[str]) -> int:
         raise Failure("--port is for the moves that are done there; it takes no COMMANDS", 2)
     if given.port is not None and given.moves is not None:
         raise Failure("--moves is the server's own, where --port attaches to one", 2)
-    if given.only is not None and given.events:
-        raise Failure("--only is for rows; --events writes all", 2)
+    if given.only is not None and (given.events or given.page):
+        word = "--events" if given.events else "--page"
+        raise Failure(f"--only is for rows; {word} writes all", 2)
+    if given.events and given.page:
+        raise Failure("--events or --page, one at a time", 2)
     for stream in (sys.stdout, sys.stderr):
         if isinstance(stream, io.TextIOWrapper):
             stream.reconfigure(errors="backslashreplace")

@@ -86,15 +86,12 @@ class Events:
     def _begin(self, look: Look) -> None:
         """Names the tracks, and opens what is there before the first move."""
         self._end = look.place * MOVE
-        self._tasks = list(look.tasks)
         for process, name in ((CORES, "cores"), (TASKS, "tasks"), (OBJECTS, "objects")):
             self._name("process_name", process, 0, name)
         for core in range(len(look.cores.running)):
             self._name("thread_name", CORES, core, f"core {core}")
         self._name("thread_name", CORES, TICKS, "ticks")
         self._name("thread_name", CORES, BY_HAND, "by hand")
-        for at, task in enumerate(self._tasks):
-            self._name("thread_name", TASKS, at, task)
         self._see(look)
 
     def _name(self, what: str, process: int, track: int, name: str) -> None:
@@ -103,10 +100,13 @@ class Events:
 
     def _see(self, look: Look) -> None:
         """Takes note of who is where, and of what objects hold, from this place on."""
-        for core, task in enumerate(look.cores.running):
-            self._turn_to(CORES, core, task)
-        for at, name in enumerate(self._tasks):
-            self._turn_to(TASKS, at, phase_of(look.tasks[name]))
+        for core, seated in enumerate(look.cores.running):
+            self._turn_to(CORES, core, seated)
+        for name, task in look.tasks.items():
+            if name not in self._tasks:  # (of a port, one may become known behind the first place)
+                self._name("thread_name", TASKS, len(self._tasks), name)
+                self._tasks.append(name)
+            self._turn_to(TASKS, self._tasks.index(name), phase_of(task))
         for key, it in look.objects.items():
             level = level_of(it)
             if self._levels.get(key) != level:
@@ -144,8 +144,8 @@ class Events:
         self._flows += 1
         what = {"name": "wakes", "cat": "wakes", "id": self._flows}
         begin: Event = {"ph": "s", "ts": self._end - MOVE // 2, "pid": CORES, "tid": track_of(move)}
-        task = self._tasks.index(effect.name)
-        end: Event = {"ph": "f", "bp": "e", "ts": self._end + 1, "pid": TASKS, "tid": task}
+        woken = self._tasks.index(effect.name)
+        end: Event = {"ph": "f", "bp": "e", "ts": self._end + 1, "pid": TASKS, "tid": woken}
         self._event({**what, **begin})
         self._event({**what, **end})
 
@@ -163,7 +163,7 @@ def said_of(move: Move) -> Event:
     if move.task is not None:
         said.update({"task": move.task, "pc": move.pc, "instruction": move.written})
     if move.answer is not None:
-        said["r0"] = move.answer
+        said["r0" if move.kind == "step" else "answer"] = move.answer
     if move.effects:
         said["effects"] = [it.text(move.task) for it in move.effects]
     return said

@@ -34,6 +34,14 @@ class Line:
 
 
 @dataclasses.dataclass(frozen=True)
+class Told:
+    """A line that was accepted and is no view, and how many moves were done behind it."""
+
+    text: str
+    place: int
+
+
+@dataclasses.dataclass(frozen=True)
 class Trim:
     """A trim that was made, and how many moves were done then."""
 
@@ -65,14 +73,20 @@ class Piece:
 
 @dataclasses.dataclass(frozen=True)
 class Plan:
-    """What there is to look at, where the run ended, and which lines were refused, with replies."""
+    """What there is to look at, which lines were refused, with replies, and which did what; where
+    the run ended, and the first place to which `back` leads from there."""
 
     pieces: Tuple[Piece, ...]
     trims: Tuple[Trim, ...]
     refused: Tuple[Tuple[Line, str], ...]
-    done: int
-    undone: int
-    tick: int
+    told: Tuple[Told, ...]
+    end: Look
+    base: int
+
+    @property
+    def done(self) -> int:
+        """How many moves are done at the end."""
+        return self.end.place
 
     def within(self, first: int, last: Optional[int]) -> "Plan":
         """The part of it that leads to places between two."""
@@ -122,6 +136,7 @@ def plan(run: Run) -> Plan:
     pieces: List[Piece] = []
     trims: List[Trim] = []
     refused: List[Tuple[Line, str]] = []
+    told: List[Told] = []
     target = run.begin()
     with target.session:
         seen = 0
@@ -130,13 +145,16 @@ def plan(run: Run) -> Plan:
             if target.base > seen:
                 pieces += pieces_of(run, target, at, seen + 1, target.base)
                 seen = target.base
+            word = line.text.split()[0]
             if reply.startswith("no "):
                 refused.append((line, reply))
-            elif line.text.split()[0] == "trim":
+            elif word != "show":
+                told.append(Told(line.text, target.place))
+            if word == "trim" and not reply.startswith("no "):
                 trims.append(Trim(target.place, line.text))
         pieces += pieces_of(run, target, len(run.lines), seen + 1, target.place)
-        tick = target.look().cores.tick
-        return Plan(tuple(pieces), tuple(trims), tuple(refused), target.place, target.undone, tick)
+        accepted = (tuple(trims), tuple(refused), tuple(told))
+        return Plan(tuple(pieces), *accepted, target.look(), target.base)
 
 
 def look_through(target: Target, first: int, last: int) -> Part:
@@ -203,4 +221,8 @@ def part_at(target: Target, first: Optional[int], last: Optional[int]) -> Tuple[
         most = places.done if last is None else min(last, places.done)
         if least > most:
             return Part(target.look(), (), ()), base + 1
-        return look_through(target, least, most), base + 1
+        part = look_through(target, least, most)
+        seen = part.before
+        if {*target.names.tasks, *target.names.objects} > {*seen.tasks, *seen.objects}:
+            part = look_through(target, least, most)  # (it told of more than was looked at)
+        return part, base + 1

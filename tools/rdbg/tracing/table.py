@@ -30,10 +30,14 @@ class Table:
     widths: Tuple[int, ...]
 
     @classmethod
-    def of(cls, application: Application, done: int, tick: int) -> "Table":
-        """A table for so many moves of an application, up to a tick."""
-        codes = [task.code for task in application.tasks]
-        widest = max(len(it.written) + len(" -> 1") for code in codes for it in code)
+    def of(
+        cls, application: Application, done: int, tick: int, lines: Sequence[str] = ()
+    ) -> "Table":
+        """A table for so many moves of an application, up to a tick, that these lines made."""
+        texts = [it.written for task in application.tasks for it in task.code]
+        # (an interrupt stands as its line, and has effects behind it, as an edit hasn't)
+        texts += [line for line in lines if line.split()[0] == "isr"]
+        widest = max(len(text) + len(" -> 1") for text in texts)
         return cls.wide_enough(
             [
                 ("9" * len(str(done)), "9" * len(str(tick)), str(application.cores - 1))

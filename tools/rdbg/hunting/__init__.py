@@ -1,0 +1,1 @@
+"""A search for an order of moves that comes to a goal: what `rdbg hunt` is made of."""

@@ -1,0 +1,106 @@
+"""The search through every order, a move more at a time.
+
+Behind each state that is new each busy core can move, a tick can pass, and each interrupt that is
+left can come, whose calls are a move each; no order is left out, but one that comes to a state that
+was seen, with as few moves. Where no state is new any more, that was every order there is.
+"""
+import dataclasses
+from typing import Dict, List, Optional, Sequence, Set, Tuple
+
+from rdbg.hunting.crew import Crew
+from rdbg.hunting.goals import End
+from rdbg.hunting.search import Find, Full
+from rdbg.hunting.states import Key, end_of
+from rdbg.hunting.worker import Child, Hunted, Worker
+
+# So many states are given to a process at a time.
+CHUNK = 16
+
+
+@dataclasses.dataclass
+class Depth:
+    """How far every order was gone through: so many moves, to so many states, from which so many
+    moves were made in all. `is_all` says that there is no further state."""
+
+    moves: int = 0
+    states: int = 1
+    tries: int = 0
+    is_all: bool = False
+
+
+class Exhaustive:
+    """A search, with what it has found and tried so far. Finds have the fewest moves that there can
+    be, those with fewer first."""
+
+    def __init__(self, hunted: Hunted, finds: int, states: int, crew: Crew) -> None:
+        self.hunted, self.goal, self.crew = hunted, hunted.goal, crew
+        self.finds: List[Find] = []
+        self.own: Optional[Find] = None
+        self.depth = Depth()
+        self._wanted, self._states = finds, states
+        self._ends: Set[End] = set()
+        self._seen: Set[Key] = set()
+        # States that are more than a move behind one, by the number of moves that lead there.
+        self._later: Dict[int, List[Tuple[bytes, Child]]] = {}
+
+    def is_done(self) -> bool:
+        """Whether as many were found as are wanted."""
+        return len(self.finds) >= self._wanted
+
+    def run(self) -> None:
+        """Goes through all orders, those with fewer moves first. Raises `TimeUp`, and `Full`."""
+        ((_, key),) = self.crew.do(Worker.boot, [(None, ())])
+        self._seen.add(key)
+        layer = [b""]
+        while self.depth.moves < self.hunted.moves and not self.is_done():
+            layer = self._next(layer)
+            if self.is_done():
+                return
+            if not layer and not self._later:
+                self.depth.is_all = True
+                return
+            self.depth.moves += 1
+
+    def _next(self, layer: Sequence[bytes]) -> List[bytes]:
+        """The orders that come to a state that is new, with one move more than these."""
+        found: List[bytes] = []
+        place = self.depth.moves + 1
+        chunks = [layer[at : at + CHUNK] for at in range(0, len(layer), CHUNK)]
+        for chunk, families in self.crew.do(Worker.expand, ((it, (it,)) for it in chunks)):
+            for path, children in zip(chunk, families):
+                for child in children:
+                    self.depth.tries += child.moves
+                    way = path + bytes([child.move])
+                    if child.moves > 1:
+                        self._later.setdefault(place + child.moves - 1, []).append((way, child))
+                    elif self._is_new(way, child):
+                        found.append(way)
+            if self.is_done():
+                break
+            if len(self._seen) > self._states:
+                raise Full
+        later = self._later.pop(place, [])
+        return [*found, *(way for way, child in later if self._is_new(way, child))]
+
+    def _is_new(self, path: bytes, child: Child) -> bool:
+        """Whether an order comes to a state that is new, and others lead on from there. Keeps it
+        where it is a find."""
+        if child.key in self._seen:
+            return False
+        self._seen.add(child.key)
+        self.depth.states += 1
+        self._judge(path, child)
+        return not child.is_so
+
+    def _judge(self, path: bytes, child: Child) -> None:
+        """Keeps an order that is a find, if its end is another than those before."""
+        end = end_of(child.key) if child.is_so else child.end
+        if end is None or end in self._ends or self.is_done():
+            return
+        order = self.hunted.chosen(path)
+        find = Find(order, order.place, end)
+        if self.goal.compares and self.own is None:
+            self.own = find
+        else:
+            self.finds.append(find)
+        self._ends.add(end)

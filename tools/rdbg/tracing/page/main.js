@@ -1,0 +1,280 @@
+// The page: one place of the run, shown by all its parts, and what moves it.
+
+const QUIET = 150;
+
+const KEYS = [
+  ["Left, Right", "a move back, forward"],
+  ["Shift and Left, Right", "ten moves"],
+  ["Page Up, Page Down", "as many moves as are seen"],
+  ["Home, End", "the first place, the last"],
+  ["[ and ]", "the tick before, the next tick"],
+  ["w and W", "the next move that wakes somebody, the one before"],
+  ["e and E", "the next edit, interrupt or trim, the one before"],
+  ["/", "search; Enter finds the next, Escape leaves it"],
+  ["n and N", "the next that was found, the one before"],
+  ["g", "go to a place by its number"],
+  ["+ and -, 0", "fewer moves, more, all"],
+  ["Up, Down", "scrolls lanes or state, where the focus is (Tab)"],
+  ["c", "copies the lines to type"],
+  ["t", "light or dark"],
+  ["?", "these keys; Escape closes them"],
+];
+
+const SIGNS = [
+  ["a box with a name", "the task is on this core"],
+  ["slanting lines", "ready, and on no core"],
+  ["a dotted line", "waits, at the place that is named, until a tick or without end"],
+  ["a thin line", "ended"],
+  ["crossed lines", "failed"],
+  ["a box below a core's tasks", "a move of this core"],
+  ["an arrow", "the move wakes the task"],
+  ["a stroke at the top, a dotted line down", "a tick"],
+  ["a level that is filled", "how much a queue, a set or a buffer holds"],
+  ["names in a box below it", "who waits there, who is served first stands first"],
+  ["*, ! and | with dashes", "an edit by hand; an interrupt; a trim"],
+];
+
+const LEGEND = [
+  "box: on a core",
+  "slanting: ready",
+  "dotted: waits",
+  "thin line: ended",
+  "crossed: failed",
+  "arrow: wakes",
+].join("; ");
+
+class Page {
+  constructor(run) {
+    this.run = run;
+    this.place = run.first;
+    this.lanes = byId("lanes");
+    this.timeline = new Timeline(run, byId("canvas"), this.lanes, byId("scrolled"));
+    this.search = new Search(run);
+    const hand = this.timeline.lanes.find(({ kind }) => kind === "hand");
+    this.hands = hand ? hand.marks.map(({ place }) => place) : [];
+    this.state = new StatePanel(run);
+    this.moves = new MovesPanel(run, (place) => this.go(place));
+    this.way = new WayPanel(run);
+    this.script = new ScriptPanel(run, () => this.again());
+    this.isDue = false;
+    this.say();
+    this.listen();
+    this.go(this.placeOfLink() ?? run.first);
+  }
+
+  // Texts and bounds that stay.
+  say() {
+    const { run } = this;
+    document.title = run.title;
+    byId("title").textContent = run.title;
+    const counts = [
+      counted(run.last - run.first, "move"),
+      counted(this.timeline.ticks.length, "tick"),
+      counted(run.tasks.length, "task"),
+      counted(run.objects.length, "object"),
+    ];
+    byId("about").textContent = counts.join(", ");
+    for (const it of [byId("slider"), byId("place")]) {
+      it.min = run.first;
+      it.max = run.last;
+    }
+    new Table(byId("help"), ["", ""]).show(KEYS);
+    new Table(byId("signs"), ["", ""]).show(SIGNS);
+    byId("legend").textContent = LEGEND;
+  }
+
+  // Goes to a place, the nearest that there is.
+  go(place) {
+    const { first, last } = this.run;
+    this.place = Math.max(first, Math.min(last, Math.round(place)));
+    this.timeline.follow(this.place);
+    this.again();
+  }
+
+  // Shows all anew, once before the next picture.
+  again() {
+    if (this.isDue) return;
+    this.isDue = true;
+    requestAnimationFrame(() => {
+      this.isDue = false;
+      this.show();
+    });
+  }
+
+  show() {
+    const { run, place } = this;
+    this.timeline.draw();
+    for (const panel of [this.state, this.moves, this.way, this.script]) panel.show(place);
+    const move = run.move(place);
+    byId("readout").textContent = move
+      ? moveSentence(run, move)
+      : `${place}: ${place ? "before the first move that is shown" : "boot"}`;
+    byId("slider").value = place;
+    byId("slider").setAttribute("aria-valuetext", `place ${place} of ${run.last}`);
+    if (document.activeElement !== byId("place")) byId("place").value = place;
+    byId("found").textContent = this.search.said(place);
+    byId("link").href = `#${place}`;
+    clearTimeout(this.quiet);
+    this.quiet = setTimeout(() => this.keepLink(), QUIET);
+  }
+
+  // The place that the address names; none where it names none.
+  placeOfLink() {
+    const found = /^#(\d{1,9})$/.exec(location.hash);
+    return found ? Number(found[1]) : null;
+  }
+
+  // The address names the place, once one stays there for a moment.
+  keepLink() {
+    if (this.placeOfLink() === this.place) return;
+    try {
+      history.replaceState(null, "", `#${this.place}`);
+    } catch (error) {
+      // (a page that is shown within another one may have no address of its own)
+    }
+  }
+
+  // The next of these places, in order, or the one before.
+  next(places) {
+    const found = places[0] > this.place ? places[0] : places[lastUpTo(places, this.place) + 1];
+    if (found !== undefined) this.go(found);
+  }
+
+  before(places) {
+    const at = lastUpTo(places, this.place - 1);
+    if (places.length && places[at] < this.place) this.go(places[at]);
+  }
+
+  find(words) {
+    this.timeline.found = this.search.find(words);
+    this.again();
+  }
+
+  goFound(isNext) {
+    const place = isNext ? this.search.next(this.place) : this.search.before(this.place);
+    if (place !== undefined) this.go(place);
+  }
+
+  zoom(scale) {
+    this.timeline.zoomTo(scale);
+    this.timeline.follow(this.place);
+    this.again();
+  }
+
+  changeTheme() {
+    const root = document.documentElement;
+    const isDark = root.dataset.theme
+      ? root.dataset.theme === "dark"
+      : matchMedia("(prefers-color-scheme: dark)").matches;
+    root.dataset.theme = isDark ? "light" : "dark";
+    this.takeTheme();
+  }
+
+  takeTheme() {
+    this.timeline.painter.takeTheme();
+    this.again();
+  }
+
+  // What keys do, by their names; with Shift where that makes no other sign.
+  keys() {
+    const { run, timeline } = this;
+    const seen = () => Math.max(1, Math.floor(timeline.span) - 1);
+    return {
+      ArrowLeft: () => this.go(this.place - 1),
+      ArrowRight: () => this.go(this.place + 1),
+      "Shift ArrowLeft": () => this.go(this.place - 10),
+      "Shift ArrowRight": () => this.go(this.place + 10),
+      PageUp: () => this.go(this.place - seen()),
+      PageDown: () => this.go(this.place + seen()),
+      Home: () => this.go(run.first),
+      End: () => this.go(run.last),
+      "[": () => this.before(timeline.ticks),
+      "]": () => this.next(timeline.ticks),
+      w: () => this.next(timeline.wakingPlaces),
+      W: () => this.before(timeline.wakingPlaces),
+      e: () => this.next(this.hands),
+      E: () => this.before(this.hands),
+      "/": () => byId("search").select(),
+      n: () => this.goFound(true),
+      N: () => this.goFound(false),
+      g: () => byId("place").select(),
+      "+": () => this.zoom(timeline.scale * 1.5),
+      "=": () => this.zoom(timeline.scale * 1.5),
+      "-": () => this.zoom(timeline.scale / 1.5),
+      0: () => this.zoom(timeline.whole()),
+      c: () => this.way.copy(),
+      t: () => this.changeTheme(),
+      "?": () => byId("help").showModal(),
+    };
+  }
+
+  listen() {
+    this.listenToKeys();
+    this.listenToButtons();
+    this.listenToLanes();
+    byId("slider").addEventListener("input", ({ target }) => this.go(Number(target.value)));
+    byId("place").addEventListener("change", ({ target }) => this.go(Number(target.value) || 0));
+    byId("search").addEventListener("input", ({ target }) => this.find(target.value));
+    byId("link").addEventListener("click", () => this.keepLink());
+    window.addEventListener("hashchange", () => {
+      const place = this.placeOfLink();
+      if (place !== null && place !== this.place) this.go(place);
+    });
+    const dark = matchMedia("(prefers-color-scheme: dark)");
+    dark.addEventListener("change", () => this.takeTheme());
+  }
+
+  listenToKeys() {
+    const keys = this.keys();
+    document.addEventListener("keydown", (event) => {
+      if (event.ctrlKey || event.altKey || event.metaKey || byId("help").open) return;
+      const { target } = event;
+      if (target === byId("search") || target === byId("place")) return this.keyInField(event);
+      if (target.tagName === "SELECT" || target.tagName === "TEXTAREA") return;
+      const act = (event.shiftKey && keys[`Shift ${event.key}`]) || keys[event.key];
+      if (!act) return;
+      event.preventDefault();
+      act();
+    });
+  }
+
+  // Enter and Escape where something is typed; all other keys are text there.
+  keyInField(event) {
+    const { target, key } = event;
+    if (key === "Enter" && target === byId("search")) this.goFound(!event.shiftKey);
+    else if (key === "Enter") this.go(Number(target.value) || 0);
+    else if (key !== "Escape") return;
+    event.preventDefault();
+    if (key === "Escape" || target === byId("place")) this.lanes.focus();
+  }
+
+  listenToButtons() {
+    const keys = this.keys();
+    const buttons = { first: "Home", back: "ArrowLeft", forward: "ArrowRight", last: "End" };
+    Object.assign(buttons, { out: "-", in: "+", whole: "0", theme: "t", "help-button": "?" });
+    Object.assign(buttons, { "previous-found": "N", "next-found": "n" });
+    for (const id in buttons) byId(id).addEventListener("click", () => keys[buttons[id]]());
+  }
+
+  listenToLanes() {
+    const { timeline, lanes } = this;
+    lanes.addEventListener("scroll", () => this.again());
+    byId("canvas").addEventListener("click", ({ offsetX }) => {
+      if (offsetX > GUTTER) this.go(timeline.placeAt(offsetX));
+    });
+    const wheel = (event) => {
+      const sideways = event.deltaX || (event.shiftKey ? event.deltaY : 0);
+      if (!sideways) return;
+      event.preventDefault();
+      timeline.pan(sideways / timeline.scale);
+      this.again();
+    };
+    lanes.addEventListener("wheel", wheel, { passive: false });
+    new ResizeObserver(() => {
+      timeline.fit();
+      this.again();
+    }).observe(lanes);
+  }
+}
+
+new Page(new Run(JSON.parse(byId("run").textContent)));

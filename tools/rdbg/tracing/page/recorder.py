@@ -1,0 +1,160 @@
+"""A run as values for a page: what stays, a track for each thing that changes, and the moves."""
+from typing import Dict, Iterable, List, Optional, Sequence, Tuple
+
+from rdbg import replies
+from rdbg.application import Application
+from rdbg.effects import Effect, Move
+from rdbg.looks import Key, Look, Object
+from rdbg.tracing.page.tracks import Track, Value, Values
+from rdbg.tracing.run import Part, Trim
+
+WAKES = ("woke", "given", "time up")
+KINDS = {"step": 0, "tick": 1, "edit": 2, "isr": 3}
+CORES = ("running", "ready", "tick", "turn")
+TASK = ("core", "pc", "phase", "registers", "data", "notes")
+NOT_KNOWN: Tuple[Tuple[str, Value], ...] = tuple((name, None) for name in TASK)
+
+
+def cores_of(cores: replies.Cores) -> Tuple[Value, ...]:
+    """The values of `CORES`."""
+    return (list(cores.running), list(cores.ready), cores.tick, cores.turn)
+
+
+def task_of(task: replies.Task) -> Tuple[Value, ...]:
+    """The values of `TASK`."""
+    registers = ",".join(map(str, task.registers))
+    notes = ",".join(f"{it.value}:{it.state}" for it in task.notes)
+    return (task.core, task.pc, task.phase.text, registers, task.data.hex(), notes)
+
+
+def wish_of(wish: replies.Wish) -> List[object]:
+    """A waiter of a group: who, for which bits, how."""
+    which, after = "all" if wish.wants_all else "any", "clear" if wish.clears else "keep"
+    return [wish.task, wish.bits, which, after]
+
+
+def object_of(it: Object) -> Dict[str, Value]:
+    """What an object has that changes, by name."""
+    if isinstance(it, replies.Queue):
+        items = [each.hex() for each in it.items]
+        lists = {"recv": list(it.receivers), "send": list(it.senders)}
+        return {"items": items, **lists, "set": it.member_of}
+    if isinstance(it, replies.QueueSet):
+        return {"handles": list(it.handles), "wait": list(it.waiters)}
+    if isinstance(it, replies.Stream):
+        ends = {"reader": it.reader, "writer": it.writer}
+        return {"trigger": it.trigger, "bytes": it.content.hex(), **ends}
+    if isinstance(it, replies.Messages):
+        messages = [each.hex() for each in it.messages]
+        ends = {"reader": it.reader, "writer": it.writer}
+        return {"held": it.held, "messages": messages, **ends}
+    return {"bits": it.bits, "wishes": [wish_of(each) for each in it.waiters]}
+
+
+def most_of(it: Object) -> Optional[int]:
+    """How much an object can hold; none of an event group."""
+    if isinstance(it, (replies.Queue, replies.QueueSet)):
+        return it.length
+    return None if isinstance(it, replies.Group) else it.size
+
+
+class Recorder:
+    """Takes parts that come in order, and gives what a page has of them."""
+
+    def __init__(self, application: Optional[Application]) -> None:
+        self.first: Optional[int] = None
+        self.last = 0
+        self.lines: List[str] = []
+        self._application = application
+        self._values = Values()
+        self._moves: List[int] = []
+        self._cores: Dict[str, Track] = {}
+        self._tasks: Dict[str, Dict[str, Track]] = {}
+        self._objects: Dict[Key, Dict[str, Track]] = {}
+        self._most: Dict[Key, Optional[int]] = {}
+        self._before: Optional[Look] = None
+
+    def add(self, part: Part) -> None:
+        """Takes note of what a part has."""
+        if self.first is None:
+            self.first = self.last = part.before.place
+            self._see(part.before)
+        for move, look in zip(part.moves, part.looks):
+            self.last = move.place
+            self.lines.append(move.line)
+            self._see(look)
+            self._moves.append(self._values.number(self._move(move)))
+
+    def values(self, trims: Sequence[Trim]) -> Dict[str, object]:
+        """What the page has of all that was taken note of."""
+        return {
+            "first": self.first,
+            "last": self.last,
+            "cores": flat(self._cores),
+            "tasks": [self._task(name, of) for name, of in self._tasks.items()],
+            "objects": [
+                {"kind": key[0], "name": key[1], "most": self._most[key], "tracks": flat(of)}
+                for key, of in self._objects.items()
+            ],
+            "moves": self._moves,
+            "trims": [[it.place, it.line] for it in trims],
+            "values": self._values.listed,
+        }
+
+    def _task(self, name: str, tracks: Dict[str, Track]) -> Dict[str, object]:
+        """A task, with its script where that is known."""
+        found = self._application.task(name) if self._application else None
+        code = [[it.written, it.place.line] for it in found.code] if found else []
+        priority = found.priority if found else None
+        return {"name": name, "priority": priority, "code": code, "tracks": flat(tracks)}
+
+    def _move(self, move: Move) -> List[object]:
+        """A move: its kind, core, task, instruction by number and text, answer, line and effects.
+        An instruction that stands in the script has no text here, and the line is an edit's or an
+        interrupt's."""
+        number = None if move.task is None else list(self._tasks).index(move.task)
+        line = move.line if move.kind in ("edit", "isr") else None
+        effects = [self._effect(it, move.task) for it in move.effects]
+        return [KINDS[move.kind], move.core, number, move.pc, move.answer, line, effects]
+
+    def _effect(self, effect: Effect, actor: Optional[str]) -> List[object]:
+        """An effect in words, and whom it woke, by number."""
+        woken = [list(self._tasks).index(effect.name)] if effect.kind in WAKES else []
+        return [effect.text(actor), *woken]
+
+    def _see(self, look: Look) -> None:
+        """Takes note of what there is from a place on."""
+        before = self._before
+        self._put(self._cores, look.place, zip(CORES, cores_of(look.cores)))
+        for name, task in look.tasks.items():
+            if before is None or before.tasks.get(name) is not task:
+                tracks = self._tasks.setdefault(name, {})
+                self._put(tracks, look.place, zip(TASK, task_of(task)))
+        for seated in (*look.cores.running, *look.cores.ready):
+            if seated is not None and seated not in self._tasks:
+                # (it is looked at later, or never: of a port not all names are known)
+                self._put(self._tasks.setdefault(seated, {}), look.place, NOT_KNOWN)
+        for key, it in look.objects.items():
+            if before is None or before.objects.get(key) is not it:
+                tracks = self._objects.setdefault(key, {})
+                self._most[key] = most_of(it)
+                self._put(tracks, look.place, object_of(it).items())
+        self._before = look
+
+    def _put(
+        self, tracks: Dict[str, Track], place: int, values: Iterable[Tuple[str, Value]]
+    ) -> None:
+        """Puts values on their tracks. What is known since a later place only was nothing before."""
+        assert self.first is not None
+        for name, value in values:
+            track = tracks.get(name)
+            if track is None:
+                track = tracks[name] = Track(self._values)
+                if place > self.first:
+                    track.put(self.first, None)
+            track.put(place, value)
+
+
+def flat(tracks: Dict[str, Track]) -> Dict[str, List[int]]:
+    """Tracks as lists."""
+    return {name: track.flat for name, track in tracks.items()}

@@ -1,0 +1,319 @@
+// The lanes over the moves: which part of them is seen, and how it is drawn. Only what is seen is
+// drawn, and of what is narrower than a point, one.
+
+const GUTTER = 128;
+const RULER = 36;
+// Of a core's lane, who is on it stands above, its moves below.
+const CORE_PART = 19;
+// At first the lanes have so much of the window's height at the most.
+const PART = 0.5;
+const LEAST_SCALE = 0.005;
+const MOST_SCALE = 240;
+// From these scales on there is room for moves, and for arrows.
+const MOVE_SCALE = 3;
+const ARROW_SCALE = 5;
+
+class Timeline {
+  constructor(run, canvas, frame, scrolled) {
+    this.run = run;
+    this.frame = frame;
+    this.canvas = canvas;
+    this.painter = new Painter(canvas);
+    // What is behind the place that is shown: it is drawn anew only where another part is seen.
+    this.ground = document.createElement("canvas");
+    this.groundOf = "";
+    this.lanes = lanesOf(run);
+    this.wakings = wakingsOf(run);
+    this.wakingPlaces = this.wakings.map(({ place }) => place);
+    this.ticks = placesOf(run, ({ kind }) => kind === TICK);
+    this.found = [];
+    this.place = run.first;
+    const end = this.lanes[this.lanes.length - 1];
+    this.height = end.top + end.height;
+    scrolled.style.height = `${this.height + RULER}px`;
+    frame.style.height = `${Math.min(this.height + RULER + 2, Math.round(innerHeight * PART))}px`;
+    this.left = run.first - 0.5;
+    this.scale = 0;
+    this.fit();
+  }
+
+  // How many places there are to show, with what comes behind the last.
+  get count() {
+    return this.run.last - this.run.first + 1;
+  }
+
+  get span() {
+    return (this.width - GUTTER) / this.scale;
+  }
+
+  x(place) {
+    return GUTTER + (place - this.left) * this.scale;
+  }
+
+  placeAt(x) {
+    return this.left + (x - GUTTER) / this.scale;
+  }
+
+  // Takes the size that there is.
+  fit() {
+    this.width = this.frame.clientWidth;
+    this.seen = Math.min(this.frame.clientHeight, this.height + RULER);
+    const points = window.devicePixelRatio || 1;
+    this.canvas.width = Math.round(this.width * points);
+    this.canvas.height = Math.round(this.seen * points);
+    this.canvas.style.width = `${this.width}px`;
+    this.canvas.style.height = `${this.seen}px`;
+    this.painter.context.setTransform(points, 0, 0, points, 0, 0);
+    if (!this.scale) this.zoomTo(Math.min(110, Math.max(28, this.whole())));
+  }
+
+  // The scale at which all is seen.
+  whole() {
+    return (this.width - GUTTER) / (this.count + 1);
+  }
+
+  // Shows more or fewer moves, and the place where it was.
+  zoomTo(scale) {
+    const x = this.scale ? this.x(this.place) : 0;
+    const least = Math.min(Math.max(LEAST_SCALE, this.whole()), 28);
+    this.scale = Math.min(MOST_SCALE, Math.max(least, scale));
+    if (x) this.left = this.place - (x - GUTTER) / this.scale;
+    this.keepInside();
+  }
+
+  keepInside() {
+    const most = this.run.last + 1.5 - this.span;
+    this.left = Math.max(this.run.first - 0.5, Math.min(this.left, most));
+  }
+
+  pan(places) {
+    this.left += places;
+    this.keepInside();
+  }
+
+  // Goes to a place, which is seen then, with its move.
+  follow(place) {
+    this.place = place;
+    if (place - 1 < this.left || place + 1 > this.left + this.span) {
+      this.left = place - this.span / 2;
+      this.keepInside();
+    }
+  }
+
+  draw() {
+    const { left, scale, width, seen, painter } = this;
+    const part = [left, scale, width, seen, this.frame.scrollTop, painter.theme, this.found.join()];
+    const key = part.join(" ");
+    if (key !== this.groundOf) {
+      this.groundOf = key;
+      this.drawAll();
+      this.ground.width = this.canvas.width;
+      this.ground.height = this.canvas.height;
+      this.ground.getContext("2d").drawImage(this.canvas, 0, 0);
+      this.describe();
+    } else {
+      painter.context.drawImage(this.ground, 0, 0, width, seen);
+    }
+    this.drawHere();
+  }
+
+  drawAll() {
+    const { painter } = this;
+    painter.fill(painter.paper, 0, 0, this.width, this.seen);
+    const isSeen = (it) => this.y(it) < this.seen && this.y(it) + it.height > RULER;
+    const lanes = this.lanes.filter(isSeen);
+    lanes.forEach((it) => this.drawGround(it));
+    this.drawTicks();
+    lanes.forEach((it) => this.drawLane(it));
+    this.drawArrows();
+    painter.fill(painter.paper, 0, 0, GUTTER - 1, this.seen);
+    lanes.forEach((it) => this.drawLabel(it));
+    painter.stroke(painter.line, GUTTER - 1, 0, GUTTER - 1, this.seen);
+    this.drawRuler();
+  }
+
+  y(lane) {
+    return RULER + lane.top - this.frame.scrollTop;
+  }
+
+  drawGround(lane) {
+    const y = this.y(lane);
+    const { painter } = this;
+    const end = y + lane.height - 0.5;
+    if (lane.kind === "head") painter.fill(painter.stripe, 0, y, this.width, lane.height);
+    else painter.stroke(painter.stripe, 0, end, this.width, end);
+  }
+
+  drawTicks() {
+    if (this.scale < MOVE_SCALE) return;
+    this.eachSeen(this.ticks, (place) => {
+      const x = this.x(place);
+      this.painter.stroke(this.painter.line, x, RULER, x, this.seen, [1, 3]);
+    });
+  }
+
+  // The place that is shown, and the move that led to it.
+  drawHere() {
+    const { painter, place } = this;
+    const x = this.x(place);
+    const from = Math.max(GUTTER, this.x(place - 1));
+    if (place > this.run.first && x > from) {
+      painter.fill(painter.here, from, RULER, x - from, this.seen - RULER);
+      const { kind, core } = this.run.move(place);
+      const lane = kind === STEP && this.lanes.find((it) => it.core === core);
+      const y = lane ? this.y(lane) + CORE_PART : 0;
+      if (y > RULER && this.scale >= MOVE_SCALE) {
+        painter.outline(painter.accent, from, y, x - from, 18, 2);
+      }
+    }
+    painter.stroke(painter.accent, x, RULER, x, this.seen, [], 2);
+    const text = String(place);
+    const width = text.length * painter.letter + 8;
+    const label = Math.min(x - width / 2, this.width - width);
+    painter.fill(painter.accent, label, 1, width, 16);
+    painter.text(text, label + 4, 9, width, painter.paper, "bold");
+  }
+
+  drawLane(lane) {
+    const y = this.y(lane);
+    const high = lane.kind === "core" ? CORE_PART : lane.height;
+    if (lane.segments) {
+      this.eachSegment(lane.segments.places, (at, x, width) => {
+        this.painter.segment(lane.segments.shown[at], x, y, width, high);
+      });
+    }
+    if (lane.kind === "core") this.drawMoves(lane, y + high);
+    if (lane.kind === "hand") this.drawMarks(lane, y);
+  }
+
+  // The moves of a core, each as a box where there is room.
+  drawMoves(lane, y) {
+    if (this.scale < MOVE_SCALE) return;
+    const last = Math.min(this.run.last, Math.ceil(this.left + this.span));
+    for (let place = Math.max(this.run.first + 1, Math.floor(this.left)); place <= last; place++) {
+      const move = this.run.move(place);
+      if (move.kind !== STEP || move.core !== lane.core) continue;
+      const x = this.x(place - 1);
+      this.painter.outline(this.painter.ink, x + 0.5, y + 1, this.scale - 1, 16);
+      this.painter.text(doesWords(this.run, move), x + 3, y + 9, this.scale - 4);
+    }
+  }
+
+  // Edits and trims, each a sign with its line where there is room.
+  drawMarks(lane, y) {
+    const marks = lane.marks.map(({ place }) => place);
+    for (let at = lastUpTo(marks, Math.floor(this.left)); at < marks.length; at++) {
+      const x = this.x(marks[at]);
+      if (x > this.width) break;
+      if (x < GUTTER) continue;
+      const next = at + 1 < marks.length ? this.x(marks[at + 1]) : this.width;
+      const { text } = lane.marks[at];
+      const { painter } = this;
+      painter.stroke(painter.accent, x, y, x, this.seen, text[0] === "|" ? [8, 4] : [4, 2]);
+      const room = Math.max(24, next - x - 6);
+      painter.label(text, x + 3, y + 9, room, "bold");
+    }
+  }
+
+  // The arrows of waking, where moves are wide enough to tell one from the other.
+  drawArrows() {
+    if (this.scale < ARROW_SCALE) return;
+    const first = lastUpTo(this.wakingPlaces, Math.floor(this.left));
+    for (let at = first; at < this.wakings.length; at++) {
+      const { place, kind, core, tasks } = this.wakings[at];
+      const x = this.x(place);
+      if (x > this.width) break;
+      if (x < GUTTER) continue;
+      for (const task of tasks) this.drawArrow(x, kind, core, task);
+    }
+  }
+
+  drawArrow(x, kind, core, task) {
+    const from = this.lanes.find((it) => (kind === STEP ? it.core === core : it.kind === "hand"));
+    const to = this.lanes.find((it) => it.task === task);
+    const fromY = kind === TICK || !from ? RULER : this.y(from) + from.height - 3;
+    const toY = this.y(to) + to.height / 2;
+    this.painter.arrow(x - Math.min(10, this.scale / 2), Math.max(RULER, fromY), x, toY);
+  }
+
+  drawLabel(lane) {
+    const isHead = lane.kind === "head";
+    const middle = this.y(lane) + (lane.kind === "core" ? 10 : lane.height / 2);
+    const { painter } = this;
+    painter.text(lane.label, 6, middle, GUTTER - 10, isHead ? painter.faint : painter.ink);
+    if (lane.kind === "core") painter.text("  moves", 6, middle + 19, GUTTER - 10, painter.faint);
+  }
+
+  drawRuler() {
+    const { painter } = this;
+    painter.fill(painter.paper, 0, 0, this.width, RULER);
+    painter.stroke(painter.line, 0, RULER - 0.5, this.width, RULER - 0.5);
+    painter.text("place", 6, 9, GUTTER, painter.faint);
+    painter.text("tick", 6, 26, GUTTER, painter.faint);
+    this.drawPlaces();
+    this.drawTickNumbers();
+    this.eachSeen(this.found, (place) => {
+      painter.fill(painter.accent, this.x(place) - this.scale / 2 - 2, RULER - 5, 4, 5);
+    });
+  }
+
+  drawPlaces() {
+    const wide = (String(this.run.last).length + 2) * this.painter.letter;
+    let step = 1;
+    for (let at = 0; step * this.scale < wide; at++) step *= at % 3 === 1 ? 2.5 : 2;
+    const last = Math.min(this.run.last, this.left + this.span);
+    for (let place = Math.ceil(this.left / step) * step; place <= last; place += step) {
+      const x = this.x(place);
+      if (place < this.run.first || x < GUTTER) continue;
+      const text = String(place);
+      this.painter.text(text, x - (text.length * this.painter.letter) / 2, 9, wide);
+    }
+  }
+
+  // Each tick: a stroke, and the number where there is room.
+  drawTickNumbers() {
+    const { painter } = this;
+    let behind = 0;
+    this.eachSeen(this.ticks, (place) => {
+      const x = this.x(place);
+      painter.stroke(painter.ink, x, RULER - 7, x, RULER);
+      const text = String(this.run.value(this.run.cores.tick, place));
+      const width = (text.length + 1) * painter.letter;
+      if (x - width / 2 > behind) {
+        painter.text(text, x - (text.length * painter.letter) / 2, 23, width + painter.letter);
+        behind = x + width / 2;
+      }
+    });
+  }
+
+  // Each of these places, in order, that is seen; of those on one point, one.
+  eachSeen(places, act) {
+    let at = lastUpTo(places, Math.floor(this.left));
+    while (at < places.length && this.x(places[at]) <= this.width) {
+      const x = this.x(places[at]);
+      if (x >= GUTTER) act(places[at]);
+      at = this.scale < 1 ? Math.max(at + 1, lastUpTo(places, this.placeAt(x + 1))) : at + 1;
+    }
+  }
+
+  // Each segment that is seen, with where it is seen; of those on one point, one.
+  eachSegment(places, act) {
+    let at = lastUpTo(places, Math.floor(this.left));
+    while (at < places.length && this.x(places[at]) <= this.width) {
+      const until = at + 1 < places.length ? places[at + 1] : this.run.last + 1;
+      const x = Math.max(this.x(places[at]), GUTTER);
+      const end = Math.min(this.x(until), this.width);
+      if (end > x) act(at, x, Math.max(1, end - x));
+      const next = end - x < 1 ? lastUpTo(places, this.placeAt(x + 1)) : 0;
+      at = Math.max(at + 1, next);
+    }
+  }
+
+  // What is seen, for those who don't see it.
+  describe() {
+    const first = Math.max(this.run.first, Math.ceil(this.left));
+    const last = Math.min(this.run.last, Math.floor(this.left + this.span));
+    const words = `places ${first} to ${last} of ${this.run.first} to ${this.run.last}`;
+    this.canvas.setAttribute("aria-label", `Lanes: ${words}, at ${this.place}`);
+  }
+}

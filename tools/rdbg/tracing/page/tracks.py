@@ -1,0 +1,46 @@
+"""What becomes of one thing in a run, as a track, over a table of values.
+
+A track is a flat list: the number of the first value, then, for each place where it becomes another
+one, how many places further that is, and the number of the value from there on.
+"""
+import json
+from typing import Dict, List, Sequence, Union
+
+Value = Union[None, int, str, Sequence[object]]
+
+
+class Values:
+    """Values of JSON, each once, by number."""
+
+    def __init__(self) -> None:
+        self.listed: List[Value] = []
+        self._numbers: Dict[str, int] = {}
+
+    def number(self, value: Value) -> int:
+        """The number of a value."""
+        text = json.dumps(value)
+        number = self._numbers.get(text)
+        if number is None:
+            number = self._numbers[text] = len(self.listed)
+            self.listed.append(value)
+        return number
+
+
+class Track:
+    """A track that grows."""
+
+    def __init__(self, values: Values) -> None:
+        self.flat: List[int] = []
+        self._values = values
+        self._place = 0
+        # (most of what is looked at is what it was: then nothing has to be numbered)
+        self._last: Value = None
+
+    def put(self, place: int, value: Value) -> None:
+        """What there is from a place on, which isn't before those that were put."""
+        if self.flat and value == self._last and type(value) is type(self._last):
+            return
+        if self.flat:
+            self.flat.append(place - self._place)
+        self.flat.append(self._values.number(value))
+        self._place, self._last = place, value

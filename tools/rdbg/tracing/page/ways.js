@@ -1,0 +1,59 @@
+// What to type to come to a place.
+
+const LINES_SHOWN = 200;
+
+// The lines that lead from boot to a place: those of the run up to the first behind which the moves
+// up to there stay as they are, and then `back` by as many as it made too many.
+function linesTo(way, place) {
+  if (place === 0) return [];
+  let low = 0;
+  let high = way.lines.length;
+  while (low < high) {
+    const middle = (low + high) >> 1;
+    if (way.lines[middle][2] < place) low = middle + 1;
+    else high = middle;
+  }
+  if (low === way.lines.length) return null;
+  const lines = way.lines.slice(0, low + 1).map(([text]) => text);
+  const over = way.lines[low][1] - place;
+  return over > 0 ? [...lines, `back ${over}`] : lines;
+}
+
+// Where to type what, and what else there is to say of it.
+function wayTo(run, place) {
+  const way = run.way;
+  if (way.server) return wayAtPort(way, place);
+  const where = way.program ? `${way.prompt} (or ${way.program})` : way.prompt;
+  const lines = linesTo(way, place);
+  const note = place === 0 ? "This is boot: nothing has to be typed." : behindEnd(run, place);
+  return { where, lines, note };
+}
+
+// What leads there from the end of the run.
+function behindEnd(run, place) {
+  const { lines, base } = run.way;
+  const done = lines.length ? lines[lines.length - 1][1] : 0;
+  if (place === done) return "This is the end of the run.";
+  if (place < base) {
+    return `From the end of the run there is no way back to here: trim gave up the records before ${base}. These lines stop earlier, where there was one.`;
+  }
+  return `From the end of the run, at ${done}: back ${done - place} (in sh also: goto ${place}).`;
+}
+
+function wayAtPort(way, place) {
+  const back = way.done - place;
+  const there = back
+    ? `goto ${place} leads there while the server has the moves that it had when this page was made.`
+    : "The server was here when this page was made.";
+  const lines = way.known ? linesTo(way, place) : [`goto ${place}`];
+  const where = way.known ? way.prompt : way.server;
+  const note = way.known ? `At the server (${way.server}): ${there}` : there;
+  return { where, lines, note };
+}
+
+// Lines as they are shown: the last of many.
+function shownLines(lines) {
+  if (lines.length <= LINES_SHOWN) return lines.join("\n");
+  const left = lines.length - LINES_SHOWN;
+  return [`(${left} lines before these: Copy has all)`, ...lines.slice(left)].join("\n");
+}

@@ -1,0 +1,59 @@
+"""What to type to come to a place of a run: its lines, up to where the place is made to stay."""
+import pathlib
+import shlex
+from typing import Dict, List, Optional, Sequence
+
+from rdbg.source import LINES, Source
+from rdbg.tracing.page.recorder import Recorder
+from rdbg.tracing.run import Told
+
+
+def settled(told: Sequence[Told]) -> List[List[object]]:
+    """The lines of a run, each with how many moves are done behind it, and how few at the least
+    behind it and all later ones: the moves up to there stay as they are. So a place is reached by
+    the lines up to the first of which these are as many, and then `back` by as many as too many
+    were made: this line made them, so they have records, whatever was trimmed before."""
+    found: List[List[object]] = []
+    least: Optional[int] = None
+    for it in reversed(told):
+        least = it.place if least is None else min(least, it.place)
+        found.append([it.text, it.place, least])
+    return found[::-1]
+
+
+def file_of(source: Optional[Source]) -> str:
+    """How the application's file is named: as it was, without a folder where its path is whole."""
+    if source is None:
+        return ""
+    path = pathlib.PurePath(source.path)
+    return path.name if path.is_absolute() else source.path
+
+
+def of_run(
+    source: Optional[Source], told: Sequence[Told], moves: Optional[int], base: int
+) -> Dict[str, object]:
+    """The way to the places of a run; `base` is the first one to which `back` leads from its end."""
+    name = file_of(source)
+    words = [shlex.quote(name)] if source else []
+    more = ["--moves", str(moves)] if moves else []
+    prompt = " ".join(["./rdbg", "sh", *words, *more])
+    program = " ".join(["./rdbg", "run", *(["--app", *words] if words else []), *more])
+    if name.endswith(LINES):
+        program = ""  # (which reads JSON alone)
+    lines = {"lines": settled(told), "base": base}
+    return {"file": name, "prompt": prompt, "program": program, **lines}
+
+
+def of_port(
+    source: Optional[Source], port: int, done: int, recorder: Recorder
+) -> Dict[str, object]:
+    """The way to the places of the moves at a server, where so many are done: there, and by each
+    move from boot where all of them are known."""
+    name = file_of(source)
+    words = [shlex.quote(name)] if source else []
+    prompt = " ".join(["./rdbg", "sh", *words])
+    server = " ".join(["./rdbg", "sh", "--port", str(port), *words])
+    is_known = recorder.first == 0 and all(recorder.lines) and source is not None
+    told = [Told(line, place) for place, line in enumerate(recorder.lines, 1)] if is_known else []
+    way = {"file": name, "prompt": prompt, "lines": settled(told)}
+    return {**way, "server": server, "done": done, "known": is_known}
