@@ -6,6 +6,7 @@ import pathlib
 import tempfile
 import unittest
 from typing import Dict, List
+from unittest import mock
 
 from rdbg.client import Session
 from rdbg.companions import trace
@@ -167,7 +168,9 @@ class Words(unittest.TestCase):
     def status(self, *words: str) -> List[object]:
         """The status, and what is said on standard error."""
         with contextlib.redirect_stderr(io.StringIO()) as errors:
-            with contextlib.redirect_stdout(io.StringIO()):
+            # (on a busy machine it would say how far it is)
+            quiet = mock.patch.object(trace, "PATIENCE", 600)
+            with contextlib.redirect_stdout(io.StringIO()), quiet:
                 status = main(["trace", str(LOST), str(self.commands), *words])
         return [status, *errors.getvalue().splitlines()]
 

@@ -53,7 +53,8 @@ class Rows(unittest.TestCase):
         output, errors = io.StringIO(), io.StringIO()
         taken = io.TextIOWrapper(io.BytesIO(given.encode()))
         with contextlib.redirect_stdout(output), contextlib.redirect_stderr(errors):
-            with mock.patch.object(sys, "stdin", taken):
+            # (on a busy machine it would say how far it is)
+            with mock.patch.object(sys, "stdin", taken), mock.patch.object(trace, "PATIENCE", 600):
                 status = main(["trace", *words])
         return status, output.getvalue().splitlines(), errors.getvalue().splitlines()
 
