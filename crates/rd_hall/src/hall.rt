@@ -126,7 +126,33 @@ impl<L: Setup> Hall<L> {
     /// Serves a command, under the lock; what it names is looked up before. The seat has one
     /// receipt more, which is its last. `HistoryFull` where no place of the history is free,
     /// `NoMemory` where a growth was refused, `Broken` where the history isn't the seat's own. A
-    /// refusal gives the seat back as it was.
+    /// refusal leaves the seat as it was.
+    pub fn serve(
+        &self,
+        rt: &impl Wait,
+        seat: &mut Seat<L>,
+        command: &Command<'_>,
+    ) -> Result<(), NotServed>
+        ensures ok { OnOk result (Gained seat.old.session (Ask command.now) seat.new.session) }
+        ensures tally { IfErr result (λ error. IfServeFull error (λ tally.
+            (tally.limit ≡ L.most_entries)
+            × (tally.limit ≡ tally.entries + tally.present))) }
+        ensures err { OnErr result (seat.new.session ≡ seat.old.session) }
+        ensures served { OnOk result
+            (Finds L.app L.most_moves L.most_entries seat.old.session.share (λ d.
+            Serves d seat.old.session (Ask command.now) seat.new.session)) }
+        ensures refused { IfErr result (λ error.
+            Finds L.app L.most_moves L.most_entries seat.old.session.share (λ d.
+            TurnsAway d seat.old.session error)) }
+    {
+        let order = Order::new(command, &self.names, self.cores, self.entries);
+        let mut room = self.room.lock(rt);
+        room.keeps();
+        room.backs(seat);
+        room.ask(seat, &order)
+    }
+
+    /// The same for a seat that is handed in, and back.
     pub fn ask(
         &self,
         rt: &impl Wait,
@@ -147,11 +173,8 @@ impl<L: Setup> Hall<L> {
             TurnsAway d seat.session error)) }
     {
         let mut seat = seat;
-        let order = Order::new(command, &self.names, self.cores, self.entries);
-        let mut room = self.room.lock(rt);
-        room.keeps();
-        room.backs(&mut seat);
-        room.ask(seat, &order)
+        let served = self.serve(rt, &mut seat, command);
+        (seat, served)
     }
 
     /// A session leaves, under the lock, and gets the receipt of that, or none where the history

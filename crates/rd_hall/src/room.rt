@@ -194,31 +194,29 @@ impl<L: Setup> Room<L> {
     /// its leave, and no memory for them, else `HistoryFull` where no place is free, else
     /// `NoMemory` where the debugger has none. A refusal changes nothing. It takes no memory beside
     /// that of the seat and of the debugger.
-    pub fn ask(&mut self, seat: Seat<L>, order: &Order<'_, '_>) -> (Seat<L>, Result<(), NotServed>)
+    pub fn ask(&mut self, seat: &mut Seat<L>, order: &Order<'_, '_>) -> Result<(), NotServed>
         requires application { order.now.known ≡ known_of L.app }
-        ensures ok { OnOk result.1 (DoesFor self.old.desk seat.session (Ask order.now.command)
-            self.new.desk result.0.session) }
-        ensures broken { IsErrOf result.1 NotServed.Broken
-            ↔ (¬ Reaches self.old.desk seat.session) }
-        ensures history_full { IsTrue (is_serve_full result.1)
-            ↔ (Reaches self.old.desk seat.session
+        ensures ok { OnOk result (DoesFor self.old.desk seat.old.session
+            (Ask order.now.command) self.new.desk seat.new.session) }
+        ensures broken { IsErrOf result NotServed.Broken
+            ↔ (¬ Reaches self.old.desk seat.old.session) }
+        ensures history_full { IsTrue (is_serve_full result)
+            ↔ (Reaches self.old.desk seat.old.session
             × (self.old.desk.most_entries ≡ used self.old.desk)
-            × (2 ≤ result.0.room)) }
-        ensures room { OnOk result.1 (used self.old.desk < self.old.desk.most_entries) }
-        ensures tally { IfErr result.1 (λ error. IfServeFull error (λ tally.
+            × (2 ≤ seat.new.room)) }
+        ensures room { OnOk result (used self.old.desk < self.old.desk.most_entries) }
+        ensures tally { IfErr result (λ error. IfServeFull error (λ tally.
             (tally ≡ tally_of self.old.desk)
             × (tally.limit ≡ tally.entries + tally.present))) }
-        ensures err { OnErr result.1
-            ((self.new ≡ self.old) × (result.0.session ≡ seat.session)) }
-        ensures room_kept { OnErr result.1 (seat.room ≤ result.0.room) }
-        ensures room_taken { OnOk result.1 (seat.room ≤ result.0.room + 1) }
+        ensures err { OnErr result
+            ((self.new ≡ self.old) × (seat.new.session ≡ seat.old.session)) }
+        ensures room_kept { OnErr result (seat.old.room ≤ seat.new.room) }
+        ensures room_taken { OnOk result (seat.old.room ≤ seat.new.room + 1) }
     {
-        let mut seat = seat;
-        if !self.reaches(&seat) {
-            return (seat, Err(NotServed::Broken));
+        if !self.reaches(seat) {
+            return Err(NotServed::Broken);
         }
-        let served = self.serve(&mut seat, order);
-        (seat, served)
+        self.serve(seat, order)
     }
 
     // Serves a command of a seat that the history reaches past.

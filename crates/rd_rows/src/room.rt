@@ -59,7 +59,8 @@ fn ask<L: Setup>(
         panic!(rt; "{line} is no command");
     };
     let order = Order::new(&command, &outside.names, outside.cores, outside.entries);
-    let (seat, served) = room.ask(seat, &order);
+    let mut seat = seat;
+    let served = room.ask(&mut seat, &order);
     assert!(rt; served.is_ok(), "{line} isn't served");
     seat
 }

@@ -9,7 +9,7 @@ use Rattle.rd_session.specs.Lines.{Line, Whole, Long, last_of}
 use Rattle.rd_session.specs.Replies.{TooLong, text}
 use Rattle.std.proofs.lemmas.List.{append-nil}
 use Rattle.rd_session.specs.Answers.{Talk, Talks}
-use Rattle.rd_session.specs.Gathering.{Answered, Begins, BreaksAmid, GoesOn, HearsMore, IsFlushed, IsLost, IsSaid, IsUnsaid, SaysAll, Spot, Talking, spot}
+use Rattle.rd_session.specs.Gathering.{Answered, Begins, BreaksAmid, GoesOn, HearsMore, IsFlushed, IsLost, IsSaid, IsUnsaid, SaysAll, Spot, spot}
 use Rattle.rd_session.proofs.GatheringLaws.{Answers, BreaksOff-more, Talking-begun, Talking-gathered, Talks-of, answer_long}
 use Rattle.rd_session.proofs.LineLaws.{last_line, no_last_line}
 

@@ -1,5 +1,5 @@
 -- Answers that are gathered, and written many at a time.
-use Rattle.std.proofs.Common.{◌≡◌, ◌∙◌, ℕ, ◌+◌, ◌-◌, ◌<◌, List, [], ◌∷◌, ◌++◌, length, refl, ap, subst, sym, arith}
+use Rattle.std.proofs.Common.{◌≡◌, ◌∙◌, ℕ, ◌+◌, ◌-◌, List, [], ◌∷◌, ◌++◌, length, refl, ap, subst, sym, arith}
 use Rattle.std.specs.Prelude.{Option, Some, None, slice_get, option_map, is_some, IsTrue}
 use Rattle.std.specs.Io.KnownBytes.{Appends}
 use Rattle.std.proofs.lemmas.List.{append_assoc, append-nil, length-append, length_push}
@@ -15,7 +15,7 @@ use Rattle.rd_desk.specs.declared.entry.Receipt.{Receipt}
 use Rattle.rd_hall.specs.SeatView.{SeatView}
 use Rattle.rd_hall.specs.Seats.{Gains}
 use Rattle.rd_session.specs.BuffersView.{PendingView}
-use Rattle.rd_session.specs.Calls.{Adds, Before, Call, Called}
+use Rattle.rd_session.specs.Calls.{Adds, Before, Call}
 use Rattle.rd_session.specs.Lines.{Line, Whole, Long}
 use Rattle.rd_session.specs.Replies.{Answer, Served, Unserved, Syntax, TooLong, refusal_line, refusal_of, reply_line, text}
 use Rattle.rd_session.specs.Answers.{AreAnswers, BreaksOff, HasNoRoom, IsAnswerTo, Talk, Talks, receipt_in, receipts_in, texts, with_all}

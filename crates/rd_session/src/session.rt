@@ -43,6 +43,16 @@ pub enum Ended {
     WriteFault,
 }
 
+impl From<WriteFault> for Ended {
+    ghost use Rattle.rd_session.specs.declared.session.Ended.{Ended};
+
+    ghost from_gives = { λ _ why. why ≡ Ended.WriteFault };
+
+    fn from(_fault: WriteFault) -> Ended {
+        Ended::WriteFault
+    }
+}
+
 // Whom a session asks.
 #[derive_where(Clone, Copy)]
 struct Host<'a, R: Wait, L: Setup> {
@@ -135,34 +145,30 @@ fn begin<G: Gate, W: Sink>(
 fn ask<R: Wait, L: Setup, G: Gate, W: Sink>(
     host: &Host<'_, R, L>,
     gate: &mut G,
-    seat: Seat<L>,
+    seat: &mut Seat<L>,
     line: &[u8],
     command: &Command<'_>,
     pending: &mut Pending,
     sink: &mut W,
-) -> (Seat<L>, Result<(), WriteFault>)
+) -> Result<(), WriteFault>
     requires command { command_of (words_of line.now) ≡ Some command.now }
     requires room { length pending.old.bytes + MAX_REPLY ≤ pending.old.capacity }
     requires out { pending.old.out < pending.old.begun }
     requires counts { (W.seen sink.old).faults ≡ 0 }
-    ensures answered { Answered seat.session.who (Whole line.now) seat.session result.0.session
-        (W.seen sink.old) (G.calls gate.old) pending.old (W.seen sink.new) (G.calls gate.new)
-        pending.new result.1 }
-    ensures begun { OnOk result.1 (pending.new.begun ≡ pending.old.begun) }
-    ensures out { OnOk result.1 (pending.new.out ≤ pending.new.begun) }
-    ensures faults { (W.seen sink.new).faults ≡ faults_after (W.seen sink.old).faults result.1 }
+    ensures answered { Answered seat.old.session.who (Whole line.now) seat.old.session
+        seat.new.session (W.seen sink.old) (G.calls gate.old) pending.old (W.seen sink.new)
+        (G.calls gate.new) pending.new result }
+    ensures begun { OnOk result (pending.new.begun ≡ pending.old.begun) }
+    ensures out { OnOk result (pending.new.out ≤ pending.new.begun) }
+    ensures faults { (W.seen sink.new).faults ≡ faults_after (W.seen sink.old).faults result }
 {
     let who = seat.who();
-    let (seat, served) = host.hall.ask(host.rt, seat, command);
-    match served {
-        Ok(()) => {
-            let told = tell(gate, who, pending, sink, &seat.last().entry.reply);
-            (seat, told)
-        }
+    match host.hall.serve(host.rt, seat, command) {
+        Ok(()) => tell(gate, who, pending, sink, &seat.last().entry.reply),
         Err(error) => {
             let refusal = refusal_of(&error);
             pending.put_short(Short::Refused { refusal });
-            (seat, Ok(()))
+            Ok(())
         }
     }
 }
@@ -171,20 +177,20 @@ fn ask<R: Wait, L: Setup, G: Gate, W: Sink>(
 fn answer<R: Wait, L: Setup, G: Gate, W: Sink>(
     host: &Host<'_, R, L>,
     gate: &mut G,
-    seat: Seat<L>,
+    seat: &mut Seat<L>,
     line: &[u8],
     pending: &mut Pending,
     sink: &mut W,
-) -> (Seat<L>, Result<(), WriteFault>)
+) -> Result<(), WriteFault>
     requires room { length pending.old.bytes + MAX_REPLY ≤ pending.old.capacity }
     requires out { pending.old.out < pending.old.begun }
     requires counts { (W.seen sink.old).faults ≡ 0 }
-    ensures answered { Answered seat.session.who (Whole line.now) seat.session result.0.session
-        (W.seen sink.old) (G.calls gate.old) pending.old (W.seen sink.new) (G.calls gate.new)
-        pending.new result.1 }
-    ensures begun { OnOk result.1 (pending.new.begun ≡ pending.old.begun) }
-    ensures out { OnOk result.1 (pending.new.out ≤ pending.new.begun) }
-    ensures faults { (W.seen sink.new).faults ≡ faults_after (W.seen sink.old).faults result.1 }
+    ensures answered { Answered seat.old.session.who (Whole line.now) seat.old.session
+        seat.new.session (W.seen sink.old) (G.calls gate.old) pending.old (W.seen sink.new)
+        (G.calls gate.new) pending.new result }
+    ensures begun { OnOk result (pending.new.begun ≡ pending.old.begun) }
+    ensures out { OnOk result (pending.new.out ≤ pending.new.begun) }
+    ensures faults { (W.seen sink.new).faults ≡ faults_after (W.seen sink.old).faults result }
 {
     // (by reference, since a command with its words is large)
     match &parse_line(line) {
@@ -192,7 +198,7 @@ fn answer<R: Wait, L: Setup, G: Gate, W: Sink>(
         Err(_) => {
             let refusal = Refusal::Syntax;
             pending.put_short(Short::Refused { refusal });
-            (seat, Ok(()))
+            Ok(())
         }
     }
 }
@@ -201,29 +207,27 @@ fn answer<R: Wait, L: Setup, G: Gate, W: Sink>(
 fn answer_line<R: Wait, L: Setup, G: Gate, W: Sink>(
     host: &Host<'_, R, L>,
     gate: &mut G,
-    seat: Seat<L>,
+    seat: &mut Seat<L>,
     line: &[u8],
     pending: &mut Pending,
     sink: &mut W,
-) -> (Seat<L>, Result<(), WriteFault>)
+) -> Result<(), WriteFault>
     requires out { pending.old.out ≤ pending.old.begun }
     requires begun { pending.old.begun < 2 ^ 63 }
     requires counts { (W.seen sink.old).faults ≡ 0 }
-    ensures more { OnOk result.1 (HearsMore (Whole line.now ∷ [])
-        (spot seat.session (W.seen sink.old) (G.calls gate.old) pending.old)
-        (spot result.0.session (W.seen sink.new) (G.calls gate.new) pending.new)) }
-    ensures breaks { OnErr result.1 (BreaksAmid (Whole line.now ∷ [])
-        (spot seat.session (W.seen sink.old) (G.calls gate.old) pending.old)
-        (spot result.0.session (W.seen sink.new) (G.calls gate.new) pending.new).talk) }
-    ensures who { result.0.session.who ≡ seat.session.who }
-    ensures begun { OnOk result.1 (pending.new.begun ≡ pending.old.begun + 1) }
-    ensures out { OnOk result.1 (pending.new.out ≤ pending.new.begun) }
-    ensures faults { (W.seen sink.new).faults ≡ faults_after (W.seen sink.old).faults result.1 }
+    ensures more { OnOk result (HearsMore (Whole line.now ∷ [])
+        (spot seat.old.session (W.seen sink.old) (G.calls gate.old) pending.old)
+        (spot seat.new.session (W.seen sink.new) (G.calls gate.new) pending.new)) }
+    ensures breaks { OnErr result (BreaksAmid (Whole line.now ∷ [])
+        (spot seat.old.session (W.seen sink.old) (G.calls gate.old) pending.old)
+        (spot seat.new.session (W.seen sink.new) (G.calls gate.new) pending.new).talk) }
+    ensures who { seat.new.session.who ≡ seat.old.session.who }
+    ensures begun { OnOk result (pending.new.begun ≡ pending.old.begun + 1) }
+    ensures out { OnOk result (pending.new.out ≤ pending.new.begun) }
+    ensures faults { (W.seen sink.new).faults ≡ faults_after (W.seen sink.old).faults result }
 {
-    match begin(gate, seat.who(), pending, sink) {
-        Ok(()) => answer(host, gate, seat, line, pending, sink),
-        Err(fault) => (seat, Err(fault)),
-    }
+    begin(gate, seat.who(), pending, sink)?;
+    answer(host, gate, seat, line, pending, sink)
 }
 
 // Answers a line that is too long, and writes all answers.
@@ -255,53 +259,41 @@ fn answer_long<L: Setup, G: Gate, W: Sink>(
 fn answer_lines<R: Wait, L: Setup, G: Gate, W: Sink>(
     host: &Host<'_, R, L>,
     gate: &mut G,
-    seat: Seat<L>,
+    seat: &mut Seat<L>,
     lines: &mut Lines,
     pending: &mut Pending,
     sink: &mut W,
-) -> (Seat<L>, Result<(), Ended>)
+) -> Result<(), Ended>
     requires out { pending.old.out ≤ pending.old.begun }
     requires begun { pending.old.begun + length lines.old < 2 ^ 63 }
     requires counts { (W.seen sink.old).faults ≡ 0 }
-    ensures more { OnOk result.1 (HearsMore (lines_from (Some []) lines.old)
-        (spot seat.session (W.seen sink.old) (G.calls gate.old) pending.old)
-        (spot result.0.session (W.seen sink.new) (G.calls gate.new) pending.new)) }
-    ensures rest { OnOk result.1 (rest_from (Some []) lines.old ≡ Some lines.new) }
-    ensures part { OnOk result.1 (front_of lines.new ≡ Part) }
-    ensures who { result.0.session.who ≡ seat.session.who }
-    ensures sent { OnOk result.1 (pending.new.out ≡ pending.new.begun) }
-    ensures begun { OnOk result.1
+    ensures more { OnOk result (HearsMore (lines_from (Some []) lines.old)
+        (spot seat.old.session (W.seen sink.old) (G.calls gate.old) pending.old)
+        (spot seat.new.session (W.seen sink.new) (G.calls gate.new) pending.new)) }
+    ensures rest { OnOk result (rest_from (Some []) lines.old ≡ Some lines.new) }
+    ensures part { OnOk result (front_of lines.new ≡ Part) }
+    ensures who { seat.new.session.who ≡ seat.old.session.who }
+    ensures sent { OnOk result (pending.new.out ≡ pending.new.begun) }
+    ensures begun { OnOk result
         (pending.new.begun ≤ pending.old.begun + length lines.old) }
-    ensures faults { OnOk result.1 ((W.seen sink.new).faults ≡ 0) }
-    ensures stops { IfErr result.1 (λ why. Stops why (lines_from (Some []) lines.old)
-        (spot seat.session (W.seen sink.old) (G.calls gate.old) pending.old)
-        (spot result.0.session (W.seen sink.new) (G.calls gate.new) pending.new).talk
+    ensures faults { OnOk result ((W.seen sink.new).faults ≡ 0) }
+    ensures stops { IfErr result (λ why. Stops why (lines_from (Some []) lines.old)
+        (spot seat.old.session (W.seen sink.old) (G.calls gate.old) pending.old)
+        (spot seat.new.session (W.seen sink.new) (G.calls gate.new) pending.new).talk
         (rest_from (Some []) lines.old)) }
 {
-    let mut seat = seat;
     loop {
         match lines.front() {
             Front::Line { len } => {
                 let line = lines.line(len);
-                let (next, told) = answer_line(host, gate, seat, line, pending, sink);
-                seat = next;
-                match told {
-                    Ok(()) => lines.advance(len + 1),
-                    Err(WriteFault) => return (seat, Err(Ended::WriteFault)),
-                }
+                answer_line(host, gate, seat, line, pending, sink)?;
+                lines.advance(len + 1);
             }
             Front::TooLong => {
-                return match answer_long(gate, &seat, pending, sink) {
-                    Ok(()) => (seat, Err(Ended::LineTooLong)),
-                    Err(WriteFault) => (seat, Err(Ended::WriteFault)),
-                };
+                answer_long(gate, seat, pending, sink)?;
+                return Err(Ended::LineTooLong);
             }
-            Front::Part => {
-                return match finish(gate, seat.who(), pending, sink) {
-                    Ok(()) => (seat, Ok(())),
-                    Err(WriteFault) => (seat, Err(Ended::WriteFault)),
-                };
-            }
+            Front::Part => return Ok(finish(gate, seat.who(), pending, sink)?),
         }
     }
 }
@@ -311,32 +303,26 @@ fn answer_lines<R: Wait, L: Setup, G: Gate, W: Sink>(
 fn answer_rest<R: Wait, L: Setup, G: Gate, W: Sink>(
     host: &Host<'_, R, L>,
     gate: &mut G,
-    seat: Seat<L>,
+    seat: &mut Seat<L>,
     rest: &[u8],
     pending: &mut Pending,
     sink: &mut W,
-) -> (Seat<L>, Result<(), WriteFault>)
+) -> Result<(), WriteFault>
     requires out { pending.old.out ≡ pending.old.begun }
     requires begun { pending.old.begun < 2 ^ 63 }
     requires counts { (W.seen sink.old).faults ≡ 0 }
-    ensures said { OnOk result.1 (SaysAll (last_of (Some rest.now))
-        (spot seat.session (W.seen sink.old) (G.calls gate.old) pending.old)
-        (spot result.0.session (W.seen sink.new) (G.calls gate.new) pending.new).talk) }
-    ensures breaks { OnErr result.1 (BreaksAmid (last_of (Some rest.now))
-        (spot seat.session (W.seen sink.old) (G.calls gate.old) pending.old)
-        (spot result.0.session (W.seen sink.new) (G.calls gate.new) pending.new).talk) }
+    ensures said { OnOk result (SaysAll (last_of (Some rest.now))
+        (spot seat.old.session (W.seen sink.old) (G.calls gate.old) pending.old)
+        (spot seat.new.session (W.seen sink.new) (G.calls gate.new) pending.new).talk) }
+    ensures breaks { OnErr result (BreaksAmid (last_of (Some rest.now))
+        (spot seat.old.session (W.seen sink.old) (G.calls gate.old) pending.old)
+        (spot seat.new.session (W.seen sink.new) (G.calls gate.new) pending.new).talk) }
 {
     if rest.is_empty() {
-        return (seat, Ok(()));
+        return Ok(());
     }
-    let (seat, told) = answer_line(host, gate, seat, rest, pending, sink);
-    match told {
-        Ok(()) => {
-            let sent = finish(gate, seat.who(), pending, sink);
-            (seat, sent)
-        }
-        Err(fault) => (seat, Err(fault)),
-    }
+    answer_line(host, gate, seat, rest, pending, sink)?;
+    finish(gate, seat.who(), pending, sink)
 }
 
 // Reads and answers until an end.
@@ -345,36 +331,32 @@ fn listen<R: Wait, L: Setup, G: Gate, S: Source, W: Sink>(
     gate: &mut G,
     source: &mut S,
     sink: &mut W,
-    seat: Seat<L>,
+    seat: &mut Seat<L>,
     lines: &mut Lines,
     pending: &mut Pending,
-) -> Seat<L>
+)
     requires held { lines.old ≡ [] }
     requires pending { (pending.old.bytes ≡ []) × (pending.old.begun ≡ 0)
         × (pending.old.out ≡ 0) }
     requires unread { IsUnread (S.seen source.old) }
     requires unwritten { (W.seen sink.old).faults ≡ 0 }
     ensures heard { Heard (S.seen source.old) (S.seen source.new)
-        (record { seat = seat.session; sink = W.seen sink.old; calls = G.calls gate.old })
-        (record { seat = result.session; sink = W.seen sink.new; calls = G.calls gate.new }) }
+        (record { seat = seat.old.session; sink = W.seen sink.old; calls = G.calls gate.old })
+        (record { seat = seat.new.session; sink = W.seen sink.new; calls = G.calls gate.new }) }
     ensures reads { (S.seen source.new).reads ≤ 16777216 }
 {
-    let mut seat = seat;
     for _turn in 0..MAX_READS {
         let Ok(count) = lines.read_from(source) else {
-            return seat;
+            return;
         };
         if count == 0 {
-            let (seat, _) = answer_rest(host, gate, seat, lines.rest(), pending, sink);
-            return seat;
+            let _ = answer_rest(host, gate, seat, lines.rest(), pending, sink);
+            return;
         }
-        let (next, told) = answer_lines(host, gate, seat, lines, pending, sink);
-        seat = next;
-        if let Err(_why) = told {
-            return seat;
+        if let Err(_why) = answer_lines(host, gate, seat, lines, pending, sink) {
+            return;
         }
     }
-    seat
 }
 
 /// Reads lines and answers each, in order, until the end of the input, a fault at either end, a
@@ -412,12 +394,13 @@ pub fn session<L: Setup, S: Source, W: Sink, G: Gate>(
     buffers.lines.clear();
     buffers.pending.clear();
     let host = Host { rt, hall };
-    let seat = listen(
+    let mut seat = seat;
+    listen(
         &host,
         gate,
         source,
         sink,
-        seat,
+        &mut seat,
         &mut buffers.lines,
         &mut buffers.pending,
     );

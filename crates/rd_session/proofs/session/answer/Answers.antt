@@ -1,10 +1,10 @@
 -- The goals of answer that the check left open.
-use Rattle.std.proofs.Common.{◌∙◌, sym}
+use Rattle.std.proofs.Common.{sym}
 use Rattle.rd_session.proofs.AnsweringLaws.{Answered-gathered}
 use Rattle.rd_session.proofs.GatheringLaws.{answer_syntax}
 use Rattle.rd_session.proofs.session.answer.Goals as goal
 
 pub returns-in-Err-clause-answered : goal.returns-in-Err-clause-answered
 returns-in-Err-clause-answered g c =
-    Answered-gathered _ _ _ _ _ _ _ _ _ _ (answer_syntax c.args.line.now c.args.seat.session (sym (rw c.in-Err.is at c.parse_line.ensures.exact)))
+    Answered-gathered _ _ _ _ _ _ _ _ _ _ (answer_syntax c.args.line.now c.args.seat.now.session (sym (rw c.in-Err.is at c.parse_line.ensures.exact)))
     c.put_short.ensures.bytes c.put_short.ensures.begun c.put_short.ensures.out

@@ -1,6 +1,8 @@
 -- The goals of answer_lines that the check left open.
-use Rattle.std.proofs.Common.{◌∙◌, ◌≡◌, ◌+◌, ◌≤◌, [], length, sym, arith, ap}
+use Rattle.std.proofs.Common.{◌∙◌, ◌+◌, [], length, sym, arith, ap}
+use Rattle.std.specs.Prelude.{Err}
 use Rattle.std.proofs.lemmas.List.{length-drop}
+use Rattle.std.proofs.lemmas.Result.{err_from_is_err_and}
 use Rattle.rd_session.proofs.AnsweringLaws.{all_heard, all_lost}
 use Rattle.rd_session.proofs.HearingLaws.{Answering-breaks, Answering-long, Answering-long_breaks, Answering-lost, Answering-more, Answering-new, Answering-part, Answering-rest, HearsMore-none}
 use Rattle.rd_session.proofs.LineLaws.{line_cut}
@@ -17,39 +19,44 @@ loop-len-init g c = record {
 pub loop-len-preserved : goal.loop-len-preserved
 loop-len-preserved g c =
     let at = sym c.front.ensures ∙ c.in-Line.is in
-    let more = rw c.in-Ok.is at c.answer_line-next.ensures.more in
-    let begun = rw c.in-Ok.is at c.answer_line-next.ensures.begun in
+    let heard = c.in_ok-answer_line-in-Line.ensures in
     let cut = line_cut c.loop-len.lines c.in-Line.len at in
     record {
-      answering = Answering-more _ _ _ c.in-Line.len _ _ _ c.line-line.result.now c.loop-len.invariant.answering at c.line-line.ensures more c.answer_line-next.ensures.who c.advance.ensures;
-      out = rw c.in-Ok.is at c.answer_line-next.ensures.out;
-      begun = omega (arith, begun, c.loop-len.invariant.begun, ap length c.advance.ensures, length-drop (c.in-Line.len + 1) c.loop-len.lines, cut.2);
-      faults = (rw c.in-Ok.is at c.answer_line-next.ensures.faults) ∙ c.loop-len.invariant.faults;
+      answering = Answering-more _ _ _ c.in-Line.len _ _ _ c.line-line.result.now c.loop-len.invariant.answering at c.line-line.ensures heard.more c.answer_line.ensures.who c.advance.ensures;
+      out = heard.out;
+      begun = omega (arith, heard.begun, c.loop-len.invariant.begun, ap length c.advance.ensures, length-drop (c.in-Line.len + 1) c.loop-len.lines, cut.2);
+      faults = heard.faults ∙ c.loop-len.invariant.faults;
     }
 
-pub returns-in-Err-clause-stops : goal.returns-in-Err-clause-stops
-returns-in-Err-clause-stops g c =
-    Answering-breaks _ _ c.in-Line.len _ _ _ c.line-line.result.now c.loop-len.invariant.answering (sym c.front.ensures ∙ c.in-Line.is) c.line-line.ensures
-    (rw c.in-Err.is at c.answer_line-next.ensures.breaks)
+pub returns-in_err-answer_line-in-Line-clause-stops : goal.returns-in_err-answer_line-in-Line-clause-stops
+returns-in_err-answer_line-in-Line-clause-stops g c =
+    let p = err_from_is_err_and c.from_residual.result c.from_residual.ensures.1 in
+    rw (p.1 ∙ ap Err p.2)
+    (Answering-breaks _ _ c.in-Line.len _ _ _ c.line-line.result.now c.loop-len.invariant.answering (sym c.front.ensures ∙ c.in-Line.is) c.line-line.ensures
+    c.in_err-answer_line-in-Line.ensures.breaks)
 
-pub returns-in-Ok-answer_long-clause-stops : goal.returns-in-Ok-answer_long-clause-stops
-returns-in-Ok-answer_long-clause-stops g c =
-    Answering-long _ _ _ _ _ c.loop-len.invariant.answering (sym c.front.ensures ∙ c.in-TooLong.is) c.in-Ok-answer_long.ensures.said
+pub returns-in-TooLong-clause-stops : goal.returns-in-TooLong-clause-stops
+returns-in-TooLong-clause-stops g c =
+    Answering-long _ _ _ _ _ c.loop-len.invariant.answering (sym c.front.ensures ∙ c.in-TooLong.is) c.in_ok-answer_long-in-TooLong.ensures.said
 
-pub returns-in-Err-answer_long-clause-stops : goal.returns-in-Err-answer_long-clause-stops
-returns-in-Err-answer_long-clause-stops g c =
-    Answering-long_breaks _ _ _ _ _ c.loop-len.invariant.answering (sym c.front.ensures ∙ c.in-TooLong.is) c.in-Err-answer_long.ensures.breaks
+pub returns-in_err-answer_long-in-TooLong-clause-stops : goal.returns-in_err-answer_long-in-TooLong-clause-stops
+returns-in_err-answer_long-in-TooLong-clause-stops g c =
+    let p = err_from_is_err_and c.from_residual-in_err-answer_long-in-TooLong.result c.from_residual-in_err-answer_long-in-TooLong.ensures.1 in
+    rw (p.1 ∙ ap Err p.2)
+    (Answering-long_breaks _ _ _ _ _ c.loop-len.invariant.answering (sym c.front.ensures ∙ c.in-TooLong.is) c.in_err-answer_long-in-TooLong.ensures.breaks)
 
-pub returns-in-Ok-finish-clause-more : goal.returns-in-Ok-finish-clause-more
-returns-in-Ok-finish-clause-more g c =
+pub returns-in-Part-clause-more : goal.returns-in-Part-clause-more
+returns-in-Part-clause-more g c =
     let part = sym c.front.ensures ∙ c.in-Part.is in
     Answering-part _ _ _ _ _ c.loop-len.invariant.answering part
-    (all_heard c.who.result [] _ _ _ _ _ _ _ _ c.who.ensures (HearsMore-none _) c.in-Ok-finish.ensures.flushed)
+    (all_heard c.who.result [] _ _ _ _ _ _ _ _ c.who.ensures (HearsMore-none _) c.in_ok-finish-in-Part.ensures.flushed)
 
-pub returns-in-Ok-finish-clause-rest : goal.returns-in-Ok-finish-clause-rest
-returns-in-Ok-finish-clause-rest g c = Answering-rest _ _ _ _ c.loop-len.invariant.answering (sym c.front.ensures ∙ c.in-Part.is)
+pub returns-in-Part-clause-rest : goal.returns-in-Part-clause-rest
+returns-in-Part-clause-rest g c = Answering-rest _ _ _ _ c.loop-len.invariant.answering (sym c.front.ensures ∙ c.in-Part.is)
 
-pub returns-in-Err-finish-clause-stops : goal.returns-in-Err-finish-clause-stops
-returns-in-Err-finish-clause-stops g c =
-    Answering-lost _ _ _ _ _ c.loop-len.invariant.answering (sym c.front.ensures ∙ c.in-Part.is)
-    (all_lost c.who.result [] _ _ _ _ _ _ _ c.who.ensures (HearsMore-none _) c.in-Err-finish.ensures.lost)
+pub returns-in_err-finish-in-Part-clause-stops : goal.returns-in_err-finish-in-Part-clause-stops
+returns-in_err-finish-in-Part-clause-stops g c =
+    let p = err_from_is_err_and c.from_residual-in_err-finish-in-Part.result c.from_residual-in_err-finish-in-Part.ensures.1 in
+    rw (p.1 ∙ ap Err p.2)
+    (Answering-lost _ _ _ _ _ c.loop-len.invariant.answering (sym c.front.ensures ∙ c.in-Part.is)
+    (all_lost c.who.result [] _ _ _ _ _ _ _ c.who.ensures (HearsMore-none _) c.in_err-finish-in-Part.ensures.lost))

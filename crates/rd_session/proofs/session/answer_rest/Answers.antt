@@ -4,18 +4,18 @@ use Rattle.rd_session.specs.Lines.{Whole}
 use Rattle.rd_session.proofs.AnsweringLaws.{all_lost, all_said, on_both, on_err, rest_breaks, rest_said}
 use Rattle.rd_session.proofs.session.answer_rest.Goals as goal
 
-pub returns-in-Ok-clause-said : goal.returns-in-Ok-clause-said
-returns-in-Ok-clause-said g c =
+pub returns-clause-said : goal.returns-clause-said
+returns-clause-said g c =
     let some : 0 < length c.args.rest.now = search rules in
-    let more = rw c.in-Ok.is at c.answer_line-seat.ensures.more in
-    on_both c.finish-sent.result (λ flushed now.
-    rest_said c.args.rest.now _ _ some (all_said c.who.result (Whole c.args.rest.now ∷ []) _ c.answer_line-seat.result.0.session _ _ _ _ _ _ (c.who.ensures ∙ c.answer_line-seat.ensures.who) more flushed now))
-    c.finish-sent.ensures.flushed c.finish-sent.ensures.pending
+    let more = c.in_ok-answer_line.ensures.more in
+    on_both c.finish.result (λ flushed now.
+    rest_said c.args.rest.now _ _ some (all_said c.who.result (Whole c.args.rest.now ∷ []) _ c.answer_line.new.seat.session _ _ _ _ _ _ (c.who.ensures ∙ c.answer_line.ensures.who) more flushed now))
+    c.finish.ensures.flushed c.finish.ensures.pending
 
-pub returns-in-Ok-clause-breaks : goal.returns-in-Ok-clause-breaks
-returns-in-Ok-clause-breaks g c =
+pub returns-clause-breaks : goal.returns-clause-breaks
+returns-clause-breaks g c =
     let some : 0 < length c.args.rest.now = search rules in
-    let more = rw c.in-Ok.is at c.answer_line-seat.ensures.more in
-    on_err c.finish-sent.result (λ lost.
-    rest_breaks c.args.rest.now _ _ some (all_lost c.who.result (Whole c.args.rest.now ∷ []) _ c.answer_line-seat.result.0.session _ _ _ _ _ (c.who.ensures ∙ c.answer_line-seat.ensures.who) more lost))
-    c.finish-sent.ensures.lost
+    let more = c.in_ok-answer_line.ensures.more in
+    on_err c.finish.result (λ lost.
+    rest_breaks c.args.rest.now _ _ some (all_lost c.who.result (Whole c.args.rest.now ∷ []) _ c.answer_line.new.seat.session _ _ _ _ _ (c.who.ensures ∙ c.answer_line.ensures.who) more lost))
+    c.finish.ensures.lost

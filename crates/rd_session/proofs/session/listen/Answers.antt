@@ -1,5 +1,5 @@
 -- The goals of listen that the check left open.
-use Rattle.std.proofs.Common.{◌∙◌, ◌≡◌, ◌+◌, ◌<◌, ◌≤◌, refl, arith, rules}
+use Rattle.std.proofs.Common.{◌≡◌, ◌<◌, refl, arith, rules}
 use Rattle.rd_session.proofs.GatheringLaws.{Talking-new}
 use Rattle.rd_session.proofs.HearingLaws.{Heard-ended, Heard-failed, Heard-spent, Heard-stops, Hears-more, Hears-new, Read-of}
 use Rattle.rd_session.proofs.session.listen.Goals as goal
@@ -20,26 +20,26 @@ returns-in_default-clause-heard g c =
 pub returns-then-count-eq0-clause-heard : goal.returns-then-count-eq0-clause-heard
 returns-then-count-eq0-clause-heard g c =
     let none : c.in-Ok.count ≡ 0 = search rules in
-    Heard-ended c.answer_rest-seat.result.1 _ _ _ _ _ _ _ _ _ c.in-Ok.count c.loop-turn.invariant.hears c.in-Ok.ensures.ok none c.in-Ok.ensures.reads c.in-Ok.ensures.ends c.in-Ok.ensures.faults
-    (c.in-Ok.ensures.end none) c.rest.ensures c.answer_rest-seat.ensures.said c.answer_rest-seat.ensures.breaks
+    Heard-ended c.answer_rest.result _ _ _ _ _ _ _ _ _ c.in-Ok.count c.loop-turn.invariant.hears c.in-Ok.ensures.ok none c.in-Ok.ensures.reads c.in-Ok.ensures.ends c.in-Ok.ensures.faults
+    (c.in-Ok.ensures.end none) c.rest.ensures c.answer_rest.ensures.said c.answer_rest.ensures.breaks
 
 pub returns-in-Err-clause-heard : goal.returns-in-Err-clause-heard
 returns-in-Err-clause-heard g c =
     let some : 0 < c.in-Ok.count = search rules in
     let read = Read-of _ _ _ _ _ _ _ c.in-Ok.count c.loop-turn.invariant.hears c.in-Ok.ensures.ok some c.in-Ok.ensures.reads c.in-Ok.ensures.ends c.in-Ok.ensures.faults in
-    Heard-stops c.in-Err._why _ _ _ _ _ _ _ read (rw c.in-Err.is at c.answer_lines-next.ensures.stops)
+    Heard-stops c.in-Err._why _ _ _ _ _ _ _ read (rw c.in-Err.is at c.answer_lines.ensures.stops)
 
 pub loop-turn-preserved : goal.loop-turn-preserved
 loop-turn-preserved g c =
     let some : 0 < c.in-Ok.count = search rules in
     let read = Read-of _ _ _ _ _ _ _ c.in-Ok.count c.loop-turn.invariant.hears c.in-Ok.ensures.ok some c.in-Ok.ensures.reads c.in-Ok.ensures.ends c.in-Ok.ensures.faults in
-    let begun = rw c.in_default-told.is at c.answer_lines-next.ensures.begun in
+    let begun = rw c.in_default-answer_lines.is at c.answer_lines.ensures.begun in
     record {
-      hears = Hears-more _ _ _ _ _ _ _ _ read (rw c.in_default-told.is at c.answer_lines-next.ensures.more) c.answer_lines-next.ensures.who (rw c.in_default-told.is at c.answer_lines-next.ensures.rest)
-          (rw c.in_default-told.is at c.answer_lines-next.ensures.part);
-      out = rw c.in_default-told.is at c.answer_lines-next.ensures.sent;
+      hears = Hears-more _ _ _ _ _ _ _ _ read (rw c.in_default-answer_lines.is at c.answer_lines.ensures.more) c.answer_lines.ensures.who (rw c.in_default-answer_lines.is at c.answer_lines.ensures.rest)
+          (rw c.in_default-answer_lines.is at c.answer_lines.ensures.part);
+      out = rw c.in_default-answer_lines.is at c.answer_lines.ensures.sent;
       begun = omega (arith, begun, c.loop-turn.invariant.begun, c.in-Ok.ensures.within);
-      faults = rw c.in_default-told.is at c.answer_lines-next.ensures.faults;
+      faults = rw c.in_default-answer_lines.is at c.answer_lines.ensures.faults;
       reads = omega (arith, c.in-Ok.ensures.reads, c.loop-turn.invariant.reads);
     }
 

@@ -1,5 +1,5 @@
 -- The goals of tell that the check left open.
-use Rattle.std.proofs.Common.{◌∙◌, refl, sym}
+use Rattle.std.proofs.Common.{refl, sym}
 use Rattle.std.proofs.lemmas.List.{append-nil}
 use Rattle.rd_session.proofs.GatheringLaws.{Talking-gathered}
 use Rattle.rd_session.proofs.telling.tell.Goals as goal
