@@ -17,6 +17,10 @@ ACTIONS = ("none", "bits", "inc", "set", "setif")
 PHASES = ("run", "again", "given", "wait", "ended", "failed")
 OPERATORS = ("=", "<", ">")
 CONDITION = "COND"
+# What a line can change, and on what an answer hangs: the target (its moves and their records too),
+# who has the wheel, and the watches of the session that asks.
+TARGET, WHEEL, WATCHES = "target", "wheel", "watches"
+ALL: FrozenSet[str] = frozenset((TARGET, WHEEL, WATCHES))
 
 
 def is_number(word: str, most: int = MOST_NUMBER) -> bool:
@@ -96,12 +100,21 @@ def fits(symbol: str, word: str) -> bool:
 @dataclasses.dataclass(frozen=True)
 class Form:
     """A form of lines, or of conditions: how it is written, what it does, and (of lines) which
-    replies there are beside refusals, and whether it makes moves or takes them back."""
+    replies there are beside refusals, whether it makes moves or takes them back, and on what its
+    answer hangs, refusals among them. A line of a form that `changes` nothing is a look."""
 
     text: str
     does: str
     answers: Optional[Type[object]] = None
     moves: bool = False
+    changes: FrozenSet[str] = frozenset()
+    hangs_on: FrozenSet[str] = ALL
+
+    @property
+    def is_look(self) -> bool:
+        """Whether its lines change nothing, so that one is answered as before as long as what its
+        answer hangs on hasn't changed."""
+        return self.answers is not None and not self.changes
 
     @property
     def word(self) -> str:
@@ -116,7 +129,17 @@ class Form:
 
 def move(text: str, does: str) -> Form:
     """A form of lines that make moves, or take them back."""
-    return Form(text, does, replies.Moved, True)
+    return Form(text, does, replies.Moved, True, frozenset((TARGET,)))
+
+
+def change(text: str, does: str, answers: Type[object], what: str) -> Form:
+    """A form of lines that change something, and make no move."""
+    return Form(text, does, answers, False, frozenset((what,)))
+
+
+def look(text: str, does: str, answers: Type[object], *hangs_on: str) -> Form:
+    """A form of lines that change nothing; their answer hangs on the target, or on what is said."""
+    return Form(text, does, answers, False, frozenset(), frozenset(hangs_on or (TARGET,)))
 
 
 CONDITIONS: Tuple[Form, ...] = (
@@ -150,21 +173,28 @@ FORMS: Tuple[Form, ...] = (
     move("poke byte B N N", "the byte at the first number, 0 the front one, becomes the second"),
     move("isr send Q HEX", "an interrupt sends these bytes to the queue (xQueueSendFromISR)"),
     move("isr notify K I N ACTION", "an interrupt notifies the task (xTaskNotifyIndexedFromISR)"),
-    Form("show queue Q", "the items, oldest first, and who waits", replies.Queue),
-    Form("show set S", "the handles, oldest first, and who waits", replies.QueueSet),
-    Form("show stream B", "the bytes, and who waits", replies.Stream),
-    Form("show message M", "the messages, oldest first, and who waits", replies.Messages),
-    Form("show group G", "the bits, and who waits for which", replies.Group),
-    Form("show task K", "its core, pc, phase, registers, data and notes", replies.Task),
-    Form("show cores", "who is on which core, who is ready, tick and turn", replies.Cores),
-    Form("show moves", "how many moves are done, taken back, and kept", replies.Moves),
-    Form("trim N", "keeps the records of the last N moves, and no others", replies.Moved),
-    Form("wheel take", "takes the wheel: no other session moves the target", replies.WheelDone),
-    Form("wheel give", "gives the wheel back", replies.WheelDone),
-    Form("show wheel", "who has the wheel", replies.WheelHolder),
-    Form("watch COND", "keeps COND as a watch, which w0, w1, .. stand for", replies.WatchDone),
-    Form("unwatch N", "drops the watch N", replies.WatchDone),
-    Form("show watches", "the watches, and which of them hold", replies.Watches),
+    look("show queue Q", "the items, oldest first, and who waits", replies.Queue),
+    look("show set S", "the handles, oldest first, and who waits", replies.QueueSet),
+    look("show stream B", "the bytes, and who waits", replies.Stream),
+    look("show message M", "the messages, oldest first, and who waits", replies.Messages),
+    look("show group G", "the bits, and who waits for which", replies.Group),
+    look("show task K", "its core, pc, phase, registers, data and notes", replies.Task),
+    look("show cores", "who is on which core, who is ready, tick and turn", replies.Cores),
+    look("show moves", "how many moves are done, taken back, and kept", replies.Moves),
+    change("trim N", "keeps the records of the last N moves, and no others", replies.Moved, TARGET),
+    change(
+        "wheel take", "takes the wheel: no other session moves the target", replies.WheelDone, WHEEL
+    ),
+    change("wheel give", "gives the wheel back", replies.WheelDone, WHEEL),
+    look("show wheel", "who has the wheel", replies.WheelHolder, WHEEL),
+    change(
+        "watch COND",
+        "keeps COND as a watch, which w0, w1, .. stand for",
+        replies.WatchDone,
+        WATCHES,
+    ),
+    change("unwatch N", "drops the watch N", replies.WatchDone, WATCHES),
+    look("show watches", "the watches, and which of them hold", replies.Watches, TARGET, WATCHES),
 )
 WORDS: FrozenSet[str] = frozenset(form.word for form in FORMS)
 

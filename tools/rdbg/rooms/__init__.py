@@ -1,0 +1,1 @@
+"""A room: several, each by a name, at one `rdbg serve`."""

@@ -1,0 +1,163 @@
+"""`rdbg serve` as a room has it: started with all its sessions taken, and ended with its audit."""
+import contextlib
+import re
+import socket
+import subprocess
+import tempfile
+from typing import IO, Iterator, List, Optional
+
+from rdbg.client import LOCAL, Session, program
+from rdbg.failure import Failure
+from rdbg.shell.opening import as_read, greet
+from rdbg.shell.target import Limits
+from rdbg.source import Source
+
+# So many sessions serve lets in, one after the other, and no more.
+MOST_SESSIONS = 64
+# A port that was free can be taken before serve listens there: another one is tried so often.
+TRIES = 5
+TAKEN = "cannot listen"
+
+
+class Ended(Failure):
+    """The program has ended, so that no line is answered any more."""
+
+
+def free_port() -> int:
+    """A port of this machine that nobody has."""
+    with socket.socket() as found:
+        found.bind((LOCAL, 0))
+        return int(found.getsockname()[1])
+
+
+class Host:
+    """A program that serves, and all its sessions, by their numbers from 1 on. Once all are taken
+    its port is closed, so that nobody comes there but by the room."""
+
+    def __init__(self, process: "subprocess.Popen[bytes]", errors: IO[bytes]) -> None:
+        assert process.stdout is not None
+        self._process, self._said, self._errors = process, process.stdout, errors
+        self._sessions: List[Session] = []
+
+    @classmethod
+    def start(cls, source: Source, limits: Limits, count: int = MOST_SESSIONS) -> "Host":
+        """Starts it on an application as it was read. Ctrl-C at the terminal doesn't reach it.
+        Raises `Failure` where it can't be started."""
+        with as_read(source) as path:
+            for _ in range(TRIES):
+                port = free_port()
+                words = ["--app", path, "--port", str(port), "--sessions", str(count)]
+                host = cls._begin([program(), "serve", *words, *limits.words()])
+                if host._listens() and host._take(port, count):
+                    return host
+                said = host.kill()
+                if said and TAKEN not in said:
+                    raise Failure(said)
+        raise Failure("no port for rdbg serve could be had, or another came to it first")
+
+    @classmethod
+    def _begin(cls, words: List[str]) -> "Host":
+        errors = tempfile.TemporaryFile()
+        try:
+            process = subprocess.Popen(
+                words,
+                stdin=subprocess.DEVNULL,
+                stdout=subprocess.PIPE,
+                stderr=errors,
+                start_new_session=True,
+            )
+        except OSError as error:
+            errors.close()
+            raise Failure(f"cannot start {words[0]}: {error.strerror}", 2) from None
+        return cls(process, errors)
+
+    def _listens(self) -> bool:
+        """Waits until it listens; false where it ends before."""
+        return self._said.readline().startswith(b"listening")
+
+    def _take(self, port: int, count: int) -> bool:
+        """Takes all sessions, one after the other, so that their numbers are known; false where
+        somebody else was let in."""
+        for _ in range(count):
+            try:
+                session = Session.attach(port)
+                self._sessions.append(session)
+                greet(session)
+            except Failure:
+                return False
+        return True
+
+    def session(self, number: int) -> Session:
+        """The session of a number."""
+        return self._sessions[number - 1]
+
+    def numbers(self) -> range:
+        """The numbers of all sessions."""
+        return range(1, len(self._sessions) + 1)
+
+    def tell_all(self, number: int, lines: List[str]) -> List[str]:
+        """The replies to lines of one session. Raises `Ended` where the program has ended."""
+        try:
+            return list(self.session(number).tell_all(lines))
+        except Failure:
+            raise Ended(f"rdbg has ended{self._why()}") from None
+
+    def _why(self) -> str:
+        """Why it ended, where it says so."""
+        with contextlib.suppress(subprocess.TimeoutExpired):
+            status = self._process.wait(1)
+            said = self._errors_said()
+            return f": {said}" if said else f", with status {status}"
+        return ""
+
+    def _errors_said(self) -> str:
+        """The last line that it said on standard error."""
+        self._errors.seek(0)
+        said = self._errors.read().decode("utf-8", "replace").strip().splitlines()
+        return said[-1] if said else ""
+
+    def kill(self) -> str:
+        """Ends it at once, and answers what it said on standard error."""
+        self._process.kill()
+        with self._closing():
+            self._process.wait()
+            return self._errors_said()
+
+    def close(self) -> "Audit":
+        """Ends all sessions, and answers what the program found at its end."""
+        with self._closing():
+            for session in self._sessions:
+                session.close()
+            said = self._said.read().decode("utf-8", "replace")
+            status = self._process.wait()
+            entries = re.search(r"^closed (\d+)$", said, re.MULTILINE)
+            return Audit(int(entries[1]) if entries else None, status, self._errors_said())
+
+    @contextlib.contextmanager
+    def _closing(self) -> Iterator[None]:
+        try:
+            yield
+        finally:
+            for session in self._sessions:
+                session.close()
+            self._said.close()
+            self._errors.close()
+
+
+class Audit:
+    """What a program found at its end: how many entries its history has, none where it says
+    nothing of it, its status, and what it said on standard error."""
+
+    def __init__(self, entries: Optional[int], status: int, said: str) -> None:
+        self.entries, self.status, self.said = entries, status, said
+
+    @property
+    def is_good(self) -> bool:
+        """Whether the history is what the sessions were answered."""
+        return self.entries is not None and self.status == 0
+
+    def text(self) -> str:
+        """It as a line."""
+        if self.is_good:
+            return f"closed {self.entries}"
+        return self.said or f"rdbg has ended, with status {self.status}, and without its audit"

@@ -1,0 +1,92 @@
+"""Who has which session of the program: names, guests, who is here and who is away."""
+import itertools
+from typing import Dict, Iterator, List, Optional, Set
+
+from rdbg.commands import is_name
+
+GUEST = "guest"
+# Words that stand at the head of what a room says.
+NOT_NAMES = ("no", "you", "here", "away", "rdbg")
+NAMING = "a name is 1 to 16 of a to z, 0 to 9 and _, the first a letter"
+
+
+class Refusal(Exception):
+    """Why a room doesn't do what somebody asks for, in a sentence."""
+
+
+class Seat:
+    """A session of the program, and the name that has it; an empty one while none does."""
+
+    def __init__(self, number: int) -> None:
+        self.number, self.name = number, ""
+        self.is_here, self.is_guest = False, False
+        # (the watches that it keeps, and when who had it left)
+        self.watches: Set[int] = set()
+        self.left = 0
+
+
+def check(name: str) -> None:
+    """Raises `Refusal` where a name can be nobody's."""
+    if not is_name(name):
+        raise Refusal(f"'{name[:16]}' can't be a name: {NAMING}")
+    if name in NOT_NAMES:
+        raise Refusal(f"'{name}' can't be a name: the room says it itself")
+
+
+class Seats:
+    """All sessions of a program, by names. A name keeps its session while it is away, until all
+    are taken and somebody new comes: then who was away longest loses it, guests first."""
+
+    def __init__(self, numbers: range) -> None:
+        self.all: List[Seat] = [Seat(number) for number in numbers]
+        self._times = itertools.count(1)
+
+    def by_name(self) -> Dict[str, Seat]:
+        """The sessions that somebody has, here or away."""
+        return {it.name: it for it in self.all if it.name}
+
+    def here(self) -> Iterator[Seat]:
+        """The sessions of those who are here."""
+        return (it for it in self.all if it.is_here)
+
+    def of_number(self, number: int) -> Seat:
+        """The session of a number."""
+        return self.all[number - 1]
+
+    def find(self, name: Optional[str]) -> Seat:
+        """The session that somebody gets who comes by a name, or as a guest. Raises `Refusal` where
+        that name is here, or everybody is. Where another name is away with it, that one loses it:
+        nothing has changed yet."""
+        names = self.by_name()
+        if name is None:
+            return names.get(self.guest_name()) or self._free()
+        check(name)
+        if name in names and names[name].is_here:
+            raise Refusal(f"{name} is here already")
+        return names[name] if name in names else self._free()
+
+    def guest_name(self) -> str:
+        """The name of the next guest."""
+        here = {it.name for it in self.here()}
+        return next(it for it in map(f"{GUEST}{{}}".format, itertools.count(1)) if it not in here)
+
+    def _free(self) -> Seat:
+        """A session that nobody has, or who was away longest. Raises `Refusal` where all who have
+        one are here."""
+        away = [it for it in self.all if not it.is_here]
+        if not away:
+            raise Refusal(f"all {len(self.all)} sessions are taken by who is here")
+        return min(away, key=lambda it: (bool(it.name), not it.is_guest, it.left, it.number))
+
+    def sit(self, seat: Seat, name: str, is_guest: bool) -> None:
+        """Somebody comes."""
+        seat.name, seat.is_here, seat.is_guest = name, True, is_guest
+
+    def leave(self, seat: Seat) -> None:
+        """Who has a session is away."""
+        seat.is_here, seat.left = False, next(self._times)
+
+    def clear(self, seat: Seat) -> None:
+        """Nobody has a session any more."""
+        seat.name, seat.is_here, seat.is_guest = "", False, False
+        seat.watches.clear()
