@@ -82,7 +82,8 @@ class Told(unittest.TestCase):
                     " without end), poller took core 0",
                     "# right: step 1 -> ok at 2, producer 0 data 41",
                     "# right: tick -> ok at 3, tick 1",
-                    "# right: back 1 -> ok at 2",
+                    "# right: back 1 -> ok at 2, next: poller 0 recv jobs 0 (core 0), producer 1"
+                    " send jobs 0 (core 1)",
                 ],
             )
             self.assertEqual(here.place, 2)

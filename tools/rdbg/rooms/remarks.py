@@ -6,34 +6,37 @@ from rdbg.rooms.seats import Refusal
 if TYPE_CHECKING:
     from rdbg.rooms.room import Member, Room
 
-WORDS = "`# name NAME`, `# who`, `# say TEXT`, `# wheel`"
+WORDS = "`# name NAME`, `# who`, `# say TEXT` or `# wheel`"
 
 
-def name(room: "Room", member: "Member", rest: str) -> None:
+def name(room: "Room", member: "Member", rest: str) -> str:
     """`# name NAME`."""
-    if not rest:
-        raise Refusal("`# name NAME`: which name?")
     room.rename_in_turn(member, rest)
+    return f"you are {member.name}, session {member.session}"
 
 
-def who(room: "Room", member: "Member", rest: str) -> None:
+def who(room: "Room", member: "Member", rest: str) -> str:
     """`# who`."""
-    member.hear(f"# {room.who()}")
+    text = room.who()
+    member.hear(f"# {text}")
+    return text
 
 
-def say(room: "Room", member: "Member", rest: str) -> None:
+def say(room: "Room", member: "Member", rest: str) -> str:
     """`# say TEXT`."""
     if not rest:
         raise Refusal("`# say TEXT`: say what?")
-    room.tell(f"{member.name} says: {rest}")
+    text = f"{member.name} says: {rest}"
+    room.tell(text)
+    return text
 
 
-def wheel(room: "Room", member: "Member", rest: str) -> None:
+def wheel(room: "Room", member: "Member", rest: str) -> str:
     """`# wheel`."""
-    room.wheel_wanted(member)
+    return room.wheel_wanted(member)
 
 
-DO: Dict[str, Callable[["Room", "Member", str], None]] = {
+DO: Dict[str, Callable[["Room", "Member", str], str]] = {
     "name": name,
     "who": who,
     "say": say,
@@ -41,13 +44,14 @@ DO: Dict[str, Callable[["Room", "Member", str], None]] = {
 }
 
 
-def do(room: "Room", member: "Member", line: str) -> None:
-    """Does a line, or says why not."""
-    word, _, rest = line.lstrip(" ")[1:].strip().partition(" ")
+def do(room: "Room", member: "Member", line: str) -> str:
+    """Does a line, or says why not. Answers what was said."""
+    word, _, rest = line.strip()[1:].strip().partition(" ")
     try:
         found = DO.get(word)
         if found is None:
             raise Refusal(f"a line that begins with # is {WORDS}")
-        found(room, member, rest.strip())
+        return found(room, member, rest.strip())
     except Refusal as refusal:
         member.hear(f"# no: {refusal}")
+        return f"no: {refusal}"

@@ -1,66 +1,82 @@
 """What the moves of a room did, found by looks before and after them."""
 import dataclasses
-from typing import Callable, List, Optional
+from typing import Dict, List, Optional, Sequence
 
-from rdbg import commands, replies
+from rdbg import replies
 from rdbg.application import Application
 from rdbg.by_hand import INTERRUPT, ByHand
+from rdbg.commands import Command
 from rdbg.effects import Move, move_between
 from rdbg.looks import Look, Names
 from rdbg.shell.target import BY_HAND, SINGLE, read
 
-# Asks lines, and answers their replies: those of looks that nothing has changed since are known.
-Ask = Callable[[List[str]], List[str]]
+# Of a run the last so many moves are told.
+FEW = 5
 
 
 class Sight:
-    """The application that a room has, and the look at it that was last taken."""
+    """The application that a room has, the look at it that was last taken, and what was done by
+    hand at which place."""
 
     def __init__(self, application: Application) -> None:
         self.application = application
-        self._lines = Names.of(application).lines()
-        self._last: Optional[Look] = None
+        self.lines = Names.of(application).lines()
+        self.last: Optional[Look] = None
+        self._by_hand: Dict[int, ByHand] = {}
 
-    @property
-    def cost(self) -> int:
-        """How many lines a look takes at the most."""
-        return len(self._lines)
+    def taken(self, place: int, answers: Sequence[str]) -> Look:
+        """The look that the replies to `lines` make at a place."""
+        self.last = Look.of(place, [read(it) for it in answers])
+        return self.last
 
-    def forget(self) -> None:
-        """The target has changed."""
-        self._last = None
-
-    def look(self, place: int, ask: Ask) -> Look:
-        """A look at all there is, which isn't taken twice."""
-        if self._last is None or self._last.place != place:
-            self._last = Look.of(place, [read(it) for it in ask(self._lines)])
-        return self._last
+    def moved(self, command: Command, moved: replies.Moved, place: int) -> None:
+        """The target has changed by a line, from a place."""
+        self.last = None
+        word = command.form.word
+        if word in ("back", "redo", "trim"):
+            return
+        self._by_hand = {at: it for at, it in self._by_hand.items() if at <= place}
+        if word in BY_HAND:
+            self._by_hand[moved.at] = ByHand(" ".join(command.words), moved.answer)
 
     def _instruction(self, task: str, pc: int) -> Optional[str]:
         found = self.application.task(task)
         return found.code[pc].text if found and pc < len(found.code) else None
 
-    def move(self, before: Look, after: Look, known: Optional[ByHand]) -> Move:
+    def move(self, before: Look, after: Look) -> Move:
         """The move between two looks, with its instruction as its file has it."""
+        known = self._by_hand.get(after.place)
         found = move_between(before, after, self._instruction, known)
         script = self.application.task(found.task) if found.task else None
         if script is None or found.pc is None or found.pc >= len(script.code):
             return found
         return dataclasses.replace(found, written=script.code[found.pc].written)
 
-    def told(self, command: commands.Command, before: Look, after: Look, reply: str) -> str:
-        """What a line of one move did, in a few words; empty where its reply says all."""
-        moved = read(reply)
-        if command.form.word not in BY_HAND:
-            return self.move(before, after, None).text()
-        assert isinstance(moved, replies.Moved)
-        known = ByHand(" ".join(command.words), moved.answer)
-        move = self.move(before, after, known)
+    def effect(self, command: Command, before: Look, after: Look) -> str:
+        """What a line of one move did, in a few words; empty where the line says all."""
+        move = self.move(before, after)
         if command.form.word == INTERRUPT:
             return ", ".join(effect.text() for effect in move.effects)
-        return ""
+        return "" if command.form.word in BY_HAND else move.text()
+
+    def rows(self, looks: Sequence[Look]) -> List[str]:
+        """The moves between looks, a row each."""
+        width = len(str(looks[-1].place))
+        return [self.move(*pair).row(width) for pair in zip(looks, looks[1:])]
+
+    def next(self, look: Look) -> str:
+        """What each busy core would do next."""
+        found = []
+        for core, name in enumerate(look.cores.running):
+            task = None if name is None else self.application.task(name)
+            if task is not None:
+                pc = look.tasks[task.name].pc
+                found.append(f"{task.name} {pc} {task.code[pc].written} (core {core})")
+        return ", ".join(found) or "no core is busy: tick"
 
 
-def is_single(command: commands.Command) -> bool:
-    """Whether a line makes one move, which can be told by looks before and after it."""
-    return command.form.word in SINGLE
+def is_single(command: Command) -> bool:
+    """Whether a line makes one move, so that it can be told by looks before and after it."""
+    if command.form.word == "back":
+        return False
+    return command.form.word in SINGLE or (command.form.moves and command.count() == 1)

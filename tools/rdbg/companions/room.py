@@ -1,0 +1,99 @@
+"""A room for several, each by a name, at one target: a port at which `sh` and `nc` are sessions."""
+import argparse
+import signal
+import sys
+from types import FrameType
+from typing import Optional, Sequence
+
+from rdbg.companions.sh import bounded, port, read
+from rdbg.failure import Failure
+from rdbg.rooms.host import MOST_SESSIONS
+from rdbg.rooms.port import Port, listening
+from rdbg.rooms.room import Room
+from rdbg.rooms.talk import Talk, opened
+from rdbg.shell.target import Limits
+
+SUMMARY = "a room for several at one target, by names: what anyone does, all are told"
+EPILOG = (
+    "`rdbg sh --port P --name NAME` attaches to it, or any program that opens a connection, as nc."
+    " Lines that begin with # are for the room: `# name NAME`, `# who`, `# say TEXT`, `# wheel`."
+    " Ctrl-C, or SIGTERM, ends it with rdbg's own audit. The status is 0; 1 where the application"
+    " is refused, rdbg ends before, its audit finds something, or the talk couldn't be kept; 2"
+    " where a file or a port can't be had."
+)
+# So many signals end it at once.
+ENOUGH = 3
+
+
+def sessions(text: str) -> int:
+    """Reads how many sessions there are."""
+    number = bounded(1)(text)
+    if number > MOST_SESSIONS:
+        raise argparse.ArgumentTypeError(f"1 to {MOST_SESSIONS}, not '{text}'")
+    return number
+
+
+def parser() -> argparse.ArgumentParser:
+    """The words of the command line."""
+    made = argparse.ArgumentParser(prog="rdbg room", description=SUMMARY, epilog=EPILOG)
+    made.add_argument("file", metavar="FILE", help="the application, JSON or in lines (.fw)")
+    made.add_argument(
+        "--port", type=port, required=True, metavar="P", help="where it is, on 127.0.0.1"
+    )
+    made.add_argument("--talk", metavar="FILE", help="keeps who said what, and the replies, there")
+    made.add_argument(
+        "--sessions",
+        type=sessions,
+        default=MOST_SESSIONS,
+        metavar="N",
+        help=f"for how many at a time, 1 to {MOST_SESSIONS}",
+    )
+    made.add_argument("--moves", type=bounded(1), metavar="N", help="how many moves may be done")
+    made.add_argument("--history", type=bounded(2), metavar="N", help="entries of the history")
+    return made
+
+
+class Signals:
+    """Ctrl-C and SIGTERM end a port, and where they come again and again, the process."""
+
+    def __init__(self, port: Port) -> None:
+        self._port, self._count = port, 0
+        for number in (signal.SIGINT, signal.SIGTERM, signal.SIGHUP):
+            signal.signal(number, self._came)
+
+    def _came(self, number: int, frame: Optional[FrameType]) -> None:
+        self._count += 1
+        if self._count >= ENOUGH:
+            raise KeyboardInterrupt
+        self._port.stop()
+
+
+def serve(room: Room, port: Port, talk: Optional[Talk]) -> int:
+    """Serves until a signal comes or the program ends, and answers the status."""
+    room.when_over = port.stop
+    port.serve()
+    audit = room.close()
+    port.close()
+    print(audit.text(), file=sys.stdout if audit.is_good else sys.stderr)
+    if talk is not None and talk.fault:
+        print(f"rdbg room: {talk.path} isn't complete: {talk.fault}", file=sys.stderr)
+        return 1
+    return 0 if audit.is_good else 1
+
+
+def main(words: Sequence[str]) -> int:
+    """Opens a room, and serves it."""
+    given = parser().parse_args(words)
+    source = read(given.file)
+    assert source is not None
+    limits = Limits(given.moves or Limits.moves, given.history or Limits.history)
+    if limits.history < 4 * given.sessions:
+        least = 4 * given.sessions
+        raise Failure(f"--history is {least} at the least for {given.sessions} sessions", 2)
+    listener = listening(given.port)
+    talk = opened(given.talk)
+    room = Room.open(source, limits, given.sessions, talk)
+    port = Port(room, listener)
+    Signals(port)
+    print(f"listening {given.port}", flush=True)
+    return serve(room, port, talk)

@@ -1,0 +1,153 @@
+"""A connection to a room's port: lines come in, replies and notices go out, both within bounds."""
+import collections
+import contextlib
+import socket
+import threading
+import time
+from typing import Callable, Deque
+
+from rdbg.commands import MOST_BYTES
+
+# So many bytes are read at a time; more are read once their lines are answered.
+READ = 65_536
+# With so many bytes unread, a connection's own lines wait; with so many it is dropped.
+SLOW, MOST_UNREAD = 262_144, 4_194_304
+# A connection that ends has so many seconds to read on, and in all so many; of what it still sends
+# so many bytes are read, and none is answered.
+LAST_SECONDS, MOST_SECONDS, LAST_BYTES = 1.0, 30.0, 4_194_304
+
+
+class Client:
+    """A connection. `wake` is called where something is to be written, from any thread."""
+
+    def __init__(self, connection: socket.socket, wake: "Callable[[Client], None]") -> None:
+        connection.setblocking(False)
+        self.connection, self._wake = connection, wake
+        with contextlib.suppress(OSError):
+            connection.setsockopt(socket.IPPROTO_TCP, socket.TCP_NODELAY, 1)
+        self.lines: Deque[bytes] = collections.deque()
+        self.is_too_long = self.has_ended = self.is_broken = self.is_ending = False
+        # Why it is dropped, where it is.
+        self.word = ""
+        self._tail = b""
+        self._guard = threading.Lock()
+        self._out: Deque[bytes] = collections.deque()
+        self._unread = 0
+        self._until = self._latest = 0.0
+        self._left = LAST_BYTES
+
+    def hear(self, notice: str) -> None:
+        """Sends a line; one that can't be sent any more is dropped."""
+        content = notice.encode("utf-8", "replace") + b"\n"
+        with self._guard:
+            if self.is_broken or self.is_ending or self.word:
+                return
+            self._out.append(content)
+            self._unread += len(content)
+            if self._unread > MOST_UNREAD:
+                self.word = "it doesn't read what it is told"
+        self._wake(self)
+
+    @property
+    def is_slow(self) -> bool:
+        """Whether it reads so little that its own lines wait."""
+        return self._unread > SLOW
+
+    @property
+    def has_work(self) -> bool:
+        """Whether there is something to answer, or it has to be ended."""
+        if self.is_ending:
+            return False
+        if self.word or self.is_broken:
+            return True
+        if self.lines:
+            return not self.is_slow
+        return self.is_too_long or self.has_ended
+
+    @property
+    def wants_to_read(self) -> bool:
+        """Whether more of it can be read."""
+        if self.is_ending:
+            return not self.has_ended
+        return not (self.lines or self.is_too_long or self.has_ended or self.is_slow)
+
+    @property
+    def wants_to_write(self) -> bool:
+        """Whether something waits to be sent."""
+        return bool(self._out)
+
+    def read(self) -> None:
+        """Reads what has come, as lines."""
+        try:
+            content = self.connection.recv(READ)
+        except (BlockingIOError, InterruptedError):
+            return
+        except OSError:
+            self.is_broken = True
+            return
+        if self.is_ending:
+            self._left -= len(content)
+            self.has_ended = self.has_ended or not content
+            return
+        if not content:
+            self.has_ended = True
+            if self._tail:
+                self.lines.append(self._tail)
+            return
+        *whole, self._tail = (self._tail + content).split(b"\n")
+        for line in whole:
+            if len(line) > MOST_BYTES:
+                self.is_too_long = True
+                return
+            self.lines.append(line)
+        self.is_too_long = len(self._tail) > MOST_BYTES
+
+    def write(self) -> None:
+        """Sends what it takes."""
+        with self._guard:
+            content = b"".join(self._out)
+            try:
+                sent = self.connection.send(content) if content else 0
+            except (BlockingIOError, InterruptedError):
+                sent = 0
+            except OSError:
+                sent, content, self.is_broken = 0, b"", True
+            self._out.clear()
+            self._unread = len(content) - sent
+            if self._unread:
+                self._out.append(content[sent:])
+        if sent and self.is_ending:
+            self._until = min(self._latest, time.monotonic() + LAST_SECONDS)
+
+    def end(self, word: str = "") -> None:
+        """It is answered no more: once it has got what was written, it is closed."""
+        if self.is_ending:
+            return
+        self.lines.clear()
+        self.word = ""
+        if word:
+            self.hear(f"# no: {word}")
+        self.is_ending = True
+        self._until = time.monotonic() + LAST_SECONDS
+        self._latest = time.monotonic() + MOST_SECONDS
+
+    @property
+    def is_done(self) -> bool:
+        """Whether an ending connection can be closed. Its own end of writing is told once all is
+        written."""
+        if self.is_broken or time.monotonic() > self._until or self._left < 0:
+            return True
+        if self._out:
+            return False
+        with contextlib.suppress(OSError):
+            self.connection.shutdown(socket.SHUT_WR)
+        return self.has_ended
+
+    def seconds_left(self) -> float:
+        """In how many seconds it is closed at the latest, where it ends."""
+        return max(0.0, self._until - time.monotonic())
+
+    def close(self) -> None:
+        """Closes it."""
+        self.is_broken = True
+        self.connection.close()

@@ -1,0 +1,258 @@
+"""A room's port on this machine: all its connections, served by one thread, each in its turn."""
+import contextlib
+import selectors
+import socket
+import threading
+import time
+from typing import Dict, List, Optional, Set
+
+from rdbg.client import LOCAL
+from rdbg.commands import MOST_BYTES
+from rdbg.failure import Failure
+from rdbg.rooms.client import Client
+from rdbg.rooms.room import TOO_LONG, Member, Refusal, Room
+
+# So many connections there are at the most, and so many lines of one are answered in a turn.
+MOST, SHARE = 128, 64
+# So many seconds a connection may wait before it is told to others as a guest.
+MOMENT = 1.0
+# So many seconds are waited at the end for those who read what they were told.
+PATIENCE = 2.0
+
+
+def listening(port: int) -> socket.socket:
+    """A port of this machine. Raises `Failure` where it can't be had."""
+    found = socket.socket()
+    try:
+        found.setsockopt(socket.SOL_SOCKET, socket.SO_REUSEADDR, 1)
+        found.bind((LOCAL, port))
+        found.listen(MOST)
+    except OSError as error:
+        found.close()
+        raise Failure(f"cannot listen at port {port}: {error.strerror}", 2) from None
+    found.setblocking(False)
+    return found
+
+
+class Guest:
+    """A connection, who is there, and since when that wasn't told to the others."""
+
+    def __init__(self, client: Client) -> None:
+        self.client = client
+        self.member: Optional[Member] = None
+        self.came = time.monotonic()
+        # What is registered of it.
+        self.mask = 0
+
+    @property
+    def is_waiting(self) -> bool:
+        """Whether it has come, and has said nothing yet."""
+        return self.member is None or not self.member.is_told
+
+
+class Port:
+    """Serves connections until it is stopped, or the program has ended."""
+
+    def __init__(self, room: Room, listener: socket.socket) -> None:
+        self._room, self._listener = room, listener
+        self._selector = selectors.DefaultSelector()
+        self._guests: Dict[Client, Guest] = {}
+        self._waking, self._woken = socket.socketpair()
+        self._woken.setblocking(False)
+        self._waking.setblocking(False)
+        self._is_stopped = False
+        self._thread = 0
+        # The connections at which something has happened since they were looked at.
+        self._touched: Set[Client] = set()
+        self._selector.register(listener, selectors.EVENT_READ)
+        self._selector.register(self._woken, selectors.EVENT_READ)
+
+    def stop(self) -> None:
+        """Ends `serve`, from any thread, or from what handles a signal."""
+        self._is_stopped = True
+        self._wake()
+
+    def _wake(self) -> None:
+        with contextlib.suppress(OSError):
+            self._waking.send(b".")
+
+    def _touch(self, client: Client) -> None:
+        """Something is to be written, from any thread."""
+        self._touched.add(client)
+        if threading.get_ident() != self._thread:
+            self._wake()
+
+    def serve(self) -> None:
+        """Serves until it is stopped."""
+        self._thread = threading.get_ident()
+        while not self._is_stopped:
+            for key, mask in self._selector.select(self._patience()):
+                if key.fileobj is self._listener:
+                    self._accept()
+                elif key.fileobj is self._woken:
+                    self._forget_wakes()
+                else:
+                    self._move(key.data, mask)
+            self._answer_all()
+            self._look_at_touched()
+
+    def _patience(self) -> Optional[float]:
+        """How long the loop may wait, in seconds."""
+        guests = self._guests.values()
+        if any(it.client.has_work for it in guests) or self._touched:
+            return 0.0
+        now = time.monotonic()
+        times = [it.came + MOMENT - now for it in guests if it.is_waiting]
+        times += [it.client.seconds_left() for it in guests if it.client.is_ending]
+        return max(0.0, min(times)) if times else None
+
+    def _forget_wakes(self) -> None:
+        with contextlib.suppress(OSError):
+            self._woken.recv(4_096)
+
+    def _accept(self) -> None:
+        """Takes a connection, as a guest. Where there are too many, or descriptors are short, it is
+        closed."""
+        try:
+            connection, _ = self._listener.accept()
+        except OSError:
+            return
+        client = Client(connection, self._touch)
+        if len(self._guests) >= MOST:
+            client.hear(f"# no: {MOST} connections are here already")
+            client.write()
+            client.close()
+            return
+        guest = self._guests[client] = Guest(client)
+        try:
+            guest.member = self._room.join(None, client.hear, is_told=False)
+        except Refusal as refusal:
+            client.hear(f"# no: {refusal}; `# name NAME` comes by a name")
+        self._touched.add(client)
+
+    def _move(self, client: Client, mask: int) -> None:
+        """Reads and writes what can be."""
+        if mask & selectors.EVENT_READ:
+            client.read()
+        if mask & selectors.EVENT_WRITE:
+            client.write()
+        self._touched.add(client)
+
+    def _answer_all(self) -> None:
+        """Answers some lines of each."""
+        now = time.monotonic()
+        for client, guest in list(self._guests.items()):
+            if guest.is_waiting and now > guest.came + MOMENT:
+                self._is_late(guest)
+            if client.has_work:
+                self._answer(guest)
+            if client.has_work or client.is_ending:
+                self._touched.add(client)
+
+    def _is_late(self, guest: Guest) -> None:
+        """A connection that has said nothing is a guest; where it could be none, it is closed."""
+        if guest.member is None:
+            guest.client.end("it has said no name")
+            self._touched.add(guest.client)
+        else:
+            guest.member.announce()
+
+    def _answer(self, guest: Guest) -> None:
+        """Answers some lines of a connection, and ends it where it has ended."""
+        client = guest.client
+        for _ in range(SHARE):
+            if not client.lines or client.is_slow or client.word:
+                break
+            self._line(guest, client.lines.popleft())
+        if client.word:
+            self._end(guest, client.word)
+        elif client.is_broken:
+            self._end(guest)
+        elif not client.lines and client.is_too_long:
+            client.hear(TOO_LONG)
+            self._end(guest, f"a line has at most {MOST_BYTES} bytes")
+        elif not client.lines and client.has_ended:
+            self._end(guest)
+
+    def _line(self, guest: Guest, line: bytes) -> None:
+        """Does one line."""
+        text = line.decode("utf-8", "replace")
+        words = text.split()
+        if guest.is_waiting and words[:2] != ["#", "name"]:
+            self._is_late(guest)
+        if guest.client.is_ending:
+            return
+        if guest.member is None:
+            self._come(guest, words)
+        elif words and words[0].startswith("#"):
+            guest.member.remark(text)
+        else:
+            guest.client.hear(guest.member.ask(text))
+
+    def _come(self, guest: Guest, words: List[str]) -> None:
+        """Somebody comes by a name where no guest is let in."""
+        try:
+            guest.member = self._room.join(" ".join(words[2:]), guest.client.hear)
+        except Refusal as refusal:
+            guest.client.end(str(refusal))
+
+    def _end(self, guest: Guest, word: str = "") -> None:
+        """Ends a connection: who was there is away."""
+        if guest.member is not None:
+            guest.member.leave(f"dropped: {word}" if word else "")
+        guest.client.end(word)
+
+    def _look_at_touched(self) -> None:
+        """Writes what waits, and registers what each connection waits for."""
+        for client in list(self._touched):
+            self._touched.discard(client)
+            guest = self._guests.get(client)
+            if guest is None:
+                continue
+            if client.wants_to_write:
+                client.write()
+            if client.is_broken and not client.is_ending:
+                self._end(guest)
+            if client.is_ending and client.is_done:
+                self._close(guest)
+            else:
+                self._register(guest)
+
+    def _register(self, guest: Guest) -> None:
+        client = guest.client
+        mask = selectors.EVENT_READ if client.wants_to_read else 0
+        mask |= selectors.EVENT_WRITE if client.wants_to_write else 0
+        if mask == guest.mask:
+            return
+        if not guest.mask:
+            self._selector.register(client.connection, mask, client)
+        elif mask:
+            self._selector.modify(client.connection, mask, client)
+        else:
+            self._selector.unregister(client.connection)
+        guest.mask = mask
+
+    def _close(self, guest: Guest) -> None:
+        if guest.mask:
+            self._selector.unregister(guest.client.connection)
+        guest.client.close()
+        del self._guests[guest.client]
+
+    def close(self) -> None:
+        """Ends all connections, once they have read what they were told, or haven't for a while."""
+        self._listener.close()
+        end = time.monotonic() + PATIENCE
+        for client in self._guests:
+            client.end()
+        while self._guests and time.monotonic() < end:
+            for client, guest in list(self._guests.items()):
+                client.write()
+                client.read()
+                if client.is_done:
+                    self._close(guest)
+            time.sleep(0.01)
+        for guest in list(self._guests.values()):
+            self._close(guest)
+        self._selector.close()
+        self._waking.close()
+        self._woken.close()

@@ -1,0 +1,59 @@
+"""The talk of a room as a file: who, when, which line, and which reply, a row each."""
+import datetime
+from typing import IO, Optional
+
+from rdbg.failure import Failure
+
+HEAD = "when\twho\tline\treply\n"
+
+
+def field(text: str) -> str:
+    """A text as one field: what isn't printed stands there as its number, so that tabs and line
+    ends are those of the rows alone."""
+    if text.isprintable() and "\\" not in text:
+        return text
+    return "".join(
+        it if it.isprintable() and it != "\\" else it.encode("unicode_escape").decode()
+        for it in text
+    )
+
+
+class Talk:
+    """A file to which rows are added. Each is written whole, at once."""
+
+    def __init__(self, path: str) -> None:
+        """Opens it, behind what stands there. Raises `Failure` where it can't be written."""
+        self.path = path
+        # Why no more can be written, if so.
+        self.fault = ""
+        try:
+            self._file: IO[bytes] = open(path, "ab", buffering=0)
+            if not self._file.tell():
+                self._file.write(HEAD.encode())
+        except OSError as error:
+            raise Failure(f"cannot write {path}: {error.strerror}", 2) from None
+
+    def keep(self, who: str, line: str, reply: str) -> None:
+        """Adds a row; where that can't be done none is added any more."""
+        if self.fault:
+            return
+        now = datetime.datetime.now(datetime.timezone.utc)
+        when = now.strftime("%Y-%m-%dT%H:%M:%S.") + f"{now.microsecond // 1_000:03}Z"
+        row = "\t".join([when, who, field(line), field(reply)]).encode("utf-8", "replace") + b"\n"
+        try:
+            while row:
+                row = row[self._file.write(row) :]
+        except OSError as error:
+            self.fault = error.strerror or "it can't be written"
+
+    def close(self) -> None:
+        """Closes it."""
+        try:
+            self._file.close()
+        except OSError as error:
+            self.fault = self.fault or error.strerror or "it can't be written"
+
+
+def opened(path: Optional[str]) -> Optional[Talk]:
+    """The file of a path, or none."""
+    return None if path is None else Talk(path)
