@@ -1,13 +1,18 @@
-"""A session of rdbg: lines go out, replies come in, one for one and in order."""
+"""A session of rdbg: lines go out, replies come in, one for one and in order.
+
+At a room's port lines that begin with `#` come between them: notices, which are no replies.
+"""
+import collections
 import contextlib
 import functools
 import os
 import pathlib
+import re
 import socket
 import subprocess
 import tempfile
 from types import TracebackType
-from typing import IO, Callable, Iterable, Iterator, List, Optional, Sequence, Type
+from typing import IO, Callable, Deque, Iterable, Iterator, List, Optional, Sequence, Type, Union
 
 from rdbg import replies
 from rdbg.failure import Failure
@@ -16,6 +21,11 @@ WRAPPER = pathlib.Path(__file__).resolve().parents[2] / "rdbg"
 # So many bytes of lines fit into an empty pipe, so that writing them waits for nobody.
 BATCH = 32_768
 LOCAL = "127.0.0.1"
+# Notices that nobody hears yet are kept, so many of them.
+UNHEARD = 100
+NOTICE, REFUSED = b"#", "# no: "
+YOU = re.compile(r"# you are (\w+), session (\d+)")
+READ = 65_536
 
 
 @functools.lru_cache(maxsize=None)
@@ -42,19 +52,71 @@ def program() -> str:
     return built_by(wrapper, os.environ.get("RDBG_WRAPPER_WORDS", ""))
 
 
+class PortLines:
+    """The lines that come by a connection."""
+
+    def __init__(self, connection: socket.socket) -> None:
+        self._connection = connection
+        self._whole: Deque[bytes] = collections.deque()
+        self._tail = b""
+
+    def fileno(self) -> int:
+        """What can be waited for."""
+        return self._connection.fileno()
+
+    def has_line(self) -> bool:
+        """Whether a whole line has come."""
+        return bool(self._whole)
+
+    def fill(self) -> bool:
+        """Waits until something comes; false at the end."""
+        content = self._connection.recv(READ)
+        *whole, self._tail = (self._tail + content).split(b"\n")
+        self._whole.extend(line + b"\n" for line in whole)
+        return bool(content)
+
+    def readline(self) -> bytes:
+        """The next line with its end; without one at the end of all."""
+        while not self._whole:
+            if not self.fill():
+                return b""
+        return self._whole.popleft()
+
+    def close(self) -> None:
+        """Closes the connection."""
+        self._connection.close()
+
+
 class Session:
     """One session, by the pipes of a program of its own (`start`) or a port (`attach`).
 
-    `on_line`, where it is set, is told each line with its reply.
+    `on_line`, where it is set, is told each line with its reply; `on_notice` each notice, wherever
+    a reply is read, and at once those that came before it was set. At a room `name` and `number`
+    are those by which the room knows the session.
     """
 
-    def __init__(self, lines: IO[bytes], answers: IO[bytes], name: str) -> None:
+    def __init__(self, lines: IO[bytes], answers: Union[IO[bytes], PortLines], name: str) -> None:
         self._lines, self._answers, self._name = lines, answers, name
         self._process: Optional["subprocess.Popen[bytes]"] = None
         self._errors: Optional[IO[bytes]] = None
         # (replies that nobody has read yet, as after an interrupt from the keyboard)
         self._owed = 0
         self.on_line: Optional[Callable[[str, str], None]] = None
+        self.name: Optional[str] = None
+        self.number: Optional[int] = None
+        self._on_notice: Optional[Callable[[str], None]] = None
+        self._unheard: Deque[str] = collections.deque(maxlen=UNHEARD)
+
+    @property
+    def on_notice(self) -> Optional[Callable[[str], None]]:
+        """What is told each notice, as it is and without its line end."""
+        return self._on_notice
+
+    @on_notice.setter
+    def on_notice(self, hear: Optional[Callable[[str], None]]) -> None:
+        self._on_notice = hear
+        while hear is not None and self._unheard:
+            hear(self._unheard.popleft())
 
     @classmethod
     def start(cls, words: Sequence[str]) -> "Session":
@@ -81,15 +143,36 @@ class Session:
         return cls.start([program(), "run", *app, *more])
 
     @classmethod
-    def attach(cls, port: int) -> "Session":
-        """One more session at a server of this machine. Raises `Failure` where none listens."""
+    def attach(cls, port: int, name: Optional[str] = None) -> "Session":
+        """One more session at a server of this machine, at a room's by a name. Raises `Failure`
+        where none listens, or the name isn't let in."""
         try:
             connection = socket.create_connection((LOCAL, port))
         except OSError as error:
             raise Failure(f"cannot attach to port {port}: {error.strerror}", 2) from None
-        lines, answers = connection.makefile("wb"), connection.makefile("rb")
-        connection.close()
-        return cls(lines, answers, f"the server at port {port}")
+        lines = connection.makefile("wb")
+        session = cls(lines, PortLines(connection), f"the server at port {port}")
+        if name is not None:
+            session._introduce(name)
+        return session
+
+    def _introduce(self, name: str) -> None:
+        """Says to a room who this is."""
+        with contextlib.suppress(OSError):
+            self._lines.write(f"{NOTICE.decode()} name {name}\n".encode("utf-8", "replace"))
+            self._lines.flush()
+        try:
+            while self.name != name:
+                line = self._line()
+                if not line.startswith(NOTICE):
+                    raise Failure(f"{self._name} knows no names: it isn't of rdbg room", 2)
+                self._unheard.clear()
+                self._hear(line)
+                if self._unheard[0].startswith(REFUSED):
+                    raise Failure(f"{self._name}: {self._unheard[0][len(REFUSED) :]}", 2)
+        except BaseException:
+            self.close()
+            raise
 
     def __enter__(self) -> "Session":
         return self
@@ -148,15 +231,68 @@ class Session:
             self._reply()
 
     def _reply(self) -> str:
-        try:
-            reply = self._answers.readline()
-        except OSError:
-            reply = b""
-        if not reply.endswith(b"\n"):
-            self._owed = 0
-            raise Failure(self._end())
+        reply = self._line()
+        while reply.startswith(NOTICE):
+            self._hear(reply)
+            reply = self._line()
         self._owed -= 1
         return reply[:-1].decode("ascii", "replace")
+
+    def _line(self) -> bytes:
+        """The next line that comes. Raises `Failure` where none does."""
+        try:
+            line = self._answers.readline()
+        except OSError:
+            line = b""
+        if not line.endswith(b"\n"):
+            self._owed = 0
+            raise Failure(self._end())
+        return line
+
+    def _hear(self, line: bytes) -> None:
+        """Hears a notice."""
+        notice = line.decode("utf-8", "replace").rstrip("\n")
+        found = YOU.match(notice)
+        if found:
+            self.name, self.number = found[1], int(found[2])
+        if self._on_notice is None:
+            self._unheard.append(notice)
+        else:
+            self._on_notice(notice)
+
+    def remark(self, line: str) -> None:
+        """Says a line that begins with `#` to a room, and hears its answer. Raises `Failure` where
+        that has ended."""
+        self._catch_up()
+        with contextlib.suppress(OSError):
+            self._lines.write(f"{line}\n".encode("utf-8", "replace"))
+            self._lines.flush()
+        is_answered = False
+        while not is_answered:
+            heard = self._line()
+            if not heard.startswith(NOTICE):
+                raise replies.Unreadable(heard.decode("ascii", "replace").rstrip("\n"))
+            self._hear(heard)
+            heads = (REFUSED, "# you are ", "# here: ", f"# {self.name} ")
+            is_answered = heard.decode("utf-8", "replace").startswith(heads)
+
+    def waited_for(self) -> Optional[int]:
+        """What becomes readable once a notice comes, at a port."""
+        return self._answers.fileno() if isinstance(self._answers, PortLines) else None
+
+    def hear_now(self) -> bool:
+        """Hears the notices that have come, while no reply is owed; false at the end."""
+        if not isinstance(self._answers, PortLines):
+            return False
+        try:
+            is_there = self._answers.fill()
+        except OSError:
+            return False
+        while self._answers.has_line():
+            line = self._answers.readline()
+            if line.startswith(NOTICE):
+                self._hear(line)
+        return is_there
 
     def _end(self) -> str:
         """Why there are no more replies."""

@@ -48,8 +48,9 @@ def parser() -> argparse.ArgumentParser:
     )
     made.add_argument("--app", metavar="FILE", help="the same")
     made.add_argument(
-        "--port", type=port, metavar="P", help="attaches to `rdbg serve` at this port"
+        "--port", type=port, metavar="P", help="attaches to `rdbg serve` or `rdbg room` there"
     )
+    made.add_argument("--name", metavar="NAME", help="who one is at `rdbg room`")
     made.add_argument("--moves", type=bounded(1), metavar="N", help="how many moves may be done")
     made.add_argument("--history", type=bounded(2), metavar="N", help="entries of the history")
     return made
@@ -74,12 +75,17 @@ def main(words: Sequence[str]) -> int:
         raise Failure(f"one file at a time: {given.app}, or {given.file}", 2)
     if given.port is not None and (given.moves or given.history):
         raise Failure("--moves and --history are the server's own, where --port attaches to one", 2)
+    if given.name is not None and given.port is None:
+        raise Failure("--name is for a room; --port says where that is", 2)
     for stream in (sys.stdout, sys.stderr):
         if isinstance(stream, io.TextIOWrapper):
             stream.reconfigure(errors="backslashreplace")
     limits = Limits(given.moves or Limits.moves, given.history or Limits.history)
     source = read(given.file or given.app)
-    target = begin(source, limits) if given.port is None else attach(given.port, source)
+    if given.port is None:
+        target = begin(source, limits)
+    else:
+        target = attach(given.port, source, given.name)
     shell = Shell(target, source, Interrupt())
     try:
         if sys.stdin.isatty() and sys.stdout.isatty():

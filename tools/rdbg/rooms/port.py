@@ -10,6 +10,7 @@ from rdbg.client import LOCAL
 from rdbg.commands import MOST_BYTES
 from rdbg.failure import Failure
 from rdbg.rooms.client import Client
+from rdbg.rooms.host import Ended
 from rdbg.rooms.room import TOO_LONG, Member, Refusal, Room
 
 # So many connections there are at the most, and so many lines of one are answered in a turn.
@@ -85,16 +86,21 @@ class Port:
     def serve(self) -> None:
         """Serves until it is stopped."""
         self._thread = threading.get_ident()
-        while not self._is_stopped:
-            for key, mask in self._selector.select(self._patience()):
-                if key.fileobj is self._listener:
-                    self._accept()
-                elif key.fileobj is self._woken:
-                    self._forget_wakes()
-                else:
-                    self._move(key.data, mask)
-            self._answer_all()
-            self._look_at_touched()
+        with contextlib.suppress(Ended):
+            while not self._is_stopped:
+                self._turn()
+
+    def _turn(self) -> None:
+        """Waits until something happens, and does some of what there is to do."""
+        for key, mask in self._selector.select(self._patience()):
+            if key.fileobj is self._listener:
+                self._accept()
+            elif key.fileobj is self._woken:
+                self._forget_wakes()
+            else:
+                self._move(key.data, mask)
+        self._answer_all()
+        self._look_at_touched()
 
     def _patience(self) -> Optional[float]:
         """How long the loop may wait, in seconds."""
@@ -127,7 +133,7 @@ class Port:
         try:
             guest.member = self._room.join(None, client.hear, is_told=False)
         except Refusal as refusal:
-            client.hear(f"# no: {refusal}; `# name NAME` comes by a name")
+            client.hear(f"# you are nobody yet: {refusal}; `# name NAME` comes by a name")
         self._touched.add(client)
 
     def _move(self, client: Client, mask: int) -> None:

@@ -370,7 +370,7 @@ class Room:
         text = f"{member.name} asks for the wheel"
         if not seat.is_here and member.session in self._asked:
             self._done(seat, "wheel give")
-            text = f"{seat.name}, who is away, gives the wheel back: {member.name} has asked for it"
+            text = f"{member.name} has {seat.name}, who is away, give back the wheel: it is free"
         elif not seat.is_here:
             self._asked.add(member.session)
             member.hear(f"# {seat.name} is away with it: `# wheel` once more gives it back")
@@ -388,6 +388,7 @@ class Room:
         """Ends the program, tells all its audit, and answers it."""
         with self._turns:
             audit = self._host.close()
+            self._keep("room", "#", audit.text())
             self.tell(f"the room has ended: {audit.text()}")
             if self._talk is not None:
                 self._talk.close()

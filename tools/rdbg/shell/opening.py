@@ -73,15 +73,16 @@ def greet(session: Session) -> None:
         raise
 
 
-def attach(port: int, source: Optional[Source]) -> Target:
-    """One more session at a server. Raises `Failure` where there is none, where it lets nobody in,
-    or where a file was given that isn't its application."""
-    session = Session.attach(port)
+def attach(port: int, source: Optional[Source], name: Optional[str] = None) -> Target:
+    """One more session at a server, at a room's by a name. Raises `Failure` where there is none,
+    where it lets nobody in, or where a file was given that isn't its application."""
     timer = threading.Timer(PATIENCE, lambda: print(NOTE, file=sys.stderr, flush=True))
     timer.daemon = True
     timer.start()
     try:
-        greet(session)
+        session = Session.attach(port, name)
+        if name is None:
+            greet(session)
     finally:
         timer.cancel()
     application = source.application if source else None

@@ -12,7 +12,7 @@ MOST_LINES = 2_000
 # Lines with these words aren't repeated by Enter.
 ONCE = (
     "watch", "unwatch", "break", "b", "delete", "d", "save", "reload", "set", "help", "h", "?",
-    "wheel", "poke", "isr", "goto", "g",
+    "wheel", "poke", "isr", "goto", "g", "#",
 )  # fmt: skip
 
 
@@ -89,14 +89,21 @@ class Lines:
         """The line that is typed next, none at Ctrl-D. Raises `KeyboardInterrupt` at Ctrl-C."""
         prompt = f"(rdbg {self.shell.target.place}) "
         sys.stdout.flush()
+        self.shell.typed = lambda: prompt + self._typed()
         try:
-            with self.shell.interrupt.at_prompt():
+            with self.shell.notices.listening(), self.shell.interrupt.at_prompt():
                 return input(prompt)
         except EOFError:
             print()
             return None
         except UnicodeDecodeError:
             return "# no text"
+        finally:
+            self.shell.typed = None
+
+    def _typed(self) -> str:
+        """What is typed of the line so far."""
+        return "" if self.readline is None else str(self.readline.get_line_buffer())
 
 
 def greet(shell: "Shell") -> None:

@@ -4,13 +4,14 @@ import re
 import shutil
 import sys
 import time
-from typing import Iterator, Optional
+from typing import Callable, Iterator, Optional
 
 from rdbg import commands
 from rdbg.looks import Look, Names
 from rdbg.replies import Cores, Refused
 from rdbg.shell import hints, needs, trail, views
 from rdbg.shell.interrupt import Interrupt, Interrupted
+from rdbg.shell.notices import Notices, is_remark
 from rdbg.shell.target import SINGLE, Target, Unable, read
 from rdbg.shell.walk import Pieces, Walk
 from rdbg.source import Source
@@ -31,6 +32,8 @@ class Shell:
         # The line of rdbg's that a word of sh's own stands for, for hints.
         self.asked = ""
         self.shows_moves = self.shows_lines = False
+        # What stands at the terminal while a line is typed.
+        self.typed: Optional[Callable[[], str]] = None
         self.is_terminal = self.told_of_breaks = self.is_done = False
         self.take(target, source)
 
@@ -48,12 +51,21 @@ class Shell:
         self._shown, self._is_showing = 0.0, False
         target.echo = self._echo
         target.drift = None
+        self.notices = Notices(target.session, self._notice)
 
     def say(self, text: str) -> None:
         """Prints lines of sh's own."""
         self._wipe()
         for line in text.split("\n"):
             print(f"# {line}".rstrip())
+
+    def _notice(self, notice: str) -> None:
+        """Prints a notice of a room; what is typed stands below it."""
+        self._wipe()
+        if self.typed is None:
+            print(notice, flush=True)
+        else:
+            print(f"\r\x1b[K{notice}\n{self.typed()}", end="", flush=True)
 
     def progress(self, made: int, of: int, done: str) -> None:
         """Shows at a terminal how far something long is: it stands in one line, and goes away."""
@@ -113,6 +125,10 @@ class Shell:
 
         self.asked = ""
         self._shown = time.monotonic()
+        if self.notices.is_room and is_remark(text):
+            self.target.session.remark(text.strip())
+            sys.stdout.flush()
+            return
         stripped = without_comment(text.encode("utf-8", "replace").decode())
         words = stripped.replace("\t", " ").split()
         if not words:
@@ -146,6 +162,8 @@ class Shell:
     def notice(self) -> None:
         """Says where others have moved the target since that was last told."""
         drift, self.target.drift = self.target.drift, None
+        if self.notices.is_room:
+            return  # (what moved it was told)
         if drift is not None and drift[0] != drift[1]:
             self.say(f"the target moved meanwhile: {drift[0]} -> {drift[1]}")
 
@@ -159,6 +177,7 @@ class Shell:
         before = self.before(command)
         self.notice()
         place = self.target.place
+        self.notices.forget()
         try:
             reply = self._reply(command, text)
         except Interrupted:
@@ -176,7 +195,9 @@ class Shell:
             elif self.target.is_own and self.target.place != place:
                 self.say(f"the moves up to {self.target.place} are made")
             return False
-        if command is not None and command.form.moves:
+        if command is not None and command.form.moves and self.notices.is_room:
+            self._as_told(reply)
+        elif command is not None and command.form.moves:
             self.after(place, before)
         elif self.is_terminal and not self.target.is_own:
             self.target.places()
@@ -208,6 +229,8 @@ class Shell:
             return None
         if self.target.is_own:
             return self._seen if self.shows_moves and self._is_known() else None
+        if self.notices.is_room:
+            return None
         is_single = command.form.word in SINGLE or command.count() == 1
         if not self.shows_moves or not is_single or command.form.word == "back":
             if self.is_terminal or self.shows_moves:
@@ -247,6 +270,17 @@ class Shell:
             self.say(f"what this did isn't shown: {unable}; see 'help history'")
             self.shows_moves = False
 
+    def _as_told(self, reply: str) -> None:
+        """Says what a line did by what the room has told of it."""
+        effect, rows = self.notices.told(reply)
+        if not self.shows_moves:
+            return
+        if effect.startswith("next: "):
+            effect = f"at {self.target.place}, {effect}"
+        for text in [effect, *rows]:
+            if text:
+                self.say(text)
+
     def _look_again(self, before: Look) -> Look:
         """A look behind a move at what was looked at before it."""
         if self.target.is_own or self.target.application is None:
@@ -277,6 +311,10 @@ class Shell:
     def tell_last(self) -> None:
         """Says what the last move did."""
         here = self.target.place
+        _, rows = self.notices.told(f"ok at {here}")
+        if rows:
+            self.say(rows[-1])
+            return
         found, look = trail.moves(self.walk, here, here)
         self._keep(look)
         self.say(found[0].row())

@@ -1,0 +1,82 @@
+"""What a room tells between two replies: what others do is printed at once, and what was done here
+says what a line did."""
+import contextlib
+import os
+import re
+import select
+import threading
+from typing import Callable, Iterator, List, Optional, Tuple
+
+from rdbg.client import Session
+
+# A move of a run, told in a line of its own behind the line of the run.
+ROW = re.compile(r"# (\d+  |\.\. \d+ moves )")
+REMARK = re.compile(r"# *(who|wheel|name +\S+|say +\S.*)$")
+
+
+def is_remark(line: str) -> bool:
+    """Whether a line is for a room, and no comment."""
+    return REMARK.match(line.strip()) is not None
+
+
+class Notices:
+    """The notices of a session. `show` prints one of what others did, or of what was asked."""
+
+    def __init__(self, session: Session, show: Callable[[str], None]) -> None:
+        self._session, self._show = session, show
+        self._own: List[str] = []
+        self._is_own = False
+        session.on_notice = self.hear
+
+    @property
+    def is_room(self) -> bool:
+        """Whether this is a session of a room."""
+        return self._session.name is not None
+
+    def hear(self, notice: str) -> None:
+        """Hears a notice."""
+        head = f"# {self._session.name}: "
+        if notice.startswith(head):
+            self._own, self._is_own = [notice[len(head) :]], True
+        elif self._is_own and ROW.match(notice):
+            self._own.append(notice[len("# ") :])
+        else:
+            self._is_own = False
+            self._show(notice)
+
+    def told(self, reply: str) -> Tuple[str, List[str]]:
+        """What the line that was answered so last did: in a few words, or a row each for the moves
+        of a run. Empty where nothing was told."""
+        if not self._own:
+            return "", []
+        head, *rows = self._own
+        _, _, behind = head.partition(f" -> {reply}")
+        return behind[len(", ") :], rows
+
+    def forget(self) -> None:
+        """A new line begins."""
+        self._own = []
+
+    @contextlib.contextmanager
+    def listening(self) -> Iterator[None]:
+        """As long as a line is typed: notices are heard as they come."""
+        if not self.is_room:
+            yield
+            return
+        ended, end = os.pipe()
+        thread = threading.Thread(target=self._listen, args=(ended,), daemon=True)
+        thread.start()
+        try:
+            yield
+        finally:
+            os.write(end, b".")
+            thread.join()
+            os.close(ended)
+            os.close(end)
+
+    def _listen(self, ended: int) -> None:
+        there: Optional[int] = self._session.waited_for()
+        while there is not None:
+            ready, _, _ = select.select([there, ended], [], [])
+            if ended in ready or not self._session.hear_now():
+                return
