@@ -297,6 +297,9 @@ class Session:
     def _end(self) -> str:
         """Why there are no more replies."""
         if self._process is None:
+            last = self._unheard[-1] if self._unheard else ""
+            if last.startswith(REFUSED):
+                return f"{self._name}: {last[len(REFUSED) :]}"
             return f"{self._name} has closed the connection"
         status = self._process.wait()
         said = self.errors().strip().splitlines()

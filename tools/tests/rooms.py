@@ -85,8 +85,12 @@ class Caller:
         self.lines: List[str] = []
         self._tail = b""
         if name is not None:
-            self.send(f"# name {name}")
-            self.expect(f"# you are {name}, ")
+            try:
+                self.send(f"# name {name}")
+                self.expect(f"# you are {name}, ")
+            except BaseException:
+                self.connection.close()
+                raise
 
     def __enter__(self) -> "Caller":
         return self

@@ -72,13 +72,14 @@ def serve(room: Room, port: Port, talk: Optional[Talk]) -> int:
     """Serves until a signal comes or the program ends, and answers the status."""
     room.when_over = port.stop
     port.serve()
-    audit = room.close()
+    audits = room.close()
     port.close()
-    print(audit.text(), file=sys.stdout if audit.is_good else sys.stderr)
+    for audit in audits:
+        print(audit.text(), file=sys.stdout if audit.is_good else sys.stderr)
     if talk is not None and talk.fault:
         print(f"rdbg room: {talk.path} isn't complete: {talk.fault}", file=sys.stderr)
         return 1
-    return 0 if audit.is_good else 1
+    return 0 if all(audit.is_good for audit in audits) else 1
 
 
 def main(words: Sequence[str]) -> int:

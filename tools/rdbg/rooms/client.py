@@ -4,14 +4,16 @@ import contextlib
 import socket
 import threading
 import time
-from typing import Callable, Deque
+from typing import Callable, Deque, Optional
 
 from rdbg.commands import MOST_BYTES
 
 # So many bytes are read at a time; more are read once their lines are answered.
 READ = 65_536
-# With so many bytes unread, a connection's own lines wait; with so many it is dropped.
-SLOW, MOST_UNREAD = 262_144, 4_194_304
+# With so many bytes unread a connection's own lines wait, and with so many it misses notices.
+SLOW, MOST_UNREAD = 262_144, 1_048_576
+# One whose lines wait, and that reads nothing for so many seconds, is dropped.
+STUCK = 60.0
 # A connection that ends has so many seconds to read on, and in all so many; of what it still sends
 # so many bytes are read, and none is answered.
 LAST_SECONDS, MOST_SECONDS, LAST_BYTES = 1.0, 30.0, 4_194_304
@@ -25,6 +27,7 @@ class Client:
         self.connection, self._wake = connection, wake
         with contextlib.suppress(OSError):
             connection.setsockopt(socket.IPPROTO_TCP, socket.TCP_NODELAY, 1)
+            connection.setsockopt(socket.SOL_SOCKET, socket.SO_SNDBUF, READ)
         self.lines: Deque[bytes] = collections.deque()
         self.is_too_long = self.has_ended = self.is_broken = self.is_ending = False
         # Why it is dropped, where it is.
@@ -32,21 +35,38 @@ class Client:
         self._tail = b""
         self._guard = threading.Lock()
         self._out: Deque[bytes] = collections.deque()
-        self._unread = 0
+        self._unread, self._missed = 0, 0
+        # (when it last read something, or had nothing to read)
+        self._read_at = 0.0
         self._until = self._latest = 0.0
         self._left = LAST_BYTES
 
     def hear(self, notice: str) -> None:
-        """Sends a line; one that can't be sent any more is dropped."""
-        content = notice.encode("utf-8", "replace") + b"\n"
+        """Sends a notice. While too much is unread notices are left out, which is said then."""
         with self._guard:
-            if self.is_broken or self.is_ending or self.word:
+            if self._unread > MOST_UNREAD:
+                self._missed += 1
                 return
+            if self._missed:
+                self._put(f"# {self._missed} notices are left out here, for it read too little")
+                self._missed = 0
+            self._put(notice)
+        self._wake(self)
+
+    def answer(self, reply: str) -> None:
+        """Sends a reply."""
+        with self._guard:
+            self._put(reply)
+        self._wake(self)
+
+    def _put(self, line: str) -> None:
+        """Adds a line to what is to be sent."""
+        if not self.is_broken and not self.is_ending:
+            content = line.encode("utf-8", "replace") + b"\n"
+            if not self._out:
+                self._read_at = time.monotonic()
             self._out.append(content)
             self._unread += len(content)
-            if self._unread > MOST_UNREAD:
-                self.word = "it doesn't read what it is told"
-        self._wake(self)
 
     @property
     def is_slow(self) -> bool:
@@ -116,6 +136,8 @@ class Client:
             self._unread = len(content) - sent
             if self._unread:
                 self._out.append(content[sent:])
+        if sent:
+            self._read_at = time.monotonic()
         if sent and self.is_ending:
             self._until = min(self._latest, time.monotonic() + LAST_SECONDS)
 
@@ -143,9 +165,19 @@ class Client:
             self.connection.shutdown(socket.SHUT_WR)
         return self.has_ended
 
-    def seconds_left(self) -> float:
-        """In how many seconds it is closed at the latest, where it ends."""
-        return max(0.0, self._until - time.monotonic())
+    def seconds_left(self) -> Optional[float]:
+        """In how many seconds it has to be looked at, whatever comes: one that ends is closed then,
+        and one whose lines wait is dropped."""
+        if self.is_ending:
+            return max(0.0, self._until - time.monotonic())
+        if self.lines and self.is_slow:
+            return max(0.0, self._read_at + STUCK - time.monotonic())
+        return None
+
+    def check(self) -> None:
+        """Has it dropped where it reads nothing for too long."""
+        if not self.is_ending and self.seconds_left() == 0.0:
+            self.word = "it doesn't read its answers"
 
     def close(self) -> None:
         """Closes it."""

@@ -109,7 +109,8 @@ class Port:
             return 0.0
         now = time.monotonic()
         times = [it.came + MOMENT - now for it in guests if it.is_waiting]
-        times += [it.client.seconds_left() for it in guests if it.client.is_ending]
+        seconds = [it.client.seconds_left() for it in guests]
+        times += [it for it in seconds if it is not None]
         return max(0.0, min(times)) if times else None
 
     def _forget_wakes(self) -> None:
@@ -150,6 +151,7 @@ class Port:
         for client, guest in list(self._guests.items()):
             if guest.is_waiting and now > guest.came + MOMENT:
                 self._is_late(guest)
+            client.check()
             if client.has_work:
                 self._answer(guest)
             if client.has_work or client.is_ending:
@@ -175,7 +177,7 @@ class Port:
         elif client.is_broken:
             self._end(guest)
         elif not client.lines and client.is_too_long:
-            client.hear(TOO_LONG)
+            client.answer(TOO_LONG)
             self._end(guest, f"a line has at most {MOST_BYTES} bytes")
         elif not client.lines and client.has_ended:
             self._end(guest)
@@ -193,7 +195,7 @@ class Port:
         elif words and words[0].startswith("#"):
             guest.member.remark(text)
         else:
-            guest.client.hear(guest.member.ask(text))
+            guest.client.answer(guest.member.ask(text))
 
     def _come(self, guest: Guest, words: List[str]) -> None:
         """Somebody comes by a name where no guest is let in."""

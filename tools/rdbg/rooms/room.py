@@ -1,18 +1,16 @@
 """Several, each by a name, at one program that serves: what each of them asks, and what all are
 told."""
-from typing import Callable, Dict, List, Optional, Sequence, Set
+from typing import Callable, Dict, List, Optional, Set
 
-from rdbg import replies
 from rdbg.commands import MOST_BYTES, Command
-from rdbg.looks import Look
 from rdbg.rooms import remarks
 from rdbg.rooms.host import MOST_SESSIONS, Audit, Ended, Host
-from rdbg.rooms.memory import Memory
+from rdbg.rooms.program import SCARCE, Program
 from rdbg.rooms.seats import Refusal, Seat, Seats, check
-from rdbg.rooms.sight import FEW, Sight, is_single
+from rdbg.rooms.sight import is_single
 from rdbg.rooms.talk import Talk
 from rdbg.rooms.turns import Turns
-from rdbg.shell.target import UNCOUNTED, Limits, read, read_line
+from rdbg.shell.target import Limits, read_line
 from rdbg.source import Source
 
 __all__ = ["Ended", "Member", "Refusal", "Room"]
@@ -22,9 +20,8 @@ __all__ = ["Ended", "Member", "Refusal", "Room"]
 Hear = Callable[[str], None]
 TOO_LONG, NO_COMMAND = "no LineTooLong", "no Syntax"
 HELD, FULL = "no Held", "no HistoryFull"
-# It is said when a tenth of the history is left, and a hundredth. With a tenth left the room looks
-# no more by itself.
-NEARLY = (10, 100)
+# It is said when so little of the history is left, one part of so many.
+NEARLY = (SCARCE, 100)
 
 
 class Member:
@@ -72,20 +69,32 @@ class Room:
     def __init__(
         self, host: Host, source: Source, limits: Limits, talk: Optional[Talk] = None
     ) -> None:
-        assert source.application is not None
-        self.app_source, self.limits = source, limits
-        self.place = 0
+        self.app_source = source
         # Is called once the program has ended by itself.
         self.when_over: Callable[[], None] = lambda: None
         self.is_over = False
-        self._host, self._seats, self._talk = host, Seats(host.numbers()), talk
+        self._program, self._seats, self._talk = (
+            Program(host, source, limits),
+            Seats(host.numbers()),
+            talk,
+        )
+        self._program.when_over = self._is_over
         self._members: Dict[int, Member] = {}
-        self._sight, self._memory, self._turns = Sight(source.application), Memory(), Turns()
-        self._holder: Optional[int] = None
-        # (the sessions that have asked for the wheel while its holder was away)
+        self._turns = Turns()
+        # (the sessions that have asked for the wheel since anybody came or left)
         self._asked: Set[int] = set()
-        # (an entry of the history is for the coming of each session, and one for its leaving)
-        self._used, self._warned = 2 * len(host.numbers()), 0
+        self._warned = 0
+        self._audits: List[Audit] = []
+
+    @property
+    def place(self) -> int:
+        """How many moves are done, as last told."""
+        return self._program.place
+
+    def free(self) -> int:
+        """For how many entries the history has room."""
+        with self._turns:
+            return self._program.left()
 
     @classmethod
     def open(
@@ -108,6 +117,7 @@ class Room:
             member = Member(self, seat, hear, False)
             self._seats.sit(seat, called, name is None)
             self._members[seat.number] = member
+            self._asked.clear()
             self._greet(member)
             if is_told:
                 self._announce(member)
@@ -136,8 +146,8 @@ class Room:
         if not seat.name or (seat.name == name and not seat.is_guest):
             return
         lines = [f"unwatch {number}" for number in sorted(seat.watches)]
-        for line in lines + (["wheel give"] if self._holder == seat.number else []):
-            self._done(seat, line)
+        for line in lines + (["wheel give"] if self._program.holder == seat.number else []):
+            self._program.ask(seat, line)
         if not seat.is_guest:
             self.tell(f"{seat.name}, who is away, has no session any more")
         self._seats.clear(seat)
@@ -176,9 +186,10 @@ class Room:
             member.is_here = False
             self._seats.leave(member.seat)
             del self._members[member.session]
+            self._asked.clear()
             if not member.is_told:
                 return
-            has = ", with the wheel" if self._holder == member.session else ""
+            has = ", with the wheel" if self._program.holder == member.session else ""
             text = f"is away{has}" + (f" ({why})" if why else "")
             self._keep(member.name, "#", text)
             self.tell(f"{member.name} {text}")
@@ -201,11 +212,12 @@ class Room:
         sent = line.encode("ascii", "replace").decode()
         command = read_line(sent)
         if command is None:
-            return self._done(member.seat, sent)
-        reply = self._memory.known(member.session, command)
+            return self._program.ask(member.seat, sent)
+        reply = self._program.known(member.seat, command)
+        if reply is None and command.form.is_look:
+            return self._program.ask(member.seat, sent)
         if reply is None:
-            look = command.form.is_look
-            reply = self._done(member.seat, sent) if look else self._change(member, command, sent)
+            reply = self._change(member, command, sent)
         if reply.startswith(HELD):
             self._say_who_has_it(member)
         return reply
@@ -213,20 +225,20 @@ class Room:
     def _change(self, member: Member, command: Command, line: str) -> str:
         """The reply to a line that changes something, or is refused; all are told what it did."""
         seat, place = member.seat, self.place
-        single = is_single(command) and self._holder in (None, seat.number)
-        before = self._look(seat) if single else None
-        reply = self._done(seat, line)
+        single = is_single(command) and self._program.holder in (None, seat.number)
+        before = self._program.look(seat) if single else None
+        reply = self._program.ask(seat, line)
         if reply.startswith("no "):
             return reply
         effect, rows = "", []
         if before is not None:
-            after = self._look(seat)
-            effect = self._sight.effect(command, before, after) if after else ""
+            after = self._program.look(seat)
+            effect = self._program.sight.effect(command, before, after) if after else ""
         elif command.form.word == "back":
-            after = self._look(seat)
-            effect = f"next: {self._sight.next(after)}" if after else ""
+            after = self._program.look(seat)
+            effect = f"next: {self._program.sight.next(after)}" if after else ""
         elif command.form.moves:
-            rows = self._rows(seat, place)
+            rows = self._program.rows(seat, place)
         said = " ".join(command.words)
         self.tell(f"{member.name}: {said} -> {reply}" + (f", {effect}" if effect else ""))
         for row in rows:
@@ -235,90 +247,10 @@ class Room:
 
     def _say_who_has_it(self, member: Member) -> None:
         """Says to who was refused it who has the wheel."""
-        if self._holder is not None:
-            seat = self._seats.of_number(self._holder)
+        if self._program.holder is not None:
+            seat = self._seats.of_number(self._program.holder)
             away = "" if seat.is_here else " and is away"
             member.hear(f"# {seat.name} has the wheel{away}: '# wheel' asks for it")
-
-    def _left(self) -> int:
-        """For how many entries the history has room."""
-        return max(0, self.limits.history - self._used)
-
-    def _can_look(self, lines: int) -> bool:
-        """Whether the room may ask so many lines by itself."""
-        return self._left() - lines > self.limits.history // NEARLY[0]
-
-    def _look(self, seat: Seat) -> Optional[Look]:
-        """A look at all there is; none where too little of the history is left."""
-        if self._sight.last is None and self._can_look(len(self._sight.lines)):
-            self._sight.taken(self.place, self._looks(seat, self._sight.lines))
-        return self._sight.last
-
-    def _rows(self, seat: Seat, place: int) -> List[str]:
-        """What the last moves of a run from a place did, a row each: they are taken back, and made
-        again with looks between them."""
-        made, lines = self.place - place, self._sight.lines
-        count = min(made, FEW)
-        if count < 1 or not self._can_look((count + 1) * (len(lines) + 1)):
-            return []
-        asked = [f"back {count}", *lines] + ["redo 1", *lines] * count
-        answers, width = self._send(seat, asked), len(lines) + 1
-        looks: List[Look] = []
-        for at in range(0, len(answers), width):
-            moved, *seen = answers[at : at + width]
-            value = None if moved.startswith("no ") else read(moved)
-            if not isinstance(value, replies.Moved):
-                return [f"the target is at {self.place}: what tells moves was answered {moved}"]
-            looks.append(self._sight.taken(value.at, seen))
-        more = [f".. {made - count} moves before these"] if made > count else []
-        return more + self._sight.rows(looks)
-
-    def _looks(self, seat: Seat, lines: Sequence[str]) -> List[str]:
-        """The replies to looks, those that aren't known by one exchange."""
-        known: Dict[str, str] = {}
-        for line in lines:
-            command = read_line(line)
-            assert command is not None
-            found = self._memory.known(seat.number, command)
-            if found is not None:
-                known[line] = found
-        asked = [line for line in lines if line not in known]
-        known.update(zip(asked, self._send(seat, asked)))
-        return [known[line] for line in lines]
-
-    def _done(self, seat: Seat, line: str) -> str:
-        return self._send(seat, [line])[0]
-
-    def _send(self, seat: Seat, lines: List[str]) -> List[str]:
-        """The program's own replies to lines of a session."""
-        try:
-            answers = self._host.tell_all(seat.number, lines) if lines else []
-        except Ended as ended:
-            self._is_over(str(ended))
-            raise
-        for line, reply in zip(lines, answers):
-            self._used += reply[len("no ") :] not in UNCOUNTED
-            command = read_line(line)
-            if command is not None:
-                self._memory.keep(seat.number, command, reply)
-                self._learn(seat, command, reply)
-        return answers
-
-    def _learn(self, seat: Seat, command: Command, reply: str) -> None:
-        """Keeps account of the place, the wheel and watches."""
-        if command.form.is_look or reply.startswith("no "):
-            return
-        value = read(reply)
-        if isinstance(value, replies.Moved):
-            self._sight.moved(command, value, self.place)
-            self.place = value.at
-        elif isinstance(value, replies.WheelDone):
-            self._holder = seat.number if command.words[1] == "take" else None
-            self._asked.clear()
-        elif isinstance(value, replies.WatchDone) and command.form.word == "watch":
-            seat.watches.add(value.number)
-        elif isinstance(value, replies.WatchDone):
-            seat.watches.discard(value.number)
 
     def tell(self, text: str, but: Optional[Member] = None) -> None:
         """Tells all who are here, but for one."""
@@ -339,10 +271,22 @@ class Room:
         """Says when the history is nearly full, and when it is."""
         if reply == FULL:
             member.hear("# the history is full: what was seen is still answered, nothing else is")
-        left = self._left()
-        if self._warned < len(NEARLY) and left * NEARLY[self._warned] < self.limits.history:
-            self._warned += 1
-            self.tell(f"the history has room for {left} more lines; moves are told by their reply")
+        left, limit = self._program.left(), self._program.limits.history
+        if self._warned == len(NEARLY) or left * NEARLY[self._warned] >= limit:
+            return
+        if self._program.renew(self._seats.all, self._has_ended):
+            self._warned = 0
+            self.tell("the history was nearly full: a new rdbg goes on from here, all is as it was")
+            return
+        self._warned += 1
+        self.tell(f"the history has room for {left} more lines; what moves did isn't told any more")
+
+    def _has_ended(self, audit: Audit) -> None:
+        """A program whose history was full has ended."""
+        with self._turns:
+            self._audits.append(audit)
+            self._keep("room", "#", audit.text())
+            self.tell(f"the history before: {audit.text()}")
 
     def remark(self, member: Member, line: str) -> None:
         """Does a line that begins with `#`."""
@@ -354,7 +298,7 @@ class Room:
         """Who is here, who is away, and who has the wheel."""
         texts: Dict[bool, List[str]] = {True: [], False: []}
         for name, seat in self._seats.by_name().items():
-            has = ", has the wheel" if seat.number == self._holder else ""
+            has = ", has the wheel" if seat.number == self._program.holder else ""
             texts[seat.is_here].append(f"{name} (session {seat.number}{has})")
         away = f"; away: {', '.join(texts[False])}" if texts[False] else ""
         return f"here: {', '.join(texts[True])}{away}"
@@ -362,14 +306,14 @@ class Room:
     def wheel_wanted(self, member: Member) -> str:
         """Somebody asks for the wheel. Who has it is told; where that one is away, it is given up
         by who asks once more. Answers what all are told. Raises `Refusal`."""
-        if self._holder is None:
+        if self._program.holder is None:
             raise Refusal("the wheel is free: `wheel take`")
-        if self._holder == member.session:
+        if self._program.holder == member.session:
             raise Refusal("you have the wheel: `wheel give` gives it back")
-        seat = self._seats.of_number(self._holder)
+        seat = self._seats.of_number(self._program.holder)
         text = f"{member.name} asks for the wheel"
         if not seat.is_here and member.session in self._asked:
-            self._done(seat, "wheel give")
+            self._program.ask(seat, "wheel give")
             text = f"{member.name} has {seat.name}, who is away, give back the wheel: it is free"
         elif not seat.is_here:
             self._asked.add(member.session)
@@ -384,15 +328,17 @@ class Room:
             self.tell(why)
             self.when_over()
 
-    def close(self) -> Audit:
-        """Ends the program, tells all its audit, and answers it."""
+    def close(self) -> List[Audit]:
+        """Ends the program, tells all its audit, and answers it, behind those of the programs
+        before it whose history was full."""
+        self._program.wait()
         with self._turns:
-            audit = self._host.close()
+            audit = self._program.close()
             self._keep("room", "#", audit.text())
             self.tell(f"the room has ended: {audit.text()}")
             if self._talk is not None:
                 self._talk.close()
-            return audit
+            return [*self._audits, audit]
 
 
 def printed(text: str) -> str:

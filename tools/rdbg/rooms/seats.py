@@ -1,12 +1,14 @@
 """Who has which session of the program: names, guests, who is here and who is away."""
 import itertools
-from typing import Dict, Iterator, List, Optional, Set
+from typing import Dict, Iterator, List, Optional
 
 from rdbg.commands import is_name
 
 GUEST = "guest"
 # Words that stand at the head of what a room says.
 NOT_NAMES = ("no", "you", "here", "away", "rdbg")
+# A condition that every application has.
+ANY = "tick = 0"
 NAMING = "a name is 1 to 16 of a to z, 0 to 9 and _, the first a letter"
 
 
@@ -20,9 +22,15 @@ class Seat:
     def __init__(self, number: int) -> None:
         self.number, self.name = number, ""
         self.is_here, self.is_guest = False, False
-        # (the watches that it keeps, and when who had it left)
-        self.watches: Set[int] = set()
+        # (the watches that it keeps, by their numbers, and when who had it left)
+        self.watches: Dict[int, str] = {}
         self.left = 0
+
+    def watch_lines(self) -> List[str]:
+        """The lines that keep its watches under the same numbers where there are none."""
+        numbers = range(max(self.watches, default=-1) + 1)
+        made = [f"watch {self.watches.get(number, ANY)}" for number in numbers]
+        return made + [f"unwatch {number}" for number in numbers if number not in self.watches]
 
 
 def check(name: str) -> None:
@@ -35,7 +43,9 @@ def check(name: str) -> None:
 
 class Seats:
     """All sessions of a program, by names. A name keeps its session while it is away, until all
-    are taken and somebody new comes: then who was away longest loses it, guests first."""
+    are taken and somebody new comes by a name: then who was away longest loses it, guests first.
+    Guests have half of the sessions at the most, and nobody's who is away, so that however many
+    connections come, names get in."""
 
     def __init__(self, numbers: range) -> None:
         self.all: List[Seat] = [Seat(number) for number in numbers]
@@ -59,23 +69,30 @@ class Seats:
         nothing has changed yet."""
         names = self.by_name()
         if name is None:
-            return names.get(self.guest_name()) or self._free()
+            return names.get(self.guest_name()) or self._for_guest()
         check(name)
         if name in names and names[name].is_here:
             raise Refusal(f"{name} is here already")
-        return names[name] if name in names else self._free()
+        return names[name] if name in names else self._free(self.all)
+
+    def _for_guest(self) -> Seat:
+        """The session of a guest who hasn't one yet."""
+        most = max(1, len(self.all) // 2)
+        if sum(it.is_guest for it in self.here()) >= most:
+            raise Refusal(f"all {most} sessions for guests are taken")
+        return self._free([it for it in self.all if it.is_guest or not it.name])
 
     def guest_name(self) -> str:
         """The name of the next guest."""
         here = {it.name for it in self.here()}
         return next(it for it in map(f"{GUEST}{{}}".format, itertools.count(1)) if it not in here)
 
-    def _free(self) -> Seat:
-        """A session that nobody has, or who was away longest. Raises `Refusal` where all who have
-        one are here."""
-        away = [it for it in self.all if not it.is_here]
+    def _free(self, seats: List[Seat]) -> Seat:
+        """The one of these sessions that nobody has, or whose name was away longest. Raises
+        `Refusal` where all who have one are here."""
+        away = [it for it in seats if not it.is_here]
         if not away:
-            raise Refusal(f"all {len(self.all)} sessions are taken by who is here")
+            raise Refusal(f"all {len(seats)} sessions are taken by who is here")
         return min(away, key=lambda it: (bool(it.name), not it.is_guest, it.left, it.number))
 
     def sit(self, seat: Seat, name: str, is_guest: bool) -> None:

@@ -1,0 +1,79 @@
+"""The moves of a target as few lines that make them anew: what a new program is told to be where
+the old one was."""
+import dataclasses
+from typing import List
+
+from rdbg import replies
+from rdbg.commands import Command
+
+# What makes moves by a choice of its own is known by their number alone.
+FORWARD = "forward"
+
+
+@dataclasses.dataclass
+class Run:
+    """So many moves by one line: moves of `forward`, or one of a line that makes one."""
+
+    line: str
+    count: int = 1
+
+    def text(self) -> str:
+        """The line."""
+        return f"{FORWARD} {self.count}" if self.line == FORWARD else self.line
+
+
+class Journal:
+    """The moves done, those that were taken back, and from where on records are kept."""
+
+    def __init__(self) -> None:
+        self._done: List[Run] = []
+        # (the one that `redo` makes next stands last)
+        self._undone: List[Run] = []
+        self.place, self.base = 0, 0
+
+    def moved(self, command: Command, moved: replies.Moved) -> None:
+        """A line has changed the target."""
+        word, count = command.form.word, moved.at - self.place
+        if word == "trim":
+            self.base = max(self.base, moved.at - int(command.words[1]))
+        elif word == "back":
+            carry(self._done, self._undone, -count)
+        elif word == "redo":
+            carry(self._undone, self._done, count)
+        else:
+            self._undone.clear()
+            is_run = word in (FORWARD, "until")
+            put(self._done, Run(FORWARD if is_run else " ".join(command.words), count))
+        self.place = moved.at
+
+    def __len__(self) -> int:
+        """How many lines it takes, or a few less."""
+        return len(self._done) + len(self._undone) + 2
+
+    def lines(self) -> List[str]:
+        """The lines that lead from the start to this place, with the same moves to be made again
+        and the same records."""
+        made = [run.text() for run in [*self._done, *reversed(self._undone)]]
+        undone = sum(run.count for run in self._undone)
+        back = [f"back {undone}"] if undone else []
+        return made + back + ([f"trim {self.place - self.base}"] if self.base else [])
+
+
+def put(runs: List[Run], run: Run) -> None:
+    """Puts moves behind others."""
+    if runs and run.line == FORWARD == runs[-1].line:
+        runs[-1].count += run.count
+    else:
+        runs.append(run)
+
+
+def carry(runs: List[Run], others: List[Run], count: int) -> None:
+    """Takes so many moves off the end of one list, and puts them at the end of another."""
+    while count > 0:
+        last = runs[-1]
+        taken = min(count, last.count)
+        last.count -= taken
+        if not last.count:
+            runs.pop()
+        put(others, Run(last.line, taken))
+        count -= taken

@@ -1,0 +1,175 @@
+"""The program of a room: what it is asked and what it has answered, where its target is, and who has
+the wheel."""
+import threading
+from typing import Callable, Dict, List, Optional, Sequence
+
+from rdbg import replies
+from rdbg.commands import Command
+from rdbg.failure import Failure
+from rdbg.looks import Look
+from rdbg.rooms.host import Audit, Ended, Host
+from rdbg.rooms.journal import Journal
+from rdbg.rooms.memory import Memory
+from rdbg.rooms.seats import Seat
+from rdbg.rooms.sight import FEW, Sight
+from rdbg.shell.target import UNCOUNTED, Limits, read, read_line
+from rdbg.source import Source
+
+# With so little of the history left, the room looks no more by itself: one part of so many.
+SCARCE = 10
+
+
+class Program:
+    """A program that serves, of which every answer is known. One that answers no more is told to
+    `when_over`."""
+
+    def __init__(self, host: Host, source: Source, limits: Limits) -> None:
+        assert source.application is not None
+        self.source, self.limits = source, limits
+        self._host, self.sessions = host, host.numbers()
+        self.journal, self.memory = Journal(), Memory()
+        self.sight = Sight(source.application)
+        # Who has the wheel.
+        self.holder: Optional[int] = None
+        self.when_over: Callable[[str], None] = lambda why: None
+        # (an entry of the history is for the coming of each session, and one for its leaving)
+        self._used = 2 * len(self.sessions)
+        # (programs before this one, whose history was full: each ends in a thread)
+        self._ending: List[threading.Thread] = []
+
+    @property
+    def place(self) -> int:
+        """How many moves are done."""
+        return self.journal.place
+
+    def left(self) -> int:
+        """For how many entries the history has room."""
+        return max(0, self.limits.history - self._used)
+
+    def can_look(self, lines: int) -> bool:
+        """Whether the room may ask so many lines by itself."""
+        return self.left() - lines > self.limits.history // SCARCE
+
+    def ask(self, seat: Seat, line: str) -> str:
+        """The program's own reply to a line of a session. Raises `Ended`."""
+        return self._ask_all(seat, [line])[0]
+
+    def known(self, seat: Seat, command: Command) -> Optional[str]:
+        """The reply that a line would have, where that is known."""
+        return self.memory.known(seat.number, command)
+
+    def _ask_all(self, seat: Seat, lines: List[str]) -> List[str]:
+        try:
+            answers = self._host.tell_all(seat.number, lines) if lines else []
+        except Ended as ended:
+            self.when_over(str(ended))
+            raise
+        for line, reply in zip(lines, answers):
+            self._used += reply[len("no ") :] not in UNCOUNTED
+            command = read_line(line)
+            if command is not None:
+                self.memory.keep(seat.number, command, reply)
+                self._learn(seat, command, reply)
+        return answers
+
+    def _learn(self, seat: Seat, command: Command, reply: str) -> None:
+        """Keeps account of moves, the wheel and watches."""
+        if command.form.is_look or reply.startswith("no "):
+            return
+        value = read(reply)
+        if isinstance(value, replies.Moved):
+            self.sight.moved(command, value, self.place)
+            self.journal.moved(command, value)
+        elif isinstance(value, replies.WheelDone):
+            self.holder = seat.number if command.words[1] == "take" else None
+        elif isinstance(value, replies.WatchDone) and command.form.word == "watch":
+            seat.watches[value.number] = " ".join(command.condition_words())
+        elif isinstance(value, replies.WatchDone):
+            seat.watches.pop(value.number, None)
+
+    def _looks(self, seat: Seat, lines: Sequence[str]) -> List[str]:
+        """The replies to looks, those that aren't known by one exchange."""
+        known: Dict[str, str] = {}
+        for line in lines:
+            command = read_line(line)
+            assert command is not None
+            found = self.known(seat, command)
+            if found is not None:
+                known[line] = found
+        asked = [line for line in lines if line not in known]
+        known.update(zip(asked, self._ask_all(seat, asked)))
+        return [known[line] for line in lines]
+
+    def look(self, seat: Seat) -> Optional[Look]:
+        """A look at all there is; none where too little of the history is left."""
+        if self.sight.last is None and self.can_look(len(self.sight.lines)):
+            self.sight.taken(self.place, self._looks(seat, self.sight.lines))
+        return self.sight.last
+
+    def rows(self, seat: Seat, place: int) -> List[str]:
+        """What the last moves of a run from a place did, a row each: they are taken back, and made
+        again with looks between them."""
+        made, lines = self.place - place, self.sight.lines
+        count = min(made, FEW)
+        if count < 1 or not self.can_look((count + 1) * (len(lines) + 1)):
+            return []
+        asked = [f"back {count}", *lines] + ["redo 1", *lines] * count
+        answers, width = self._ask_all(seat, asked), len(lines) + 1
+        looks: List[Look] = []
+        for at in range(0, len(answers), width):
+            moved, *seen = answers[at : at + width]
+            value = None if moved.startswith("no ") else read(moved)
+            if not isinstance(value, replies.Moved):
+                return [f"the target is at {self.place}: what tells moves was answered {moved}"]
+            looks.append(self.sight.taken(value.at, seen))
+        more = [f".. {made - count} moves before these"] if made > count else []
+        return more + self.sight.rows(looks)
+
+    def renew(self, seats: Sequence[Seat], ended: Callable[[Audit], None]) -> bool:
+        """Goes on with a new program that is where this one is, and whose history has only what
+        leads there; false where that can't be had, or would soon be full again. The old one ends
+        meanwhile; its audit is told to `ended`, from another thread."""
+        watches = sum(len(it.watch_lines()) for it in seats)
+        checks = [*self.sight.lines, "show moves", "show wheel"]
+        lines = self.journal.lines()
+        used = 2 * len(seats) + watches + len(lines) + len(checks) + 1
+        if 2 * used > self.limits.history:
+            return False
+        try:
+            was = self._looks(seats[0], checks)
+            host = Host.start(self.source, self.limits, len(seats))
+        except Failure:
+            return False
+        if not self._is_brought_here(host, lines, seats, checks, was):
+            host.kill()
+            return False
+        old, self._host, self._used = self._host, host, used
+        thread = threading.Thread(target=lambda: ended(old.close()))
+        self._ending.append(thread)
+        thread.start()
+        return True
+
+    def _is_brought_here(
+        self, host: Host, lines: List[str], seats: Sequence[Seat], checks: List[str], was: List[str]
+    ) -> bool:
+        """Brings a new program where this one is; whether it did all it was told, and shows what
+        this one shows."""
+        try:
+            answers = host.tell_all(1, lines)
+            for seat in seats:
+                answers += host.tell_all(seat.number, seat.watch_lines())
+            if self.holder is not None:
+                answers += host.tell_all(self.holder, ["wheel take"])
+            is_same = host.tell_all(1, checks) == was
+        except Ended:
+            return False
+        return is_same and not any(it.startswith("no ") for it in answers)
+
+    def wait(self) -> None:
+        """Waits until the programs before this one have ended."""
+        for thread in self._ending:
+            thread.join()
+
+    def close(self) -> Audit:
+        """Ends it, and answers its audit."""
+        return self._host.close()
