@@ -26,8 +26,8 @@ def free_port() -> int:
 class Process:
     """A room in a process of its own, and what it says at its end."""
 
-    def __init__(self, words: Sequence[str], path: str) -> None:
-        self.port = free_port()
+    def __init__(self, words: Sequence[str], path: str, port: Optional[int] = None) -> None:
+        self.port = port or free_port()
         told = [sys.executable, "-B", str(COMPANION), "room", path, "--port", str(self.port)]
         self.process = subprocess.Popen(
             [*told, *words], stdout=subprocess.PIPE, stderr=subprocess.PIPE, text=True
@@ -43,8 +43,8 @@ class Process:
             raise AssertionError(f"{line}{self.errors}")
 
     def end(self, number: int = signal.SIGTERM) -> int:
-        """Ends it by a signal, and answers its status."""
-        if self.process.poll() is None:
+        """Ends it by a signal, or waits where that is 0, and answers its status."""
+        if number and self.process.poll() is None:
             self.process.send_signal(number)
         self.output, self.errors = self.process.communicate(timeout=PATIENCE)
         return self.process.returncode

@@ -1,14 +1,7 @@
-"""A room's port: sockets as nc opens them, prompts at terminals and filters, side by side."""
-import os
-import signal
-import subprocess
-import sys
-import tempfile
+"""A room's port: sockets as nc opens them, and who has the wheel."""
 import unittest
 
-from tests.paths import COMPANION
-from tests.rooms import LOST, Caller, room, rows, talk
-from tests.shell_terminal import PROMPT, Terminal
+from tests.rooms import Caller, room
 
 
 class Callers(unittest.TestCase):
@@ -101,107 +94,6 @@ class Wheel(unittest.TestCase):
                 right.expect("# left comes, session 2")
                 self.assertEqual(left.ask("show watches"), "watches 0:fails")
                 self.assertEqual(left.ask("step 1"), "ok at 2")
-
-
-class Ends(unittest.TestCase):
-    """How a room ends, and what is left of the talk."""
-
-    def test_signals(self) -> None:
-        for number in (signal.SIGINT, signal.SIGTERM, signal.SIGHUP):
-            with self.subTest(number), talk() as file:
-                with room("--talk", str(file), sessions=2) as here:
-                    with Caller(here.port, "left") as left:
-                        left.ask("tick")
-                        status = here.end(number)
-                        # (2 sessions come and leave; a line and two looks at 5 things)
-                        closed = f"closed {2 * 2 + 1 + 2 * 5}"
-                        self.assertEqual((status, here.output), (0, f"{closed}\n"))
-                        self.assertEqual(left.rest(), [f"# the room has ended: {closed}"])
-                self.assertEqual(
-                    rows(file)[-2:], [["left", "tick", "ok at 1"], ["room", "#", closed]]
-                )
-
-    def test_a_program_that_ends_before(self) -> None:
-        with room(sessions=2) as here, Caller(here.port, "left") as left:
-            words = ["ps", "--ppid", str(here.process.pid), "-o", "pid="]
-            (child,) = subprocess.run(words, stdout=subprocess.PIPE, text=True).stdout.split()
-            os.kill(int(child), signal.SIGKILL)
-            left.send("tick")
-            left.expect("# rdbg has ended")
-            here.process.wait(30)
-            self.assertEqual(here.end(), 1)
-            self.assertIn("without its audit", here.errors)
-
-
-class Prompts(unittest.TestCase):
-    """`rdbg sh --port P --name NAME`."""
-
-    def test_two_terminals(self) -> None:
-        with room() as here, tempfile.TemporaryDirectory() as folder:
-            environment = {"RDBG_HISTORY": os.path.join(folder, "history")}
-            words = ["--port", str(here.port), LOST, "--name"]
-            left = Terminal(*words, "left", environment=environment)
-            left.expect(PROMPT)
-            right = Terminal(*words, "right", environment=environment)
-            try:
-                left.expect(r"# right comes, session 2\n" + PROMPT)
-                right.expect(PROMPT)
-                right.type("show mo")
-                right.expect("show mo")
-                self.assertIn("# producer 0 data 41\n", left.ask("step 1"))
-                # (the other's move comes above what is typed, which stays)
-                right.expect(r"# left: step 1 -> ok at 1, producer 0 data 41\n\(rdbg 0\) show mo")
-                self.assertIn("moves 1 undone 0 kept 1", right.ask("ves"))
-                left.ask("wheel take")
-                right.expect(r"# left: wheel take -> ok wheel\n" + PROMPT)
-                self.assertIn("# left has the wheel: '# wheel' asks for it", right.ask("step 0"))
-                self.assertIn("# right asks for the wheel", right.ask("# wheel"))
-                left.expect(r"# right asks for the wheel\n" + PROMPT)
-                left.ask("wheel give")
-                right.expect(r"# left: wheel give -> ok wheel\n" + PROMPT)
-                self.assertIn("ok wheel", right.ask("wheel take"))
-                for terminal in (left, right):
-                    terminal.type("\x04")
-                    self.assertEqual(terminal.end(), 0)
-            finally:
-                left.kill()
-                right.kill()
-            self.assertEqual(here.end(), 0)
-
-    def test_a_filter(self) -> None:
-        lines = "set moves on\nstep producer\n# core 1 is faster\n# who\nforward 2\nback 1\n"
-        with room() as here:
-            words = ["sh", "--port", str(here.port), "--name", "left", LOST]
-            ran = subprocess.run(
-                [sys.executable, "-B", str(COMPANION), *words],
-                input=lines,
-                stdout=subprocess.PIPE,
-                stderr=subprocess.PIPE,
-                text=True,
-            )
-            self.assertEqual(ran.stderr, "")
-            self.assertEqual(
-                [line.partition(" (")[0].partition(",")[0] for line in ran.stdout.splitlines()],
-                [
-                    "# you are left",
-                    "ok at 1",
-                    "# producer 0 data 41",
-                    "# here: left",
-                    "ok at 3",
-                    "# 2  tick 1",
-                    "# 3  core 0  worker 0 recv jobs max",
-                    "ok at 2",
-                    "# at 2",
-                ],
-            )
-
-    def test_a_name_that_is_here(self) -> None:
-        with room() as here, Caller(here.port, "left"):
-            words = [sys.executable, "-B", str(COMPANION), "sh", "--port", str(here.port), "--name"]
-            for name, why in (("left", "left is here already"), ("L", "'L' can't be a name: ")):
-                ran = subprocess.run([*words, name], stderr=subprocess.PIPE, text=True)
-                self.assertEqual(ran.returncode, 2)
-                self.assertIn(f"rdbg sh: the server at port {here.port}: {why}", ran.stderr)
 
 
 if __name__ == "__main__":

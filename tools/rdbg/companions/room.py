@@ -58,8 +58,10 @@ class Signals:
 
     def __init__(self, port: Port) -> None:
         self._port, self._count = port, 0
-        for number in (signal.SIGINT, signal.SIGTERM, signal.SIGHUP):
+        for number in (signal.SIGINT, signal.SIGTERM):
             signal.signal(number, self._came)
+        if signal.getsignal(signal.SIGHUP) is not signal.SIG_IGN:  # (as below nohup)
+            signal.signal(signal.SIGHUP, self._came)
 
     def _came(self, number: int, frame: Optional[FrameType]) -> None:
         self._count += 1
@@ -97,4 +99,6 @@ def main(words: Sequence[str]) -> int:
     port = Port(room, listener)
     Signals(port)
     print(f"listening {given.port}", flush=True)
+    if sys.stdout.isatty():
+        print(f"# rdbg sh --port {given.port} --name NAME {given.file}: a prompt in it", flush=True)
     return serve(room, port, talk)

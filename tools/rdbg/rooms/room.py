@@ -199,7 +199,11 @@ class Room:
         with self._turns:
             if not member.is_here:
                 raise Refusal(f"{member.name} has left")
-            reply = self._answer(member, line)
+            try:
+                reply = self._answer(member, line)
+            except Ended:
+                self._keep(member.name, line, "")
+                raise
             self._keep(member.name, line, reply)
             self._warn(member, reply)
             return reply

@@ -1,0 +1,85 @@
+"""`rdbg sh --port P --name NAME`: terminals and filters in a room."""
+import os
+import subprocess
+import sys
+import tempfile
+import unittest
+
+from tests.paths import COMPANION
+from tests.rooms import LOST, Caller, room
+from tests.shell_terminal import PROMPT, Terminal
+
+
+class Prompts(unittest.TestCase):
+    """`rdbg sh --port P --name NAME`."""
+
+    def test_two_terminals(self) -> None:
+        with room() as here, tempfile.TemporaryDirectory() as folder:
+            environment = {"RDBG_HISTORY": os.path.join(folder, "history")}
+            words = ["--port", str(here.port), LOST, "--name"]
+            left = Terminal(*words, "left", environment=environment)
+            left.expect(PROMPT)
+            right = Terminal(*words, "right", environment=environment)
+            try:
+                left.expect(r"# right comes, session 2\n" + PROMPT)
+                right.expect(PROMPT)
+                right.type("show mo")
+                right.expect("show mo")
+                self.assertIn("# producer 0 data 41\n", left.ask("step 1"))
+                # (the other's move comes above what is typed, which stays)
+                right.expect(r"# left: step 1 -> ok at 1, producer 0 data 41\n\(rdbg 0\) show mo")
+                self.assertIn("moves 1 undone 0 kept 1", right.ask("ves"))
+                left.ask("wheel take")
+                right.expect(r"# left: wheel take -> ok wheel\n" + PROMPT)
+                self.assertIn("# left has the wheel: '# wheel' asks for it", right.ask("step 0"))
+                self.assertIn("# right asks for the wheel", right.ask("# wheel"))
+                left.expect(r"# right asks for the wheel\n" + PROMPT)
+                left.ask("wheel give")
+                right.expect(r"# left: wheel give -> ok wheel\n" + PROMPT)
+                self.assertIn("ok wheel", right.ask("wheel take"))
+                for terminal in (left, right):
+                    terminal.type("\x04")
+                    self.assertEqual(terminal.end(), 0)
+            finally:
+                left.kill()
+                right.kill()
+            self.assertEqual(here.end(), 0)
+
+    def test_a_filter(self) -> None:
+        lines = "set moves on\nstep producer\n# core 1 is faster\n# who\nforward 2\nback 1\n"
+        with room() as here:
+            words = ["sh", "--port", str(here.port), "--name", "left", LOST]
+            ran = subprocess.run(
+                [sys.executable, "-B", str(COMPANION), *words],
+                input=lines,
+                stdout=subprocess.PIPE,
+                stderr=subprocess.PIPE,
+                text=True,
+            )
+            self.assertEqual(ran.stderr, "")
+            self.assertEqual(
+                [line.partition(" (")[0].partition(",")[0] for line in ran.stdout.splitlines()],
+                [
+                    "# you are left",
+                    "ok at 1",
+                    "# producer 0 data 41",
+                    "# here: left",
+                    "ok at 3",
+                    "# 2  tick 1",
+                    "# 3  core 0  worker 0 recv jobs max",
+                    "ok at 2",
+                    "# at 2",
+                ],
+            )
+
+    def test_a_name_that_is_here(self) -> None:
+        with room() as here, Caller(here.port, "left"):
+            words = [sys.executable, "-B", str(COMPANION), "sh", "--port", str(here.port), "--name"]
+            for name, why in (("left", "left is here already"), ("L", "'L' can't be a name: ")):
+                ran = subprocess.run([*words, name], stderr=subprocess.PIPE, text=True)
+                self.assertEqual(ran.returncode, 2)
+                self.assertIn(f"rdbg sh: the server at port {here.port}: {why}", ran.stderr)
+
+
+if __name__ == "__main__":
+    unittest.main()
