@@ -12,7 +12,8 @@ class Ends(unittest.TestCase):
     """How a room ends, and what is left of the talk."""
 
     def test_signals(self) -> None:
-        for number in (signal.SIGINT, signal.SIGTERM, signal.SIGHUP):
+        hangup = [] if signal.getsignal(signal.SIGHUP) is signal.SIG_IGN else [signal.SIGHUP]
+        for number in (signal.SIGINT, signal.SIGTERM, *hangup):
             with self.subTest(number), talk() as file:
                 with room("--talk", str(file), sessions=2) as here:
                     with Caller(here.port, "left") as left:

@@ -8,6 +8,7 @@ from typing import Optional, Sequence
 from rdbg.companions.sh import bounded, port, read
 from rdbg.failure import Failure
 from rdbg.rooms.host import MOST_SESSIONS
+from rdbg.rooms.program import HISTORY
 from rdbg.rooms.port import Port, listening
 from rdbg.rooms.room import Room
 from rdbg.rooms.talk import Talk, opened
@@ -49,7 +50,9 @@ def parser() -> argparse.ArgumentParser:
         help=f"for how many at a time, 1 to {MOST_SESSIONS}",
     )
     made.add_argument("--moves", type=bounded(1), metavar="N", help="how many moves may be done")
-    made.add_argument("--history", type=bounded(2), metavar="N", help="entries of the history")
+    made.add_argument(
+        "--history", type=bounded(2), metavar="N", help=f"entries of a history, else {HISTORY}"
+    )
     return made
 
 
@@ -89,7 +92,7 @@ def main(words: Sequence[str]) -> int:
     given = parser().parse_args(words)
     source = read(given.file)
     assert source is not None
-    limits = Limits(given.moves or Limits.moves, given.history or Limits.history)
+    limits = Limits(given.moves or Limits.moves, given.history or HISTORY)
     if limits.history < 4 * given.sessions:
         least = 4 * given.sessions
         raise Failure(f"--history is {least} at the least for {given.sessions} sessions", 2)

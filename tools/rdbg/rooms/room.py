@@ -5,7 +5,7 @@ from typing import Callable, Dict, List, Optional, Set
 from rdbg.commands import MOST_BYTES, Command
 from rdbg.rooms import remarks
 from rdbg.rooms.host import MOST_SESSIONS, Audit, Ended, Host
-from rdbg.rooms.program import SCARCE, Program
+from rdbg.rooms.program import HISTORY, SCARCE, Program
 from rdbg.rooms.seats import Refusal, Seat, Seats, check
 from rdbg.rooms.sight import is_single
 from rdbg.rooms.talk import Talk
@@ -100,7 +100,7 @@ class Room:
     def open(
         cls,
         source: Source,
-        limits: Limits = Limits(),
+        limits: Limits = Limits(history=HISTORY),
         sessions: int = MOST_SESSIONS,
         talk: Optional[Talk] = None,
     ) -> "Room":
@@ -295,8 +295,12 @@ class Room:
     def remark(self, member: Member, line: str) -> None:
         """Does a line that begins with `#`."""
         with self._turns:
-            if member.is_here:
-                self._keep(member.name, line, remarks.do(self, member, line))
+            if not member.is_here:
+                return
+            name, was_told = member.name, member.is_told
+            answer = remarks.do(self, member, line)
+            if was_told or not member.is_told:  # (else it is kept that somebody comes)
+                self._keep(name, line, answer)
 
     def who(self) -> str:
         """Who is here, who is away, and who has the wheel."""

@@ -112,6 +112,8 @@ def greet(shell: "Shell") -> None:
     if not shell.target.is_own:
         what = f"attached, {what}" if shell.source else "attached"
     shell.say(f"{what}; `help` lists the words, Tab completes, Ctrl-D ends")
+    if shell.notices.is_room:
+        shell.say("`# who`, `# say TEXT` and `# wheel` are for the room")
     if shell.target.application is None:
         shell.say("the scripts aren't known without their file: `rdbg sh --port P FILE` shows them")
     shell.line("where")
