@@ -9,7 +9,7 @@ from rdbg import commands
 from rdbg.client import Session
 from rdbg.replies import read
 from rdbg.rooms.journal import Journal
-from rdbg.rooms.room import Member, Refusal, Room
+from rdbg.rooms.room import Ended, Member, Refusal, Room
 from rdbg.rooms.talk import field
 from rdbg.rooms.turns import Turns
 from rdbg.shell.target import Limits
@@ -131,6 +131,25 @@ class Names(unittest.TestCase):
             again, _ = come(here)
             self.assertEqual((again.name, again.ask("show watches")), ("guest1", "watches -"))
             self.assertEqual(come(here, "left")[0].session, left.session)
+            # (a guest who says its own name is that one)
+            again.ask("watch tick = 2")
+            again.leave()
+            back, _ = come(here, "guest1")
+            self.assertEqual(back.ask("show watches"), "watches 0:fails")
+            back.leave()
+            self.assertEqual(come(here)[0].ask("show watches"), "watches -")
+
+    def test_a_room_that_has_ended(self) -> None:
+        here = Room.open(load(LOST), sessions=2)
+        left, heard = come(here, "left")
+        self.assertEqual([it.is_good for it in here.close()], [True])
+        self.assertEqual(heard[-1], "# the room has ended: closed 4")
+        with self.assertRaises(Ended):
+            left.ask("tick")
+        with self.assertRaisesRegex(Refusal, "the room has ended"):
+            come(here, "right")
+        left.remark("# who")
+        left.leave()
 
 
 class Told(unittest.TestCase):

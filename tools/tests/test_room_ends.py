@@ -1,11 +1,28 @@
 """How a room ends, and what is left of the talk then."""
+import contextlib
+import io
 import os
 import signal
+import socket
 import subprocess
 import unittest
 from typing import List, Tuple
 
-from tests.rooms import LOST, Caller, Process, room, rows, talk
+from rdbg.main import main
+from tests.rooms import LOST, Caller, Process, free_port, room, rows, talk, until
+
+
+def children(process: int, count: int) -> List[str]:
+    """The processes that a process has started, once there are so many."""
+    found: List[str] = []
+
+    def are_there() -> bool:
+        words = ["ps", "--ppid", str(process), "-o", "pid="]
+        found[:] = subprocess.run(words, stdout=subprocess.PIPE, text=True).stdout.split()
+        return len(found) == count
+
+    until(are_there)
+    return found
 
 
 class Ends(unittest.TestCase):
@@ -58,23 +75,37 @@ class Ends(unittest.TestCase):
             self.assertEqual(lines, [["left", "tick", "ok at 1"], ["right", "tick", "ok at 1"]])
 
     def test_what_can_not_be_had(self) -> None:
-        with room(sessions=1) as here:
-            refused: Tuple[Tuple[List[str], str, int], ...] = (
-                ([], f"cannot listen at port {here.port}: Address already in use", 2),
-                (["--talk", "/nowhere/talk"], "cannot write /nowhere/talk: No such file", 2),
-                (["--talk", "/dev/full"], "cannot write /dev/full: No space left on device", 2),
-                (["--sessions", "65"], "1 to 64, not '65'", 2),
-                (["--history", "200"], "--history is 256 at the least for 64 sessions", 2),
+        with socket.socket() as taken:
+            taken.bind(("127.0.0.1", 0))
+            port = taken.getsockname()[1]
+            file = ["room", LOST, "--port"]
+            refused: Tuple[Tuple[List[str], str], ...] = (
+                ([str(port)], f"cannot listen at port {port}: Address already in use"),
+                (["7", "--history", "200"], "--history is 256 at the least for 64 sessions"),
+                (
+                    [str(free_port()), "--talk", "/nowhere/talk"],
+                    "cannot write /nowhere/talk: No su",
+                ),
+                (
+                    [str(free_port()), "--talk", "/dev/full"],
+                    "cannot write /dev/full: No space left",
+                ),
             )
-            for words, why, status in refused:
-                other = Process(words, LOST, None if words else here.port)
-                self.assertEqual(other.end(0), status, why)
-                self.assertIn(why, other.errors)
+            for words, why in refused:
+                errors = io.StringIO()
+                with contextlib.redirect_stderr(errors):
+                    self.assertEqual(main([*file, *words]), 2, why)
+                self.assertIn(f"rdbg room: {why}", errors.getvalue())
+
+    def test_one_that_is_ended_before_it_listens(self) -> None:
+        found = Process([], LOST)
+        (child,) = children(found.process.pid, 1)
+        self.assertNotEqual(found.end(signal.SIGTERM), 0)
+        until(lambda: not os.path.exists(f"/proc/{child}"))
 
     def test_a_program_that_ends_before(self) -> None:
         with room(sessions=2) as here, Caller(here.port, "left") as left:
-            words = ["ps", "--ppid", str(here.process.pid), "-o", "pid="]
-            (child,) = subprocess.run(words, stdout=subprocess.PIPE, text=True).stdout.split()
+            (child,) = children(here.process.pid, 1)
             os.kill(int(child), signal.SIGKILL)
             left.send("tick")
             left.expect("# rdbg has ended")

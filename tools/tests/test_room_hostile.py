@@ -10,7 +10,7 @@ from unittest import mock
 
 from rdbg.rooms import client
 from rdbg.rooms.port import MOST, Port, listening
-from rdbg.rooms.room import Room
+from rdbg.rooms.room import Member, Room
 from rdbg.source import load
 from tests.rooms import LOST, Caller, free_port, until
 
@@ -76,7 +76,9 @@ class Hostile(unittest.TestCase):
                 left.expect(f"# deaf is away, with the wheel (dropped: {word})")
 
     def test_one_that_reads_late(self) -> None:
-        with mock.patch.object(client, "MOST_UNREAD", FEW):
+        with mock.patch.object(client, "MOST_UNREAD", FEW), mock.patch.object(
+            Member, "check_pace", lambda _: None
+        ):
             with served() as (port, room), Caller(port, "left") as left, deaf(port) as other:
                 other.sendall(b"# name late\n")
                 left.expect("# late comes")
@@ -113,6 +115,16 @@ class Hostile(unittest.TestCase):
             finally:
                 ended.set()
                 thread.join()
+
+    def test_remarks_by_the_hundred(self) -> None:
+        with served() as (port, _), Caller(port, "left") as left, Caller(port, "loud") as loud:
+            loud.send(*[f"# say {number}" for number in range(300)])
+            loud.expect("# no: all are told 20 remarks of one in a second, and no more")
+            loud.send("tick")
+            told: List[str] = []
+            while not told or not told[-1].startswith("# loud: tick"):
+                told.append(left.expect("# loud"))
+            self.assertLess(len(told), 150)
 
     def test_many_connections(self) -> None:
         with served() as (port, room), Caller(port, "left") as left:

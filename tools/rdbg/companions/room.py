@@ -57,10 +57,12 @@ def parser() -> argparse.ArgumentParser:
 
 
 class Signals:
-    """Ctrl-C and SIGTERM end a port, and where they come again and again, the process."""
+    """Ctrl-C and SIGTERM end a port once it is there; before, and where they come again and again,
+    the process."""
 
-    def __init__(self, port: Port) -> None:
-        self._port, self._count = port, 0
+    def __init__(self) -> None:
+        self.port: Optional[Port] = None
+        self._count = 0
         for number in (signal.SIGINT, signal.SIGTERM):
             signal.signal(number, self._came)
         if signal.getsignal(signal.SIGHUP) is not signal.SIG_IGN:  # (as below nohup)
@@ -68,16 +70,20 @@ class Signals:
 
     def _came(self, number: int, frame: Optional[FrameType]) -> None:
         self._count += 1
-        if self._count >= ENOUGH:
+        if self.port is None or self._count >= ENOUGH:
             raise KeyboardInterrupt
-        self._port.stop()
+        self.port.stop()
 
 
 def serve(room: Room, port: Port, talk: Optional[Talk]) -> int:
     """Serves until a signal comes or the program ends, and answers the status."""
     room.when_over = port.stop
-    port.serve()
-    audits = room.close()
+    try:
+        port.serve()
+        audits = room.close()
+    except BaseException:
+        room.kill()
+        raise
     port.close()
     for audit in audits:
         print(audit.text(), file=sys.stdout if audit.is_good else sys.stderr)
@@ -98,9 +104,9 @@ def main(words: Sequence[str]) -> int:
         raise Failure(f"--history is {least} at the least for {given.sessions} sessions", 2)
     listener = listening(given.port)
     talk = opened(given.talk)
+    signals = Signals()
     room = Room.open(source, limits, given.sessions, talk)
-    port = Port(room, listener)
-    Signals(port)
+    signals.port = port = Port(room, listener)
     print(f"listening {given.port}", flush=True)
     if sys.stdout.isatty():
         print(f"# rdbg sh --port {given.port} --name NAME {given.file}: a prompt in it", flush=True)

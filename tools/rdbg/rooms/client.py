@@ -29,7 +29,9 @@ class Client:
             connection.setsockopt(socket.IPPROTO_TCP, socket.TCP_NODELAY, 1)
             connection.setsockopt(socket.SOL_SOCKET, socket.SO_SNDBUF, READ)
         self.lines: Deque[bytes] = collections.deque()
-        self.is_too_long = self.has_ended = self.is_broken = self.is_ending = False
+        self.has_ended = self.is_broken = self.is_ending = False
+        # (the line that was too long, or its beginning)
+        self.too_long = b""
         # Why it is dropped, where it is.
         self.word = ""
         self._tail = b""
@@ -82,14 +84,14 @@ class Client:
             return True
         if self.lines:
             return not self.is_slow
-        return self.is_too_long or self.has_ended
+        return bool(self.too_long) or self.has_ended
 
     @property
     def wants_to_read(self) -> bool:
         """Whether more of it can be read."""
         if self.is_ending:
             return not self.has_ended
-        return not (self.lines or self.is_too_long or self.has_ended or self.is_slow)
+        return not (self.lines or self.too_long or self.has_ended or self.is_slow)
 
     @property
     def wants_to_write(self) -> bool:
@@ -117,10 +119,11 @@ class Client:
         *whole, self._tail = (self._tail + content).split(b"\n")
         for line in whole:
             if len(line) > MOST_BYTES:
-                self.is_too_long = True
+                self.too_long = line[: MOST_BYTES + 1]
                 return
             self.lines.append(line)
-        self.is_too_long = len(self._tail) > MOST_BYTES
+        if len(self._tail) > MOST_BYTES:
+            self.too_long = self._tail[: MOST_BYTES + 1]
 
     def write(self) -> None:
         """Sends what it takes."""

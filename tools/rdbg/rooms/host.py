@@ -43,17 +43,27 @@ class Host:
     def start(cls, source: Source, limits: Limits, count: int = MOST_SESSIONS) -> "Host":
         """Starts it on an application as it was read. Ctrl-C at the terminal doesn't reach it.
         Raises `Failure` where it can't be started."""
+        said = ""
         with as_read(source) as path:
             for _ in range(TRIES):
                 port = free_port()
                 words = ["--app", path, "--port", str(port), "--sessions", str(count)]
                 host = cls._begin([program(), "serve", *words, *limits.words()])
-                if host._listens() and host._take(port, count):
-                    return host
-                said = host.kill()
-                if said and TAKEN not in said:
-                    raise Failure(said)
-        raise Failure("no port for rdbg serve could be had, or another came to it first")
+                try:
+                    if host._listens():
+                        host._take(port, count)
+                        return host
+                    said = host.kill()
+                except Failure as failure:
+                    host.kill()
+                    said = f"another came to port {port} first: {failure}"
+                    continue
+                except BaseException:
+                    host.kill()
+                    raise
+                if TAKEN not in said:
+                    break
+        raise Failure(said or "rdbg serve ended at once")
 
     @classmethod
     def _begin(cls, words: List[str]) -> "Host":
@@ -75,17 +85,13 @@ class Host:
         """Waits until it listens; false where it ends before."""
         return self._said.readline().startswith(b"listening")
 
-    def _take(self, port: int, count: int) -> bool:
-        """Takes all sessions, one after the other, so that their numbers are known; false where
-        somebody else was let in."""
+    def _take(self, port: int, count: int) -> None:
+        """Takes all sessions, one after the other, so that their numbers are known. Raises
+        `Failure` where somebody else was let in."""
         for _ in range(count):
-            try:
-                session = Session.attach(port)
-                self._sessions.append(session)
-                greet(session)
-            except Failure:
-                return False
-        return True
+            session = Session.attach(port)
+            self._sessions.append(session)
+            greet(session)
 
     def session(self, number: int) -> Session:
         """The session of a number."""

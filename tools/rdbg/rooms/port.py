@@ -11,12 +11,14 @@ from rdbg.commands import MOST_BYTES
 from rdbg.failure import Failure
 from rdbg.rooms.client import Client
 from rdbg.rooms.host import Ended
-from rdbg.rooms.room import TOO_LONG, Member, Refusal, Room
+from rdbg.rooms.room import Member, Refusal, Room
 
 # So many connections there are at the most, and so many lines of one are answered in a turn.
 MOST, SHARE = 128, 64
 # So many seconds a connection may wait before it is told to others as a guest.
 MOMENT = 1.0
+# So many seconds it rests where a connection can't be had, for want of descriptors mostly.
+BREATH = 0.02
 # So many seconds are waited at the end for those who read what they were told.
 PATIENCE = 2.0
 
@@ -123,6 +125,7 @@ class Port:
         try:
             connection, _ = self._listener.accept()
         except OSError:
+            time.sleep(BREATH)
             return
         client = Client(connection, self._touch)
         if len(self._guests) >= MOST:
@@ -176,8 +179,8 @@ class Port:
             self._end(guest, client.word)
         elif client.is_broken:
             self._end(guest)
-        elif not client.lines and client.is_too_long:
-            client.answer(TOO_LONG)
+        elif not client.lines and client.too_long:
+            self._ask(guest, client.too_long)
             self._end(guest, f"a line has at most {MOST_BYTES} bytes")
         elif not client.lines and client.has_ended:
             self._end(guest)
@@ -195,7 +198,13 @@ class Port:
         elif words and words[0].startswith("#"):
             guest.member.remark(text)
         else:
-            guest.client.answer(guest.member.ask(text))
+            self._ask(guest, line)
+
+    def _ask(self, guest: Guest, line: bytes) -> None:
+        """Answers a line of rdbg's, or one that is too long to be any."""
+        if guest.member is not None:
+            guest.member.announce()
+            guest.client.answer(guest.member.ask(line.decode("utf-8", "replace")))
 
     def _come(self, guest: Guest, words: List[str]) -> None:
         """Somebody comes by a name where no guest is let in."""

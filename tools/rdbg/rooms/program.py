@@ -173,6 +173,10 @@ class Program:
         for thread in self._ending:
             thread.join()
 
+    def kill(self) -> None:
+        """Ends it at once."""
+        self._host.kill()
+
     def close(self) -> Audit:
         """Ends it, and answers its audit."""
         return self._host.close()

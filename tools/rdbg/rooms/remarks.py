@@ -51,6 +51,8 @@ def do(room: "Room", member: "Member", line: str) -> str:
         found = DO.get(word)
         if found is None:
             raise Refusal(f"a line that begins with # is {WORDS}")
+        if found is not who:
+            member.check_pace()
         return found(room, member, rest.strip())
     except Refusal as refusal:
         member.hear(f"# no: {refusal}")

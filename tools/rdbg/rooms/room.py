@@ -1,6 +1,8 @@
 """Several, each by a name, at one program that serves: what each of them asks, and what all are
 told."""
-from typing import Callable, Dict, List, Optional, Set
+import collections
+import time
+from typing import Callable, Deque, Dict, List, Optional, Set
 
 from rdbg.commands import MOST_BYTES, Command
 from rdbg.rooms import remarks
@@ -20,6 +22,8 @@ __all__ = ["Ended", "Member", "Refusal", "Room"]
 Hear = Callable[[str], None]
 TOO_LONG, NO_COMMAND = "no LineTooLong", "no Syntax"
 HELD, FULL = "no Held", "no HistoryFull"
+# So many remarks of one are told to all in a second.
+MOST_TOLD = 20
 # It is said when so little of the history is left, one part of so many.
 NEARLY = (SCARCE, 100)
 
@@ -30,6 +34,8 @@ class Member:
     def __init__(self, room: "Room", seat: Seat, hear: Hear, is_told: bool) -> None:
         self._room, self.seat, self.hear, self.is_told = room, seat, hear, is_told
         self.is_here = True
+        # (when it last told all something by a remark)
+        self._told_at: Deque[float] = collections.deque(maxlen=MOST_TOLD)
 
     @property
     def name(self) -> str:
@@ -58,6 +64,13 @@ class Member:
         """Tells the others who has come, where they weren't told yet."""
         self._room.announce(self)
 
+    def check_pace(self) -> None:
+        """Raises `Refusal` where it has told all too much within a second."""
+        now = time.monotonic()
+        if len(self._told_at) == MOST_TOLD and now - self._told_at[0] < 1:
+            raise Refusal(f"all are told {MOST_TOLD} remarks of one in a second, and no more")
+        self._told_at.append(now)
+
     def leave(self, why: str = "") -> None:
         """Is away: the session stays for who comes by this name."""
         self._room.leave(self, why)
@@ -70,7 +83,7 @@ class Room:
         self, host: Host, source: Source, limits: Limits, talk: Optional[Talk] = None
     ) -> None:
         self.app_source = source
-        # Is called once the program has ended by itself.
+        # Is called once the program has ended by itself. Nothing is answered then, nor at the end.
         self.when_over: Callable[[], None] = lambda: None
         self.is_over = False
         self._program, self._seats, self._talk = (
@@ -111,11 +124,14 @@ class Room:
         """Somebody comes, by a name, or by none as a guest; who isn't told to the others yet is
         by `announce`. Raises `Refusal`."""
         with self._turns:
+            if self.is_over:
+                raise Refusal("the room has ended")
             seat = self._seats.find(name)
             called = name or self._seats.guest_name()
-            self._hand_over(seat, called)
+            if seat.name and (name is None or seat.name != name):
+                self._hand_over(seat)
             member = Member(self, seat, hear, False)
-            self._seats.sit(seat, called, name is None)
+            self._seats.sit(seat, called)
             self._members[seat.number] = member
             self._asked.clear()
             self._greet(member)
@@ -140,16 +156,15 @@ class Room:
         self._keep(member.name, "#", f"comes, session {member.session}")
         self.tell(f"{member.name} comes, session {member.session}", but=member)
 
-    def _hand_over(self, seat: Seat, name: str) -> None:
-        """Takes a session from who is away, for another name; of a guest what was kept goes too,
-        for the next guest is another one."""
-        if not seat.name or (seat.name == name and not seat.is_guest):
-            return
+    def _hand_over(self, seat: Seat) -> None:
+        """Takes a session from who is away, for another one, with what was kept there."""
+        has = self._program.holder == seat.number
         lines = [f"unwatch {number}" for number in sorted(seat.watches)]
-        for line in lines + (["wheel give"] if self._program.holder == seat.number else []):
+        for line in lines + (["wheel give"] if has else []):
             self._program.ask(seat, line)
-        if not seat.is_guest:
-            self.tell(f"{seat.name}, who is away, has no session any more")
+        if not seat.is_guest or has:
+            free = ", and the wheel is free" if has else ""
+            self.tell(f"{seat.name}, who is away, has no session any more{free}")
         self._seats.clear(seat)
 
     def rename(self, member: Member, name: str) -> None:
@@ -169,8 +184,8 @@ class Room:
             member.seat = found
             self._members[found.number] = member
             if not member.is_told:
-                self._hand_over(seat, "")
-        self._seats.sit(member.seat, name, False)
+                self._hand_over(seat)
+        self._seats.sit(member.seat, name)
         self._greet(member)
         if not member.is_told:
             self._announce(member)
@@ -199,6 +214,8 @@ class Room:
         with self._turns:
             if not member.is_here:
                 raise Refusal(f"{member.name} has left")
+            if self.is_over:
+                raise Ended("the room has ended")
             try:
                 reply = self._answer(member, line)
             except Ended:
@@ -295,7 +312,7 @@ class Room:
     def remark(self, member: Member, line: str) -> None:
         """Does a line that begins with `#`."""
         with self._turns:
-            if not member.is_here:
+            if not member.is_here or self.is_over:
                 return
             name, was_told = member.name, member.is_told
             answer = remarks.do(self, member, line)
@@ -341,12 +358,17 @@ class Room:
         before it whose history was full."""
         self._program.wait()
         with self._turns:
+            self.is_over = True
             audit = self._program.close()
             self._keep("room", "#", audit.text())
             self.tell(f"the room has ended: {audit.text()}")
             if self._talk is not None:
                 self._talk.close()
             return [*self._audits, audit]
+
+    def kill(self) -> None:
+        """Ends the program at once, without its audit."""
+        self._program.kill()
 
 
 def printed(text: str) -> str:

@@ -1,5 +1,6 @@
 """Who has which session of the program: names, guests, who is here and who is away."""
 import itertools
+import re
 from typing import Dict, Iterator, List, Optional
 
 from rdbg.commands import is_name
@@ -95,9 +96,10 @@ class Seats:
             raise Refusal(f"all {len(seats)} sessions are taken by who is here")
         return min(away, key=lambda it: (bool(it.name), not it.is_guest, it.left, it.number))
 
-    def sit(self, seat: Seat, name: str, is_guest: bool) -> None:
-        """Somebody comes."""
-        seat.name, seat.is_here, seat.is_guest = name, True, is_guest
+    def sit(self, seat: Seat, name: str) -> None:
+        """Somebody comes, or goes on by another name."""
+        seat.name, seat.is_here = name, True
+        seat.is_guest = re.fullmatch(rf"{GUEST}\d+", name) is not None
 
     def leave(self, seat: Seat) -> None:
         """Who has a session is away."""
