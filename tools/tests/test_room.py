@@ -1,7 +1,9 @@
 """Several at one room, without a port: names, sessions, what all are told, the wheel, and what is
 answered from memory."""
 import contextlib
+import pathlib
 import random
+import tempfile
 import unittest
 from typing import Iterator, List, Optional, Tuple
 
@@ -189,6 +191,17 @@ class Told(unittest.TestCase):
                 self.assertTrue(heard[0].startswith(f"# left: {line} -> {reply}"), heard)
                 self.assertNotIn("no ", reply)
             self.assertEqual(len(heard), 1)
+
+    def test_a_text_in_lines(self) -> None:
+        with tempfile.TemporaryDirectory() as folder:
+            file = pathlib.Path(folder) / "one.fw"
+            file.write_text("cores 1\nqueue q length 1 item 1\ntask t priority 1\n  send(q, 0);\n  end\n")
+            with room(2, str(file)) as here:
+                left, heard = come(here, "left")
+                left.ask("step 0")
+                self.assertEqual(
+                    heard[-1], "# left: step 0 -> ok at 1, t 0 send(q, 0) -> 1, q 1/1"
+                )
 
     def test_the_last_moves_of_a_long_run(self) -> None:
         with room() as here:

@@ -5,6 +5,7 @@ import os
 import signal
 import socket
 import subprocess
+import time
 import unittest
 from typing import List, Tuple
 
@@ -102,6 +103,17 @@ class Ends(unittest.TestCase):
         (child,) = children(found.process.pid, 1)
         self.assertNotEqual(found.end(signal.SIGTERM), 0)
         until(lambda: not os.path.exists(f"/proc/{child}"))
+
+    def test_one_whose_program_answers_no_more(self) -> None:
+        with room(sessions=2) as here, Caller(here.port, "left") as left:
+            (child,) = children(here.process.pid, 1)
+            os.kill(int(child), signal.SIGSTOP)
+            left.send("tick")
+            for _ in range(3):
+                time.sleep(0.2)
+                here.process.send_signal(signal.SIGINT)
+            self.assertEqual(here.end(0), 130)
+            until(lambda: not os.path.exists(f"/proc/{child}"))
 
     def test_a_program_that_ends_before(self) -> None:
         with room(sessions=2) as here, Caller(here.port, "left") as left:

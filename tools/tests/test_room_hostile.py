@@ -146,6 +146,10 @@ class Hostile(unittest.TestCase):
         except (AssertionError, ConnectionError):
             return False
 
+    def test_nobody_comes_from_elsewhere(self) -> None:
+        with listening(free_port()) as found:
+            self.assertEqual(found.getsockname()[0], "127.0.0.1")
+
     def test_one_that_breaks_off(self) -> None:
         with served() as (port, room), Caller(port, "left") as left:
             for _ in range(20):

@@ -8,6 +8,7 @@ import unittest
 from tests.paths import COMPANION
 from tests.rooms import LOST, Caller, room
 from tests.shell_terminal import PROMPT, Terminal
+from tests.test_shell_port import server
 
 
 class Prompts(unittest.TestCase):
@@ -44,6 +45,37 @@ class Prompts(unittest.TestCase):
                 left.kill()
                 right.kill()
             self.assertEqual(here.end(), 0)
+
+    def test_a_lost_terminal_comes_back(self) -> None:
+        with room() as here, Caller(here.port, "right") as right:
+            environment = {"RDBG_HISTORY": ""}
+            words = ["--port", str(here.port), LOST, "--name", "left"]
+            left = Terminal(*words, environment=environment)
+            try:
+                left.expect(PROMPT)
+                self.assertIn("ok wheel", left.ask("wheel take"))
+                self.assertIn("ok watch 0", left.ask("break count jobs > 0"))
+            finally:
+                left.kill()
+            right.expect("# left is away, with the wheel")
+            self.assertEqual(right.ask("step 0"), "no Held 2")
+            again = Terminal(*words, environment=environment)
+            try:
+                again.expect(PROMPT)
+                self.assertIn("watches 0:fails", again.ask("show watches"))
+                self.assertIn("ok at 1", again.ask("step producer"))
+            finally:
+                again.kill()
+
+    def test_a_server_that_is_no_room(self) -> None:
+        with server() as (port, _):
+            words = ["sh", "--port", str(port), "--name", "left"]
+            ran = subprocess.run(
+                [sys.executable, "-B", str(COMPANION), *words], stderr=subprocess.PIPE, text=True
+            )
+            self.assertEqual(ran.returncode, 2)
+            why = f"the server at port {port} knows no names: it isn't of rdbg room"
+            self.assertEqual(ran.stderr, f"rdbg sh: {why}\n")
 
     def test_a_filter(self) -> None:
         lines = "set moves on\nstep producer\n# core 1 is faster\n# who\nforward 2\nback 1\n"
