@@ -1,6 +1,5 @@
 """A room as its users have it: a process with a port, and programs that open connections to it."""
 import contextlib
-import os
 import pathlib
 import signal
 import socket
@@ -146,8 +145,3 @@ def until(true: "object", patience: float = PATIENCE) -> None:
         if time.monotonic() > end:
             raise AssertionError("it doesn't come")
         time.sleep(0.01)
-
-
-def descriptors(process: int) -> int:
-    """How many descriptors a process has open."""
-    return len(os.listdir(f"/proc/{process}/fd"))

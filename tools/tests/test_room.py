@@ -195,13 +195,13 @@ class Told(unittest.TestCase):
     def test_a_text_in_lines(self) -> None:
         with tempfile.TemporaryDirectory() as folder:
             file = pathlib.Path(folder) / "one.fw"
-            file.write_text("cores 1\nqueue q length 1 item 1\ntask t priority 1\n  send(q, 0);\n  end\n")
+            file.write_text(
+                "cores 1\nqueue q length 1 item 1\ntask t priority 1\n  send(q, 0);\n  end\n"
+            )
             with room(2, str(file)) as here:
                 left, heard = come(here, "left")
                 left.ask("step 0")
-                self.assertEqual(
-                    heard[-1], "# left: step 0 -> ok at 1, t 0 send(q, 0) -> 1, q 1/1"
-                )
+                self.assertEqual(heard[-1], "# left: step 0 -> ok at 1, t 0 send(q, 0) -> 1, q 1/1")
 
     def test_the_last_moves_of_a_long_run(self) -> None:
         with room() as here:

@@ -2,9 +2,9 @@
 import contextlib
 import io
 import os
+import pathlib
 import signal
 import socket
-import subprocess
 import time
 import unittest
 from typing import List, Tuple
@@ -13,17 +13,26 @@ from rdbg.main import main
 from tests.rooms import LOST, Caller, Process, free_port, room, rows, talk, until
 
 
-def children(process: int, count: int) -> List[str]:
-    """The processes that a process has started, once there are so many."""
+def parent_of(process: str) -> str:
+    """The process that has started a process; none where that has ended."""
+    try:
+        status = pathlib.Path(f"/proc/{process}/stat").read_text()
+    except OSError:
+        return ""
+    return status.rpartition(")")[2].split()[1]
+
+
+def child_of(process: int) -> str:
+    """The process that a process has started, once it has."""
     found: List[str] = []
 
-    def are_there() -> bool:
-        words = ["ps", "--ppid", str(process), "-o", "pid="]
-        found[:] = subprocess.run(words, stdout=subprocess.PIPE, text=True).stdout.split()
-        return len(found) == count
+    def is_there() -> bool:
+        them = [it for it in os.listdir("/proc") if it.isdigit()]
+        found[:] = [it for it in them if parent_of(it) == str(process)]
+        return len(found) == 1
 
-    until(are_there)
-    return found
+    until(is_there)
+    return found[0]
 
 
 class Ends(unittest.TestCase):
@@ -100,13 +109,13 @@ class Ends(unittest.TestCase):
 
     def test_one_that_is_ended_before_it_listens(self) -> None:
         found = Process([], LOST)
-        (child,) = children(found.process.pid, 1)
+        child = child_of(found.process.pid)
         self.assertNotEqual(found.end(signal.SIGTERM), 0)
         until(lambda: not os.path.exists(f"/proc/{child}"))
 
     def test_one_whose_program_answers_no_more(self) -> None:
         with room(sessions=2) as here, Caller(here.port, "left") as left:
-            (child,) = children(here.process.pid, 1)
+            child = child_of(here.process.pid)
             os.kill(int(child), signal.SIGSTOP)
             left.send("tick")
             for _ in range(3):
@@ -117,7 +126,7 @@ class Ends(unittest.TestCase):
 
     def test_a_program_that_ends_before(self) -> None:
         with room(sessions=2) as here, Caller(here.port, "left") as left:
-            (child,) = children(here.process.pid, 1)
+            child = child_of(here.process.pid)
             os.kill(int(child), signal.SIGKILL)
             left.send("tick")
             left.expect("# rdbg has ended")

@@ -6,7 +6,7 @@ from rdbg.commands import ALL, TARGET, WATCHES, WHEEL, Command
 # So many replies are kept at the most.
 MOST = 20_000
 # Refusals that hang on more than a target and its sessions.
-PASSING = ("no HistoryFull", "no NoMemory")
+PASSING = ("no HistoryFull", "no NoMemory", "no Broken")
 Stamp = Tuple[int, ...]
 
 

@@ -15,8 +15,8 @@ from rdbg.rooms.sight import FEW, Sight
 from rdbg.shell.target import UNCOUNTED, Limits, read, read_line
 from rdbg.source import Source
 
-# A history so long is filled by some 30,000 moves that are told, and takes at most some 250 MiB;
-# then a new program goes on.
+# So many entries have room for some 30,000 moves of a small application, with the looks that tell
+# them; then a new program goes on, and the memory of the old one is free.
 HISTORY = 250_000
 # With so little of the history left, the room looks no more by itself: one part of so many.
 SCARCE = 10

@@ -11,6 +11,8 @@ from rdbg.client import Session
 
 # A move of a run, told in a line of its own behind the line of the run.
 ROW = re.compile(r"# (\d+  |\.\. \d+ moves )")
+# What others did, and the place behind it.
+MOVED = re.compile(r"# \w+: .* -> ok at (\d+)")
 REMARK = re.compile(r"# *(who|wheel|name +\S+|say +\S.*)$")
 
 
@@ -20,10 +22,13 @@ def is_remark(line: str) -> bool:
 
 
 class Notices:
-    """The notices of a session. `show` prints one of what others did, or of what was asked."""
+    """The notices of a session. `show` prints one of what others did, or of what was asked, and
+    `moved` is told to which place others have moved the target."""
 
-    def __init__(self, session: Session, show: Callable[[str], None]) -> None:
-        self._session, self._show = session, show
+    def __init__(
+        self, session: Session, show: Callable[[str], None], moved: Callable[[int], None]
+    ) -> None:
+        self._session, self._show, self._moved = session, show, moved
         self._own: List[str] = []
         self._is_own = False
         session.on_notice = self.hear
@@ -42,6 +47,9 @@ class Notices:
             self._own.append(notice[len("# ") :])
         else:
             self._is_own = False
+            found = MOVED.match(notice)
+            if found:
+                self._moved(int(found[1]))
             self._show(notice)
 
     def told(self, reply: str) -> Tuple[str, List[str]]:

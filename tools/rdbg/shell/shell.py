@@ -51,7 +51,7 @@ class Shell:
         self._shown, self._is_showing = 0.0, False
         target.echo = self._echo
         target.drift = None
-        self.notices = Notices(target.session, self._notice)
+        self.notices = Notices(target.session, self._notice, target.moved_by_others)
 
     def say(self, text: str) -> None:
         """Prints lines of sh's own."""

@@ -202,6 +202,11 @@ class Target:
         if not self.is_own and place != self.place:
             self.drift = (self.drift[0] if self.drift else self.place, place)
 
+    def moved_by_others(self, place: int) -> None:
+        """Others have moved the target, as a room tells."""
+        self.place = place
+        self.changes += 1
+
     def _moved(self, command: commands.Command, moved: replies.Moved) -> None:
         """Keeps account of places, edits and interrupts."""
         word, at = command.form.word, moved.at
