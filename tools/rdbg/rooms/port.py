@@ -13,8 +13,9 @@ from rdbg.rooms.client import Client
 from rdbg.rooms.host import Ended
 from rdbg.rooms.room import Member, Refusal, Room
 
-# So many connections there are at the most, and so many lines of one are answered in a turn.
-MOST, SHARE = 128, 64
+# So many connections there are at the most; of one so many lines are answered in its turn, which
+# takes no longer than so many seconds and a line.
+MOST, SHARE, SLICE = 128, 64, 0.005
 # So many seconds a connection may wait before it is told to others as a guest.
 MOMENT = 1.0
 # So many seconds it rests where a connection can't be had, for want of descriptors mostly.
@@ -157,7 +158,8 @@ class Port:
             client.check()
             if client.has_work:
                 self._answer(guest)
-            if client.has_work or client.is_ending:
+                self._touched.add(client)
+            elif client.is_ending:
                 self._touched.add(client)
 
     def _is_late(self, guest: Guest) -> None:
@@ -170,11 +172,13 @@ class Port:
 
     def _answer(self, guest: Guest) -> None:
         """Answers some lines of a connection, and ends it where it has ended."""
-        client = guest.client
+        client, end = guest.client, time.monotonic() + SLICE
         for _ in range(SHARE):
             if not client.lines or client.is_slow or client.word:
                 break
             self._line(guest, client.lines.popleft())
+            if time.monotonic() > end:
+                break
         if client.word:
             self._end(guest, client.word)
         elif client.is_broken:
