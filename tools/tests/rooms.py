@@ -45,7 +45,7 @@ class Process:
         """Ends it by a signal, or waits where that is 0, and answers its status."""
         if number and self.process.poll() is None:
             self.process.send_signal(number)
-        self.output, self.errors = self.process.communicate(timeout=PATIENCE)
+        self.output, self.errors = self.process.communicate(timeout=2 * PATIENCE)
         return self.process.returncode
 
 

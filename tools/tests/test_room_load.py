@@ -14,8 +14,8 @@ LOOKS = (
 )  # fmt: skip
 MOVES = ("step 0", "step 1", "tick", "back 1", "redo 1", "poke reg worker 3 7")
 # One line of so many makes a move, or is refused one.
-SELDOM = 100
-# It takes some 12 seconds with a program that is built without proof, on a busy machine.
+SELDOM = 300
+# It takes some 10 seconds with a program that is built without proof, on a busy machine more.
 BOUND = 120.0
 
 
@@ -25,23 +25,33 @@ def lines_of(number: int) -> List[str]:
     return [chance.choice(MOVES if chance.randrange(SELDOM) == 0 else LOOKS) for _ in range(LINES)]
 
 
+def replies_to(port: int, name: str, lines: List[str]) -> List[str]:
+    """The replies that somebody gets who asks many lines at a time."""
+    replies: List[str] = []
+    with Caller(port, name) as caller:
+        for at in range(0, len(lines), AT_ONCE):
+            caller.send(*lines[at : at + AT_ONCE])
+            while len(replies) < at + AT_ONCE:
+                if not caller.read():
+                    raise AssertionError(f"the end after {len(replies)} replies")
+                replies += [line for line in caller.lines if line[:1] != "#"]
+                caller.lines.clear()
+    return replies
+
+
 class Load(unittest.TestCase):
     """Many lines by many."""
 
     def test_nothing_is_lost(self) -> None:
         found: Dict[str, Tuple[List[str], List[str]]] = {}
+        wrong: List[str] = []
 
         def talking(number: int) -> None:
             name, lines = f"n{number}", lines_of(number)
-            with Caller(port, name) as caller:
-                replies: List[str] = []
-                for at in range(0, LINES, AT_ONCE):
-                    caller.send(*lines[at : at + AT_ONCE])
-                    while len(replies) < at + AT_ONCE:
-                        caller.read()
-                        replies += [line for line in caller.lines if line[:1] != "#"]
-                        caller.lines.clear()
-            found[name] = (lines, replies)
+            try:
+                found[name] = (lines, replies_to(port, name, lines))
+            except (AssertionError, OSError) as error:
+                wrong.append(f"{name}: {error!r}")
 
         with talk() as file, room("--talk", str(file), sessions=CALLERS) as here:
             port, began = here.port, time.monotonic()
@@ -50,6 +60,7 @@ class Load(unittest.TestCase):
                 thread.start()
             for thread in threads:
                 thread.join()
+            self.assertEqual(wrong, [])
             self.assertLess(time.monotonic() - began, BOUND)
             self.assertEqual(here.end(), 0, here.errors)
             self.assertRegex(here.output, r"^closed \d+\n$")

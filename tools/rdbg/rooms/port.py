@@ -16,8 +16,9 @@ from rdbg.rooms.room import Member, Refusal, Room
 # So many connections there are at the most; of one so many lines are answered in its turn, which
 # takes no longer than so many seconds and a line.
 MOST, SHARE, SLICE = 128, 64, 0.005
-# So many seconds a connection may wait before it is told to others as a guest.
-MOMENT = 1.0
+# So many seconds a connection may wait before it is told to others as a guest, and before it is
+# closed, where there is no session for one more guest.
+MOMENT, NAMELESS = 1.0, 5.0
 # So many seconds it rests where a connection can't be had, for want of descriptors mostly.
 BREATH = 0.02
 # So many seconds are waited at the end for those who read what they were told.
@@ -52,6 +53,11 @@ class Guest:
     def is_waiting(self) -> bool:
         """Whether it has come, and has said nothing yet."""
         return self.member is None or not self.member.is_told
+
+    @property
+    def late(self) -> float:
+        """When it has said nothing for too long."""
+        return self.came + (NAMELESS if self.member is None else MOMENT)
 
 
 class Port:
@@ -111,7 +117,7 @@ class Port:
         if any(it.client.has_work for it in guests) or self._touched:
             return 0.0
         now = time.monotonic()
-        times = [it.came + MOMENT - now for it in guests if it.is_waiting]
+        times = [it.late - now for it in guests if it.is_waiting and not it.client.is_ending]
         seconds = [it.client.seconds_left() for it in guests]
         times += [it for it in seconds if it is not None]
         return max(0.0, min(times)) if times else None
@@ -153,7 +159,7 @@ class Port:
         """Answers some lines of each."""
         now = time.monotonic()
         for client, guest in list(self._guests.items()):
-            if guest.is_waiting and now > guest.came + MOMENT:
+            if guest.is_waiting and now > guest.late:
                 self._is_late(guest)
             client.check()
             if client.has_work:

@@ -1,5 +1,5 @@
 """The talk of a room as a file: who, when, which line, and which reply, a row each."""
-import datetime
+import time
 from typing import IO, Optional
 
 from rdbg.failure import Failure
@@ -26,6 +26,7 @@ class Talk:
         self.path = path
         # Why no more can be written, if so.
         self.fault = ""
+        self._second, self._text = 0, ""
         try:
             self._file: IO[bytes] = open(path, "ab", buffering=0)
             if not self._file.tell():
@@ -37,9 +38,19 @@ class Talk:
         """Adds a row; where that can't be done none is added any more."""
         if self.fault:
             return
-        now = datetime.datetime.now(datetime.timezone.utc)
-        when = now.strftime("%Y-%m-%dT%H:%M:%S.") + f"{now.microsecond // 1_000:03}Z"
-        row = "\t".join([when, who, field(line), field(reply)]).encode("utf-8", "replace") + b"\n"
+        row = "\t".join([self._now(), who, field(line), field(reply)])
+        self._write(row.encode("utf-8", "replace") + b"\n")
+
+    def _now(self) -> str:
+        """The time, in UTC and to the millisecond."""
+        now = time.time()
+        if int(now) != self._second:
+            self._second = int(now)
+            self._text = time.strftime("%Y-%m-%dT%H:%M:%S", time.gmtime(self._second))
+        return f"{self._text}.{int(now * 1_000) % 1_000:03}Z"
+
+    def _write(self, row: bytes) -> None:
+        """Writes a row; where that can't be done none is written any more."""
         try:
             while row:
                 row = row[self._file.write(row) :]
