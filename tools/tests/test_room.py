@@ -230,6 +230,12 @@ class Told(unittest.TestCase):
                 self.assertEqual(left.ask(line), "no Syntax", repr(line))
             self.assertEqual(here.place, 0)
 
+    def test_a_line_for_the_room_without_its_sign(self) -> None:
+        with room(2) as here:
+            left, heard = come(here, "left")
+            self.assertEqual(left.ask("say hello"), "no Syntax")
+            self.assertEqual(heard[-1], "# a line for the room begins with #: `# say`")
+
 
 class Memory(unittest.TestCase):
     """What is answered without the program."""

@@ -233,6 +233,9 @@ class Room:
         sent = line.encode("ascii", "replace").decode()
         command = read_line(sent)
         if command is None:
+            word = sent.split(" ")[0]
+            if word in remarks.DO:
+                member.hear(f"# a line for the room begins with #: `# {word}`")
             return self._program.ask(member.seat, sent)
         reply = self._program.known(member.seat, command)
         if reply is None and command.form.is_look:
