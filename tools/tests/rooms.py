@@ -25,9 +25,9 @@ def free_port() -> int:
 class Process:
     """A room in a process of its own, and what it says at its end."""
 
-    def __init__(self, words: Sequence[str], path: str, port: Optional[int] = None) -> None:
-        self.port = port or free_port()
-        told = [sys.executable, "-B", str(COMPANION), "room", path, "--port", str(self.port)]
+    def __init__(self, words: Sequence[str], path: str, head: Sequence[str] = ()) -> None:
+        self.port = free_port()
+        told = [*head, sys.executable, "-B", str(COMPANION), "room", path, "--port", str(self.port)]
         self.process = subprocess.Popen(
             [*told, *words], stdout=subprocess.PIPE, stderr=subprocess.PIPE, text=True
         )
@@ -50,9 +50,11 @@ class Process:
 
 
 @contextlib.contextmanager
-def room(*words: str, path: str = LOST, sessions: int = 6) -> Iterator[Process]:
-    """A room that listens; it ends with the block."""
-    found = Process([*words, "--sessions", str(sessions)], path)
+def room(
+    *words: str, path: str = LOST, sessions: int = 6, head: Sequence[str] = ()
+) -> Iterator[Process]:
+    """A room that listens, started by what stands in `head`; it ends with the block."""
+    found = Process([*words, "--sessions", str(sessions)], path, head)
     try:
         found.wait()
         yield found

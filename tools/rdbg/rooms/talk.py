@@ -1,4 +1,5 @@
 """The talk of a room as a file: who, when, which line, and which reply, a row each."""
+import contextlib
 import time
 from typing import IO, Optional
 
@@ -50,12 +51,15 @@ class Talk:
         return f"{self._text}.{int(now * 1_000) % 1_000:03}Z"
 
     def _write(self, row: bytes) -> None:
-        """Writes a row; where that can't be done none is written any more."""
+        """Writes a row; where that can't be done none is written any more, and no part of one."""
+        written = 0
         try:
-            while row:
-                row = row[self._file.write(row) :]
+            while written < len(row):
+                written += self._file.write(row[written:])
         except OSError as error:
             self.fault = error.strerror or "it can't be written"
+            with contextlib.suppress(OSError):
+                self._file.truncate(self._file.tell() - written)
 
     def close(self) -> None:
         """Closes it."""
