@@ -273,7 +273,7 @@ class Session:
             if not heard.startswith(NOTICE):
                 raise replies.Unreadable(heard.decode("ascii", "replace").rstrip("\n"))
             self._hear(heard)
-            heads = (REFUSED, "# you are ", "# here: ", f"# {self.name} ")
+            heads = (REFUSED, "# you are ", "# here: ", "# at ", f"# {self.name} ")
             is_answered = heard.decode("utf-8", "replace").startswith(heads)
 
     def waited_for(self) -> Optional[int]:

@@ -214,6 +214,28 @@ class Told(unittest.TestCase):
             self.assertEqual([row[:3] for row in rows[2:]], [f"# {at}" for at in range(5, 10)])
             self.assertEqual(left.ask("show moves"), "moves 9 undone 0 kept 9")
 
+    def test_the_last_moves_for_who_asks(self) -> None:
+        with room() as here:
+            left, _ = come(here, "left")
+            left.ask("wheel take")
+            left.ask("forward 7")
+            left.ask("back 2")
+            right, heard = come(here, "right")
+            for _ in range(2):
+                before = here.free()
+                heard.clear()
+                right.remark("# moves 3")
+                self.assertEqual(heard[0], "# .. 2 moves before these")
+                self.assertEqual([row[:3] for row in heard[1:4]], ["# 3", "# 4", "# 5"])
+                self.assertEqual(heard[4:], ["# at 5; `redo` can make 2 more"])
+            self.assertEqual(here.free(), before)
+            self.assertEqual(left.ask("redo 2"), "ok at 7")
+            left.ask("trim 2")
+            right.remark("# moves")
+            self.assertEqual([row[:3] for row in heard[-3:-1]], ["# 6", "# 7"])
+            right.remark("# moves 21")
+            self.assertEqual(heard[-1], "# no: `# moves COUNT`: 1 to 20")
+
     def test_what_a_terminal_would_take_for_its_own(self) -> None:
         with room() as here:
             left, heard = come(here, "left")

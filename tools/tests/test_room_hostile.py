@@ -119,7 +119,7 @@ class Hostile(unittest.TestCase):
     def test_remarks_by_the_hundred(self) -> None:
         with served() as (port, _), Caller(port, "left") as left, Caller(port, "loud") as loud:
             loud.send(*[f"# say {number}" for number in range(300)])
-            loud.expect("# no: all are told 20 remarks of one in a second, and no more")
+            loud.expect("# no: 20 remarks of one are answered in a second, and no more")
             loud.send("tick")
             told: List[str] = []
             while not told or not told[-1].startswith("# loud: tick"):

@@ -81,7 +81,9 @@ class Prompts(unittest.TestCase):
             self.assertEqual(ran.stderr, f"rdbg sh: {why}\n")
 
     def test_a_filter(self) -> None:
-        lines = "set moves on\nstep producer\n# core 1 is faster\n# who\nforward 2\nback 1\n"
+        lines = (
+            "set moves on\nstep producer\n# core 1 is faster\n# who\nforward 2\nback 1\nmoves 1\n"
+        )
         with room() as here:
             words = ["sh", "--port", str(here.port), "--name", "left", LOST]
             ran = subprocess.run(
@@ -104,6 +106,9 @@ class Prompts(unittest.TestCase):
                     "# 3  core 0  worker 0 recv jobs max",
                     "ok at 2",
                     "# at 2",
+                    "# .. 1 moves before these",
+                    "# 2  tick 1",
+                    "# at 2; `redo` can make 1 more",
                 ],
             )
 

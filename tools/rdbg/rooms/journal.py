@@ -46,6 +46,11 @@ class Journal:
             put(self._done, Run(FORWARD if is_run else " ".join(command.words), count))
         self.place = moved.at
 
+    @property
+    def undone(self) -> int:
+        """How many moves can be made again."""
+        return sum(run.count for run in self._undone)
+
     def __len__(self) -> int:
         """How many lines it takes, or a few less."""
         return len(self._done) + len(self._undone) + 2
@@ -54,8 +59,7 @@ class Journal:
         """The lines that lead from the start to this place, with the same moves to be made again
         and the same records."""
         made = [run.text() for run in [*self._done, *reversed(self._undone)]]
-        undone = sum(run.count for run in self._undone)
-        back = [f"back {undone}"] if undone else []
+        back = [f"back {self.undone}"] if self.undone else []
         return made + back + ([f"trim {self.place - self.base}"] if self.base else [])
 
 

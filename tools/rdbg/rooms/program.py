@@ -11,7 +11,7 @@ from rdbg.rooms.host import Audit, Ended, Host
 from rdbg.rooms.journal import Journal
 from rdbg.rooms.memory import Memory
 from rdbg.rooms.seats import Seat
-from rdbg.rooms.sight import FEW, Sight
+from rdbg.rooms.sight import Sight
 from rdbg.shell.target import UNCOUNTED, Limits, read, read_line
 from rdbg.source import Source
 
@@ -35,6 +35,7 @@ class Program:
         # Who has the wheel.
         self.holder: Optional[int] = None
         self.when_over: Callable[[str], None] = lambda why: None
+        self._rows: Dict[int, List[str]] = {}
         # (an entry of the history is for the coming of each session, and one for its leaving)
         self._used = 2 * len(self.sessions)
         # (programs before this one, whose history was full: each ends in a thread)
@@ -81,6 +82,7 @@ class Program:
             return
         value = read(reply)
         if isinstance(value, replies.Moved):
+            self._rows.clear()
             self.sight.moved(command, value, self.place)
             self.journal.moved(command, value)
         elif isinstance(value, replies.WheelDone):
@@ -109,11 +111,19 @@ class Program:
             self.sight.taken(self.place, self._looks(seat, self.sight.lines))
         return self.sight.last
 
-    def rows(self, seat: Seat, place: int) -> List[str]:
-        """What the last moves of a run from a place did, a row each: they are taken back, and made
-        again with looks between them."""
-        made, lines = self.place - place, self.sight.lines
-        count = min(made, FEW)
+    def last_rows(self, seat: Seat, most: int) -> List[str]:
+        """What the last moves did, so many at the most; they aren't looked at twice."""
+        if most not in self._rows:
+            found = self.rows(seat, 0, most)
+            self._rows[most] = found  # (which forgets what was known before)
+        return self._rows[most]
+
+    def rows(self, seat: Seat, place: int, most: int) -> List[str]:
+        """What the last moves from a place on did, so many at the most, a row each: they are taken
+        back, and made again with looks between them."""
+        lines = self.sight.lines
+        made = self.place - place
+        count = min(made, most, self.place - self.journal.base)
         if count < 1 or not self.can_look((count + 1) * (len(lines) + 1)):
             return []
         asked = [f"back {count}", *lines] + ["redo 1", *lines] * count

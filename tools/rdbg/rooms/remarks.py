@@ -1,12 +1,15 @@
 """Lines that begin with `#`: they are for the room, and are answered by notices."""
 from typing import TYPE_CHECKING, Callable, Dict
 
+from rdbg.commands import is_count
 from rdbg.rooms.seats import Refusal
 
 if TYPE_CHECKING:
     from rdbg.rooms.room import Member, Room
 
-WORDS = "`# name NAME`, `# who`, `# say TEXT` or `# wheel`"
+WORDS = "`# name NAME`, `# who`, `# say TEXT`, `# moves COUNT` or `# wheel`"
+# So many moves are told to who asks, or fewer.
+MOST = 20
 
 
 def name(room: "Room", member: "Member", rest: str) -> str:
@@ -31,6 +34,14 @@ def say(room: "Room", member: "Member", rest: str) -> str:
     return text
 
 
+def moves(room: "Room", member: "Member", rest: str) -> str:
+    """`# moves [COUNT]`."""
+    count = int(rest) if is_count(rest) else 0 if rest else MOST
+    if not 0 < count <= MOST:
+        raise Refusal(f"`# moves COUNT`: 1 to {MOST}")
+    return room.tell_moves(member, count)
+
+
 def wheel(room: "Room", member: "Member", rest: str) -> str:
     """`# wheel`."""
     return room.wheel_wanted(member)
@@ -40,6 +51,7 @@ DO: Dict[str, Callable[["Room", "Member", str], str]] = {
     "name": name,
     "who": who,
     "say": say,
+    "moves": moves,
     "wheel": wheel,
 }
 

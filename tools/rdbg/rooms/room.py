@@ -22,7 +22,9 @@ __all__ = ["Ended", "Member", "Refusal", "Room"]
 Hear = Callable[[str], None]
 TOO_LONG, NO_COMMAND = "no LineTooLong", "no Syntax"
 HELD, FULL = "no Held", "no HistoryFull"
-# So many remarks of one are told to all in a second.
+# Of a run the last so many moves are told.
+FEW = 5
+# So many remarks of one are answered in a second.
 MOST_TOLD = 20
 # It is said when so little of the history is left, one part of so many.
 NEARLY = (SCARCE, 100)
@@ -34,7 +36,7 @@ class Member:
     def __init__(self, room: "Room", seat: Seat, hear: Hear, is_told: bool) -> None:
         self._room, self.seat, self.hear, self.is_told = room, seat, hear, is_told
         self.is_here = True
-        # (when it last told all something by a remark)
+        # (when it last said something to the room)
         self._told_at: Deque[float] = collections.deque(maxlen=MOST_TOLD)
 
     @property
@@ -65,10 +67,10 @@ class Member:
         self._room.announce(self)
 
     def check_pace(self) -> None:
-        """Raises `Refusal` where it has told all too much within a second."""
+        """Raises `Refusal` where it has said too much to the room within a second."""
         now = time.monotonic()
         if len(self._told_at) == MOST_TOLD and now - self._told_at[0] < 1:
-            raise Refusal(f"all are told {MOST_TOLD} remarks of one in a second, and no more")
+            raise Refusal(f"{MOST_TOLD} remarks of one are answered in a second, and no more")
         self._told_at.append(now)
 
     def leave(self, why: str = "") -> None:
@@ -262,7 +264,7 @@ class Room:
             after = self._program.look(seat)
             effect = f"next: {self._program.sight.next(after)}" if after else ""
         elif command.form.moves:
-            rows = self._program.rows(seat, place)
+            rows = self._program.rows(seat, place, FEW)
         said = " ".join(command.words)
         self.tell(f"{member.name}: {said} -> {reply}" + (f", {effect}" if effect else ""))
         for row in rows:
@@ -330,6 +332,17 @@ class Room:
             texts[seat.is_here].append(f"{name} (session {seat.number}{has})")
         away = f"; away: {', '.join(texts[False])}" if texts[False] else ""
         return f"here: {', '.join(texts[True])}{away}"
+
+    def tell_moves(self, member: Member, count: int) -> str:
+        """Tells somebody the last moves. They are looked at with the session that may move."""
+        program = self._program
+        seat = member.seat if program.holder is None else self._seats.of_number(program.holder)
+        for row in program.last_rows(seat, count):
+            member.hear(f"# {row}")
+        undone = program.journal.undone
+        text = f"at {self.place}" + (f"; `redo` can make {undone} more" if undone else "")
+        member.hear(f"# {text}")
+        return text
 
     def wheel_wanted(self, member: Member) -> str:
         """Somebody asks for the wheel. Who has it is told; where that one is away, it is given up

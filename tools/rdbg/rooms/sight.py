@@ -8,10 +8,8 @@ from rdbg.by_hand import INTERRUPT, ByHand
 from rdbg.commands import Command
 from rdbg.effects import Move, move_between
 from rdbg.looks import Look, Names
+from rdbg.shell import trail
 from rdbg.shell.target import BY_HAND, SINGLE, read
-
-# Of a run the last so many moves are told.
-FEW = 5
 
 
 class Sight:
@@ -60,9 +58,8 @@ class Sight:
         return "" if command.form.word in BY_HAND else move.text()
 
     def rows(self, looks: Sequence[Look]) -> List[str]:
-        """The moves between looks, a row each."""
-        width = len(str(looks[-1].place))
-        return [self.move(*pair).row(width) for pair in zip(looks, looks[1:])]
+        """The moves between looks, a row each; ticks in a row that did nothing else stand in one."""
+        return trail.rows([self.move(*pair) for pair in zip(looks, looks[1:])])
 
     def next(self, look: Look) -> str:
         """What each busy core would do next."""

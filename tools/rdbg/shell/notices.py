@@ -10,10 +10,12 @@ from typing import Callable, Iterator, List, Optional, Tuple
 from rdbg.client import Session
 
 # A move of a run, told in a line of its own behind the line of the run.
-ROW = re.compile(r"# (\d+  |\.\. \d+ moves )")
+ROW = re.compile(r"# (\d+(\.\.\d+)?  |\.\. \d+ moves )")
 # What others did, and the place behind it.
 MOVED = re.compile(r"# \w+: .* -> ok at (\d+)")
-REMARK = re.compile(r"# *(who|wheel|name +\S+|say +\S.*)$")
+REMARK = re.compile(r"# *(who|wheel|name +\S+|say +\S.*|moves( +\d+)?)$")
+# So many moves a room tells at the most.
+MOST_MOVES = 20
 
 
 def is_remark(line: str) -> bool:
@@ -63,7 +65,7 @@ class Notices:
 
     def forget(self) -> None:
         """A new line begins."""
-        self._own = []
+        self._own, self._is_own = [], False
 
     @contextlib.contextmanager
     def listening(self) -> Iterator[None]:

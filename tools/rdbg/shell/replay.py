@@ -10,6 +10,7 @@ from rdbg.failure import Failure
 from rdbg.replies import Refused
 from rdbg.shell import trail
 from rdbg.shell.interrupt import Interrupted
+from rdbg.shell.notices import MOST_MOVES
 from rdbg.shell.opening import begin
 from rdbg.shell.target import Limits, Target, Unable, read
 from rdbg.source import Source, load
@@ -35,6 +36,10 @@ def moves(shell: "Shell", words: Sequence[str]) -> None:
         if len(words) > 1 or not commands.is_count(words[0]):
             raise Unable("`moves` shows the last 20, `moves 100` the last 100, `moves all` all")
         count = int(words[0])
+    if shell.notices.is_room and count <= MOST_MOVES:
+        shell.notices.forget()
+        shell.target.session.remark(f"# moves {count}")
+        return
     first = max(base + 1, done - count + 1)
     with shell.wheel():
         found, _ = (

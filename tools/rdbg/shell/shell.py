@@ -126,6 +126,7 @@ class Shell:
         self.asked = ""
         self._shown = time.monotonic()
         if self.notices.is_room and is_remark(text):
+            self.notices.forget()
             self.target.session.remark(text.strip())
             sys.stdout.flush()
             return
