@@ -17,10 +17,10 @@ from rdbg.shell.target import Limits
 SUMMARY = "a room for several at one target, by names: what anyone does, all are told"
 EPILOG = (
     "`rdbg sh --port P --name NAME` attaches to it, or any program that opens a connection, as nc."
-    " Lines that begin with # are for the room: `# name NAME`, `# who`, `# say TEXT`, `# moves COUNT`, `# wheel`."
-    " Ctrl-C, or SIGTERM, ends it with rdbg's own audit. The status is 0; 1 where the application"
-    " is refused, rdbg ends before, its audit finds something, or the talk couldn't be kept; 2"
-    " where a file or a port can't be had."
+    " Lines that begin with # are for the room: `# name NAME`, `# who`, `# say TEXT`,"
+    " `# moves COUNT`, `# wheel`. Ctrl-C, or SIGTERM, ends it with rdbg's own audit. The status is"
+    " 0; 1 where the application is refused, rdbg ends before, its audit finds something, or the"
+    " talk couldn't be kept; 2 where a file or a port can't be had."
 )
 # So many signals end it at once.
 ENOUGH = 3

@@ -61,7 +61,8 @@ TERMS: Dict[str, str] = {
     "limit": "a run made COUNT moves, and the goal wasn't met in this order of many",
     "start": "a way back came to boot, and the condition held nowhere before",
     "room": "at `rdbg room` what others do is told in lines that begin with #; `# who` says who is"
-    " here, `# say TEXT` is told to all, `moves` says what was done, `# wheel` asks for the wheel, `# name NAME` takes a name",
+    " here, `# say TEXT` is told to all, `moves` says what was done, `# wheel` asks for the wheel,"
+    " `# name NAME` takes a name",
     "lines": "`(22 lines asked)`: so many lines of rdbg's it took to find a place",
     "echo": "`set echo on` shows each line that goes to rdbg, behind >",
 }
