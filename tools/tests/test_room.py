@@ -141,6 +141,15 @@ class Names(unittest.TestCase):
             back.leave()
             self.assertEqual(come(here)[0].ask("show watches"), "watches -")
 
+    def test_one_that_says_nothing_is_forgotten(self) -> None:
+        with room(2) as here:
+            _, heard = come(here, "left")
+            silent = here.join(None, lambda _: None, is_told=False)
+            self.assertEqual(here.who(), "here: left (session 1), guest1 (session 2)")
+            silent.leave()
+            self.assertEqual(here.who(), "here: left (session 1)")
+            self.assertEqual(len(heard), 1)
+
     def test_a_room_that_has_ended(self) -> None:
         here = Room.open(load(LOST), sessions=2)
         left, heard = come(here, "left")

@@ -185,6 +185,7 @@ class Room:
             del self._members[seat.number]
             member.seat = found
             self._members[found.number] = member
+            self._asked.clear()
             if not member.is_told:
                 self._hand_over(seat)
         self._seats.sit(member.seat, name)
@@ -204,7 +205,8 @@ class Room:
             self._seats.leave(member.seat)
             del self._members[member.session]
             self._asked.clear()
-            if not member.is_told:
+            if not member.is_told:  # (nobody knows of it, and it has said nothing)
+                self._seats.clear(member.seat)
                 return
             has = ", with the wheel" if self._program.holder == member.session else ""
             text = f"is away{has}" + (f" ({why})" if why else "")
