@@ -125,7 +125,9 @@ class Ends(unittest.TestCase):
     def test_one_that_is_ended_before_it_listens(self) -> None:
         found = Process([], LOST)
         child = child_of(found.process.pid)
-        self.assertNotEqual(found.end(signal.SIGTERM), 0)
+        status = found.end(signal.SIGTERM)
+        # (on a busy machine it may listen by now, and then it ends well)
+        self.assertEqual(status == 0, "closed" in found.output, found.output)
         until(lambda: not os.path.exists(f"/proc/{child}"))
 
     def test_one_whose_program_answers_no_more(self) -> None:
@@ -133,9 +135,13 @@ class Ends(unittest.TestCase):
             child = child_of(here.process.pid)
             os.kill(int(child), signal.SIGSTOP)
             left.send("tick")
-            for _ in range(3):
-                time.sleep(0.2)
+
+            def is_over() -> bool:
                 here.process.send_signal(signal.SIGINT)
+                time.sleep(0.2)
+                return here.process.poll() is not None
+
+            until(is_over)
             self.assertEqual(here.end(0), 130)
             until(lambda: not os.path.exists(f"/proc/{child}"))
 

@@ -62,7 +62,7 @@ class Signals:
 
     def __init__(self) -> None:
         self.port: Optional[Port] = None
-        self._count = 0
+        self._count, self._is_enough = 0, False
         for number in (signal.SIGINT, signal.SIGTERM):
             signal.signal(number, self._came)
         if signal.getsignal(signal.SIGHUP) is not signal.SIG_IGN:  # (as below nohup)
@@ -70,7 +70,10 @@ class Signals:
 
     def _came(self, number: int, frame: Optional[FrameType]) -> None:
         self._count += 1
+        if self._is_enough:
+            return  # (the process ends already)
         if self.port is None or self._count >= ENOUGH:
+            self._is_enough = True
             raise KeyboardInterrupt
         self.port.stop()
 
