@@ -142,7 +142,8 @@ class Ends(unittest.TestCase):
                 return here.process.poll() is not None
 
             until(is_over)
-            self.assertEqual(here.end(0), 130)
+            # (a signal more can come when Python has ended)
+            self.assertIn(here.end(0), (130, -signal.SIGINT))
             until(lambda: not os.path.exists(f"/proc/{child}"))
 
     def test_a_program_that_ends_before(self) -> None:
