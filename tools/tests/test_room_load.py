@@ -16,7 +16,7 @@ MOVES = ("step 0", "step 1", "tick", "back 1", "redo 1", "poke reg worker 3 7")
 # One line of so many makes a move, or is refused one.
 SELDOM = 300
 # It takes some 10 seconds with a program that is built without proof, on a busy machine more.
-BOUND = 120.0
+BOUND = 240.0
 
 
 def lines_of(number: int) -> List[str]:
