@@ -19,7 +19,7 @@ from rdbg.source import Source
 from rdbg.tracing.events import Events
 from rdbg.tracing.page import ways
 from rdbg.tracing.page.document import page
-from rdbg.tracing.page.recorder import Recorder
+from rdbg.page.recorder import Recorder
 from rdbg.tracing.run import AT_A_PORT, Line, Part, Plan, Run, Trim, part_at, parts, plan
 from rdbg.tracing.table import Row, Table, rows
 

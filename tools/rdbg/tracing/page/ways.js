@@ -20,18 +20,16 @@ function linesTo(way, place) {
 }
 
 // Where to type what, and what else there is to say of it.
-function wayTo(run, place) {
-  const way = run.way;
+function wayTo(way, place) {
   if (way.server) return wayAtPort(way, place);
   const where = way.program ? `${way.prompt} (or ${way.program})` : way.prompt;
   const lines = linesTo(way, place);
-  const note = place === 0 ? "This is boot: nothing has to be typed." : behindEnd(run, place);
+  const note = place === 0 ? "This is boot: nothing has to be typed." : behindEnd(way, place);
   return { where, lines, note };
 }
 
 // What leads there from the end of the run.
-function behindEnd(run, place) {
-  const { lines, base } = run.way;
+function behindEnd({ lines, base }, place) {
   const done = lines.length ? lines[lines.length - 1][1] : 0;
   if (place === done) return "This is the end of the run.";
   if (place < base) {
@@ -56,4 +54,41 @@ function shownLines(lines) {
   if (lines.length <= LINES_SHOWN) return lines.join("\n");
   const left = lines.length - LINES_SHOWN;
   return [`(${left} lines before these: Copy has all)`, ...lines.slice(left)].join("\n");
+}
+
+// What to type to come here.
+class WayPanel {
+  constructor(run, way) {
+    this.run = run;
+    this.way = way;
+    this.lines = [];
+    byId("copy").addEventListener("click", () => this.copy());
+  }
+
+  show(place) {
+    const { where, lines, note } = wayTo(this.way, place);
+    this.lines = lines;
+    byId("way-where").textContent = where;
+    const text = shownLines(lines);
+    const area = byId("way-lines");
+    if (area.value !== text) area.value = text;
+    area.rows = Math.max(2, Math.min(8, lines.length));
+    byId("way-note").textContent = note;
+    byId("copied").textContent = "";
+  }
+
+  async copy() {
+    const text = this.lines.map((line) => `${line}\n`).join("");
+    try {
+      await navigator.clipboard.writeText(text);
+    } catch (error) {
+      const area = byId("way-lines");
+      const shown = area.value;
+      area.value = text;
+      area.select();
+      document.execCommand("copy");
+      area.value = shown;
+    }
+    byId("copied").textContent = `${counted(this.lines.length, "line")} copied`;
+  }
 }

@@ -4,7 +4,7 @@ import shlex
 from typing import Dict, List, Optional, Sequence
 
 from rdbg.source import LINES, Source
-from rdbg.tracing.page.recorder import Recorder
+from rdbg.page.recorder import Recorder
 from rdbg.tracing.run import Told
 
 

@@ -1,36 +1,44 @@
 // What lanes show: segments one behind the other, made of a run's tracks.
 
 class Segments {
-  constructor() {
+  // Of these tracks, shown as `shownOf` says of their values.
+  constructor(run, tracks, shownOf) {
+    this.run = run;
+    this.tracks = tracks;
+    this.shownOf = shownOf;
     this.places = [];
     this.shown = [];
-    this.key = null;
+    this.keys = [];
+    this.renew(run.first - 1);
+  }
+
+  // Takes what there is behind a place anew.
+  renew(place) {
+    const count = countUpTo(this.places, place);
+    this.places.length = this.shown.length = this.keys.length = count;
+    const all = new Set();
+    for (const name in this.tracks) {
+      const { places } = this.tracks[name];
+      for (let at = countUpTo(places, place); at < places.length; at++) all.add(places[at]);
+    }
+    for (const at of [...all].sort((one, other) => one - other)) {
+      this.put(at, this.shownOf(this.run.values(this.tracks, at)));
+    }
   }
 
   // What is shown from a place on; what is shown already goes on.
   put(place, shown) {
     const key = JSON.stringify(shown);
-    if (key === this.key) return;
-    this.key = key;
+    if (key === this.keys[this.keys.length - 1]) return;
+    this.keys.push(key);
     this.places.push(place);
     this.shown.push(shown);
   }
 }
 
-// The segments of what there is at each place where one of these tracks changes.
-function segmentsOf(run, tracks, shownOf) {
-  const all = new Set();
-  for (const name in tracks) for (const place of tracks[name].places) all.add(place);
-  const found = new Segments();
-  for (const place of [...all].sort((one, other) => one - other)) {
-    found.put(place, shownOf(run.values(tracks, place)));
-  }
-  return found;
-}
-
 // Who is on a core.
 function coreSegments(run, core) {
-  return segmentsOf(run, { running: run.cores.running }, ({ running }) => {
+  return new Segments(run, { running: run.cores.running }, ({ running }) => {
     const name = running[core];
     if (!name) return { style: "idle", text: "" };
     return { style: "runs", text: name, colour: run.taskByName.get(name) ?? 0 };
@@ -40,7 +48,7 @@ function coreSegments(run, core) {
 // What a task does.
 function taskSegments(run, at) {
   const { core, phase } = run.tasks[at].tracks;
-  return segmentsOf(run, { core, phase }, (it) => {
+  return new Segments(run, { core, phase }, (it) => {
     if (it.phase === null) return { style: "idle", text: "" };
     const [word, ...rest] = it.phase.split(":");
     const again = word === "run" ? "" : " (woken)";
@@ -55,7 +63,7 @@ function taskSegments(run, at) {
 
 // How much an object holds.
 function levelSegments(run, object) {
-  return segmentsOf(run, contentTracks(object), (it) => {
+  return new Segments(run, contentTracks(object), (it) => {
     if (Object.values(it).some((value) => value === null)) return { style: "idle", text: "" };
     const [level] = levelOf(object.kind, it, object.most);
     if (object.kind === "group") return { style: "bits", text: `0x${level.toString(16)}` };
@@ -70,7 +78,7 @@ function contentTracks({ tracks }) {
 
 // Who waits at one list of an object, in order.
 function waitingSegments(run, object, name) {
-  return segmentsOf(run, { list: object.tracks[name] }, ({ list }) => {
+  return new Segments(run, { list: object.tracks[name] }, ({ list }) => {
     const names = name === "wishes" ? (list || []).map(([task]) => task) : waitingNames(name, list);
     return { style: names.length ? "queue" : "idle", text: names.join(", ") };
   });

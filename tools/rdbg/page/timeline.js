@@ -22,19 +22,62 @@ class Timeline {
     // What is behind the place that is shown: it is drawn anew only where another part is seen.
     this.ground = document.createElement("canvas");
     this.groundOf = "";
-    this.lanes = lanesOf(run);
-    this.wakings = wakingsOf(run);
-    this.wakingPlaces = this.wakings.map(({ place }) => place);
-    this.ticks = placesOf(run, ({ kind }) => kind === TICK);
+    this.scrolled = scrolled;
     this.found = [];
     this.place = run.first;
-    const end = this.lanes[this.lanes.length - 1];
-    this.height = end.top + end.height;
-    scrolled.style.height = `${this.height + RULER}px`;
-    frame.style.height = `${Math.min(this.height + RULER + 2, Math.round(innerHeight * PART))}px`;
     this.left = run.first - 0.5;
     this.scale = 0;
+    this.height = 0;
+    this.take();
     this.fit();
+  }
+
+  // Takes the whole run.
+  take() {
+    this.allLanes = lanesOf(this.run);
+    this.hand = this.allLanes.find(({ kind }) => kind === "hand");
+    this.wakings = [];
+    this.wakingPlaces = [];
+    this.ticks = [];
+    this.collect(this.run.first - 1);
+    this.layOut();
+  }
+
+  // Takes what there is of the run behind a place anew.
+  renew(place) {
+    for (const { segments } of this.allLanes) if (segments) segments.renew(place);
+    this.collect(place);
+    this.layOut();
+  }
+
+  // Takes note of ticks, arrows and what was done by hand behind a place.
+  collect(place) {
+    const { run, hand } = this;
+    this.wakings.length = this.wakingPlaces.length = countUpTo(this.wakingPlaces, place);
+    this.ticks.length = countUpTo(this.ticks, place);
+    for (const move of movesBehind(run, place)) {
+      if (move.kind === TICK) this.ticks.push(move.place);
+      const waking = wakingOf(move);
+      if (!waking) continue;
+      this.wakings.push(waking);
+      this.wakingPlaces.push(move.place);
+    }
+    const marks = hand.marks.filter((it) => it.place <= place);
+    hand.marks = [...marks, ...byHand(run, place)];
+  }
+
+  // Lays the lanes out, to be drawn anew.
+  layOut() {
+    this.groundOf = "";
+    this.lanes = laidOut(this.allLanes);
+    const end = this.lanes[this.lanes.length - 1];
+    const height = end.top + end.height;
+    if (height === this.height) return;
+    this.height = height;
+    this.scrolled.style.height = `${height + RULER}px`;
+    const most = Math.round(innerHeight * PART);
+    this.frame.style.height = `${Math.min(height + RULER + 2, most)}px`;
+    if (this.scale) this.fit();
   }
 
   // How many places there are to show, with what comes behind the last.

@@ -1,11 +1,11 @@
 """A run as values for a page: what stays, a track for each thing that changes, and the moves."""
-from typing import Dict, Iterable, List, Optional, Sequence, Tuple
+from typing import Dict, Iterable, Iterator, List, Optional, Sequence, Tuple
 
 from rdbg import replies
 from rdbg.application import Application
 from rdbg.effects import Effect, Move
 from rdbg.looks import Key, Look, Object
-from rdbg.tracing.page.tracks import Track, Value, Values
+from rdbg.page.tracks import Track, Value, Values
 from rdbg.tracing.run import Part, Trim
 
 WAKES = ("woke", "given", "time up")
@@ -101,6 +101,38 @@ class Recorder:
             "values": self._values.listed,
         }
 
+    def cut(self, place: int) -> None:
+        """Forgets the moves behind a place, which isn't before the first."""
+        assert self.first is not None
+        for tracks in self._all_tracks():
+            for track in tracks.values():
+                track.cut(place)
+        count = place - self.first
+        del self._moves[count:]
+        del self.lines[count:]
+        self.last, self._before = place, None
+
+    def behind(self, place: int) -> Dict[str, object]:
+        """What was taken note of behind a place: values that begin there, and moves."""
+        assert self.first is not None
+        return {
+            "cores": values_behind(self._cores, place),
+            "tasks": [values_behind(of, place) for of in self._tasks.values()],
+            "objects": [values_behind(of, place) for of in self._objects.values()],
+            "moves": [self._values.listed[it] for it in self._moves[place - self.first :]],
+        }
+
+    @property
+    def size(self) -> int:
+        """How many values there are."""
+        return len(self._values.listed)
+
+    def _all_tracks(self) -> Iterator[Dict[str, Track]]:
+        """The tracks of each thing."""
+        yield self._cores
+        yield from self._tasks.values()
+        yield from self._objects.values()
+
     def _task(self, name: str, tracks: Dict[str, Track]) -> Dict[str, object]:
         """A task, with its script where that is known."""
         found = self._application.task(name) if self._application else None
@@ -158,3 +190,9 @@ class Recorder:
 def flat(tracks: Dict[str, Track]) -> Dict[str, List[int]]:
     """Tracks as lists."""
     return {name: track.flat for name, track in tracks.items()}
+
+
+def values_behind(tracks: Dict[str, Track], place: int) -> Dict[str, List[Tuple[int, Value]]]:
+    """The values of tracks that begin behind a place, of those that have some."""
+    found = {name: track.behind(place) for name, track in tracks.items()}
+    return {name: values for name, values in found.items() if values}

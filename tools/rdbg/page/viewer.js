@@ -1,8 +1,7 @@
-// The page: one place of the run, shown by all its parts, and what moves it.
+// What pages of runs have in common: one place of the run, shown by all parts, and what moves
+// about in it.
 
-const QUIET = 150;
-
-const KEYS = [
+const MOVING_KEYS = [
   ["Left, Right", "a move back, forward"],
   ["Shift and Left, Right", "ten moves"],
   ["Page Up, Page Down", "as many moves as are seen"],
@@ -15,7 +14,9 @@ const KEYS = [
   ["g", "go to a place by its number"],
   ["+ and -, 0", "fewer moves, more, all"],
   ["Up, Down", "scrolls lanes or state, where the focus is (Tab)"],
-  ["c", "copies the lines to type"],
+];
+
+const LAST_KEYS = [
   ["t", "light or dark"],
   ["?", "these keys; Escape closes them"],
 ];
@@ -43,30 +44,39 @@ const LEGEND = [
   "arrow: wakes",
 ].join("; ");
 
-class Page {
-  constructor(run) {
+class Viewer {
+  constructor(run, timeline) {
     this.run = run;
     this.place = run.first;
     this.lanes = byId("lanes");
-    this.timeline = new Timeline(run, byId("canvas"), this.lanes, byId("scrolled"));
+    this.timeline = timeline;
     this.search = new Search(run);
-    const hand = this.timeline.lanes.find(({ kind }) => kind === "hand");
-    this.hands = hand ? hand.marks.map(({ place }) => place) : [];
-    this.state = new StatePanel(run);
-    this.moves = new MovesPanel(run, (place) => this.go(place));
-    this.way = new WayPanel(run);
     this.script = new ScriptPanel(run, () => this.again());
+    this.panels = [new StatePanel(run), new MovesPanel(run, (at) => this.go(at)), this.script];
     this.isDue = false;
-    this.say();
-    this.listen();
-    this.go(this.placeOfLink() ?? run.first);
   }
 
-  // Texts and bounds that stay.
+  // What is said of keys and signs besides.
+  get moreKeys() {
+    return [];
+  }
+
+  get moreSigns() {
+    return [];
+  }
+
+  // Shows what stays, and listens.
+  begin() {
+    new Table(byId("help"), ["", ""]).show([...MOVING_KEYS, ...this.moreKeys, ...LAST_KEYS]);
+    new Table(byId("signs"), ["", ""]).show([...SIGNS, ...this.moreSigns]);
+    byId("legend").textContent = LEGEND;
+    this.say();
+    this.listen();
+  }
+
+  // How much there is, and the bounds of places.
   say() {
     const { run } = this;
-    document.title = run.title;
-    byId("title").textContent = run.title;
     const counts = [
       counted(run.last - run.first, "move"),
       counted(this.timeline.ticks.length, "tick"),
@@ -78,9 +88,6 @@ class Page {
       it.min = run.first;
       it.max = run.last;
     }
-    new Table(byId("help"), ["", ""]).show(KEYS);
-    new Table(byId("signs"), ["", ""]).show(SIGNS);
-    byId("legend").textContent = LEGEND;
   }
 
   // Goes to a place, the nearest that there is.
@@ -104,34 +111,19 @@ class Page {
   show() {
     const { run, place } = this;
     this.timeline.draw();
-    for (const panel of [this.state, this.moves, this.way, this.script]) panel.show(place);
-    const move = run.move(place);
-    byId("readout").textContent = move
-      ? moveSentence(run, move)
-      : `${place}: ${place ? "before the first move that is shown" : "boot"}`;
+    for (const panel of this.panels) panel.show(place);
+    byId("readout").textContent = this.readout(place);
     byId("slider").value = place;
     byId("slider").setAttribute("aria-valuetext", `place ${place} of ${run.last}`);
     if (document.activeElement !== byId("place")) byId("place").value = place;
     byId("found").textContent = this.search.said(place);
-    byId("link").href = `#${place}`;
-    clearTimeout(this.quiet);
-    this.quiet = setTimeout(() => this.keepLink(), QUIET);
   }
 
-  // The place that the address names; none where it names none.
-  placeOfLink() {
-    const found = /^#(\d{1,9})$/.exec(location.hash);
-    return found ? Number(found[1]) : null;
-  }
-
-  // The address names the place, once one stays there for a moment.
-  keepLink() {
-    if (this.placeOfLink() === this.place) return;
-    try {
-      history.replaceState(null, "", `#${this.place}`);
-    } catch (error) {
-      // (a page that is shown within another one may have no address of its own)
-    }
+  // What the move to a place did, in a sentence.
+  readout(place) {
+    const move = this.run.move(place);
+    if (move) return moveSentence(this.run, move);
+    return `${place}: ${place ? "before the first move that is shown" : "boot"}`;
   }
 
   // The next of these places, in order, or the one before.
@@ -143,6 +135,11 @@ class Page {
   before(places) {
     const at = lastUpTo(places, this.place - 1);
     if (places.length && places[at] < this.place) this.go(places[at]);
+  }
+
+  // Where something was done by hand.
+  get hands() {
+    return this.timeline.hand.marks.map(({ place }) => place);
   }
 
   find(words) {
@@ -202,7 +199,6 @@ class Page {
       "=": () => this.zoom(timeline.scale * 1.5),
       "-": () => this.zoom(timeline.scale / 1.5),
       0: () => this.zoom(timeline.whole()),
-      c: () => this.way.copy(),
       t: () => this.changeTheme(),
       "?": () => byId("help").showModal(),
     };
@@ -215,11 +211,6 @@ class Page {
     byId("slider").addEventListener("input", ({ target }) => this.go(Number(target.value)));
     byId("place").addEventListener("change", ({ target }) => this.go(Number(target.value) || 0));
     byId("search").addEventListener("input", ({ target }) => this.find(target.value));
-    byId("link").addEventListener("click", () => this.keepLink());
-    window.addEventListener("hashchange", () => {
-      const place = this.placeOfLink();
-      if (place !== null && place !== this.place) this.go(place);
-    });
     const dark = matchMedia("(prefers-color-scheme: dark)");
     dark.addEventListener("change", () => this.takeTheme());
   }
@@ -227,10 +218,11 @@ class Page {
   listenToKeys() {
     const keys = this.keys();
     document.addEventListener("keydown", (event) => {
-      if (event.ctrlKey || event.altKey || event.metaKey || byId("help").open) return;
       const { target } = event;
+      if (event.ctrlKey || event.altKey || event.metaKey) return;
+      if (document.querySelector("dialog[open]")) return;
       if (target === byId("search") || target === byId("place")) return this.keyInField(event);
-      if (target.tagName === "SELECT" || target.tagName === "TEXTAREA") return;
+      if (target.matches("select, textarea, input:not([type=range])")) return;
       const act = (event.shiftKey && keys[`Shift ${event.key}`]) || keys[event.key];
       if (!act) return;
       event.preventDefault();
@@ -276,5 +268,3 @@ class Page {
     }).observe(lanes);
   }
 }
-
-new Page(new Run(JSON.parse(byId("run").textContent)));

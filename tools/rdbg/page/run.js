@@ -5,23 +5,33 @@ const TICK = 1;
 const EDIT = 2;
 const INTERRUPT = 3;
 
-// What becomes of one thing: numbers of values, each from a place on.
+// What becomes of one thing: numbers of values, each from a place on. It can grow and be cut.
 class Track {
   constructor(flat, first) {
-    const count = (flat.length + 1) / 2;
-    this.places = new Int32Array(count);
-    this.values = new Int32Array(count);
+    this.places = [];
+    this.values = [];
     let place = first;
-    for (let at = 0; at < count; at++) {
-      place += at ? flat[2 * at - 1] : 0;
-      this.places[at] = place;
-      this.values[at] = flat[2 * at];
+    for (let at = 0; at < flat.length; at += 2) {
+      place += at ? flat[at - 1] : 0;
+      this.put(place, flat[at]);
     }
   }
 
   // The number of the value that holds at a place.
   at(place) {
     return this.values[lastUpTo(this.places, place)];
+  }
+
+  // The number of the value from a place on, which is none before those that are there.
+  put(place, value) {
+    this.places.push(place);
+    this.values.push(value);
+  }
+
+  // Forgets what comes behind a place.
+  cut(place) {
+    const count = countUpTo(this.places, place);
+    this.places.length = this.values.length = count;
   }
 }
 
@@ -37,6 +47,11 @@ function lastUpTo(places, place) {
   return low;
 }
 
+// How many of these places, in order, aren't behind a place.
+function countUpTo(places, place) {
+  return places.length && places[0] <= place ? lastUpTo(places, place) + 1 : 0;
+}
+
 // The tracks of one thing by name.
 function tracksOf(tracks, first) {
   const found = {};
@@ -45,18 +60,21 @@ function tracksOf(tracks, first) {
 }
 
 class Run {
-  constructor(file) {
-    this.title = file.title;
-    this.way = file.way;
-    this.first = file.run.first;
-    this.last = file.run.last;
-    this.trims = file.run.trims;
-    this.listed = file.run.values;
-    this.numbers = file.run.moves;
-    this.cores = tracksOf(file.run.cores, this.first);
+  constructor(values) {
+    this.take(values);
+  }
+
+  // Takes the values of a run.
+  take(values) {
+    this.first = values.first;
+    this.last = values.last;
+    this.trims = values.trims;
+    this.listed = values.values;
+    this.numbers = values.moves;
+    this.cores = tracksOf(values.cores, this.first);
     const withTracks = (it) => ({ ...it, tracks: tracksOf(it.tracks, this.first) });
-    this.tasks = file.run.tasks.map(withTracks);
-    this.objects = file.run.objects.map(withTracks);
+    this.tasks = values.tasks.map(withTracks);
+    this.objects = values.objects.map(withTracks);
     this.taskByName = new Map(this.tasks.map((task, at) => [task.name, at]));
   }
 

@@ -4,7 +4,7 @@ A track is a flat list: the number of the first value, then, for each place wher
 one, how many places further that is, and the number of the value from there on.
 """
 import json
-from typing import Dict, List, Sequence, Union
+from typing import Dict, List, Sequence, Tuple, Union
 
 Value = Union[None, int, str, Sequence[object]]
 
@@ -44,3 +44,20 @@ class Track:
             self.flat.append(place - self._place)
         self.flat.append(self._values.number(value))
         self._place, self._last = place, value
+
+    def cut(self, place: int) -> None:
+        """Forgets what comes behind a place, which isn't before the first."""
+        while len(self.flat) > 1 and self._place > place:
+            self.flat.pop()
+            self._place -= self.flat.pop()
+        self._last = self._values.listed[self.flat[-1]]
+
+    def behind(self, place: int) -> List[Tuple[int, Value]]:
+        """The values that begin behind a place, each with where."""
+        found: List[Tuple[int, Value]] = []
+        at, here = len(self.flat) - 1, self._place
+        while at > 0 and here > place:
+            found.append((here, self._values.listed[self.flat[at]]))
+            here -= self.flat[at - 1]
+            at -= 2
+        return found[::-1]

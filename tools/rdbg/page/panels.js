@@ -1,4 +1,4 @@
-// The panels beside and below the lanes: the state, the moves around, the way, a script.
+// The panels beside and below the lanes: the state, the moves around, a script.
 
 class StatePanel {
   constructor(run) {
@@ -107,42 +107,6 @@ class MovesPanel {
   }
 }
 MovesPanel.AROUND = 4;
-
-// What to type to come here.
-class WayPanel {
-  constructor(run) {
-    this.run = run;
-    this.lines = [];
-    byId("copy").addEventListener("click", () => this.copy());
-  }
-
-  show(place) {
-    const { where, lines, note } = wayTo(this.run, place);
-    this.lines = lines;
-    byId("way-where").textContent = where;
-    const text = shownLines(lines);
-    const area = byId("way-lines");
-    if (area.value !== text) area.value = text;
-    area.rows = Math.max(2, Math.min(8, lines.length));
-    byId("way-note").textContent = note;
-    byId("copied").textContent = "";
-  }
-
-  async copy() {
-    const text = this.lines.map((line) => `${line}\n`).join("");
-    try {
-      await navigator.clipboard.writeText(text);
-    } catch (error) {
-      const area = byId("way-lines");
-      const shown = area.value;
-      area.value = text;
-      area.select();
-      document.execCommand("copy");
-      area.value = shown;
-    }
-    byId("copied").textContent = `${counted(this.lines.length, "line")} copied`;
-  }
-}
 
 // A script around its next instruction: of the task that moved last, or of one that is chosen.
 class ScriptPanel {

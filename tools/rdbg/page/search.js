@@ -20,10 +20,16 @@ class Search {
     return this.places;
   }
 
+  // The run has others.
+  renew() {
+    this.texts = null;
+    this.find(this.words);
+  }
+
   rows() {
     const texts = [];
-    for (let place = this.run.first + 1; place <= this.run.last; place++) {
-      const [, tick, core, ...others] = moveCells(this.run, this.run.move(place));
+    for (const move of movesBehind(this.run, this.run.first)) {
+      const [, tick, core, ...others] = moveCells(this.run, move);
       const seat = core === "" ? "" : `core ${core}`;
       texts.push(`${[...others, seat].join(" ")} tick ${tick}`.toLowerCase());
     }

@@ -1,0 +1,2 @@
+"""What pages of runs have in common: a run as values, and the files that show it in lanes, a state,
+moves and a script."""
