@@ -186,10 +186,14 @@ class Browser:
 
     def open(self, path: pathlib.Path, link: str = "") -> None:
         """Opens a file, and waits until it is there."""
+        self.visit(f"{path.resolve().as_uri()}{link}")
+
+    def visit(self, address: str) -> None:
+        """Opens an address, and waits until what is there has been loaded."""
         self.call("Page.navigate", url="about:blank")
         self.errors.clear()
         self.requests.clear()
-        self.call("Page.navigate", url=f"{path.resolve().as_uri()}{link}")
+        self.call("Page.navigate", url=address)
         self.value(
             "new Promise((done) => document.readyState === 'complete' ? done()"
             " : addEventListener('load', () => done()))"
@@ -204,6 +208,15 @@ class Browser:
         if "exceptionDetails" in answer:
             raise AssertionError(f"{expression}: {answer['exceptionDetails']}")
         return answer["result"].get("value")
+
+    def until(self, expression: str, seconds: float = PATIENCE) -> None:
+        """Waits until an expression is true on the page. Raises `Missing` where it doesn't come."""
+        end = time.monotonic() + seconds
+        while not self.value(expression):
+            if time.monotonic() > end:
+                raise Missing(f"it doesn't come: {expression}")
+            time.sleep(0.02)
+        self.settle()
 
     def settle(self) -> None:
         """Waits until what was asked for is shown."""

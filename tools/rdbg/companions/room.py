@@ -7,11 +7,13 @@ from typing import Optional, Sequence
 
 from rdbg.companions.sh import bounded, port, read
 from rdbg.failure import Failure
+from rdbg.rooms import web
 from rdbg.rooms.host import MOST_SESSIONS
 from rdbg.rooms.program import HISTORY
 from rdbg.rooms.port import Port, listening
 from rdbg.rooms.room import Room
 from rdbg.rooms.talk import Talk, opened
+from rdbg.rooms.web import Served
 from rdbg.shell.target import Limits
 
 SUMMARY = "a room for several at one target, by names: what anyone does, all are told"
@@ -34,12 +36,23 @@ def sessions(text: str) -> int:
     return number
 
 
+def web_port(text: str) -> int:
+    """Reads a port, or 0 for a free one."""
+    return 0 if text == "0" else port(text)
+
+
 def parser() -> argparse.ArgumentParser:
     """The words of the command line."""
     made = argparse.ArgumentParser(prog="rdbg room", description=SUMMARY, epilog=EPILOG)
     made.add_argument("file", metavar="FILE", help="the application, JSON or in lines (.fw)")
     made.add_argument(
         "--port", type=port, required=True, metavar="P", help="where it is, on 127.0.0.1"
+    )
+    made.add_argument(
+        "--web",
+        type=web_port,
+        metavar="Q",
+        help="serves a page for browsers at Q on 127.0.0.1, at a free port where Q is 0",
     )
     made.add_argument("--talk", metavar="FILE", help="keeps who said what, and the replies, there")
     made.add_argument(
@@ -78,7 +91,7 @@ class Signals:
         self.port.stop()
 
 
-def serve(room: Room, port: Port, talk: Optional[Talk]) -> int:
+def serve(room: Room, port: Port, talk: Optional[Talk], pages: Optional[Served]) -> int:
     """Serves until a signal comes or the program ends, and answers the status."""
     room.when_over = port.stop
     try:
@@ -88,6 +101,8 @@ def serve(room: Room, port: Port, talk: Optional[Talk]) -> int:
         room.kill()
         raise
     port.close()
+    if pages is not None:
+        pages.close()
     for audit in audits:
         print(audit.text(), file=sys.stdout if audit.is_good else sys.stderr)
     if talk is not None and talk.fault:
@@ -110,7 +125,10 @@ def main(words: Sequence[str]) -> int:
     signals = Signals()
     room = Room.open(source, limits, given.sessions, talk)
     signals.port = port = Port(room, listener)
+    pages = None if given.web is None else web.serve(room, given.web)
     print(f"listening {given.port}", flush=True)
+    if pages is not None:
+        print(f"web {pages.address}", flush=True)
     if sys.stdout.isatty():
         print(f"# rdbg sh --port {given.port} --name NAME {given.file}: a prompt in it", flush=True)
-    return serve(room, port, talk)
+    return serve(room, port, talk, pages)

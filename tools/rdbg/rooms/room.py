@@ -2,7 +2,7 @@
 told."""
 import collections
 import time
-from typing import Callable, Deque, Dict, List, Optional, Set
+from typing import Callable, Deque, Dict, List, NamedTuple, Optional, Set
 
 from rdbg.commands import MOST_BYTES, Command
 from rdbg.rooms import remarks
@@ -28,6 +28,15 @@ FEW = 5
 MOST_TOLD = 20
 # It is said when so little of the history is left, one part of so many.
 NEARLY = (SCARCE, 100)
+
+
+class Person(NamedTuple):
+    """Somebody who has a session of a room."""
+
+    name: str
+    session: int
+    is_here: bool
+    has_wheel: bool
 
 
 class Member:
@@ -96,6 +105,7 @@ class Room:
         self._program.when_over = self._is_over
         self._members: Dict[int, Member] = {}
         self._turns = Turns()
+        self._followers: List[Callable[[str, str], None]] = []
         # (the sessions that have asked for the wheel since anybody came or left)
         self._asked: Set[int] = set()
         self._warned = 0
@@ -268,6 +278,8 @@ class Room:
         elif command.form.moves:
             rows = self._program.rows(seat, place, FEW)
         said = " ".join(command.words)
+        for told in self._followers:
+            told(said, reply)
         self.tell(f"{member.name}: {said} -> {reply}" + (f", {effect}" if effect else ""))
         for row in rows:
             self.tell(row)
@@ -325,6 +337,19 @@ class Room:
             answer = remarks.do(self, member, line)
             if was_told or not member.is_told:  # (else it is kept that somebody comes)
                 self._keep(name, line, answer)
+
+    def follow(self, told: Callable[[str, str], None]) -> List[str]:
+        """From now on tells each line that has changed something, with its reply, in order; what is
+        called must not block, nor ask the room anything. Answers the lines that lead here."""
+        with self._turns:
+            self._followers.append(told)
+            return self._program.journal.lines()
+
+    def people(self) -> List[Person]:
+        """Who has a session, here or away."""
+        seats = self._seats.by_name().items()
+        holder = self._program.holder
+        return [Person(name, it.number, it.is_here, it.number == holder) for name, it in seats]
 
     def who(self) -> str:
         """Who is here, who is away, and who has the wheel."""

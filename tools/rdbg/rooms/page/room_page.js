@@ -1,0 +1,282 @@
+// The page of a room: what all do moves it, and its buttons do the same as lines do.
+
+const AGAIN_AFTER = 1000;
+const LOOKS = /^\s*show(\s|$)/;
+const WATCHES = /^\s*(un)?watch\s/;
+const MOVES = ["run", "more", "now", "trims"];
+
+// The room as it is served: what comes, and what is said there.
+class Line {
+  constructor(hear) {
+    this.hear = hear;
+    this.name = sessionStorage.getItem("name");
+    this.open();
+  }
+
+  open() {
+    const query = this.name ? `?name=${encodeURIComponent(this.name)}` : "";
+    this.events = new EventSource(`events${query}`);
+    for (const kind of ["you", "who", "notice", "refused", "end", ...MOVES]) {
+      this.events.addEventListener(kind, ({ data }) => this.take(kind, JSON.parse(data)));
+    }
+    this.events.addEventListener("error", () => this.fail());
+  }
+
+  take(kind, values) {
+    if (kind === "you") this.key = values;
+    if (kind === "who") this.keepName(values.name);
+    if (kind === "end" || kind === "refused") this.close();
+    if (kind === "refused" && this.name) {
+      // (it may be the name of a page that has just gone, or of somebody else)
+      this.name = null;
+      setTimeout(() => this.open(), AGAIN_AFTER);
+    }
+    this.hear(kind, values);
+  }
+
+  keepName(name) {
+    this.name = name;
+    sessionStorage.setItem("name", name);
+  }
+
+  close() {
+    this.events.close();
+    this.key = null;
+  }
+
+  // The connection has gone: it is tried again.
+  fail() {
+    if (!this.events || this.events.readyState === EventSource.CLOSED) return;
+    this.close();
+    this.hear("lost", null);
+    setTimeout(() => this.open(), AGAIN_AFTER);
+  }
+
+  // What is answered to something that is said: a reply, or why there is none.
+  async say(what, text) {
+    const body = JSON.stringify({ page: this.key ?? "", [what]: text });
+    const headers = { "Content-Type": "application/json" };
+    try {
+      const answer = await fetch(what, { method: "POST", headers, body });
+      return answer.ok ? await answer.json() : { refused: (await answer.text()).trim() };
+    } catch (error) {
+      return { refused: "the room can't be reached" };
+    }
+  }
+}
+
+class RoomPage extends Viewer {
+  constructor(room, line, values) {
+    const run = new LiveRun(values);
+    super(run, new LiveTimeline(run, byId("canvas"), byId("lanes"), byId("scrolled")));
+    this.room = room;
+    this.line = line;
+    this.follows = true;
+    this.steps = new StepButtons(byId("steps"), room.cores, (text) => room.tell(text));
+    this.begin();
+    this.go(run.done);
+  }
+
+  get moreKeys() {
+    return [
+      [".", "to where the target is, and with it from there on"],
+      ["s, k", "a step of the core in turn, a tick"],
+      ["b, r, f", "moves back, again, forward, as many as stand beside"],
+      ["l", "to the line, to type one"],
+    ];
+  }
+
+  get moreSigns() {
+    return [
+      ["now, with dashes", "where the target is"],
+      ["pale, behind it", "what was taken back, until another move is made"],
+    ];
+  }
+
+  keys() {
+    const press = (id) => () => byId(id).click();
+    return {
+      ...super.keys(),
+      ".": () => this.goNow(),
+      s: () => this.room.tell(`step ${coreInTurn(this.run)}`),
+      k: press("tick"),
+      b: press("do-back"),
+      r: press("do-redo"),
+      f: press("do-forward"),
+      l: () => byId("line").select(),
+    };
+  }
+
+  listenToButtons() {
+    super.listenToButtons();
+    byId("now").addEventListener("click", () => this.goNow());
+  }
+
+  goNow() {
+    this.go(this.run.done);
+  }
+
+  go(place) {
+    super.go(place);
+    this.follows = this.place === this.run.done;
+  }
+
+  // Takes what has come of moves.
+  take(kind, values) {
+    const { run, timeline, follows } = this;
+    const behind = kind === "more" ? values.cut : run.last;
+    if (kind === "run") run.take(values);
+    if (kind === "more") run.more(values);
+    if (kind === "now") run.setNow(values);
+    if (kind === "trims") run.trims = values.trims;
+    if (kind === "run") timeline.take();
+    if (kind === "more") timeline.renew(behind);
+    if (kind === "trims") timeline.renew(run.first - 1);
+    if (kind !== "now") this.search.renew();
+    if (this.search.words) timeline.found = this.search.places;
+    timeline.keepInside();
+    this.say();
+    this.go(follows ? run.done : this.place);
+  }
+
+  say() {
+    super.say();
+    const { done, undone, toCome, lost } = this.run;
+    const texts = [`the target is at ${done}`];
+    if (undone) texts.push(`${counted(undone, "move")} taken back`);
+    if (toCome) texts.push(`${counted(toCome, "earlier move")} still to come`);
+    if (lost) texts.push(lost);
+    byId("about").textContent = texts.join("; ");
+  }
+
+  show() {
+    super.show();
+    this.steps.show(this.run);
+    byId("now").hidden = this.place === this.run.done;
+    byId("now").textContent = `now: ${this.run.done}`;
+  }
+
+  readout(place) {
+    const { done } = this.run;
+    const where = place > done ? ", taken back" : "";
+    const target = place === done ? "" : ` (the target is at ${done})`;
+    return `${super.readout(place)}${where}${target}`;
+  }
+}
+
+// All of it: what is known before the first move has come, and what is done then.
+class RoomOnPage {
+  constructor(values) {
+    Object.assign(this, values);
+    document.title = `${this.file}: a room`;
+    byId("title").textContent = document.title;
+    this.talk = new Talk(byId("talk"));
+    this.people = new People(byId("people"), byId("wheel"));
+    this.watches = new Watches(byId("watches"), (text) => this.tell(text));
+    this.line = new Line((kind, it) => this.hear(kind, it));
+    this.listen();
+  }
+
+  hear(kind, values) {
+    if (MOVES.includes(kind)) this.takeMoves(kind, values);
+    if (kind === "who") this.takeWho(values);
+    if (kind === "notice") this.takeNotice(values);
+    if (kind === "you") this.lookAtWatches();
+    const texts = {
+      you: "",
+      end: "The room has ended.",
+      lost: "The connection is lost: trying again ..",
+      refused: `Not let in: ${values}`,
+    };
+    if (kind in texts) this.setConnection(texts[kind]);
+  }
+
+  setConnection(text) {
+    byId("connection").textContent = text;
+    byId("connection").hidden = !text;
+    document.documentElement.dataset.connected = text ? "no" : "yes";
+    if (text) this.talk.say("refused", text);
+  }
+
+  takeMoves(kind, values) {
+    if (!this.page) this.page = new RoomPage(this, this.line, values);
+    else this.page.take(kind, values);
+    if (this.watches.conditions.size) this.lookAtWatches();
+  }
+
+  takeWho({ name, people }) {
+    this.name = name;
+    if (document.activeElement !== byId("name")) byId("name").value = name;
+    this.people.show(name, people);
+  }
+
+  takeNotice(notice) {
+    const text = notice.replace(/^# /, "");
+    const isMine = text.startsWith(`${this.name}: `);
+    this.talk.say(text.startsWith("no: ") ? "refused" : isMine ? "mine" : "others", text);
+  }
+
+  // Says a line, and what is answered; of one that all are told, the notice tells it.
+  async tell(line) {
+    const { reply, refused, ended } = await this.line.say("line", line);
+    const no = refused ?? ended ?? (reply.startsWith("no ") ? refusalWords(reply) : null);
+    if (no !== null) this.talk.say("refused", `${line} -> ${no}`);
+    else if (LOOKS.test(line)) this.talk.say("reply", `${line} -> ${reply}`);
+    else if (WATCHES.test(line)) this.takeWatch(line, reply);
+  }
+
+  takeWatch(line, reply) {
+    this.watches.take(line, reply);
+    this.lookAtWatches();
+  }
+
+  // Asks which watches hold now; once more where something has come meanwhile.
+  async lookAtWatches() {
+    this.isWanted = true;
+    if (this.isLooking) return;
+    this.isLooking = true;
+    while (this.isWanted) {
+      this.isWanted = false;
+      const { reply } = await this.line.say("line", "show watches");
+      if (reply) this.watches.takeStates(reply);
+    }
+    this.isLooking = false;
+  }
+
+  listen() {
+    const tell = (text) => this.tell(text);
+    const value = (id) => byId(id).value.trim();
+    const acts = {
+      tick: () => "tick",
+      "do-back": () => `back ${value("count")}`,
+      "do-redo": () => `redo ${value("count")}`,
+      "do-forward": () => `forward ${value("count")}`,
+      "do-trim": () => `trim ${value("count")}`,
+      "back-until": () => `back until ${value("condition")}`,
+      watch: () => `watch ${value("condition")}`,
+      take: () => "wheel take",
+      give: () => "wheel give",
+      wish: () => "# wheel",
+    };
+    for (const id in acts) byId(id).addEventListener("click", () => tell(acts[id]()));
+    byId("until").addEventListener("submit", (event) => {
+      event.preventDefault();
+      tell(`until ${value("condition")} ${value("most")}`);
+    });
+    byId("rename").addEventListener("submit", (event) => {
+      event.preventDefault();
+      this.rename(value("name"));
+    });
+    new LineForm(byId("edit"), this, EDITS, tell);
+    byId("interrupt").hidden = !this.hasInterrupts;
+    if (this.hasInterrupts) new LineForm(byId("interrupt"), this, INTERRUPTS, tell);
+    new TypedLine(byId("typed"), tell);
+  }
+
+  async rename(name) {
+    const { refused, ended } = await this.line.say("name", name);
+    if (refused ?? ended) this.talk.say("refused", `rename ${name} -> ${refused ?? ended}`);
+  }
+}
+
+new RoomOnPage(JSON.parse(byId("of-room").textContent));

@@ -1,0 +1,223 @@
+"""A room in the browser: pages that are served on this machine alone, each a member of the room."""
+import contextlib
+import io
+import secrets
+import select
+import socket
+import threading
+import urllib.parse
+from http.server import BaseHTTPRequestHandler, HTTPServer
+from socketserver import ThreadingMixIn
+from typing import Any, Dict, Optional, Tuple
+
+from rdbg.client import LOCAL
+from rdbg.failure import Failure
+from rdbg.rooms import web_document
+from rdbg.rooms.room import Refusal, Room
+from rdbg.rooms.web_follower import Follower
+from rdbg.rooms.web_guard import (
+    HEADERS,
+    JSON,
+    MOST_BODY,
+    MOST_HEAD,
+    SECONDS,
+    Bounded,
+    Denied,
+    Unread,
+    body_of,
+    check_origin,
+    check_token,
+    one,
+)
+from rdbg.rooms.web_pages import Page, Pages, as_json
+
+# A page is told that it is still told something after so many seconds.
+STILL_HERE = 15.0
+# So many seconds a page may take to read its last events, once the room has ended.
+LAST_SECONDS = 2.0
+HTML, TEXT, EVENTS = "text/html; charset=utf-8", "text/plain; charset=utf-8", "text/event-stream"
+
+
+class Handler(BaseHTTPRequestHandler):
+    """One request, and its connection: none stays open for a second one."""
+
+    server: "Served"
+    timeout = SECONDS
+    server_version, sys_version = "rdbg", ""
+
+    def setup(self) -> None:
+        super().setup()
+        self.bounded = Bounded(self.connection, MOST_HEAD + MOST_BODY)
+        self.rfile = io.BufferedReader(self.bounded)
+
+    def do_GET(self) -> None:
+        """The page, or what comes to it."""
+        self._do("GET")
+
+    def do_POST(self) -> None:
+        """A line."""
+        self._do("POST")
+
+    def _do(self, method: str) -> None:
+        try:
+            self._let_in(method)
+        except Denied as denied:
+            self.send_error(denied.status, denied.text)
+        except OSError:
+            pass  # (the connection has gone)
+
+    def _let_in(self, method: str) -> None:
+        if self.bounded.is_over:
+            raise Denied(431, "its head is too long")
+        check_origin(self.headers, self.server.port, method)
+        name, query = check_token(self.path, self.server.token)
+        if method == "POST":
+            said = body_of(self.headers, self.rfile)
+            self.server.unread.remove(self.connection)
+            return self._line(name, said)
+        self.server.unread.remove(self.connection)
+        if name == "":
+            return self._answer(200, HTML, self.server.page)
+        if name != "events" or one(self.headers, "Sec-Fetch-Site") == "none":
+            raise Denied(404, "there is nothing")
+        self._events(query)
+
+    def _line(self, name: str, said: Dict[str, str]) -> None:
+        """Does what a page says."""
+        try:
+            page = self.server.pages.of(said.get("page", ""))
+            if name == "line":
+                found = {"reply": page.ask(said.get("line", ""))}
+            elif name == "name" and page.member is not None:
+                page.member.rename(said.get("name", ""))
+                found = {}
+            else:
+                raise Denied(404, "there is nothing")
+        except Refusal as refusal:
+            found = {"refused": str(refusal)}
+        except Failure as failure:
+            found = {"ended": str(failure)}
+        self._answer(200, JSON, as_json(found))
+
+    def _events(self, query: str) -> None:
+        """Tells a page what comes, until it goes."""
+        names = urllib.parse.parse_qs(query, max_num_fields=4).get("name")
+        self._head(200, EVENTS)
+        try:
+            page = self.server.pages.open(names[0] if names else None)
+        except Refusal as refusal:
+            self._event("refused", as_json(str(refusal)))
+            return
+        try:
+            self._event("you", as_json(page.key))
+            self._tell(page)
+        finally:
+            self.server.pages.close(page)
+
+    def _tell(self, page: Page) -> None:
+        while True:
+            has_ended = self.server.has_ended
+            for kind, text in page.take(self.server.room, self.server.follower):
+                self._event(kind, text)
+            if has_ended:
+                return self._event("end", as_json("the room has ended"))
+            ready = select.select([self.connection, page.woken], [], [], STILL_HERE)[0]
+            if self.connection in ready:
+                return  # (a page has nothing more to say here: it has gone)
+            if page.woken in ready:
+                page.woken.recv(4_096)
+            elif not ready:
+                self.wfile.write(b":\n\n")
+
+    def _event(self, kind: str, text: str) -> None:
+        self.wfile.write(f"event: {kind}\ndata: {text}\n\n".encode())
+
+    def _head(self, status: int, kind: str) -> None:
+        self.send_response(status)
+        self.send_header("Content-Type", kind)
+        for name, value in HEADERS:
+            self.send_header(name, value)
+        if kind == HTML:
+            self.send_header("Content-Security-Policy", web_document.FRAMES)
+        self.end_headers()
+
+    def _answer(self, status: int, kind: str, text: str) -> None:
+        self._head(status, kind)
+        self.wfile.write(text.encode())
+
+    def send_error(
+        self, code: int, message: Optional[str] = None, explain: Optional[str] = None
+    ) -> None:
+        """Says why a request isn't answered, and nothing of what it said."""
+        with contextlib.suppress(OSError):
+            self._answer(
+                code, TEXT, f"rdbg: {message or code}\n" if code != 400 else "rdbg: no request\n"
+            )
+
+    def log_message(self, format: str, *args: Any) -> None:
+        """Says nothing."""
+
+
+class Served(ThreadingMixIn, HTTPServer):
+    """The pages of a room, until they are closed."""
+
+    daemon_threads, block_on_close = True, False
+    request_queue_size = 64
+
+    def __init__(self, room: Room, port: int) -> None:
+        self.room = room
+        self.token = secrets.token_urlsafe(24)
+        self.unread, self.pages = Unread(), Pages(room)
+        self.page = web_document.page(room.app_source)
+        self.has_ended = False
+        super().__init__((LOCAL, port), Handler)
+        self.port: int = self.server_address[1]
+        self.follower = Follower(room, self.pages.tell)
+        self._thread = threading.Thread(target=self.serve_forever, daemon=True)
+        self._thread.start()
+
+    @property
+    def address(self) -> str:
+        """Where the room's page is, with the token that lets one in."""
+        return f"http://{LOCAL}:{self.port}/{self.token}/"
+
+    def server_bind(self) -> None:
+        """Takes the port. (The name of the machine, which others look for here, isn't asked.)"""
+        self.socket.bind(self.server_address)
+        self.server_address = self.socket.getsockname()
+        self.server_name, self.server_port = LOCAL, self.server_address[1]
+
+    def process_request(self, request: Any, client_address: Any) -> None:
+        """Begins a thread for a connection."""
+        self.unread.add(request)
+        super().process_request(request, client_address)
+
+    def shutdown_request(self, request: Any) -> None:
+        """A connection has been served."""
+        self.unread.remove(request)
+        super().shutdown_request(request)
+
+    def service_actions(self) -> None:
+        """Is called now and then."""
+        self.unread.drop_late()
+
+    def handle_error(self, request: Any, client_address: Any) -> None:
+        """Says nothing: the connection has gone, or it said what is no request."""
+
+    def close(self) -> None:
+        """Ends all pages."""
+        self.has_ended = True
+        self.shutdown()
+        self.server_close()
+        self._thread.join()
+        self.pages.wait(LAST_SECONDS)
+        self.follower.close()
+
+
+def serve(room: Room, port: int) -> Served:
+    """Serves the pages of a room at a port of this machine, or at a free one where it is 0. Raises
+    `Failure` where it can't be had."""
+    try:
+        return Served(room, port)
+    except OSError as error:
+        raise Failure(f"cannot listen at port {port}: {error.strerror}", 2) from None

@@ -1,0 +1,124 @@
+"""A program of its own that does what a room's program does, to be looked at: so looks take no
+place of the history that all share, and nobody waits for them."""
+import contextlib
+from typing import Optional, Sequence
+
+from rdbg.commands import MOST_COUNT
+from rdbg.failure import Failure
+from rdbg.looks import Look
+from rdbg.replies import Moved
+from rdbg.rooms.journal import Journal
+from rdbg.shell import trail
+from rdbg.shell.interrupt import Interrupt
+from rdbg.shell.opening import begin
+from rdbg.shell.target import RESERVE, SINGLE, Limits, Target, read, read_line
+from rdbg.shell.walk import Walk
+from rdbg.source import Source
+from rdbg.tracing.run import Part, look_through
+
+# The history of such a program: a new one is begun where it is full.
+HISTORY = 100_000
+
+
+class Differs(Failure):
+    """The program didn't do what the room's did."""
+
+
+class Mirror:
+    """Does the moves of a room, and looks at them. It keeps all records, whatever was trimmed."""
+
+    def __init__(self, source: Source, lines: Sequence[str], history: int = HISTORY) -> None:
+        self._source, self._limits = source, Limits(MOST_COUNT, history)
+        self._journal = Journal()
+        self._target = self._begin()
+        # What there is at the place, where that is known.
+        self._look: Optional[Look] = None
+        for line in lines:
+            self.tell(line)
+
+    def _begin(self) -> Target:
+        return begin(self._source, self._limits)
+
+    @property
+    def place(self) -> int:
+        """How many moves are done."""
+        return self._target.place
+
+    @property
+    def undone(self) -> int:
+        """How many moves can be made again."""
+        return self._target.undone
+
+    def close(self) -> None:
+        """Ends the program."""
+        self._target.session.kill()
+
+    def tell(self, line: str) -> None:
+        """Does what a line does that changes the target. One that trims does nothing here."""
+        if line.startswith("trim "):
+            return
+        self._room(1)
+        self._look = None
+        reply = self._target.tell(line)
+        command = read_line(line)
+        value = None if reply.startswith("no ") else read(reply)
+        if command is None or not isinstance(value, Moved):
+            raise Differs(f"{line} was answered {reply}")
+        self._journal.moved(command, value)
+
+    def goto(self, place: int) -> None:
+        """Takes moves back, or makes them again."""
+        if place < self.place:
+            self.tell(f"back {self.place - place}")
+        elif place > self.place:
+            self.tell(f"redo {place - self.place}")
+
+    def make(self, line: str, place: int) -> None:
+        """Does what a line did that made new moves, up to a place."""
+        is_single = line.split(" ")[0] in SINGLE
+        self.tell(line if is_single else f"forward {place - self.place}")
+        if self.place != place:
+            raise Differs(f"{line} led to {place}, and here to {self.place}")
+
+    def look(self) -> Look:
+        """What there is at the place."""
+        if self._look is None:
+            self._room(len(self._target.names.lines()))
+            self._look = self._target.look()
+        return self._look
+
+    def make_and_look(self, line: str, place: int) -> Part:
+        """Does what a line did that made new moves, and looks at each of them."""
+        here = self.place
+        if place != here + 1:
+            self.make(line, place)
+            return self.part(here + 1, place)
+        before = self.look()
+        self.make(line, place)
+        after = self.look()
+        return Part(before, (trail.between(self._target, before, after),), (after,))
+
+    def part(self, first: int, last: int) -> Part:
+        """The moves to these places, which have been done, with looks. Stays where it is."""
+        self._room(trail.lines_for(last - first + 1, self._target.names) + last - first)
+        return look_through(self._target, first, last)
+
+    def piece(self, lines: int) -> int:
+        """How many moves can be looked at with so many lines."""
+        return max(8, lines // (2 + len(self._target.names.lines())))
+
+    def _room(self, lines: int) -> None:
+        """Begins a new program where the history has no room for so many lines: it does what the
+        one before did."""
+        left = self._target.left()
+        if left is None or left >= lines + 2 * RESERVE:
+            return
+        place = self.place
+        with contextlib.suppress(OSError):
+            self._target.session.kill()
+        self._target = self._begin()
+        for reply in self._target.session.tell_all(self._journal.lines()):
+            if reply.startswith("no "):
+                raise Differs(f"the moves were made again, and one was answered {reply}")
+        if self.place != place:
+            raise Differs(f"the moves were made again, and led to {self.place}, not to {place}")

@@ -1,0 +1,214 @@
+"""The pages that are open, each with a member of the room and with what it is still to be told."""
+import collections
+import json
+import secrets
+import socket
+import threading
+import time
+from typing import Callable, Deque, Dict, List, Optional, Tuple
+
+from rdbg.rooms.room import Member, Refusal, Room
+from rdbg.rooms.web_follower import Follower, Values
+
+# So many pages can be open.
+MOST_PAGES = 16
+# So many bytes of moves wait for a page: where there are more it is told all anew. So many notices
+# wait for it: where there are more the oldest are dropped, and it is told how many.
+MOST_WAITING, MOST_NOTICES = 2_000_000, 1_000
+# So many lines of a page wait for their turn.
+MOST_LINES = 16
+NAME = "web"
+# An event: a word on what it is, and its values as JSON.
+Event = Tuple[str, str]
+
+
+class TooMany(Refusal):
+    """There is no room for more."""
+
+
+class Page:
+    """A page in a browser, as a member of the room."""
+
+    def __init__(self) -> None:
+        self.key = secrets.token_urlsafe(18)
+        self.member: Optional[Member] = None
+        self._guard = threading.Lock()
+        self._moves: Deque[Event] = collections.deque()
+        self._waiting = 0
+        self._notices: Deque[str] = collections.deque()
+        self._dropped = 0
+        self._needs_run = True
+        self._who = ""
+        self._lines = threading.Semaphore(MOST_LINES)
+        self._turn = threading.Lock()
+        self._waking, self.woken = socket.socketpair()
+        self._waking.setblocking(False)
+        self.woken.setblocking(False)
+
+    def close(self) -> None:
+        """Nothing is told any more."""
+        with self._guard:
+            self._waking.close()
+            self.woken.close()
+
+    def wake(self) -> None:
+        """Wakes who writes what waits."""
+        with self._guard:
+            self._wake()
+
+    def _wake(self) -> None:
+        try:
+            self._waking.send(b".")
+        except OSError:
+            pass  # (it is awake already, or closed)
+
+    def hear(self, notice: str) -> None:
+        """Is told a notice. Blocks nobody."""
+        with self._guard:
+            self._notices.append(notice)
+            if len(self._notices) > MOST_NOTICES:
+                self._notices.popleft()
+                self._dropped += 1
+            self._wake()
+
+    def tell(self, kind: str, text: str) -> None:
+        """Is told what the moves did."""
+        with self._guard:
+            if kind == "run" or self._waiting + len(text) > MOST_WAITING:
+                self._needs_run = True
+                self._moves.clear()
+                self._waiting = 0
+            elif not self._needs_run:
+                self._moves.append((kind, text))
+                self._waiting += len(text)
+            self._wake()
+
+    def take(self, room: Room, follower: Follower) -> List[Event]:
+        """What waits, in order, and not any more then."""
+        found: List[Event] = []
+        with self._guard:
+            needs_run = self._needs_run
+        if needs_run:
+            with follower.guard:
+                with self._guard:
+                    self._needs_run = False
+                values = follower.values()
+            found.append(("run", as_json(values)))
+        with self._guard:
+            moves = [] if self._needs_run else list(self._moves)
+            self._moves.clear()
+            self._waiting = 0
+            notices, dropped = list(self._notices), self._dropped
+            self._notices.clear()
+            self._dropped = 0
+        found += moves
+        if dropped:
+            found.append(("notice", as_json(f"# {dropped} notices before these weren't kept")))
+        found += [("notice", as_json(it)) for it in notices]
+        return found + self._who_is_here(room)
+
+    def _who_is_here(self, room: Room) -> List[Event]:
+        """Who this page is, and who else is here, where that isn't as it was."""
+        assert self.member is not None
+        people = [
+            {"name": it.name, "session": it.session, "isHere": it.is_here, "hasWheel": it.has_wheel}
+            for it in room.people()
+        ]
+        who = as_json({"name": self.member.name, "people": people})
+        if who == self._who:
+            return []
+        self._who = who
+        return [("who", who)]
+
+    def ask(self, line: str) -> str:
+        """The reply to a line; empty of one that begins with `#`, which notices answer. Raises
+        `Refusal`."""
+        if not self._lines.acquire(blocking=False):
+            raise TooMany(f"{MOST_LINES} lines wait for their replies already")
+        try:
+            with self._turn:
+                assert self.member is not None
+                if line.lstrip(" ").startswith("#"):
+                    self.member.remark(line)
+                    return ""
+                return self.member.ask(line)
+        finally:
+            self._lines.release()
+
+
+class Pages:
+    """All pages that are open."""
+
+    def __init__(self, room: Room) -> None:
+        self._room = room
+        self._guard = threading.Lock()
+        self._open: Dict[str, Page] = {}
+
+    def tell(self, kind: str, values: Values) -> None:
+        """Tells all pages what moves did."""
+        with self._guard:
+            pages = list(self._open.values())
+        if pages:
+            text = as_json(values)
+            for page in pages:
+                page.tell(kind, text)
+
+    def open(self, name: Optional[str]) -> Page:
+        """A page comes, by a name, or by the first that is free. Raises `Refusal`."""
+        page = Page()
+        with self._guard:
+            if len(self._open) >= MOST_PAGES:
+                page.close()
+                raise TooMany(f"{MOST_PAGES} pages are open already")
+            self._open[page.key] = page
+        try:
+            page.member = self._join(name, page.hear)
+        except BaseException:
+            self.close(page)
+            raise
+        return page
+
+    def _join(self, name: Optional[str], hear: Callable[[str], None]) -> Member:
+        """Joins by a name. One that isn't asked for has a number where it is taken."""
+        if name is not None:
+            return self._room.join(name, hear)
+        for number in range(1, MOST_PAGES + 1):
+            try:
+                return self._room.join(NAME if number == 1 else f"{NAME}{number}", hear)
+            except Refusal:
+                if number == MOST_PAGES:
+                    raise
+        raise AssertionError
+
+    def of(self, key: str) -> Page:
+        """The page of a key. Raises `Refusal` where it isn't open."""
+        with self._guard:
+            page = self._open.get(key)
+        if page is None or page.member is None:
+            raise Refusal("this page has left the room: load it again")
+        return page
+
+    def wait(self, seconds: float) -> None:
+        """Wakes all who write what waits, and waits until they have ended, so long at the most."""
+        until = time.monotonic() + seconds
+        while time.monotonic() < until:
+            with self._guard:
+                pages = list(self._open.values())
+            if not pages:
+                return
+            for page in pages:
+                page.wake()
+            time.sleep(0.01)
+
+    def close(self, page: Page) -> None:
+        """A page has gone."""
+        with self._guard:
+            self._open.pop(page.key, None)
+        if page.member is not None:
+            page.member.leave()
+        page.close()
+
+
+def as_json(value: object) -> str:
+    """A value as one line."""
+    return json.dumps(value, separators=(",", ":"))

@@ -1,0 +1,128 @@
+"""The page of a room, in a browser, with sessions beside it: they move and the page moves, it moves
+and they are told."""
+import unittest
+from typing import List
+
+from tests.paths import EXAMPLES
+from tests.web_rooms import OnPage, session, web_room
+
+
+class Moving(OnPage):
+    """What others do moves the page, and what is done on it moves the target."""
+
+    def test_others_move(self) -> None:
+        with web_room() as room, session(room, "left") as left, session(room, "right") as right:
+            self.visit(room)
+            self.at(0)
+            self.assertEqual("ok at 1", left.tell("step 1"))
+            self.at(1)
+            self.said("left: step 1 -> ok at 1, producer 0 data 41")
+            self.assertTrue(
+                self.browser.text("#readout").startswith("1: core 1: producer 0 data 41")
+            )
+            self.assertEqual("ok at 6 met", right.tell("until count jobs > 0 50"))
+            self.at(6)
+            self.assertEqual("1/1", self.rows("#objects")[0][1])
+            self.assertEqual(6, len(self.rows("#moves")))
+            right.tell("back 4")
+            self.at(2)
+            self.assertIn("4 moves taken back", self.browser.text("#about"))
+            self.assertEqual("6", self.value("document.querySelector('#slider').max"))
+            left.tell("tick")
+            self.at(3)
+            self.assertEqual("3", self.value("document.querySelector('#slider').max"))
+            self.assertNotIn("taken back", self.browser.text("#about"))
+            self.assertIn("closed", room.end())
+
+    def test_the_page_moves(self) -> None:
+        with web_room() as room, session(room, "left") as left:
+            heard: List[str] = []
+            left.on_notice = heard.append
+            self.visit(room)
+            self.click("#steps button:nth-child(2)")
+            self.at(1)
+            self.click("#tick")
+            self.at(2)
+            self.fill("#count", "4")
+            self.click("#do-forward")
+            self.at(6)
+            self.click("#do-back")
+            self.at(2)
+            self.fill("#count", "2")
+            self.click("#do-redo")
+            self.at(4)
+            self.fill("#condition", "tick > 3")
+            self.click("#until button[type=submit]")
+            self.browser.until(
+                "document.querySelector('#state-title').textContent.includes('tick 4')"
+            )
+            self.click("#back-until")
+            self.said("web: back until tick > 3 -> ok at 0 start")
+            self.at(0)
+            self.click("#do-redo")
+            self.at(2)
+            self.fill("#count", "1")
+            self.click("#do-trim")
+            self.said("web: trim 1 -> ok at 2")
+            self.assertTrue(left.tell("show moves").startswith("moves 2 undone"))
+            told = " | ".join(heard)
+            for line in ("step 1 -> ok at 1", "tick -> ok at 2", "forward 4 -> ok at 6", "back 4"):
+                self.assertIn(f"# web: {line}", told)
+
+    def test_edits_and_interrupts(self) -> None:
+        with web_room(str(EXAMPLES / "interrupt.json")) as room, session(room, "left") as left:
+            self.visit(room)
+            left.tell("step 0")
+            self.at(1)
+            self.value("document.querySelector('#edit select').focus()")
+            self.fill("#edit input:nth-of-type(1)", "3")
+            self.fill("#edit input:nth-of-type(2)", "7")
+            self.click("#edit button")
+            self.at(2)
+            self.assertIn("r3=7", self.browser.text("#tasks"))
+            self.assertFalse(self.value("document.querySelector('#interrupt').hidden"))
+            self.value("document.querySelector('#interrupt select').selectedIndex = 1")
+            self.value(
+                "document.querySelector('#interrupt select').dispatchEvent(new Event('change'))"
+            )
+            self.fill("#interrupt input:nth-of-type(1)", "0")
+            self.fill("#interrupt input:nth-of-type(2)", "5")
+            self.click("#interrupt button")
+            self.at(3)
+            self.said("web: isr notify")
+
+
+class Wheel(OnPage):
+    """Who has the wheel."""
+
+    def test_refused_asked_for_and_given(self) -> None:
+        with web_room() as room, session(room, "left") as left:
+            heard: List[str] = []
+            left.on_notice = heard.append
+            self.visit(room)
+            left.tell("wheel take")
+            self.browser.until(
+                "document.querySelector('#wheel').textContent.startsWith('left has')"
+            )
+            self.click("#tick")
+            self.said("tick -> no Held 1: another has the wheel: ask for it")
+            self.at(0)
+            self.click("#wish")
+            self.said("web asks for the wheel")
+            left.tell("wheel give")
+            self.assertIn("# web asks for the wheel", heard)
+            self.browser.until("document.querySelector('#wheel').textContent.includes('is free')")
+            self.click("#take")
+            self.browser.until(
+                "document.querySelector('#wheel').textContent.startsWith('You have')"
+            )
+            self.assertEqual("no Held 2", left.tell("step 0"))
+            self.click("#tick")
+            self.at(1)
+            self.click("#give")
+            self.browser.until("document.querySelector('#wheel').textContent.includes('is free')")
+            self.assertEqual("ok at 2", left.tell("step 0"))
+
+
+if __name__ == "__main__":
+    unittest.main()

@@ -1,0 +1,133 @@
+"""A room with a page for browsers, as its users have it, and sessions beside the page."""
+import contextlib
+import pathlib
+import signal
+import socket
+import subprocess
+import sys
+import tempfile
+import unittest
+from typing import Any, ClassVar, Iterator, List, Sequence
+
+from rdbg.client import LOCAL, Session
+from tests.chromium import Browser
+from tests.paths import COMPANION, EXAMPLES
+
+LOST = str(EXAMPLES / "lost_item.json")
+PATIENCE = 30.0
+
+
+def free_port() -> int:
+    """A port that nobody has."""
+    with socket.socket() as free:
+        free.bind((LOCAL, 0))
+        return int(free.getsockname()[1])
+
+
+class WebRoom:
+    """A room in a process of its own, its port, and the address of its page."""
+
+    def __init__(self, path: str, words: Sequence[str] = ()) -> None:
+        self.port = free_port()
+        told = [sys.executable, "-B", str(COMPANION), "room", path, "--port", str(self.port)]
+        self.process = subprocess.Popen(
+            [*told, "--sessions", "6", "--web", "0", *words], stdout=subprocess.PIPE, text=True
+        )
+        assert self.process.stdout is not None
+        listening, web = self.process.stdout.readline(), self.process.stdout.readline()
+        assert listening == f"listening {self.port}\n" and web.startswith("web http://"), web
+        self.address = web.split()[1]
+        self.web = int(self.address.split(":")[2].split("/")[0])
+        self.token = self.address.split("/")[3]
+
+    def end(self) -> str:
+        """Ends it as a user does, and answers what it says then."""
+        self.process.send_signal(signal.SIGTERM)
+        said = self.process.communicate(timeout=PATIENCE)[0]
+        assert self.process.returncode == 0, (self.process.returncode, said)
+        return said
+
+
+@contextlib.contextmanager
+def web_room(path: str = LOST, *words: str) -> Iterator[WebRoom]:
+    """A room with a page; its audit is good at the end."""
+    found = WebRoom(path, words)
+    try:
+        yield found
+        if found.process.poll() is None:
+            found.end()
+    finally:
+        found.process.kill()
+        found.process.communicate()
+
+
+@contextlib.contextmanager
+def session(room: WebRoom, name: str) -> Iterator[Session]:
+    """A session by a name, at the room's port."""
+    with Session.attach(room.port, name) as found:
+        found.tell("show moves")
+        yield found
+
+
+class OnPage(unittest.TestCase):
+    """Tests of a room's page in one browser."""
+
+    browser: ClassVar[Browser]
+
+    @classmethod
+    def setUpClass(cls) -> None:
+        cls.browser = Browser(1440, 1000)
+
+    @classmethod
+    def tearDownClass(cls) -> None:
+        cls.browser.close()
+
+    def setUp(self) -> None:
+        folder = tempfile.TemporaryDirectory()
+        self.addCleanup(folder.cleanup)
+        self.folder = pathlib.Path(folder.name)
+        self.spares_errors = False
+
+    def tearDown(self) -> None:
+        if not self.spares_errors:
+            self.assertEqual([], self.browser.errors)
+        self.browser.visit("about:blank")
+
+    def visit(self, room: WebRoom, name: str = "web") -> None:
+        """Opens the page, as one that hasn't been there, and waits until it shows the target."""
+        self.browser.visit(room.address)
+        self.browser.until("document.documentElement.dataset.connected === 'yes'")
+        self.browser.until("document.querySelector('#about').textContent !== ''")
+        if name != "web":
+            self.value("sessionStorage.clear()")
+
+    def value(self, expression: str) -> Any:
+        """The value of an expression on the page."""
+        return self.browser.value(expression)
+
+    def at(self, place: int) -> None:
+        """Waits until the page shows a place, where the target is."""
+        texts = {
+            "#state-title": f"State at place {place}:",
+            "#about": f"the target is at {place}",
+        }
+        found = "document.querySelector('{}').textContent.startsWith('{}')"
+        self.browser.until(" && ".join(found.format(*it) for it in texts.items()))
+
+    def said(self, text: str) -> None:
+        """Waits until something was said on the page."""
+        items = "[...document.querySelectorAll('#talk li')].map((it) => it.textContent)"
+        self.browser.until(f"{items}.some((it) => it.includes({text!r}))")
+
+    def click(self, selector: str) -> None:
+        """Clicks on an element."""
+        self.browser.click(*self.browser.middle(selector))
+
+    def fill(self, selector: str, text: str) -> None:
+        """Types a text into a field, in place of what is there."""
+        self.value(f"document.querySelector({selector!r}).select()")
+        self.browser.call("Input.insertText", text=text)
+
+    def rows(self, selector: str) -> List[List[str]]:
+        """The cells of a table."""
+        return self.browser.rows(selector)
