@@ -176,7 +176,7 @@ class Recorder:
     def _put(
         self, tracks: Dict[str, Track], place: int, values: Iterable[Tuple[str, Value]]
     ) -> None:
-        """Puts values on their tracks. What is known since a later place only was nothing before."""
+        """Puts values on their tracks. What is known since a later place was nothing before."""
         assert self.first is not None
         for name, value in values:
             track = tracks.get(name)

@@ -8,7 +8,7 @@ import threading
 import urllib.parse
 from http.server import BaseHTTPRequestHandler, HTTPServer
 from socketserver import ThreadingMixIn
-from typing import Any, Dict, Optional, Tuple
+from typing import Any, Callable, Dict, Optional
 
 from rdbg.client import LOCAL
 from rdbg.failure import Failure
@@ -36,6 +36,13 @@ STILL_HERE = 15.0
 # So many seconds a page may take to read its last events, once the room has ended.
 LAST_SECONDS = 2.0
 HTML, TEXT, EVENTS = "text/html; charset=utf-8", "text/plain; charset=utf-8", "text/event-stream"
+
+
+# What a page can say, by the path that is asked, and what it is answered.
+SAID: Dict[str, Callable[[Page, str], Dict[str, str]]] = {
+    "line": lambda page, line: {"reply": page.ask(line)},
+    "name": lambda page, name: page.rename(name),
+}
 
 
 class Handler(BaseHTTPRequestHandler):
@@ -72,6 +79,8 @@ class Handler(BaseHTTPRequestHandler):
         check_origin(self.headers, self.server.port, method)
         name, query = check_token(self.path, self.server.token)
         if method == "POST":
+            if name not in SAID:
+                raise Denied(404, "there is nothing")
             said = body_of(self.headers, self.rfile)
             self.server.unread.remove(self.connection)
             return self._line(name, said)
@@ -86,13 +95,7 @@ class Handler(BaseHTTPRequestHandler):
         """Does what a page says."""
         try:
             page = self.server.pages.of(said.get("page", ""))
-            if name == "line":
-                found = {"reply": page.ask(said.get("line", ""))}
-            elif name == "name" and page.member is not None:
-                page.member.rename(said.get("name", ""))
-                found = {}
-            else:
-                raise Denied(404, "there is nothing")
+            found = SAID[name](page, said.get(name, ""))
         except Refusal as refusal:
             found = {"refused": str(refusal)}
         except Failure as failure:

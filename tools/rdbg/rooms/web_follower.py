@@ -37,6 +37,8 @@ class Follower:
         self._mirror = Mirror(source, room.follow(self.told))
         self._known = Known(source.application, self._mirror.look())
         self._shown = 0
+        # How many lines were told, and were done.
+        self.count_told = self.count_done = 0
         self._thread = threading.Thread(target=self._follow, daemon=True)
         self._thread.start()
 
@@ -44,6 +46,7 @@ class Follower:
         """A line that was accepted has changed the target. Blocks nobody."""
         value = read(reply)
         if isinstance(value, replies.Moved) and self.lost is None:
+            self.count_told += 1
             self._heap.put(Told(line, value.at))
 
     def close(self) -> None:
@@ -112,6 +115,7 @@ class Follower:
                 self._tell("run", {})
             else:
                 self._tell("now", self._now())
+            self.count_done += len(lines)
         return len(lines) == len(heap)
 
     def _do(self, told: Told, is_heap: bool) -> None:

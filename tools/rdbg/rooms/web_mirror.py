@@ -27,8 +27,8 @@ class Differs(Failure):
 class Mirror:
     """Does the moves of a room, and looks at them. It keeps all records, whatever was trimmed."""
 
-    def __init__(self, source: Source, lines: Sequence[str], history: int = HISTORY) -> None:
-        self._source, self._limits = source, Limits(MOST_COUNT, history)
+    def __init__(self, source: Source, lines: Sequence[str]) -> None:
+        self._source, self._limits = source, Limits(MOST_COUNT, HISTORY)
         self._journal = Journal()
         self._target = self._begin()
         # What there is at the place, where that is known.

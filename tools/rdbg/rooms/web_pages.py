@@ -135,6 +135,12 @@ class Page:
         finally:
             self._lines.release()
 
+    def rename(self, name: str) -> Dict[str, str]:
+        """Goes on by another name. Raises `Refusal`."""
+        assert self.member is not None
+        self.member.rename(name)
+        return {}
+
 
 class Pages:
     """All pages that are open."""
