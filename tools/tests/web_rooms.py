@@ -93,13 +93,11 @@ class OnPage(unittest.TestCase):
             self.assertEqual([], self.browser.errors)
         self.browser.visit("about:blank")
 
-    def visit(self, room: WebRoom, name: str = "web") -> None:
-        """Opens the page, as one that hasn't been there, and waits until it shows the target."""
+    def visit(self, room: WebRoom) -> None:
+        """Opens the page, and waits until it shows the target."""
         self.browser.visit(room.address)
         self.browser.until("document.documentElement.dataset.connected === 'yes'")
         self.browser.until("document.querySelector('#about').textContent !== ''")
-        if name != "web":
-            self.value("sessionStorage.clear()")
 
     def value(self, expression: str) -> Any:
         """The value of an expression on the page."""

@@ -91,6 +91,15 @@ class Signals:
         self.port.stop()
 
 
+def with_pages(room: Room, number: int) -> Served:
+    """The room's pages, at a port. Where that can't be had the room ends, and `Failure` is raised."""
+    try:
+        return web.serve(room, number)
+    except Failure:
+        room.kill()
+        raise
+
+
 def serve(room: Room, port: Port, talk: Optional[Talk], pages: Optional[Served]) -> int:
     """Serves until a signal comes or the program ends, and answers the status."""
     room.when_over = port.stop
@@ -125,7 +134,7 @@ def main(words: Sequence[str]) -> int:
     signals = Signals()
     room = Room.open(source, limits, given.sessions, talk)
     signals.port = port = Port(room, listener)
-    pages = None if given.web is None else web.serve(room, given.web)
+    pages = None if given.web is None else with_pages(room, given.web)
     print(f"listening {given.port}", flush=True)
     if pages is not None:
         print(f"web {pages.address}", flush=True)

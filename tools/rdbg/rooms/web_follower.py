@@ -1,13 +1,13 @@
 """Follows the moves of a room, so that pages show each of them as it comes."""
 import queue
 import threading
-from typing import Callable, Dict, List, Optional
+from typing import Callable, Dict, List, Optional, Tuple
 
 from rdbg import replies
 from rdbg.failure import Failure
 from rdbg.replies import Refused
 from rdbg.rooms.room import Room
-from rdbg.rooms.web_known import Known
+from rdbg.rooms.web_known import MOST_MOVES, Known
 from rdbg.rooms.web_mirror import Differs, Mirror
 from rdbg.shell.target import Unable, read
 from rdbg.tracing.run import Told, Trim
@@ -17,6 +17,8 @@ from rdbg.tracing.run import Told, Trim
 SHORT, HEAP = 64, 32
 # So many lines are asked at a time where earlier moves are looked at.
 PIECE = 4_000
+# Of moves that were taken back so many are looked at.
+MOST_AHEAD = 1_000
 BACK, REDO, TRIM = "back", "redo", "trim"
 Values = Dict[str, object]
 # Is told what pages have to show, by a word on what it is; `run` means all anew.
@@ -37,6 +39,8 @@ class Follower:
         self._mirror = Mirror(source, room.follow(self.told))
         self._known = Known(source.application, self._mirror.look())
         self._shown = 0
+        # Where the target is. (The program is elsewhere while it looks at earlier moves.)
+        self._arrive()
         # How many lines were told, and were done.
         self.count_told = self.count_done = 0
         self._thread = threading.Thread(target=self._follow, daemon=True)
@@ -59,10 +63,13 @@ class Follower:
         return {**self._known.values(), **self._now()}
 
     def _now(self) -> Values:
-        place = self._mirror.place
-        to_come = 0 if self.lost else self._known.to_come()
-        undone = self._mirror.undone
-        return {"done": place, "undone": undone, "toCome": to_come, "lost": self.lost}
+        pieces = () if self.lost else (self._ahead(MOST_AHEAD), self._known.missing(MOST_MOVES))
+        to_come = sum(last - first + 1 for first, last in filter(None, pieces))
+        return {"done": self._done, "undone": self._undone, "toCome": to_come, "lost": self.lost}
+
+    def _arrive(self) -> None:
+        """Takes note of where the target is."""
+        self._done, self._undone = self._mirror.place, self._mirror.undone
 
     def _follow(self) -> None:
         try:
@@ -81,10 +88,25 @@ class Follower:
             try:
                 return self._heap.get_nowait()
             except queue.Empty:
-                piece = self._known.missing(self._mirror.piece(PIECE))
-                if piece is None:
+                count = self._mirror.piece(PIECE)
+                ahead, piece = self._ahead(count), self._known.missing(count)
+                if ahead is not None:
+                    self._look_ahead(*ahead)
+                elif piece is not None:
+                    self._look_back(*piece)
+                else:
                     return self._heap.get()
-                self._look_back(*piece)
+
+    def _ahead(self, count: int) -> Optional[Tuple[int, int]]:
+        """The places of at most so many moves that were taken back, and weren't looked at."""
+        end = self._done + min(self._undone, MOST_AHEAD)
+        return self._known.ahead(count, end)
+
+    def _look_ahead(self, first: int, last: int) -> None:
+        """Looks at moves that were taken back."""
+        part = self._mirror.part(first, last)
+        with self.guard:
+            self._tell("more", {**self._known.add(part), **self._now()})
 
     def _look_back(self, first: int, last: int) -> None:
         """Looks at moves before those that are known."""
@@ -107,7 +129,7 @@ class Follower:
         with self.guard:
             for it in lines:
                 self._do(it, len(lines) > HEAP)
-            if not self._known.has(self._mirror.place):
+            if not self._known.has(self._done):
                 self._known.jump(self._mirror.look())
                 self._shown = 0
                 self._tell("run", {})
@@ -120,12 +142,13 @@ class Follower:
 
     def _do(self, told: Told, is_heap: bool) -> None:
         """Does what a line did."""
-        word, here = told.text.split(" ")[0], self._mirror.place
+        word, here = told.text.split(" ")[0], self._done
         if word == TRIM:
             self._known.trim(Trim(told.place, told.text))
             self._tell("trims", {"trims": self._known.values()["trims"]})
         elif word in (BACK, REDO):
             self._mirror.goto(told.place)
+            self._arrive()
         else:
             self._make(told, told.place - here, is_heap)
 
@@ -133,8 +156,10 @@ class Follower:
         """Makes new moves."""
         if count < 1:
             raise Differs(f"{told.text} led to {told.place}")
-        if not self._known.cut(self._mirror.place) or is_heap or count > SHORT:
+        if not self._known.cut(self._done) or is_heap or count > SHORT:
             self._mirror.make(told.text, told.place)
+            self._arrive()
             return
         part = self._mirror.make_and_look(told.text, told.place)
+        self._arrive()
         self._tell("more", {**self._known.add(part), **self._now()})

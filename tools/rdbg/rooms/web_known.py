@@ -105,10 +105,14 @@ class Known:
             least = max(least, self._older[-1].last)
         return (max(least, self.first - count) + 1, self.first) if least < self.first else None
 
-    def to_come(self) -> int:
-        """How many moves are still to be looked at."""
-        whole = self.missing(MOST_MOVES)
-        return whole[1] - whole[0] + 1 if whole else 0
+    def ahead(self, count: int, end: int) -> Optional[Tuple[int, int]]:
+        """The same of moves behind the last one, which were taken back: those up to an end."""
+        most = min(self.last + count, end)
+        return (
+            (self.last + 1, most)
+            if most > self.last and self.last - self.first < MOST_MOVES
+            else None
+        )
 
     def forget(self) -> bool:
         """Forgets the oldest moves where there are too many, and answers whether it did."""

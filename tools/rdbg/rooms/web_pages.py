@@ -114,7 +114,8 @@ class Page:
             {"name": it.name, "session": it.session, "isHere": it.is_here, "hasWheel": it.has_wheel}
             for it in room.people()
         ]
-        who = as_json({"name": self.member.name, "people": people})
+        watches = dict(self.member.seat.watches)
+        who = as_json({"name": self.member.name, "people": people, "watches": watches})
         if who == self._who:
             return []
         self._who = who

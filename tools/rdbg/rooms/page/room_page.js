@@ -2,7 +2,6 @@
 
 const AGAIN_AFTER = 1000;
 const LOOKS = /^\s*show(\s|$)/;
-const WATCHES = /^\s*(un)?watch\s/;
 const MOVES = ["run", "more", "now", "trims"];
 
 // The room as it is served: what comes, and what is said there.
@@ -181,7 +180,6 @@ class RoomOnPage {
     if (MOVES.includes(kind)) this.takeMoves(kind, values);
     if (kind === "who") this.takeWho(values);
     if (kind === "notice") this.takeNotice(values);
-    if (kind === "you") this.lookAtWatches();
     const texts = {
       you: "",
       end: "The room has ended.",
@@ -201,11 +199,15 @@ class RoomOnPage {
   takeMoves(kind, values) {
     if (!this.page) this.page = new RoomPage(this, this.line, values);
     else this.page.take(kind, values);
-    if (this.watches.conditions.size) this.lookAtWatches();
+    if (this.watches.areThere) this.lookAtWatches();
   }
 
-  takeWho({ name, people }) {
+  takeWho({ name, people, watches }) {
     this.name = name;
+    if (JSON.stringify(watches) !== JSON.stringify(this.watches.conditions)) {
+      this.watches.take(watches);
+      if (this.watches.areThere) this.lookAtWatches();
+    }
     if (document.activeElement !== byId("name")) byId("name").value = name;
     this.people.show(name, people);
   }
@@ -222,12 +224,6 @@ class RoomOnPage {
     const no = refused ?? ended ?? (reply.startsWith("no ") ? refusalWords(reply) : null);
     if (no !== null) this.talk.say("refused", `${line} -> ${no}`);
     else if (LOOKS.test(line)) this.talk.say("reply", `${line} -> ${reply}`);
-    else if (WATCHES.test(line)) this.takeWatch(line, reply);
-  }
-
-  takeWatch(line, reply) {
-    this.watches.take(line, reply);
-    this.lookAtWatches();
   }
 
   // Asks which watches hold now; once more where something has come meanwhile.

@@ -79,37 +79,29 @@ class Watches {
   constructor(list, tell) {
     this.list = list;
     this.tell = tell;
-    this.conditions = new Map();
+    this.conditions = {};
     this.holds = new Map();
   }
 
-  // Takes note of a line and its reply.
-  take(line, reply) {
-    const number = /^ok watch (\d+)$/.exec(reply)?.[1];
-    if (number === undefined) return;
-    const [word, ...words] = line.split(" ").filter(Boolean);
-    if (word === "watch") this.conditions.set(number, words.join(" "));
-    else this.conditions.delete(number);
+  get areThere() {
+    return Object.keys(this.conditions).length > 0;
+  }
+
+  // Takes the conditions by number.
+  take(conditions) {
+    this.conditions = conditions;
     this.show();
   }
 
   // Takes the reply to `show watches`.
   takeStates(reply) {
-    const found = /^watches (\S+)$/.exec(reply)?.[1] ?? "-";
-    const pairs = found === "-" ? [] : found.split(",").map((it) => it.split(":"));
-    this.holds = new Map(pairs);
-    for (const number of this.conditions.keys()) {
-      if (!this.holds.has(number)) this.conditions.delete(number);
-    }
-    for (const number of this.holds.keys()) {
-      if (!this.conditions.has(number)) this.conditions.set(number, "(set elsewhere)");
-    }
+    const found = /^watches (\S+)$/.exec(reply)?.[1] ?? "";
+    this.holds = new Map(found.split(",").map((it) => it.split(":")));
     this.show();
   }
 
   show() {
-    const conditions = [...this.conditions].sort(([one], [other]) => one - other);
-    const items = conditions.map(([number, text]) => {
+    const items = Object.entries(this.conditions).map(([number, text]) => {
       const item = made("li", `w${number} ${text}: ${this.holds.get(number) ?? "?"} `);
       const button = item.appendChild(made("button", "drop"));
       button.type = "button";
