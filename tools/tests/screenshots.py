@@ -1,19 +1,22 @@
-"""Makes three pictures of the page of a run, for who changes it to look at.
+"""Makes three pictures of the page of a run, and two of that of a room, for who changes them to look
+at.
 
 usage, in tools/: python3 -B -m tests.screenshots FOLDER
 
 `light.png` is of the lost item and stands in README, `dark.png` of the full buffer, `long.png` of a
-long run with many objects. The program is that of `RDBG_PROGRAM`, or of the wrapper.
+long run with many objects; `room.png` is of a room with three and stands in docs/TOGETHER.md,
+`room_dark.png` is the same in dark. The program is that of `RDBG_PROGRAM`, or of the wrapper.
 """
 import dataclasses
 import pathlib
 import sys
 import tempfile
-from typing import List, Sequence, Tuple
+from typing import Iterator, List, Sequence, Tuple
 
 from tests.chromium import Browser
 from tests.pages import page_of, tutorials
 from tests.paths import EXAMPLES
+from tests.web_rooms import LOST, session, web_room
 
 WIDTH, HEIGHT = 1360, 860
 
@@ -41,6 +44,32 @@ def pictures() -> List[Picture]:
     ]
 
 
+def room_pictures(browser: Browser, folder: pathlib.Path) -> Iterator[pathlib.Path]:
+    """Makes those of a room, in which Bo has asked for the wheel that Ada has."""
+    with web_room(LOST) as room, session(room, "ada") as ada, session(room, "bo") as bo:
+        shown = (
+            "document.querySelector('#state-title').textContent.startsWith('State at place {}:')"
+        )
+        browser.visit(room.address)
+        ada.tell("wheel take")
+        ada.tell("until count jobs > 0 50")
+        browser.until(shown.format(5))
+        browser.value("document.querySelector('#condition').value = 'count jobs > 0'")
+        for button in ("#watch", "#tick"):
+            browser.click(*browser.middle(button))
+        for line in ("step 1", "step 1", "step 1", "back 2"):
+            ada.tell(line)
+        browser.until(shown.format(6))
+        bo.remark("# say the poller had it; may I have the wheel?")
+        browser.until("document.querySelector('#talk').textContent.includes('the poller had it')")
+        browser.until("document.querySelector('#watches').textContent.includes('holds')")
+        browser.value("document.activeElement.blur()")
+        for name, scheme in (("room", "light"), ("room_dark", "dark")):
+            browser.scheme(scheme)
+            browser.picture(folder / f"{name}.png")
+            yield folder / f"{name}.png"
+
+
 def main(words: Sequence[str]) -> int:
     """Makes them."""
     if len(words) != 1:
@@ -57,6 +86,8 @@ def main(words: Sequence[str]) -> int:
                 browser.key(key)
             browser.picture(folder / f"{it.name}.png")
             print(folder / f"{it.name}.png")
+        for made in room_pictures(browser, folder):
+            print(made)
     return 0
 
 

@@ -61,7 +61,7 @@ class Moving(OnPage):
             self.at(0)
             self.click("#do-redo")
             self.at(2)
-            self.fill("#count", "1")
+            self.fill("#keep", "1")
             self.click("#do-trim")
             self.said("web: trim 1 -> ok at 2")
             self.assertTrue(left.tell("show moves").startswith("moves 2 undone"))
@@ -105,7 +105,7 @@ class Wheel(OnPage):
                 "document.querySelector('#wheel').textContent.startsWith('left has')"
             )
             self.click("#tick")
-            self.said("tick -> no Held 1: another has the wheel: ask for it")
+            self.said("tick -> no Held 1: left has the wheel")
             self.at(0)
             self.click("#wish")
             self.said("web asks for the wheel")

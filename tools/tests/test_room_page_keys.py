@@ -49,7 +49,9 @@ class Keys(OnPage):
             for _ in range(70):
                 self.browser.key("Tab")
                 seen.append(self.value(FOCUSED))
-            wanted = "tick count do-back do-redo do-forward do-trim condition most back-until watch"
+            wanted = (
+                "tick count do-back do-redo do-forward keep do-trim condition most back-until watch"
+            )
             wanted += " line take give wish name talk slider search lanes state theme help-button"
             self.assertLessEqual(set(wanted.split()), set(seen))
             for text in ("until", "poke", "isr", "send", "rename"):

@@ -12,9 +12,9 @@ from rdbg.shell import trail
 from rdbg.shell.interrupt import Interrupt
 from rdbg.shell.opening import begin
 from rdbg.shell.target import RESERVE, SINGLE, Limits, Target, read, read_line
-from rdbg.shell.walk import Walk
+from rdbg.shell.walk import LEAST_PIECE, Walk
 from rdbg.source import Source
-from rdbg.tracing.run import Part, look_through
+from rdbg.tracing.run import Part, walk_through
 
 # The history of such a program: a new one is begun where it is full.
 HISTORY = 100_000
@@ -42,12 +42,12 @@ class Mirror:
     @property
     def place(self) -> int:
         """How many moves are done."""
-        return self._target.place
+        return self._journal.place
 
     @property
     def undone(self) -> int:
         """How many moves can be made again."""
-        return self._target.undone
+        return self._target.place + self._target.undone - self.place
 
     def close(self) -> None:
         """Ends the program."""
@@ -57,7 +57,7 @@ class Mirror:
         """Does what a line does that changes the target. One that trims does nothing here."""
         if line.startswith("trim "):
             return
-        self._room(1)
+        self._return(1)
         self._look = None
         reply = self._target.tell(line)
         command = read_line(line)
@@ -83,7 +83,7 @@ class Mirror:
     def look(self) -> Look:
         """What there is at the place."""
         if self._look is None:
-            self._room(len(self._target.names.lines()))
+            self._return(len(self._target.names.lines()))
             self._look = self._target.look()
         return self._look
 
@@ -99,13 +99,21 @@ class Mirror:
         return Part(before, (trail.between(self._target, before, after),), (after,))
 
     def part(self, first: int, last: int) -> Part:
-        """The moves to these places, which have been done, with looks. Stays where it is."""
-        self._room(trail.lines_for(last - first + 1, self._target.names) + last - first)
-        return look_through(self._target, first, last)
+        """The moves to these places, done or undone, with looks. The program stays there, and comes
+        back before it does anything else: so earlier and earlier moves aren't gone to again and
+        again."""
+        lines = trail.lines_for(last - first + 1, self._target.names) + last - first
+        self._room(lines + abs(self._target.place - first) // LEAST_PIECE)
+        return walk_through(Walk(self._target, Interrupt()), first, last)
 
     def piece(self, lines: int) -> int:
         """How many moves can be looked at with so many lines."""
         return max(8, lines // (2 + len(self._target.names.lines())))
+
+    def _return(self, lines: int) -> None:
+        """Comes back from where it has looked, with room for so many lines."""
+        self._room(lines + abs(self._target.place - self.place) // LEAST_PIECE)
+        Walk(self._target, Interrupt()).goto(self.place)
 
     def _room(self, lines: int) -> None:
         """Begins a new program where the history has no room for so many lines: it does what the
@@ -113,12 +121,11 @@ class Mirror:
         left = self._target.left()
         if left is None or left >= lines + 2 * RESERVE:
             return
-        place = self.place
         with contextlib.suppress(OSError):
             self._target.session.kill()
         self._target = self._begin()
         for reply in self._target.session.tell_all(self._journal.lines()):
             if reply.startswith("no "):
                 raise Differs(f"the moves were made again, and one was answered {reply}")
-        if self.place != place:
-            raise Differs(f"the moves were made again, and led to {self.place}, not to {place}")
+        if self._target.place != self.place:
+            raise Differs(f"all moves were made again, and {self._target.place} are done")

@@ -162,18 +162,24 @@ def look_through(target: Target, first: int, last: int) -> Part:
     Stays where it is."""
     walk = Walk(target, Interrupt())
     here = walk.place
-    walk.goto(first - 1)
     try:
-        before = target.look()
-        moves: List[Move] = []
-        looks: List[Look] = []
-        while walk.place < last:
-            for look in trail.again(target, min(trail.CHUNK, last - walk.place), target.names):
-                moves.append(trail.between(target, looks[-1] if looks else before, look))
-                looks.append(look)
-        return Part(before, tuple(moves), tuple(looks))
+        return walk_through(walk, first, last)
     finally:
         walk.goto(here)
+
+
+def walk_through(walk: Walk, first: int, last: int) -> Part:
+    """The same; it ends at the last place."""
+    target = walk.target
+    walk.goto(first - 1)
+    before = target.look()
+    moves: List[Move] = []
+    looks: List[Look] = []
+    while walk.place < last:
+        for look in trail.again(target, min(trail.CHUNK, last - walk.place), target.names):
+            moves.append(trail.between(target, looks[-1] if looks else before, look))
+            looks.append(look)
+    return Part(before, tuple(moves), tuple(looks))
 
 
 def part_of(run: Run, piece: Piece) -> Part:

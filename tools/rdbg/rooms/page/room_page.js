@@ -1,6 +1,8 @@
 // The page of a room: what all do moves it, and its buttons do the same as lines do.
 
 const AGAIN_AFTER = 1000;
+// At first a move is so wide, that one sees those that come, and some before.
+const SCALE = 64;
 const LOOKS = /^\s*show(\s|$)/;
 const MOVES = ["run", "more", "now", "trims"];
 
@@ -72,6 +74,7 @@ class RoomPage extends Viewer {
     this.line = line;
     this.follows = true;
     this.steps = new StepButtons(byId("steps"), room.cores, (text) => room.tell(text));
+    this.timeline.zoomTo(SCALE);
     this.begin();
     this.go(run.done);
   }
@@ -221,9 +224,17 @@ class RoomOnPage {
   // Says a line, and what is answered; of one that all are told, the notice tells it.
   async tell(line) {
     const { reply, refused, ended } = await this.line.say("line", line);
-    const no = refused ?? ended ?? (reply.startsWith("no ") ? refusalWords(reply) : null);
+    const no = refused ?? ended ?? (reply.startsWith("no ") ? this.refusalWords(reply) : null);
     if (no !== null) this.talk.say("refused", `${line} -> ${no}`);
     else if (LOOKS.test(line)) this.talk.say("reply", `${line} -> ${reply}`);
+  }
+
+  // A refusal with what it means; of the wheel with who has it.
+  refusalWords(reply) {
+    const holder = this.people.holder;
+    if (reply.startsWith("no Held") && holder) return `${reply}: ${holder} has the wheel`;
+    const words = REFUSALS[reply.split(" ")[1]];
+    return words ? `${reply}: ${words}` : reply;
   }
 
   // Asks which watches hold now; once more where something has come meanwhile.
@@ -247,7 +258,7 @@ class RoomOnPage {
       "do-back": () => `back ${value("count")}`,
       "do-redo": () => `redo ${value("count")}`,
       "do-forward": () => `forward ${value("count")}`,
-      "do-trim": () => `trim ${value("count")}`,
+      "do-trim": () => `trim ${value("keep")}`,
       "back-until": () => `back until ${value("condition")}`,
       watch: () => `watch ${value("condition")}`,
       take: () => "wheel take",

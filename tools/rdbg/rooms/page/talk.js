@@ -9,7 +9,7 @@ const REFUSALS = {
   TooFar: "only so many moves can be taken back",
   NothingUndone: "fewer moves are taken back than are to be made again",
   MovesFull: "the moves done are at their limit: go back",
-  Held: "another has the wheel: ask for it",
+  Held: "another has the wheel",
   NoSuch: "there is no core, register, entry or name like this",
   BadEdit: "the edit can't be made",
   NoIsr: "the application has profile 1, which has no interrupts",
@@ -21,11 +21,6 @@ const REFUSALS = {
   Syntax: "the line is no command",
   LineTooLong: "a line has at most 1024 bytes",
 };
-
-function refusalWords(reply) {
-  const words = REFUSALS[reply.split(" ")[1]];
-  return words ? `${reply}: ${words}` : reply;
-}
 
 class Talk {
   constructor(list) {
@@ -59,7 +54,9 @@ class People {
 
   show(me, people) {
     this.element.replaceChildren(...people.map((it) => this.item(me, it)));
-    this.wheel.textContent = wheelWords(me, people.find(({ hasWheel }) => hasWheel));
+    const holder = people.find(({ hasWheel }) => hasWheel);
+    this.holder = holder?.name;
+    this.wheel.textContent = wheelWords(me, holder);
   }
 
   item(me, { name, session, isHere, hasWheel }) {
