@@ -1,10 +1,8 @@
-"""What tests of pages have in common: a browser, a folder, and the check of all places."""
+"""What tests of pages of runs have in common: making one, and the check of all places."""
 import pathlib
-import tempfile
-import unittest
-from typing import ClassVar, Sequence
+from typing import Sequence
 
-from tests.chromium import Browser
+from tests.browsing import Browsing
 from tests.pages import Asked, Reader, page_of
 from tests.paths import EXAMPLES
 
@@ -13,23 +11,11 @@ LOST = EXAMPLES / "lost_item.json"
 RUN = ["until count jobs > 0 50", "step 1", "step 1", "step 1", "step 0"]
 
 
-class Shown(unittest.TestCase):
-    """Tests with one browser for all of them, and a folder each."""
-
-    browser: ClassVar[Browser]
-
-    @classmethod
-    def setUpClass(cls) -> None:
-        cls.browser = Browser()
-
-    @classmethod
-    def tearDownClass(cls) -> None:
-        cls.browser.close()
+class Shown(Browsing):
+    """Tests of pages of runs."""
 
     def setUp(self) -> None:
-        folder = tempfile.TemporaryDirectory()
-        self.addCleanup(folder.cleanup)
-        self.folder = pathlib.Path(folder.name)
+        super().setUp()
         self.reader = Reader(self.browser)
 
     def tearDown(self) -> None:

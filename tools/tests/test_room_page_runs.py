@@ -1,32 +1,13 @@
-"""The page of a room that comes late, goes, or is shown much, and each place as rdbg says it."""
+"""The page of a room that comes late or goes, and each place as rdbg says it."""
 import time
 import unittest
 from typing import Any
 
-from tests.pages import Asked, Reader
-from tests.paths import EXAMPLES
-from tests.web_rooms import OnPage, WebRoom, session, web_room
+from tests.web_rooms import OnPage, session, web_room
 
 
 class Runs(OnPage):
     """What it shows of a run."""
-
-    def check_places(self, room: WebRoom, first: int, last: int) -> None:
-        """Whether each place is as rdbg itself says it, at the room's port."""
-        reader = Reader(self.browser)
-        views = Asked(EXAMPLES / "lost_item.json").views
-        with session(room, "looks") as looks:
-            done = int(looks.tell("show moves").split()[1])
-            if last > done:
-                looks.tell(f"redo {last - done}")
-            for place in range(last, first - 1, -1):
-                self.value(f"document.querySelector('#place').value = {place}")
-                self.value("document.querySelector('#place').dispatchEvent(new Event('change'))")
-                self.browser.settle()
-                self.assertEqual(place, reader.place())
-                self.assertEqual(list(looks.tell_all(views)), reader.answers(), f"at {place}")
-                if place > first:
-                    self.assertEqual(f"ok at {place - 1}", looks.tell("back 1"))
 
     def test_each_place_is_what_rdbg_says(self) -> None:
         with web_room() as room, session(room, "left") as left, session(room, "right") as right:
@@ -79,30 +60,6 @@ class Runs(OnPage):
             self.browser.until("document.querySelector('#wheel').textContent.startsWith('You')")
             self.click("#tick")
             self.at(1)
-
-    def test_the_room_ends(self) -> None:
-        with web_room() as room:
-            self.visit(room)
-            room.end()
-            self.browser.until("document.querySelector('#connection').textContent !== ''")
-            self.assertEqual("The room has ended.", self.browser.text("#connection"))
-            self.said("the room has ended: ")
-            self.click("#tick")
-            self.said("tick -> the room can't be reached")
-            self.spares_errors = True  # (the browser says so as well)
-
-    def test_a_long_run(self) -> None:
-        with web_room() as room, session(room, "left") as left:
-            self.visit(room)
-            left.tell("forward 1200")
-            self.at(1200)
-            self.browser.until("document.querySelector('#slider').min === '0'", 60)
-            for line, place in (("step 1", 1201), ("tick", 1202), ("back 2", 1200)):
-                before = self.browser.busy()
-                left.tell(line)
-                self.at(place)
-                self.assertLess(self.browser.busy() - before, 2.0)
-            self.check_places(room, 1198, 1202)
 
 
 if __name__ == "__main__":

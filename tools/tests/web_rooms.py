@@ -1,16 +1,14 @@
 """A room with a page for browsers, as its users have it, and sessions beside the page."""
 import contextlib
-import pathlib
 import signal
 import socket
 import subprocess
 import sys
-import tempfile
-import unittest
-from typing import Any, ClassVar, Iterator, List, Sequence
+from typing import Any, Iterator, List, Sequence
 
 from rdbg.client import LOCAL, Session
-from tests.chromium import Browser
+from tests.browsing import Browsing
+from tests.pages import Asked, Reader
 from tests.paths import COMPANION, EXAMPLES
 
 LOST = str(EXAMPLES / "lost_item.json")
@@ -69,23 +67,11 @@ def session(room: WebRoom, name: str) -> Iterator[Session]:
         yield found
 
 
-class OnPage(unittest.TestCase):
-    """Tests of a room's page in one browser."""
-
-    browser: ClassVar[Browser]
-
-    @classmethod
-    def setUpClass(cls) -> None:
-        cls.browser = Browser(1440, 1000)
-
-    @classmethod
-    def tearDownClass(cls) -> None:
-        cls.browser.close()
+class OnPage(Browsing):
+    """Tests of a room's page."""
 
     def setUp(self) -> None:
-        folder = tempfile.TemporaryDirectory()
-        self.addCleanup(folder.cleanup)
-        self.folder = pathlib.Path(folder.name)
+        super().setUp()
         self.spares_errors = False
 
     def tearDown(self) -> None:
@@ -129,3 +115,20 @@ class OnPage(unittest.TestCase):
     def rows(self, selector: str) -> List[List[str]]:
         """The cells of a table."""
         return self.browser.rows(selector)
+
+    def check_places(self, room: WebRoom, first: int, last: int) -> None:
+        """Whether each place is as rdbg itself says it, at the room's port."""
+        reader = Reader(self.browser)
+        views = Asked(EXAMPLES / "lost_item.json").views
+        with session(room, "looks") as looks:
+            done = int(looks.tell("show moves").split()[1])
+            if last > done:
+                looks.tell(f"redo {last - done}")
+            for place in range(last, first - 1, -1):
+                self.value(f"document.querySelector('#place').value = {place}")
+                self.value("document.querySelector('#place').dispatchEvent(new Event('change'))")
+                self.browser.settle()
+                self.assertEqual(place, reader.place())
+                self.assertEqual(list(looks.tell_all(views)), reader.answers(), f"at {place}")
+                if place > first:
+                    self.assertEqual(f"ok at {place - 1}", looks.tell("back 1"))

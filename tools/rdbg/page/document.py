@@ -27,6 +27,7 @@ SCRIPTS = tuple(
 STYLE = HERE / "style.css"
 # The parts of HTML that they have, by the names that stand for them.
 PARTS = {
+    "header": "header.html",
     "lanes": "lanes.html",
     "script-panel": "script.html",
     "state": "state.html",

@@ -36,13 +36,13 @@ class Follower:
         self._tell = tell
         self.lost: Optional[str] = None
         self._heap: "queue.SimpleQueue[Optional[Told]]" = queue.SimpleQueue()
+        # How many lines were told, and were done.
+        self.count_told = self.count_done = 0
         self._mirror = Mirror(source, room.follow(self.told))
         self._known = Known(source.application, self._mirror.look())
         self._shown = 0
         # Where the target is. (The program is elsewhere while it looks at earlier moves.)
         self._arrive()
-        # How many lines were told, and were done.
-        self.count_told = self.count_done = 0
         self._thread = threading.Thread(target=self._follow, daemon=True)
         self._thread.start()
 
@@ -95,6 +95,7 @@ class Follower:
                 elif piece is not None:
                     self._look_back(*piece)
                 else:
+                    self._mirror.look()  # (so that it is where the next line begins)
                     return self._heap.get()
 
     def _ahead(self, count: int) -> Optional[Tuple[int, int]]:

@@ -65,8 +65,9 @@ class Unread:
         """A connection has come; of too many the oldest is dropped."""
         with self._guard:
             if len(self._since) >= MOST_UNREAD:
-                drop(min(self._since, key=self._since.__getitem__))
-                self._since.pop(min(self._since, key=self._since.__getitem__))
+                oldest = next(iter(self._since))
+                drop(oldest)
+                del self._since[oldest]
             self._since[connection] = time.monotonic()
 
     def remove(self, connection: socket.socket) -> None:

@@ -92,8 +92,7 @@ class Page:
             with follower.guard:
                 with self._guard:
                     self._needs_run = False
-                values = follower.values()
-            found.append(("run", as_json(values)))
+                found.append(("run", as_json(follower.values())))
         with self._guard:
             moves = [] if self._needs_run else list(self._moves)
             self._moves.clear()

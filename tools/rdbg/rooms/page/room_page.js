@@ -1,16 +1,35 @@
 // The page of a room: what all do moves it, and its buttons do the same as lines do.
 
 const AGAIN_AFTER = 1000;
+const MOST_REFUSALS = 5;
 // At first a move is so wide, that one sees those that come, and some before.
 const SCALE = 64;
 const LOOKS = /^\s*show(\s|$)/;
 const MOVES = ["run", "more", "now", "trims"];
 
+// The name that a page has, for when it is loaded anew; none where the browser keeps nothing.
+function keptName() {
+  try {
+    return sessionStorage.getItem("name");
+  } catch (error) {
+    return null;
+  }
+}
+
+function keepName(name) {
+  try {
+    sessionStorage.setItem("name", name);
+  } catch (error) {
+    // (then the page has another name once it is loaded anew)
+  }
+}
+
 // The room as it is served: what comes, and what is said there.
 class Line {
   constructor(hear) {
     this.hear = hear;
-    this.name = sessionStorage.getItem("name");
+    this.name = keptName();
+    this.refusals = 0;
     this.open();
   }
 
@@ -25,19 +44,18 @@ class Line {
 
   take(kind, values) {
     if (kind === "you") this.key = values;
-    if (kind === "who") this.keepName(values.name);
+    if (kind === "who") keepName((this.name = values.name));
     if (kind === "end" || kind === "refused") this.close();
-    if (kind === "refused" && this.name) {
-      // (it may be the name of a page that has just gone, or of somebody else)
-      this.name = null;
-      setTimeout(() => this.open(), AGAIN_AFTER);
-    }
-    this.hear(kind, values);
+    if (kind === "refused" && this.name) this.comeAgain();
+    else this.hear(kind, values);
   }
 
-  keepName(name) {
-    this.name = name;
-    sessionStorage.setItem("name", name);
+  // The name may be that of this page before it was loaded anew, which goes in a moment; or it is
+  // somebody else's, and another one is to be had.
+  comeAgain() {
+    this.refusals += 1;
+    if (this.refusals > MOST_REFUSALS) this.name = null;
+    setTimeout(() => this.open(), AGAIN_AFTER / MOST_REFUSALS);
   }
 
   close() {
