@@ -176,6 +176,7 @@ class LetIn(unittest.TestCase):
                 self.assertNotIn(token.encode(), answer)
         self.assertEqual(403, status(got(self.here, f"/{token}")))
         self.assertEqual(404, status(got(self.here, f"/{token}/none")))
+        self.assertEqual(400, status(got(self.here, f"/{token}/events?name=a&name=b")))
         self.assertEqual(404, status(posted(self.here, "none", "{}")))
 
     def test_another_host_is_refused(self) -> None:
@@ -313,6 +314,16 @@ class Lines(unittest.TestCase):
             self.assertEqual(b"", raw.connection.recv(1))
         with self.assertRaises(OSError):
             Raw(here)
+
+    def test_a_program_that_has_ended(self) -> None:
+        room = Room.open(load(LOST), sessions=4)
+        here = web.serve(room, 0)
+        with page(here) as (_, key):
+            room._program._host._process.kill()
+            answer = said(here, "line", page=key, line="step 0")
+            self.assertEqual(["ended"], list(answer), answer)
+        room.kill()
+        here.close()
 
     def test_a_port_that_is_taken(self) -> None:
         with served(4) as here, self.assertRaises(Failure) as failed:

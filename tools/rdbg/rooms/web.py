@@ -5,7 +5,6 @@ import secrets
 import select
 import socket
 import threading
-import urllib.parse
 from http.server import BaseHTTPRequestHandler, HTTPServer
 from socketserver import ThreadingMixIn
 from typing import Any, Callable, Dict, Optional
@@ -27,6 +26,7 @@ from rdbg.rooms.web_guard import (
     body_of,
     check_origin,
     check_token,
+    name_in,
     one,
 )
 from rdbg.rooms.web_pages import Page, Pages, as_json
@@ -36,7 +36,6 @@ STILL_HERE = 15.0
 # So many seconds a page may take to read its last events, once the room has ended.
 LAST_SECONDS = 2.0
 HTML, TEXT, EVENTS = "text/html; charset=utf-8", "text/plain; charset=utf-8", "text/event-stream"
-
 
 # What a page can say, by the path that is asked, and what it is answered.
 SAID: Dict[str, Callable[[Page, str], Dict[str, str]]] = {
@@ -104,10 +103,10 @@ class Handler(BaseHTTPRequestHandler):
 
     def _events(self, query: str) -> None:
         """Tells a page what comes, until it goes."""
-        names = urllib.parse.parse_qs(query, max_num_fields=4).get("name")
+        name = name_in(query)
         self._head(200, EVENTS)
         try:
-            page = self.server.pages.open(names[0] if names else None)
+            page = self.server.pages.open(name)
         except Refusal as refusal:
             self._event("refused", as_json(str(refusal)))
             return

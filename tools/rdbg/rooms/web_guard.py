@@ -5,6 +5,7 @@ import json
 import socket
 import threading
 import time
+import urllib.parse
 from email.message import Message
 from typing import BinaryIO, Dict, List, Optional, Tuple
 
@@ -123,6 +124,15 @@ def check_token(path: str, token: str) -> Tuple[str, str]:
         raise Denied(403, "the address isn't the one that the room has said")
     name, _, query = rest.partition("?")
     return name, query
+
+
+def name_in(query: str) -> Optional[str]:
+    """The name that a query says; none where it says none. Raises `Denied`."""
+    try:
+        names = urllib.parse.parse_qs(query, keep_blank_values=True, max_num_fields=1)
+    except ValueError:
+        raise Denied(400, "it asks for too much") from None
+    return names["name"][0] if "name" in names else None
 
 
 def body_of(headers: Message, stream: BinaryIO) -> Dict[str, str]:
