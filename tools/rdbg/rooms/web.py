@@ -174,7 +174,11 @@ class Served(ThreadingMixIn, HTTPServer):
         self.has_ended = False
         super().__init__((LOCAL, port), Handler)
         self.port: int = self.server_address[1]
-        self.follower = Follower(room, self.pages.tell)
+        try:
+            self.follower = Follower(room, self.pages.tell)
+        except BaseException:
+            self.server_close()
+            raise
         self._thread = threading.Thread(target=self.serve_forever, daemon=True)
         self._thread.start()
 

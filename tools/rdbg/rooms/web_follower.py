@@ -15,6 +15,8 @@ from rdbg.tracing.run import Told, Trim
 # A line that made so many moves is looked at as a whole; so are so many lines that have come in a
 # heap. Of more, the end is looked at first.
 SHORT, HEAP = 64, 32
+# So many lines are done before pages are told where the target is.
+MOST_HEAP = 1_000
 # So many lines are asked at a time where earlier moves are looked at.
 PIECE = 4_000
 # Of moves that were taken back so many are looked at.
@@ -124,7 +126,7 @@ class Follower:
     def _take(self, told: Optional[Told]) -> bool:
         """Does a line, and those that have come since; false where the last has come."""
         heap: List[Optional[Told]] = [told]
-        while not self._heap.empty():
+        while not self._heap.empty() and len(heap) < MOST_HEAP:
             heap.append(self._heap.get())
         lines = [it for it in heap if it is not None]
         with self.guard:
@@ -146,7 +148,7 @@ class Follower:
         word, here = told.text.split(" ")[0], self._done
         if word == TRIM:
             self._known.trim(Trim(told.place, told.text))
-            self._tell("trims", {"trims": self._known.values()["trims"]})
+            self._tell("trims", {"trims": self._known.trims(), **self._now()})
         elif word in (BACK, REDO):
             self._mirror.goto(told.place)
             self._arrive()

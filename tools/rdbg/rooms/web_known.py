@@ -107,12 +107,9 @@ class Known:
 
     def ahead(self, count: int, end: int) -> Optional[Tuple[int, int]]:
         """The same of moves behind the last one, which were taken back: those up to an end."""
-        most = min(self.last + count, end)
-        return (
-            (self.last + 1, most)
-            if most > self.last and self.last - self.first < MOST_MOVES
-            else None
-        )
+        if self.last >= end or self.last - self.first >= MOST_MOVES:
+            return None
+        return (self.last + 1, min(self.last + count, end))
 
     def forget(self) -> bool:
         """Forgets the oldest moves where there are too many, and answers whether it did."""
@@ -127,7 +124,10 @@ class Known:
         """Takes note of a trim."""
         self._trims.append(trim)
 
+    def trims(self) -> List[List[object]]:
+        """The trims that are shown, each with its place and line."""
+        return [[it.place, it.line] for it in self._trims if self.has(it.place)]
+
     def values(self) -> Values:
         """What a page has of all that is shown."""
-        trims = [[it.place, it.line] for it in self._trims if self.has(it.place)]
-        return {"blocks": [it.values(()) for it in self._chain], "trims": trims}
+        return {"blocks": [it.values(()) for it in self._chain], "trims": self.trims()}

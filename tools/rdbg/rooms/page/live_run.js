@@ -64,6 +64,11 @@ class LiveRun extends Run {
     this.setNow(now);
   }
 
+  setTrims({ trims, ...now }) {
+    this.trims = trims;
+    this.setNow(now);
+  }
+
   cut(place) {
     for (const tracks of [this.cores, ...[...this.tasks, ...this.objects].map((it) => it.tracks)]) {
       for (const name in tracks) tracks[name].cut(place);

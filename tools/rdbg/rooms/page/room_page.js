@@ -148,7 +148,7 @@ class RoomPage extends Viewer {
     if (kind === "run") run.take(values);
     if (kind === "more") run.more(values);
     if (kind === "now") run.setNow(values);
-    if (kind === "trims") run.trims = values.trims;
+    if (kind === "trims") run.setTrims(values);
     if (kind === "run") timeline.take();
     if (kind === "more") timeline.renew(behind);
     if (kind === "trims") timeline.renew(run.first - 1);
