@@ -92,6 +92,26 @@ class Moving(OnPage):
             self.said("web: isr notify")
 
 
+class Lines(OnPage):
+    """An application in lines."""
+
+    def test_its_script_has_its_lines(self) -> None:
+        path = self.folder / "app.fw"
+        path.write_text(
+            "cores 1\nqueue q length 1 item 1\n\ntask one priority 1\nagain:\n"
+            "    send(q, portMAX_DELAY);\n    jump again\n"
+        )
+        with web_room(str(path)) as room:
+            self.visit(room)
+            self.assertEqual("app.fw: a room", self.value("document.title"))
+            self.assertEqual(
+                ["step 0: one 0 send(q, portMAX_DELAY)"], self.browser.texts("#steps button")
+            )
+            self.browser.key("s")
+            self.at(1)
+            self.assertEqual(["->", "1", "7", "jump again"], self.rows("#script")[1])
+
+
 class Wheel(OnPage):
     """Who has the wheel."""
 

@@ -99,6 +99,7 @@ class RoomPage extends Viewer {
 
   get moreKeys() {
     return [
+      ["all these", "for yourself alone: the target stays where it is"],
       [".", "to where the target is, and with it from there on"],
       ["s, k", "a step of the core in turn, a tick"],
       ["b, r, f", "moves back, again, forward, as many as stand beside"],
