@@ -16,7 +16,8 @@ from typing import Iterator, List, Sequence, Tuple
 from tests.chromium import Browser
 from tests.pages import page_of, tutorials
 from tests.paths import EXAMPLES
-from tests.web_rooms import LOST, session, web_room
+from tests.rooms import LOST
+from tests.web_rooms import session, web_room
 
 WIDTH, HEIGHT = 1360, 860
 

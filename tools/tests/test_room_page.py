@@ -32,7 +32,7 @@ class Moving(OnPage):
             self.at(3)
             self.assertEqual("3", self.value("document.querySelector('#slider').max"))
             self.assertNotIn("taken back", self.browser.text("#about"))
-            self.assertIn("closed", room.end())
+            self.assertIn("closed", room.end_well())
 
     def test_the_page_moves(self) -> None:
         with web_room() as room, session(room, "left") as left:

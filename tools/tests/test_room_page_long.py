@@ -10,7 +10,7 @@ class Long(OnPage):
     def test_the_room_ends(self) -> None:
         with web_room() as room:
             self.visit(room)
-            room.end()
+            room.end_well()
             self.browser.until("document.querySelector('#connection').textContent !== ''")
             self.assertEqual("The room has ended.", self.browser.text("#connection"))
             self.said("the room has ended: ")

@@ -4,6 +4,8 @@ import concurrent.futures
 import contextlib
 import json
 import socket
+import subprocess
+import sys
 import time
 import unittest
 from typing import Any, Dict, Iterator, List, Optional, Tuple
@@ -15,7 +17,8 @@ from rdbg.rooms import web, web_guard, web_pages
 from rdbg.rooms.room import Room
 from rdbg.rooms.web import Served
 from rdbg.source import load
-from tests.web_rooms import LOST
+from tests.paths import COMPANION
+from tests.rooms import LOST, free_port
 
 PATIENCE = 30.0
 
@@ -329,6 +332,23 @@ class Lines(unittest.TestCase):
         with served(4) as here, self.assertRaises(Failure) as failed:
             web.serve(here.room, here.port)
         self.assertIn(f"cannot listen at port {here.port}: ", str(failed.exception))
+
+    def test_the_words_of_a_port(self) -> None:
+        with socket.socket() as taken:
+            taken.bind((LOCAL, 0))
+            taken.listen()
+            number = str(taken.getsockname()[1])
+            for word, wanted in ((number, f"cannot listen at port {number}"), ("x", "1 to 65535")):
+                words = ["room", LOST, "--port", str(free_port()), "--sessions", "2", "--web", word]
+                ran = subprocess.run(
+                    [sys.executable, "-B", str(COMPANION), *words],
+                    stdout=subprocess.PIPE,
+                    stderr=subprocess.PIPE,
+                    text=True,
+                    timeout=PATIENCE,
+                )
+                self.assertEqual((2, ""), (ran.returncode, ran.stdout))
+                self.assertIn(wanted, ran.stderr)
 
 
 class Hostile(unittest.TestCase):

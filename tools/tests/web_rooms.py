@@ -1,59 +1,48 @@
 """A room with a page for browsers, as its users have it, and sessions beside the page."""
 import contextlib
-import signal
-import socket
-import subprocess
-import sys
-from typing import Any, Iterator, List, Sequence
+from typing import Any, Iterator, List
 
-from rdbg.client import LOCAL, Session
+from rdbg.client import Session
 from tests.browsing import Browsing
 from tests.pages import Asked, Reader
-from tests.paths import COMPANION, EXAMPLES
+from tests.paths import EXAMPLES
+from tests.rooms import LOST, Process
 
-LOST = str(EXAMPLES / "lost_item.json")
-PATIENCE = 30.0
-
-
-def free_port() -> int:
-    """A port that nobody has."""
-    with socket.socket() as free:
-        free.bind((LOCAL, 0))
-        return int(free.getsockname()[1])
+ENDED = (0, "")
 
 
-class WebRoom:
+class WebRoom(Process):
     """A room in a process of its own, its port, and the address of its page."""
 
-    def __init__(self, path: str, words: Sequence[str] = ()) -> None:
-        self.port = free_port()
-        told = [sys.executable, "-B", str(COMPANION), "room", path, "--port", str(self.port)]
-        self.process = subprocess.Popen(
-            [*told, "--sessions", "6", "--web", "0", *words], stdout=subprocess.PIPE, text=True
-        )
-        assert self.process.stdout is not None
-        listening, web = self.process.stdout.readline(), self.process.stdout.readline()
-        assert listening == f"listening {self.port}\n" and web.startswith("web http://"), web
-        self.address = web.split()[1]
-        self.web = int(self.address.split(":")[2].split("/")[0])
-        self.token = self.address.split("/")[3]
+    def __init__(self, path: str) -> None:
+        super().__init__(["--sessions", "6", "--web", "0"], path)
+        self.address = self.token = ""
+        self.web = 0
 
-    def end(self) -> str:
-        """Ends it as a user does, and answers what it says then."""
-        self.process.send_signal(signal.SIGTERM)
-        said = self.process.communicate(timeout=PATIENCE)[0]
-        assert self.process.returncode == 0, (self.process.returncode, said)
-        return said
+    def wait(self) -> None:
+        """Waits until it listens, and says where its page is."""
+        super().wait()
+        assert self.process.stdout is not None
+        word, self.address = self.process.stdout.readline().split()
+        assert word == "web", word
+        *_, place, self.token, _ = self.address.split("/")
+        self.web = int(place.split(":")[1])
+
+    def end_well(self) -> str:
+        """Ends it as a user does, and answers what it says then; its audit is good."""
+        assert (self.end(), self.errors) == ENDED, self.errors
+        return self.output
 
 
 @contextlib.contextmanager
-def web_room(path: str = LOST, *words: str) -> Iterator[WebRoom]:
+def web_room(path: str = LOST) -> Iterator[WebRoom]:
     """A room with a page; its audit is good at the end."""
-    found = WebRoom(path, words)
+    found = WebRoom(path)
     try:
+        found.wait()
         yield found
         if found.process.poll() is None:
-            found.end()
+            found.end_well()
     finally:
         found.process.kill()
         found.process.communicate()
