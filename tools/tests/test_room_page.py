@@ -3,7 +3,6 @@ and they are told."""
 import unittest
 from typing import List
 
-from tests.paths import EXAMPLES
 from tests.web_rooms import OnPage, session, web_room
 
 
@@ -68,28 +67,6 @@ class Moving(OnPage):
             told = " | ".join(heard)
             for line in ("step 1 -> ok at 1", "tick -> ok at 2", "forward 4 -> ok at 6", "back 4"):
                 self.assertIn(f"# web: {line}", told)
-
-    def test_edits_and_interrupts(self) -> None:
-        with web_room(str(EXAMPLES / "interrupt.json")) as room, session(room, "left") as left:
-            self.visit(room)
-            left.tell("step 0")
-            self.at(1)
-            self.value("document.querySelector('#edit select').focus()")
-            self.fill("#edit input:nth-of-type(1)", "3")
-            self.fill("#edit input:nth-of-type(2)", "7")
-            self.click("#edit button")
-            self.at(2)
-            self.assertIn("r3=7", self.browser.text("#tasks"))
-            self.assertFalse(self.value("document.querySelector('#interrupt').hidden"))
-            self.value("document.querySelector('#interrupt select').selectedIndex = 1")
-            self.value(
-                "document.querySelector('#interrupt select').dispatchEvent(new Event('change'))"
-            )
-            self.fill("#interrupt input:nth-of-type(1)", "0")
-            self.fill("#interrupt input:nth-of-type(2)", "5")
-            self.click("#interrupt button")
-            self.at(3)
-            self.said("web: isr notify")
 
 
 class Lines(OnPage):
