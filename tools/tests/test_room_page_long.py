@@ -1,4 +1,5 @@
 """The page of a room that is shown much, and one whose room ends."""
+import signal
 import unittest
 
 from tests.web_rooms import OnPage, session, web_room
@@ -17,6 +18,21 @@ class Long(OnPage):
             self.click("#tick")
             self.said("tick -> the room can't be reached")
             self.spares_errors = True  # (the browser says so as well)
+
+    def test_a_room_that_is_killed(self) -> None:
+        with web_room() as room:
+            self.visit(room)
+            self.click("#tick")
+            self.at(1)
+            room.end(signal.SIGKILL)
+            self.browser.until("document.querySelector('#connection').textContent !== ''")
+            text = "The room doesn't answer: trying again .."
+            self.assertEqual(text, self.browser.text("#connection"))
+            self.value("new Promise((done) => setTimeout(done, 2500))")
+            self.assertEqual([text], self.browser.texts("#talk .refused"))
+            self.browser.key("ArrowLeft")
+            self.assertIn("State at place 0:", self.browser.text("#state-title"))
+            self.spares_errors = True
 
     def test_a_long_run(self) -> None:
         with web_room() as room, session(room, "left") as left:

@@ -1,6 +1,7 @@
 // The page of a room: what all do moves it, and its buttons do the same as lines do.
 
 const AGAIN_AFTER = 1000;
+const MOST_PATIENCE = 30000;
 const MOST_REFUSALS = 5;
 // At first a move is so wide, that one sees those that come, and some before.
 const SCALE = 64;
@@ -30,6 +31,7 @@ class Line {
     this.hear = hear;
     this.name = keptName();
     this.refusals = 0;
+    this.patience = AGAIN_AFTER;
     this.open();
   }
 
@@ -43,11 +45,17 @@ class Line {
   }
 
   take(kind, values) {
-    if (kind === "you") this.key = values;
+    if (kind === "you") this.beThere(values);
     if (kind === "who") keepName((this.name = values.name));
     if (kind === "end" || kind === "refused") this.close();
     if (kind === "refused" && this.name) this.comeAgain();
     else this.hear(kind, values);
+  }
+
+  beThere(key) {
+    this.key = key;
+    this.refusals = 0;
+    this.patience = AGAIN_AFTER;
   }
 
   // The name may be that of this page before it was loaded anew, which goes in a moment; or it is
@@ -63,12 +71,12 @@ class Line {
     this.key = null;
   }
 
-  // The connection has gone: it is tried again.
+  // The connection has gone, or can't be had: it is tried again, later and later.
   fail() {
-    if (!this.events || this.events.readyState === EventSource.CLOSED) return;
     this.close();
     this.hear("lost", null);
-    setTimeout(() => this.open(), AGAIN_AFTER);
+    setTimeout(() => this.open(), this.patience);
+    this.patience = Math.min(2 * this.patience, MOST_PATIENCE);
   }
 
   // What is answered to something that is said: a reply, or why there is none.
@@ -205,17 +213,18 @@ class RoomOnPage {
     const texts = {
       you: "",
       end: "The room has ended.",
-      lost: "The connection is lost: trying again ..",
+      lost: "The room doesn't answer: trying again ..",
       refused: `Not let in: ${values}`,
     };
     if (kind in texts) this.setConnection(texts[kind]);
   }
 
   setConnection(text) {
-    byId("connection").textContent = text;
-    byId("connection").hidden = !text;
+    const shown = byId("connection");
+    if (text && text !== shown.textContent) this.talk.say("refused", text);
+    shown.textContent = text;
+    shown.hidden = !text;
     document.documentElement.dataset.connected = text ? "no" : "yes";
-    if (text) this.talk.say("refused", text);
   }
 
   takeMoves(kind, values) {
