@@ -85,13 +85,13 @@ class Recorder:
             self._see(look)
             self._moves.append(self._values.number(self._move(move)))
 
-    def values(self, trims: Sequence[Trim]) -> Dict[str, object]:
-        """What the page has of all that was taken note of."""
+    def values(self, trims: Sequence[Trim] = (), has_code: bool = True) -> Dict[str, object]:
+        """What the page has of all that was taken note of, with scripts where it needs them."""
         return {
             "first": self.first,
             "last": self.last,
             "cores": flat(self._cores),
-            "tasks": [self._task(name, of) for name, of in self._tasks.items()],
+            "tasks": [self._task(name, of, has_code) for name, of in self._tasks.items()],
             "objects": [
                 {"kind": key[0], "name": key[1], "most": self._most[key], "tracks": flat(of)}
                 for key, of in self._objects.items()
@@ -133,10 +133,10 @@ class Recorder:
         yield from self._tasks.values()
         yield from self._objects.values()
 
-    def _task(self, name: str, tracks: Dict[str, Track]) -> Dict[str, object]:
-        """A task, with its script where that is known."""
+    def _task(self, name: str, tracks: Dict[str, Track], has_code: bool) -> Dict[str, object]:
+        """A task, with its script where that is known, and wanted."""
         found = self._application.task(name) if self._application else None
-        code = [[it.written, it.place.line] for it in found.code] if found else []
+        code = [[it.written, it.place.line] for it in found.code] if found and has_code else []
         priority = found.priority if found else None
         return {"name": name, "priority": priority, "code": code, "tracks": flat(tracks)}
 

@@ -129,5 +129,6 @@ class Known:
         return [[it.place, it.line] for it in self._trims if self.has(it.place)]
 
     def values(self) -> Values:
-        """What a page has of all that is shown."""
-        return {"blocks": [it.values(()) for it in self._chain], "trims": self.trims()}
+        """What a page has of all that is shown. Scripts stand in the first block alone."""
+        blocks = [it.values(has_code=not at) for at, it in enumerate(self._chain)]
+        return {"blocks": blocks, "trims": self.trims()}
