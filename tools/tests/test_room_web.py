@@ -161,6 +161,11 @@ class LetIn(unittest.TestCase):
         self.assertNotIn(b"://", text)
         self.assertNotIn(self.here.token.encode(), text)
 
+    def test_it_is_on_one_address_alone(self) -> None:
+        self.assertEqual(LOCAL, self.here.socket.getsockname()[0])
+        with self.assertRaises(OSError):
+            socket.create_connection(("127.0.0.2", self.here.port), PATIENCE)
+
     def test_another_token_is_refused(self) -> None:
         token = self.here.token
         for given in (
