@@ -1,0 +1,235 @@
+"""What an editor's user sets to be stopped at: lines, names and conditions, variables, failures."""
+import dataclasses
+import functools
+import re
+from typing import Callable, Dict, List, Optional, Sequence, Tuple
+
+from rdbg import commands, instructions
+from rdbg.adapter.messages import Arguments, Values, Wrong
+from rdbg.adapter.sources import Spot, Text
+from rdbg.adapter.stops import Amount, Becomes, Begins, Content, Counted, Phases, Stop, Where
+from rdbg.replies import Refused
+from rdbg.shell import seek
+from rdbg.shell.conditions import Condition
+from rdbg.shell.goals import Sleeps, wakes
+from rdbg.shell.hints import refusal
+from rdbg.shell.shell import Shell
+from rdbg.shell.target import Unable
+from rdbg.shell.views import check_name
+
+# The failures at which one can be stopped: what the editor shows, and whether it is so by itself.
+FAILURES: Dict[str, Tuple[str, bool]] = {
+    "failed": ("A task fails", True),
+    "stuck": ("All wait, and no task has a deadline", True),
+}
+# How a number of hits can be compared.
+HITS: Dict[str, Callable[[int, int], bool]] = {
+    "=": lambda hits, number: hits == number,
+    ">": lambda hits, number: hits > number,
+    ">=": lambda hits, number: hits >= number,
+    "<": lambda hits, number: hits < number,
+    "<=": lambda hits, number: hits <= number,
+    "%": lambda hits, number: hits % number == 0,
+}
+HIT = re.compile(r"\s*(==?|>=?|<=?|%)?\s*([0-9]{1,7})\s*")
+# So many breakpoints of a kind are looked at.
+MOST = 256
+
+
+@dataclasses.dataclass(frozen=True)
+class Breakpoint:
+    """A breakpoint: its number, what kind a stop at it is, its stops, and what an editor is told
+    of it. It has no stops where it can't be met."""
+
+    number: int
+    reason: str
+    stops: Tuple[Stop, ...]
+    value: Values
+    task: Optional[str] = None
+
+
+def condition_of(shell: Shell, text: str) -> Condition:
+    """The condition that a text is. Raises `Wrong` where it is none, or names what isn't there."""
+    try:
+        goal, rest = seek.condition_goal(shell, text.split(), "watch")
+    except Unable as unable:
+        raise Wrong(str(unable)) from None
+    except Refused as refused:
+        why = refusal(shell, shell.asked, refused)
+        raise Wrong(f"rdbg says no {refused}" + (f": {why}" if why else "")) from None
+    if rest or not hasattr(goal, "condition"):
+        raise Wrong(f"'{' '.join(rest)}' is too much behind a condition")
+    condition: Condition = goal.condition
+    return condition
+
+
+def hits_of(text: str) -> Callable[[int], bool]:
+    """Which numbers of hits a text means."""
+    found = HIT.fullmatch(text)
+    if not found or not int(found[2]):
+        raise Wrong(f"'{text}' is no number of hits: 3, > 3, or % 3 for each third")
+    compare, number = HITS[(found[1] or "=").replace("==", "=")], int(found[2])
+    return lambda hits: compare(hits, number)
+
+
+def limited(shell: Shell, stop: Stop, given: Arguments) -> Stop:
+    """A stop with the condition and the hits that are given."""
+    condition, hits = given.text("condition", "").strip(), given.text("hitCondition", "").strip()
+    if condition:
+        stop = Where(stop, condition_of(shell, condition))
+    return Counted(stop, hits, hits_of(hits)) if hits else stop
+
+
+def arrival(spot: Spot) -> Stop:
+    """That a task comes to an instruction."""
+    condition = Condition("pc", spot.task, number=spot.pc)
+    return Becomes(condition, f"{spot.task} comes to {spot.pc}", is_at_start=True)
+
+
+def named(shell: Shell, text: Text, name: str) -> List[Stop]:
+    """What a name stands for: a condition, a goal, a place of a task, an instruction, or what
+    FreeRTOS calls one."""
+    words = name.replace(":", " ").split()
+    if not words:
+        raise Wrong("a condition, as count jobs > 0, or send, xQueueSend, worker 2")
+    if words[0] in seek.GOALS:
+        return [goal_of(shell, words)]
+    if words[0] in shell.target.names.tasks and len(words) <= 2:
+        number = words[1] if words[1:] else "0"
+        spot = text.of(words[0], int(number)) if commands.is_number(number) else None
+        if spot is None:
+            raise Wrong(f"{words[0]} has no instruction {number}")
+        return [arrival(spot)]
+    calls = [spot for spot in text.spots if is_call(spot, words)]
+    return [arrival(spot) for spot in calls] or [Becomes(condition_of(shell, " ".join(words)))]
+
+
+def is_call(spot: Spot, words: Sequence[str]) -> bool:
+    """Whether an instruction begins with these words, or FreeRTOS calls it so."""
+    there = spot.instruction.words()
+    form = instructions.form_of(there[0])
+    called = form.freertos if form else ()
+    return there[: len(words)] == list(words) or (words[0] in called and len(words) == 1)
+
+
+def goal_of(shell: Shell, words: Sequence[str]) -> Stop:
+    """The goal that these words are, as something that is met by a move."""
+    word = words[0]
+    if word in FAILURES:
+        return Begins(word)
+    try:
+        if len(words) < 2:
+            raise Unable(f"{word} what? A name stands behind it")
+        if word == "changes":
+            kind = words[1] if words[2:] else check_name(shell, words[1])
+            check_name(shell, words[-1], kind)
+            if kind == "task":
+                raise Unable(f"{words[1]} is a task; changes is of queues and other objects")
+            return Content(shell.target, (kind, words[-1]))
+        check_name(shell, words[1], "task")
+    except Unable as unable:
+        raise Wrong(str(unable)) from None
+    goal = Sleeps(words[1]) if word == "sleeps" else wakes(shell.target, words[1])
+    return Phases(f"{word} {words[1]}", words[1], goal)
+
+
+class Breakpoints:
+    """All that are set. An editor sets all of a kind at once."""
+
+    def __init__(self) -> None:
+        self._count = 0
+        self._of: Dict[str, List[Breakpoint]] = {}
+        # What was asked for last, to be looked at anew where the file is another.
+        self._lines: List[Arguments] = []
+        self.failures = [name for name, (_, is_on) in FAILURES.items() if is_on]
+
+    def all(self) -> List[Breakpoint]:
+        """Those that can be met."""
+        return [it for group in self._of.values() for it in group if it.stops]
+
+    def _new(self, reason: str, make: Callable[[int], Breakpoint]) -> Breakpoint:
+        """A breakpoint, or one that says why it can't be met."""
+        self._count += 1
+        try:
+            return make(self._count)
+        except Wrong as wrong:
+            value = {"id": self._count, "verified": False, "message": str(wrong)}
+            return Breakpoint(self._count, reason, (), value)
+
+    def _put(
+        self, kind: str, given: Sequence[Arguments], make: Callable[[Arguments, int], Breakpoint]
+    ) -> List[Values]:
+        """Sets all of a kind."""
+        if len(given) > MOST:
+            raise Wrong(f"there are {len(given)} breakpoints; {MOST} are looked at")
+        found = [self._new(kind, functools.partial(make, it)) for it in given]
+        self._of[kind] = found
+        return [it.value for it in found]
+
+    def put_lines(
+        self, shell: Shell, text: Text, source: Arguments, given: Arguments
+    ) -> List[Values]:
+        """Sets the breakpoints at lines of a source."""
+        asked = given.parts("breakpoints")
+        if not given.has("breakpoints"):
+            asked = [Arguments({"line": it}, "setBreakpoints.lines") for it in given.all("lines")]
+        if text.is_named(source):
+            self._lines = asked
+            return self.lines_again(shell, text)
+        found = "no file is known here" if text.source is None else f"it isn't {text.source.path}"
+        return [{"verified": False, "message": found} for _ in asked]
+
+    def lines_again(self, shell: Shell, text: Text) -> List[Values]:
+        """The breakpoints at lines, which are found in the text as it is."""
+        return self._put(
+            "breakpoint", self._lines, lambda it, number: at_line(shell, text, it, number)
+        )
+
+    def put_names(self, shell: Shell, text: Text, given: Sequence[Arguments]) -> List[Values]:
+        """Sets the breakpoints by name."""
+        return self._put(
+            "function breakpoint", given, lambda it, number: by_name(shell, text, it, number)
+        )
+
+    def put_data(self, shell: Shell, given: Sequence[Arguments]) -> List[Values]:
+        """Sets the breakpoints on variables."""
+        return self._put("data breakpoint", given, lambda it, number: on_data(shell, it, number))
+
+
+def at_line(shell: Shell, text: Text, given: Arguments, number: int) -> Breakpoint:
+    """A breakpoint at a line, and a column where one is given."""
+    if given.text("logMessage", ""):
+        raise Wrong("log messages aren't done: a line of output comes with each stop")
+    spot = text.found(text.line_in(given), text.column_in(given))
+    stop = limited(shell, arrival(spot), given)
+    value: Values = {"id": number, "verified": True, "message": str(spot), **text.place(spot)}
+    source = text.value()
+    if source is not None:
+        value["source"] = source
+    return Breakpoint(number, "breakpoint", (stop,), value, spot.task)
+
+
+def by_name(shell: Shell, text: Text, given: Arguments, number: int) -> Breakpoint:
+    """A breakpoint by a name."""
+    stops = [limited(shell, it, given) for it in named(shell, text, given.text("name"))]
+    texts = "; ".join(it.text for it in stops)
+    value: Values = {"id": number, "verified": True, "message": texts[:1_000]}
+    return Breakpoint(number, "function breakpoint", tuple(stops), value)
+
+
+def on_data(shell: Shell, given: Arguments, number: int) -> Breakpoint:
+    """A breakpoint on a variable, by what `dataBreakpointInfo` has said."""
+    if given.text("accessType", "write") != "write":
+        raise Wrong("a variable is watched as it changes; reads aren't known")
+    watched = given.text("dataId")
+    words = watched.split()
+    if words[:1] == ["changes"] and len(words) == 3:
+        stop: Stop = goal_of(shell, words)
+    else:
+        text = f"{watched} run" if words[:1] == ["phase"] else f"{watched} = 0"
+        condition_of(shell, text)  # (what it names is there)
+        stop = Amount(watched)
+    stop = limited(shell, stop, given)
+    return Breakpoint(
+        number, "data breakpoint", (stop,), {"id": number, "verified": True, "message": stop.text}
+    )

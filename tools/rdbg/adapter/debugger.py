@@ -1,0 +1,322 @@
+"""What is debugged for one editor: the target with its threads, sources and breakpoints, how it is
+moved, and what the editor is told of it."""
+import contextlib
+from typing import Callable, Dict, Iterator, List, Optional, Sequence, Tuple
+
+from rdbg import replies
+from rdbg.adapter.breakpoints import Breakpoint, Breakpoints
+from rdbg.adapter.messages import Arguments, Values, Wrong, event
+from rdbg.adapter.pausing import Pause
+from rdbg.adapter.running import Outcome, Runner
+from rdbg.adapter.sources import Spot, Text
+from rdbg.adapter.stops import Becomes, Begins, Stop
+from rdbg.adapter.threads import TIME, Threads
+from rdbg.adapter.variables import References, Shown
+from rdbg.effects import Move
+from rdbg.looks import Look
+from rdbg.replies import Refused
+from rdbg.shell import conditions, trail
+from rdbg.shell.hints import refusal
+from rdbg.shell.shell import Shell
+from rdbg.shell.views import phase_text
+
+# Of a run of more moves than MANY the last FEW are told.
+MANY, FEW = 20, 5
+# So many moves a run makes at the most, unless `launch` says another number.
+LIMIT = 10_000
+FAILURE = "exception"
+
+
+class Debugger:
+    """A target and its editor."""
+
+    def __init__(self, send: Callable[[Values], None]) -> None:
+        self.send = send
+        self.pause = Pause()
+        self.given = Arguments({}, "launch")
+        self.text, self.threads = Text(None), Threads()
+        self.references, self.breakpoints = References(), Breakpoints()
+        self.begins: Dict[str, Stop] = {name: Begins(name) for name in ("failed", "stuck")}
+        self._shell: Optional[Shell] = None
+        # What is done once a request was answered.
+        self.later: List[Callable[[], None]] = []
+        # Serves what the editor asks meanwhile, while something long goes on.
+        self.serve: Callable[[], None] = lambda: None
+        self.is_attached = self.is_configured = self.is_running = self.is_done = False
+        self.shows_invalidated = False
+        # The thread that stopped last, and how, where a failure is told.
+        self.focus = TIME
+        self.failure = ""
+        self.limit = LIMIT
+        # What `gotoTargets` named last.
+        self.gotos: List[Tuple[Spot, Optional[int]]] = []
+        self._seen: Optional[Look] = None
+        self._watches: Dict[str, Stop] = {}
+
+    @property
+    def shell(self) -> Shell:
+        """The shell that drives the target. Raises `Wrong` before there is one."""
+        if self._shell is None:
+            raise Wrong("nothing is debugged yet: launch or attach comes first")
+        return self._shell
+
+    @property
+    def has_shell(self) -> bool:
+        """Whether something is debugged."""
+        return self._shell is not None
+
+    def take(self, shell: Shell) -> None:
+        """Goes on with this shell and its file."""
+        first, column = self.text.first_line, self.text.first_column
+        self._shell = shell
+        self.text = Text(shell.source)
+        self.text.count_from(first, column)
+        self.threads.learn(shell.target.names.tasks)
+        self._seen = None
+
+    @contextlib.contextmanager
+    def wheel(self) -> Iterator[None]:
+        """As long as nobody else may move the target."""
+        with self.shell.target.wheel():
+            self.notice()
+            yield
+
+    def notice(self) -> None:
+        """Says where others have moved the target since that was last told."""
+        target = self.shell.target
+        drift, target.drift = target.drift, None
+        if drift is not None and drift[0] != drift[1]:
+            self._seen = None
+            self.say(f"others have moved the target: {drift[0]} -> {drift[1]}")
+
+    def look(self) -> Look:
+        """What there is, looked at once as long as nothing moves."""
+        if self._seen is None:
+            if self.shell.target.is_own:
+                self._seen = self.shell.look()
+            else:
+                self._seen = self.shell.target.look()
+            self.threads.learn(self.shell.target.names.tasks)
+            self.notice()
+        return self._seen
+
+    def shown(self, is_hex: bool = False) -> Shown:
+        """What there is, to be shown as variables."""
+        look = self.look()
+        return Shown(look, look.place, self.shell.target.undone, is_hex)
+
+    def changed(self) -> None:
+        """Takes note that the target isn't as it was looked at."""
+        self._seen = None
+
+    def say(self, text: str, move: Optional[Move] = None, category: str = "stdout") -> None:
+        """A line of output, with the instruction that it is of."""
+        body: Values = {"category": category, "output": f"{text}\n"}
+        spot = (
+            self.text.of(move.task, move.pc) if move and move.task and move.pc is not None else None
+        )
+        source = self.text.value()
+        if spot is not None and source is not None:
+            place = self.text.place(spot)
+            body.update({"source": source, "line": place["line"], "column": place["column"]})
+        self.send(event("output", body))
+
+    def wrong(self, line: str, refused: Refused) -> Wrong:
+        """Why rdbg refuses a line, in words."""
+        hint = refusal(self.shell, line, refused)
+        said = f"rdbg says no {refused}"
+        return Wrong(f"{said}: {hint}" if hint else said)
+
+    def stops(self) -> List[Stop]:
+        """All at which a run stops."""
+        found = [stop for it in self.breakpoints.all() for stop in it.stops]
+        found += self._watched()
+        return found + [self.begins[name] for name in self.breakpoints.failures]
+
+    def _watched(self) -> List[Stop]:
+        """The session's watches, which were made by typing."""
+        found: List[Stop] = []
+        for number, text in sorted(self.shell.target.watches.items()):
+            key = f"w{number}, {text}"
+            condition = conditions.read(text.split())
+            if condition is not None:
+                found.append(self._watches.setdefault(key, Becomes(condition, key)))
+        return found
+
+    def of(self, stop: Stop) -> Optional[Breakpoint]:
+        """The breakpoint that a stop belongs to."""
+        return next((it for it in self.breakpoints.all() if stop in it.stops), None)
+
+    def runner(self, stops: Callable[[], List[Stop]]) -> Runner:
+        """What runs to some stops."""
+        return Runner(self.shell.walk, stops, self.between)
+
+    def between(self) -> None:
+        """Serves what the editor asks, and looks whether it asks for a pause."""
+        self.serve()
+        self.pause.check()
+
+    def make(self, line: str) -> Move:
+        """Makes one move: again, where it is the one that was taken back last, so that those behind
+        it stay; else anew. Raises `Wrong` where rdbg refuses it."""
+        target = self.shell.target
+        before = target.look()
+        try:
+            if target.places().undone:
+                target.ask("redo 1", replies.Moved)
+                after = target.look()
+                move = trail.between(target, before, after)
+                if move.line == line:
+                    return self._made(move, after)
+                target.ask("back 1", replies.Moved)
+            target.ask(line, replies.Moved)
+        except Refused as refused:
+            raise self.wrong(line, refused) from None
+        after = target.look()
+        return self._made(trail.between(target, before, after), after)
+
+    def edit(self, line: str) -> None:
+        """Makes an edit. Raises `Wrong` where rdbg refuses it."""
+        target = self.shell.target
+        try:
+            with self.wheel():
+                moved = target.ask(line, replies.Moved)
+        except Refused as refused:
+            raise self.wrong(line, refused) from None
+        self.changed()
+        self.say(f"{moved.at}  {line}")
+
+    def _made(self, move: Move, after: Look) -> Move:
+        self._seen = after
+        self.say(move.row(), move)
+        return move
+
+    def last_moves(self, count: int) -> Sequence[Move]:
+        """The last moves, so many at the most."""
+        walk = self.shell.walk
+        first = max(self.shell.target.base, walk.place - count) + 1
+        if walk.place < first:
+            return ()
+        found, self._seen = trail.moves(walk, first, walk.place)
+        return found
+
+    def tell_run(self, start: int) -> None:
+        """Says what the moves since a place did, the last few of many."""
+        here = self.shell.target.place
+        if here < start:
+            self.say(f"back at {here}, next: {self.shell.next_moves()}")
+        elif here > start:
+            shown = here - start if here - start <= MANY else FEW
+            if shown < here - start:
+                self.say(f".. {here - start - shown} moves before these")
+            for move in self.last_moves(shown):
+                self.say(move.row(len(str(here))), move)
+
+    def mover(self, default: Optional[int] = None) -> int:
+        """The thread that made the last move; another where no task did."""
+        moves = self.last_moves(1)
+        if moves and moves[0].task:
+            return self.threads.number(moves[0].task)
+        return self.focus if default is None else default
+
+    def stopped(
+        self, reason: str, description: str, thread: int, hit: Sequence[Breakpoint] = ()
+    ) -> None:
+        """Tells the editor that the target stands, and why."""
+        self.focus = thread
+        body: Values = {"reason": reason, "description": description, "threadId": thread}
+        body.update({"text": description, "allThreadsStopped": True, "preserveFocusHint": False})
+        if hit:
+            body["hitBreakpointIds"] = [it.number for it in hit]
+        self.send(event("stopped", body))
+
+    def went(self) -> None:
+        """Tells the editor that the target went on, so that it follows to where it stops."""
+        body: Values = {"threadId": self.focus, "allThreadsContinued": True}
+        self.send(event("continued", body))
+
+    def hear(self, notice: str) -> None:
+        """Takes what a room says besides."""
+        self.say(notice)
+
+    def still(self) -> None:
+        """Tells the editor that the target stands where it stood: once it has asked for a move, it
+        may think that it runs."""
+        if self.is_configured and self.has_shell and not self.is_running and not self.is_done:
+            self.stopped("pause", f"still at {self.shell.target.place}", self.focus)
+
+    def failed_here(self, before: Optional[Look], after: Look) -> str:
+        """What has failed by a move: `failed`, `stuck`, or nothing that the editor asks for."""
+        for name in self.breakpoints.failures:
+            if IS_SO[name](after) and not (before and IS_SO[name](before)):
+                return name
+        return ""
+
+    def tell_failure(self, name: str, thread: int) -> None:
+        """Stops at a failure."""
+        self.failure = name
+        tasks = self.look().tasks
+        if name == "failed":
+            gone = [it for it in tasks.values() if it.phase.word == "failed"]
+            numbers = [self.threads.number(it.name) for it in gone]
+            thread = thread if thread in numbers or not numbers else numbers[0]
+        self.stopped(FAILURE, f"at {self.shell.target.place}: {self.why(name)}", thread)
+
+    def why(self, name: str) -> str:
+        """What a failure is, in a sentence."""
+        tasks = self.look().tasks
+        if name == "failed":
+            gone = [it for it in tasks.values() if it.phase.word == "failed"]
+            return "; ".join(f"{it.name} {phase_text(it)}" for it in gone)
+        texts = "; ".join(f"{name} {phase_text(it)}" for name, it in tasks.items())
+        return f"nothing goes on: {texts}"
+
+    def tell_outcome(self, outcome: Outcome, start: int) -> None:
+        """Stops behind a run, and says why."""
+        self.changed()
+        self.tell_run(start)
+        here = self.shell.target.place
+        if outcome.how == "met":
+            self._tell_met(outcome.met)
+            return
+        texts = {
+            "limit": f"{here - start} moves, and nothing was met",
+            "wall": f"there is no further move: {outcome.wall}",
+            "stuck": "nothing goes on: all wait, and no task has a deadline",
+            "start": "the start: nothing was met before",
+            "paused": "paused",
+        }
+        reason = "entry" if outcome.how == "start" else "pause"
+        self.stopped(reason, f"at {here}: {texts[outcome.how]}", self.mover(self.focus))
+
+    def _tell_met(self, met: Sequence[Stop]) -> None:
+        """Stops at what was met."""
+        failures = [name for name, stop in self.begins.items() if stop in met]
+        hit = [it for it in self.breakpoints.all() if any(stop in met for stop in it.stops)]
+        if failures and not hit:
+            self.tell_failure(failures[0], self.mover())
+            return
+        text = "; ".join(stop.text for stop in met)
+        tasks = [it.task for it in hit if it.task]
+        thread = self.threads.number(tasks[0]) if tasks else self.mover()
+        reason = hit[0].reason if hit else "breakpoint"
+        self.stopped(reason, f"at {self.shell.target.place}: {text}", thread, hit)
+
+    def close(self) -> Optional[int]:
+        """Ends the session; the status of its program."""
+        shell, self._shell = self._shell, None
+        return shell.target.session.close() if shell else None
+
+
+def has_failed(look: Look) -> bool:
+    """Whether a task has failed."""
+    return any(it.phase.word == "failed" for it in look.tasks.values())
+
+
+def is_stuck(look: Look) -> bool:
+    """Whether no core is busy and no task has a deadline."""
+    idle = not any(look.cores.running)
+    return idle and all(it.phase.deadline is None for it in look.tasks.values())
+
+
+IS_SO: Dict[str, Callable[[Look], bool]] = {"failed": has_failed, "stuck": is_stuck}

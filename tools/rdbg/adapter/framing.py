@@ -1,0 +1,102 @@
+"""Frames of the protocol: a header that says a length, then so many bytes of JSON."""
+import json
+import re
+import threading
+from typing import IO, Any, Dict, Optional
+
+# A line of a header, and a message, have at most so many bytes.
+MOST_LINE, MOST_BODY = 4_096, 1 << 20
+LENGTH = re.compile(rb"Content-Length:[ \t]*([0-9]{1,18})[ \t]*$", re.IGNORECASE)
+
+
+# What a browser sends, on whichever page's behalf: it is never answered.
+OF_A_BROWSER = re.compile(rb"[A-Z]+ \S+ HTTP/|(Host|Origin|Referer|Cookie):", re.IGNORECASE)
+
+
+class Broken(Exception):
+    """Why bytes are no frame, in a sentence. What comes behind them can still be read."""
+
+
+class Frames:
+    """The frames of a stream, one after the other."""
+
+    def __init__(self, stream: IO[bytes]) -> None:
+        self._stream = stream
+        # The length of a frame whose header was read behind something that was none.
+        self._length: Optional[int] = None
+
+    def read(self) -> Optional[bytes]:
+        """The next message, or none at the end. Raises `Broken` for bytes that are no frame, and
+        goes on behind them when it is called again."""
+        try:
+            length, self._length = self._length, None
+            if length is None:
+                length = self._header()
+            return None if length is None else self._body(length)
+        except (OSError, ValueError):
+            return None
+
+    def _header(self) -> Optional[int]:
+        """The length that the next header says."""
+        length: Optional[int] = None
+        wrong = ""
+        while True:
+            line = self._stream.readline(MOST_LINE)
+            if not line or OF_A_BROWSER.match(line):
+                return None
+            text = line.rstrip(b"\r\n")
+            found = LENGTH.search(text)
+            if found:
+                length = int(found[1])
+                wrong = wrong or ("" if found.start() == 0 else of_line(text))
+            elif text:
+                wrong = wrong or of_line(text)
+            elif length is not None:
+                break
+            elif wrong:
+                raise Broken(wrong)
+        if length > MOST_BODY:
+            raise Broken(f"a message has at most {MOST_BODY} bytes; this one says {length}")
+        if wrong:
+            self._length = length
+            raise Broken(wrong)
+        return length
+
+    def _body(self, length: int) -> Optional[bytes]:
+        """So many bytes; none where the stream ends before."""
+        body = b""
+        while len(body) < length:
+            piece = self._stream.read(length - len(body))
+            if not piece:
+                return None
+            body += piece
+        return body
+
+
+def of_line(text: bytes) -> str:
+    """What is wrong with a line of a header, if something is."""
+    if text[:15].lower() == b"content-length:":
+        return "Content-Length is no number of bytes"
+    if re.match(rb"[A-Za-z-]{1,64}:", text):
+        return ""
+    return "a header has lines such as Content-Length: 120, and an empty one behind them"
+
+
+class Sender:
+    """Sends messages, each with a number of its own, from any thread."""
+
+    def __init__(self, stream: IO[bytes]) -> None:
+        self._stream, self._lock, self._sent = stream, threading.Lock(), 0
+        # Whether nobody reads any more.
+        self.is_closed = False
+
+    def send(self, message: Dict[str, Any]) -> None:
+        """Sends a message. Where nobody reads any more nothing happens."""
+        with self._lock:
+            self._sent += 1
+            body = json.dumps({"seq": self._sent, **message}).encode("ascii")
+            try:
+                self._stream.write(b"Content-Length: %d\r\n\r\n%s" % (len(body), body))
+                self._stream.flush()
+            except (OSError, ValueError):
+                self.is_closed = True

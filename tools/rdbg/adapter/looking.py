@@ -1,0 +1,168 @@
+"""Requests that look: threads, frames, variables, the text, expressions; and set a variable."""
+from typing import Callable, Dict, List, Optional
+
+from rdbg.adapter import names
+from rdbg.adapter.debugger import Debugger
+from rdbg.adapter.messages import Arguments, Values, Wrong, event
+from rdbg.adapter.sources import REFERENCE
+from rdbg.adapter.threads import TIME, frame
+from rdbg.adapter.variables import Shown, Variable, named, within
+from rdbg.shell import glossary
+
+Request = Callable[[Debugger, Arguments], Optional[Values]]
+
+
+def threads(it: Debugger, given: Arguments) -> Optional[Values]:
+    """`threads`: the time, and the tasks."""
+    look = it.look() if it.has_shell and not it.is_running else None
+    return {"threads": it.threads.values(look)}
+
+
+def standing(it: Debugger) -> None:
+    """Raises `Wrong` while the target runs."""
+    if it.is_running:
+        raise Wrong("the target runs: Pause first")
+
+
+def stack(it: Debugger, given: Arguments) -> Optional[Values]:
+    """`stackTrace`: the instruction that a task stands at."""
+    standing(it)
+    number = given.number("threadId")
+    name = it.threads.task(number)
+    look = it.look()
+    if name is not None and name not in look.tasks:
+        raise Wrong(f"there is no task {name} any more")
+    frames = [frame(number, look.tasks[name] if name else None, look, it.text)]
+    first = given.number("startFrame", 0)
+    levels = given.number("levels", 0) or len(frames)
+    return {"stackFrames": frames[max(first, 0) :][: max(levels, 0)], "totalFrames": len(frames)}
+
+
+def scopes(it: Debugger, given: Arguments) -> Optional[Values]:
+    """`scopes` of a frame, which has the number of its thread."""
+    standing(it)
+    task = it.threads.task(given.number("frameId"))
+    return {"scopes": it.references.scopes(task, it.look())}
+
+
+def is_hex(given: Arguments) -> bool:
+    """Whether numbers are asked for in hexadecimal."""
+    return given.part("format").flag("hex")
+
+
+def variables(it: Debugger, given: Arguments) -> Optional[Values]:
+    """`variables`: what stands in something, or a part of it."""
+    standing(it)
+    shown = it.shown(is_hex(given))
+    found = within(shown, it.references.path(given.number("variablesReference")))
+    only = given.text("filter", "")
+    if only in ("indexed", "named"):
+        found = [each for each in found if each.is_indexed == (only == "indexed")]
+    first, count = given.number("start", 0), given.number("count", 0)
+    part = found[max(first, 0) :][: count if count > 0 else None]
+    return {"variables": [it.references.value(each, shown) for each in part]}
+
+
+def put(it: Debugger, variable: Variable, value: str) -> None:
+    """Sets a variable, by an edit. Raises `Wrong` where there is none."""
+    standing(it)
+    if variable.put is None:
+        raise Wrong(f"{variable.name} can't be set: there is no edit for it")
+    it.edit(variable.put(value))
+    if it.shows_invalidated:
+        it.later.append(lambda: it.send(event("invalidated", {"areas": ["variables"]})))
+
+
+def set_variable(it: Debugger, given: Arguments) -> Optional[Values]:
+    """`setVariable`."""
+    path = it.references.path(given.number("variablesReference"))
+    name, value = given.text("name"), given.text("value")
+    put(it, named(it.shown(), path, name), value)
+    shown = it.shown(is_hex(given))
+    found = it.references.value(named(shown, path, name), shown)
+    return {key: found[key] for key in ("value", "variablesReference")}
+
+
+def set_expression(it: Debugger, given: Arguments) -> Optional[Values]:
+    """`setExpression`."""
+    text, task = given.text("expression"), it.threads.task(given.number("frameId", it.focus))
+    put(it, expressed(it.shown(), task, text), given.text("value"))
+    return {"value": expressed(it.shown(is_hex(given)), task, text).value}
+
+
+def expressed(shown: Shown, task: Optional[str], text: str) -> Variable:
+    """The variable that an expression names."""
+    found = names.found(shown, task, text.strip())
+    if found is None:
+        raise Wrong(f"'{text[:100]}' is no register, part of a task, object or condition here")
+    return found
+
+
+def value_of(it: Debugger, given: Arguments) -> Values:
+    """What an expression says, that changes nothing."""
+    standing(it)
+    text = given.text("expression").strip()
+    said = names.holds(it.shell, text) or names.view(it.shell, text)
+    if said is not None:
+        return {"result": said, "variablesReference": 0}
+    shown = it.shown(is_hex(given))
+    found = expressed(shown, it.threads.task(given.number("frameId", it.focus)), text)
+    value = it.references.value(found, shown)
+    return {"result": found.value, "variablesReference": value["variablesReference"]}
+
+
+def source(it: Debugger, given: Arguments) -> Optional[Values]:
+    """`source`: the text of an application that is in no file."""
+    asked = given.part("source")
+    number = asked.number("sourceReference", 0) or given.number("sourceReference", 0)
+    if number != REFERENCE or not it.text.is_generated:
+        raise Wrong(f"there is no text {number}")
+    return {"content": it.text.content(), "mimeType": "text/plain"}
+
+
+def sources(it: Debugger, given: Arguments) -> Optional[Values]:
+    """`loadedSources`."""
+    found: List[Values] = [value for value in [it.text.value()] if value]
+    return {"sources": found}
+
+
+def exception(it: Debugger, given: Arguments) -> Optional[Values]:
+    """`exceptionInfo`: why a task has failed, or what nothing goes on for."""
+    standing(it)
+    name = it.threads.task(given.number("threadId", TIME))
+    task = it.look().tasks.get(name) if name else None
+    if task and task.phase.word == "failed":
+        cause = task.phase.cause or "failed"
+        meaning = " ".join(glossary.meaning(cause))
+        text = f"{task.name} failed: {cause}. {meaning}".strip()
+        return {"exceptionId": cause, "description": text, "breakMode": "always"}
+    if not it.failure:
+        raise Wrong("nothing has failed here")
+    return {"exceptionId": it.failure, "description": it.why(it.failure), "breakMode": "always"}
+
+
+def completions(it: Debugger, given: Arguments) -> Optional[Values]:
+    """`completions` of a line that is typed."""
+    standing(it)
+    lines = given.text("text").split("\n")
+    at = given.number("line", it.text.first_line) - it.text.first_line
+    text = lines[at] if 0 <= at < len(lines) else lines[-1]
+    column = given.number("column") - it.text.first_column
+    found = names.completions(it.shell, text, min(max(column, 0), len(text)))
+    for each in found:
+        each["start"] += it.text.first_column
+    return {"targets": found}
+
+
+LOOKING: Dict[str, Request] = {
+    "threads": threads,
+    "stackTrace": stack,
+    "scopes": scopes,
+    "variables": variables,
+    "setVariable": set_variable,
+    "setExpression": set_expression,
+    "source": source,
+    "loadedSources": sources,
+    "exceptionInfo": exception,
+    "completions": completions,
+}

@@ -1,0 +1,171 @@
+"""Requests as values, their arguments with the kinds that they must have, and the answers."""
+import dataclasses
+import json
+from typing import Any, Dict, List, Mapping, Optional
+
+Values = Dict[str, Any]
+# A number of more digits is none that the protocol has.
+MOST_DIGITS = 18
+MOST_TEXT = 65_536
+KINDS = {str: "a text", int: "a number", bool: "true or false", dict: "an object", list: "a list"}
+
+
+class Wrong(Exception):
+    """Why a request isn't done, as a sentence for who made it. Nothing has changed."""
+
+
+class Unreadable(Exception):
+    """A message that is no request; with its number and command where these can be read."""
+
+    def __init__(self, message: str, seq: int = 0, command: str = "") -> None:
+        super().__init__(message)
+        self.seq, self.command = seq, command
+
+
+def clean(value: Any) -> Any:
+    """A value whose texts can be written as UTF-8."""
+    if isinstance(value, str):
+        return value.encode("utf-8", "replace").decode()
+    if isinstance(value, list):
+        return [clean(each) for each in value]
+    if isinstance(value, dict):
+        return {clean(key): clean(each) for key, each in value.items()}
+    return value
+
+
+class Arguments:
+    """The arguments of a request. `null` counts as absent."""
+
+    def __init__(self, values: Mapping[str, Any], of: str) -> None:
+        self._values, self._of = values, of
+
+    def has(self, key: str) -> bool:
+        """Whether it is there."""
+        return self._values.get(key) is not None
+
+    def _get(self, key: str, kind: type, absent: Any) -> Any:
+        value = self._values.get(key)
+        if value is None:
+            if absent is None:
+                raise Wrong(f"{self._of} lacks {key}")
+            return absent
+        # (true and false are numbers to Python)
+        if not isinstance(value, kind) or (kind is int and isinstance(value, bool)):
+            raise Wrong(f"{self._of}: {key} must be {KINDS[kind]}")
+        return value
+
+    def text(self, key: str, absent: Optional[str] = None) -> str:
+        """A text."""
+        value: str = self._get(key, str, absent)
+        if len(value) > MOST_TEXT:
+            raise Wrong(f"{self._of}: {key} has more than {MOST_TEXT} characters")
+        return value
+
+    def number(self, key: str, absent: Optional[int] = None) -> int:
+        """A number."""
+        value: int = self._get(key, int, absent)
+        return value
+
+    def flag(self, key: str, absent: bool = False) -> bool:
+        """True or false."""
+        value: bool = self._get(key, bool, absent)
+        return value
+
+    def part(self, key: str) -> "Arguments":
+        """An object; an empty one where it is absent."""
+        return Arguments(self._get(key, dict, {}), f"{self._of}.{key}")
+
+    def parts(self, key: str) -> List["Arguments"]:
+        """A list of objects; an empty one where it is absent."""
+        values = self._get(key, list, [])
+        if not all(isinstance(each, dict) for each in values):
+            raise Wrong(f"{self._of}: {key} must be a list of objects")
+        return [Arguments(each, f"{self._of}.{key}[{at}]") for at, each in enumerate(values)]
+
+    def all(self, key: str) -> List[Any]:
+        """A list of whatever; an empty one where it is absent."""
+        found: List[Any] = self._get(key, list, [])
+        return found
+
+    def texts(self, key: str) -> List[str]:
+        """A list of texts; an empty one where it is absent."""
+        values: List[str] = self._get(key, list, [])
+        if not all(isinstance(each, str) for each in values):
+            raise Wrong(f"{self._of}: {key} must be a list of texts")
+        return values
+
+
+@dataclasses.dataclass(frozen=True)
+class Request:
+    """A request: its number, what it asks for, and with what."""
+
+    seq: int
+    command: str
+    arguments: Arguments
+
+
+def whole(text: str) -> int:
+    """A whole number that isn't too long to be read."""
+    if len(text) > MOST_DIGITS:
+        raise ValueError(text[:MOST_DIGITS])
+    return int(text)
+
+
+def constant(text: str) -> Any:
+    """NaN and its kin, which JSON doesn't have."""
+    raise ValueError(text)
+
+
+def read(body: bytes) -> Request:
+    """The request that a message is. Raises `Unreadable` where it is none."""
+    try:
+        value = clean(json.loads(body.decode("utf-8"), parse_int=whole, parse_constant=constant))
+    except (ValueError, RecursionError):
+        raise Unreadable("the message is no JSON") from None
+    if not isinstance(value, dict):
+        raise Unreadable("the message is no object")
+    seq, command = value.get("seq"), value.get("command")
+    number = seq if isinstance(seq, int) and not isinstance(seq, bool) else 0
+    name = command if isinstance(command, str) else ""
+    if value.get("type") != "request":
+        raise Unreadable("the message is no request: its type is another", number, name)
+    if not name or seq is None or number != seq:
+        raise Unreadable("a request has a number as seq, and a text as command", number, name)
+    arguments = value.get("arguments")
+    if arguments is None:
+        arguments = {}
+    if not isinstance(arguments, dict):
+        raise Unreadable(f"{name}: arguments must be an object", number, name)
+    return Request(number, name, Arguments(arguments, name))
+
+
+def event(name: str, body: Values) -> Values:
+    """An event."""
+    return {"type": "event", "event": name, "body": body}
+
+
+def done(request: Request, body: Optional[Values]) -> Values:
+    """The answer to a request that was done."""
+    found: Values = {"type": "response", "request_seq": request.seq, "success": True}
+    found["command"] = request.command
+    if body is not None:
+        found["body"] = body
+    return found
+
+
+def failed(seq: int, command: str, why: str) -> Values:
+    """The answer to a request that wasn't done, which an editor shows."""
+    error = {"id": 1, "format": braces(why), "showUser": True}
+    return {
+        "type": "response",
+        "request_seq": seq,
+        "success": False,
+        "command": command,
+        "message": why,
+        "body": {"error": error},
+    }
+
+
+def braces(text: str) -> str:
+    """A text in which nothing stands for a variable of a format."""
+    return text.replace("{", "(").replace("}", ")")

@@ -1,0 +1,221 @@
+"""Requests that move the target: both ways, a move or to where something is met."""
+import contextlib
+from typing import Callable, Dict, List, Optional
+
+from rdbg import replies
+from rdbg.adapter.debugger import Debugger
+from rdbg.adapter.messages import Arguments, Values, Wrong
+from rdbg.adapter.running import Outcome, Runner
+from rdbg.adapter.sources import Spot
+from rdbg.adapter.stops import Amount, Stop
+from rdbg.adapter.breakpoints import arrival
+from rdbg.adapter.threads import TIME
+from rdbg.replies import Refused
+from rdbg.shell import trail
+from rdbg.shell.steps import why_on_none
+from rdbg.shell.target import Unable
+
+Request = Callable[[Debugger, Arguments], Optional[Values]]
+Run = Callable[[Runner], Outcome]
+
+
+def begin_run(
+    it: Debugger, run: Run, stops: Callable[[], List[Stop]], thread: Optional[int] = None
+) -> None:
+    """Takes the wheel, and lets the target run once the request was answered."""
+    held = contextlib.ExitStack()
+    try:
+        held.enter_context(it.wheel())
+    except Refused as refused:
+        raise it.wrong("wheel take", refused) from None
+    it.pause.forget()
+    it.is_running, it.failure = True, ""
+    it.later.append(lambda: end_run(it, held, run, stops, thread))
+
+
+def end_run(
+    it: Debugger,
+    held: contextlib.ExitStack,
+    run: Run,
+    stops: Callable[[], List[Stop]],
+    thread: Optional[int],
+) -> None:
+    """Runs, and tells where it has ended."""
+    start = it.shell.target.place
+    with held:
+        try:
+            outcome = run(it.runner(stops))
+            it.serve()
+            it.is_running = False
+            it.pause.forget()
+            it.tell_outcome(outcome, start)
+        except (Unable, Refused, Wrong) as wrong:
+            it.is_running = False
+            it.shell.walk.reach(start)
+            it.changed()
+            it.say(str(wrong), category="stderr")
+            it.stopped("pause", f"at {it.shell.target.place}: {wrong}", thread or it.focus)
+        finally:
+            it.is_running = False
+
+
+def go_on(it: Debugger, given: Arguments) -> Optional[Values]:
+    """`continue`."""
+    it.threads.task(given.number("threadId", TIME))
+    begin_run(it, lambda runner: runner.forwards(it.limit), it.stops)
+    return {"allThreadsContinued": True}
+
+
+def go_back(it: Debugger, given: Arguments) -> Optional[Values]:
+    """`reverseContinue`."""
+    it.threads.task(given.number("threadId", TIME))
+    begin_run(it, lambda runner: runner.backwards(), it.stops)
+    return None
+
+
+def step(it: Debugger, given: Arguments) -> Optional[Values]:
+    """`next` and `stepIn`: one instruction of a task; a tick, of the time."""
+    thread = given.number("threadId")
+    task = it.threads.task(thread)
+    try:
+        with it.wheel():
+            before = it.look()
+            line = "tick" if task is None else f"step {core_of(it, task)}"
+            it.make(line)
+            after = it.look()
+    except Refused as refused:
+        raise it.wrong("step 0", refused) from None
+    failure = it.failed_here(before, after)
+    it.failure = ""
+    it.later.append(lambda: tell_step(it, thread, failure))
+    return None
+
+
+def tell_step(it: Debugger, thread: int, failure: str) -> None:
+    """Stops behind a step."""
+    if failure:
+        it.tell_failure(failure, thread)
+    else:
+        it.stopped("step", f"at {it.shell.target.place}", thread)
+
+
+def core_of(it: Debugger, name: str) -> int:
+    """The core that a task is on. Raises `Wrong` where it is on none."""
+    task = it.shell.target.ask(f"show task {name}", replies.Task)
+    if task.core is None:
+        why = why_on_none(it.shell, task)
+        more = "" if task.phase.word in ("ended", "failed") else "; Step Out runs until it goes on"
+        raise Wrong(f"{name} is on no core: {why}{more}")
+    return task.core
+
+
+def step_out(it: Debugger, given: Arguments) -> Optional[Values]:
+    """`stepOut`: the others run, too, until a task has done its instruction."""
+    thread = given.number("threadId")
+    task = it.threads.task(thread)
+    if task is None:
+        return step(it, given)
+    now = it.shell.target.ask(f"show task {task}", replies.Task)
+    if now.phase.word in ("ended", "failed"):
+        raise Wrong(f"{task} has {now.phase.word}")
+    done = Amount(f"pc {task}")
+    done.text = f"{task} goes on"
+    begin_run(it, lambda runner: runner.forwards(it.limit), lambda: [*it.stops(), done], thread)
+    return None
+
+
+def step_back(it: Debugger, given: Arguments) -> Optional[Values]:
+    """`stepBack`: takes the last move back, whosever it is."""
+    it.threads.task(given.number("threadId", TIME))
+    target = it.shell.target
+    it.failure = ""
+    try:
+        with it.wheel():
+            places = target.places()
+            if not places.kept:
+                start = "the start" if not places.done else "`trim` gave up what was before"
+                it.later.append(lambda: it.stopped("entry", f"at {places.done}: {start}", it.focus))
+                return None
+            after = target.look()
+            target.ask("back 1", replies.Moved)
+            before = target.look()
+    except Refused as refused:
+        raise it.wrong("back 1", refused) from None
+    move = trail.between(target, before, after)
+    it.changed()
+    it.say(f"back at {target.place}, before: {move.row()}", move)
+    thread = (
+        it.threads.number(move.task) if move.task else TIME if move.kind == "tick" else it.focus
+    )
+    it.later.append(lambda: it.stopped("step", f"at {target.place}, before: {move.text()}", thread))
+    return None
+
+
+def goto_targets(it: Debugger, given: Arguments) -> Optional[Values]:
+    """`gotoTargets`: of each instruction at a line, where its task was last there, and the edit
+    that puts it there."""
+    if not it.text.is_named(given.part("source")):
+        return {"targets": []}
+    it.gotos = []
+    for spot in it.text.at(it.text.line_in(given)):
+        place = last_at(it, spot)
+        if place is not None:
+            it.gotos.append((spot, place))
+        it.gotos.append((spot, None))
+    targets = enumerate(it.gotos, 1)
+    return {"targets": [target(it, number, spot, place) for number, (spot, place) in targets]}
+
+
+def target(it: Debugger, number: int, spot: Spot, place: Optional[int]) -> Values:
+    """A target of `goto`."""
+    label = f"an edit: {spot.task} goes on at {spot.pc}"
+    if place is not None:
+        label = f"back to place {place}, where {spot.task} came to {spot.pc}"
+    return {"id": number, "label": label, **it.text.place(spot)}
+
+
+def last_at(it: Debugger, spot: Spot) -> Optional[int]:
+    """The last earlier place at which a task came to an instruction. Stays where it is."""
+    walk = it.shell.walk
+    with it.wheel():
+        start = walk.place
+        place = arrival(spot).last(walk)
+        walk.goto(start)
+    return place
+
+
+def goto(it: Debugger, given: Arguments) -> Optional[Values]:
+    """`goto`: to the target that was chosen."""
+    number = given.number("targetId")
+    if not 0 < number <= len(it.gotos):
+        raise Wrong(f"there is no target {number}; gotoTargets names them")
+    spot, place = it.gotos[number - 1]
+    thread = it.threads.number(spot.task)
+    with it.wheel():
+        if place is None:
+            it.edit(f"poke pc {spot.task} {spot.pc}")
+        else:
+            it.shell.walk.goto(place)
+            it.say(f"back at {place}")
+    it.changed()
+    it.later.append(lambda: it.stopped("goto", f"at {it.shell.target.place}", thread))
+    return None
+
+
+def pause(it: Debugger, given: Arguments) -> Optional[Values]:
+    """`pause`: what runs ends soon."""
+    if it.is_running:
+        it.pause.ask()
+    return None
+
+
+MOVING: Dict[str, Request] = {
+    "continue": go_on,
+    "reverseContinue": go_back,
+    "next": step,
+    "stepIn": step,
+    "stepOut": step_out,
+    "stepBack": step_back,
+    "goto": goto,
+}
+OTHERS: Dict[str, Request] = {"gotoTargets": goto_targets, "pause": pause}

@@ -1,0 +1,163 @@
+"""What `launch` and `attach` begin: a program of one's own, or one more session at a port."""
+import os
+import subprocess
+import threading
+from typing import IO, Any, Callable, List, Optional
+
+from rdbg import client, commands
+from rdbg import source as sources
+from rdbg.adapter.messages import Arguments, Wrong
+from rdbg.adapter.pausing import Pause
+from rdbg.client import Session
+from rdbg.failure import Failure
+from rdbg.firmware.writer import text_of
+from rdbg.replies import Refused
+from rdbg.shell.opening import as_read, builtin, compare, greet
+from rdbg.shell.shell import Shell
+from rdbg.shell.target import Limits, Target
+from rdbg.source import Source
+
+BUILTIN = "built-in.fw"
+# Faults of a file that are told at once.
+MOST_FAULTS = 20
+Tell = Callable[[str], None]
+
+
+class EditorShell(Shell):
+    """A shell whose words an editor's user types."""
+
+    def stopped(self, where: str) -> None:
+        """Says that something was paused, and where the target is."""
+        self.say(f"paused, {where}")
+
+
+def built_in() -> Source:
+    """The application that rdbg has without a file, as a text."""
+    return sources.source(BUILTIN, text_of(builtin()).encode())
+
+
+def file_of(given: Arguments) -> Optional[str]:
+    """The path of the application's file, if one is named."""
+    path = given.text("program", "")
+    return os.path.abspath(os.path.join(given.text("cwd", ""), path)) if path else None
+
+
+def read(path: str) -> Source:
+    """The application of a file. Raises `Wrong` where it is refused, with its faults."""
+    try:
+        source = sources.load(path)
+    except (Failure, ValueError) as failure:
+        raise Wrong(str(failure)) from None
+    if source.application is None:
+        faults = [f"{path}:{fault}" for fault in source.faults[:MOST_FAULTS]]
+        raise Wrong("\n".join([f"the application is refused as {source.faults[0].kind}", *faults]))
+    return source
+
+
+def count(given: Arguments, key: str, absent: int, least: int = 1) -> int:
+    """A number of at least so much, and a million at the most."""
+    value = given.number(key, absent)
+    if not least <= value <= commands.MOST_COUNT:
+        raise Wrong(f"{key} is a number from {least} to {commands.MOST_COUNT}, and not {value}")
+    return value
+
+
+def program(is_unproved: bool, tell: Tell) -> str:
+    """The program that is started: built first, where it has to be. `tell` is told what the
+    building says. Raises `Wrong` where there is none."""
+    named = os.environ.get("RDBG_PROGRAM")
+    if named:
+        return named
+    wrapper = os.environ.get("RDBG_WRAPPER", str(client.WRAPPER))
+    words = ["--unproved"] if is_unproved else os.environ.get("RDBG_WRAPPER_WORDS", "").split()
+    pipe = subprocess.PIPE
+    try:
+        made = subprocess.Popen(
+            [wrapper, *words, "--build"], stdin=subprocess.DEVNULL, stdout=pipe, stderr=pipe
+        )
+    except OSError as error:
+        raise Wrong(f"cannot start {wrapper}: {error.strerror}") from None
+    assert made.stdout is not None and made.stderr is not None
+    said: List[str] = []
+    reader = threading.Thread(target=tell_lines, args=(made.stderr, said, tell), daemon=True)
+    reader.start()
+    with made.stdout:
+        path = os.fsdecode(made.stdout.read().strip())
+    reader.join()
+    if made.wait() or not path:
+        raise Wrong(f"there is no program to start: {said[-1] if said else 'nothing was built'}")
+    return path
+
+
+def tell_lines(stream: IO[bytes], said: List[str], tell: Tell) -> None:
+    """Tells each line of a stream."""
+    with stream:
+        for line in stream:
+            said.append(line.decode("utf-8", "replace").rstrip())
+            tell(said[-1])
+
+
+def launch(given: Arguments, pause: Pause, tell: Tell) -> Shell:
+    """A program of its own on a file, or on the built-in application."""
+    path = file_of(given)
+    source = built_in() if path is None else read(path)
+    limits = Limits(count(given, "moves", Limits.moves), count(given, "history", Limits.history, 2))
+    words = [program(given.flag("unproved"), tell), "run"]
+    target = begin(words, None if path is None else source, source, limits)
+    return EditorShell(target, source, pause)
+
+
+def begin(words: List[str], file: Optional[Source], source: Source, limits: Limits) -> Target:
+    """A program that reads an application as it was read here."""
+    try:
+        if file is None:
+            session = Session.start([*words, *limits.words()])
+            greet(session)
+        else:
+            with as_read(file) as path:
+                session = Session.start([*words, "--app", path, *limits.words()])
+                greet(session)  # (once it has answered it has read the file)
+    except Failure as failure:
+        raise Wrong(str(failure)) from None
+    return Target(session, source.application, limits)
+
+
+def again(given: Arguments, pause: Pause, tell: Tell) -> Shell:
+    """A new program on the file as it is now."""
+    return launch(given, pause, tell)
+
+
+def attach(given: Arguments, pause: Pause, hear: Tell) -> Shell:
+    """One more session at a server or in a room, whose notices `hear` is told. Raises `Wrong` where
+    nobody is let in, or where a file was given that isn't the application there."""
+    port = given.number("port")
+    if not 0 < port < 65_536:
+        raise Wrong(f"port is a number from 1 to 65535, and not {port}")
+    path = file_of(given)
+    source = None if path is None else read(path)
+    try:
+        session = connect(port, given.text("name", ""), hear)
+        greet(session)
+        target = Target(session, source.application if source else None, None)
+        try:
+            target.places()
+            target.tell("show cores")
+            if source is not None and source.application is not None:
+                compare(target, source.application, source.path)
+        except BaseException:
+            session.close()
+            raise
+    except Failure as failure:
+        raise Wrong(str(failure)) from None
+    except Refused as refused:
+        raise Wrong(f"the server lets nobody else in: no {refused}") from None
+    return EditorShell(target, source, pause)
+
+
+def connect(port: int, name: str, hear: Tell) -> Session:
+    """A session at a port, by a name where the server is a room."""
+    attached: Callable[..., Session] = Session.attach
+    session = attached(port, name) if name else attached(port)
+    heard: Any = session
+    heard.on_notice = hear
+    return session

@@ -1,0 +1,153 @@
+"""A session with an editor: its requests in order, those that can't wait while something runs."""
+import queue
+import threading
+from typing import IO, Dict, List, Optional
+
+from rdbg.adapter.debugger import Debugger
+from rdbg.adapter.evaluating import Request, evaluate
+from rdbg.adapter.framing import Broken, Frames, Sender
+from rdbg.adapter.looking import LOOKING
+from rdbg.adapter.messages import Request as Asked
+from rdbg.adapter.messages import Unreadable, Wrong, done, event, failed, read
+from rdbg.adapter.moving import MOVING, OTHERS
+from rdbg.adapter.printing import gathered, install, text_of
+from rdbg.adapter.setting import SETTING
+from rdbg.adapter.setup import SETUP
+from rdbg.failure import Failure
+from rdbg.replies import Refused
+from rdbg.shell.interrupt import Interrupted
+from rdbg.shell.target import Unable
+
+REQUESTS: Dict[str, Request] = {
+    **SETUP,
+    **LOOKING,
+    **SETTING,
+    **MOVING,
+    **OTHERS,
+    "evaluate": evaluate,
+}
+# What is answered while the target runs; all else waits for its stop.
+MEANWHILE = (
+    "threads",
+    "stackTrace",
+    "scopes",
+    "variables",
+    "pause",
+    "source",
+    "loadedSources",
+    "breakpointLocations",
+    *(name for name in SETTING if name.startswith("set")),
+)
+# What ends what runs.
+ENDING = ("pause", "disconnect")
+# So many requests may wait.
+MOST_WAITING = 1_000
+
+
+class Server:
+    """Answers an editor."""
+
+    def __init__(self, lines: IO[bytes], answers: IO[bytes]) -> None:
+        self._frames, self._sender = Frames(lines), Sender(answers)
+        self.debugger = Debugger(self._sender.send)
+        self.debugger.serve = self._meanwhile
+        self._asked: "queue.Queue[Optional[Asked]]" = queue.Queue(MOST_WAITING)
+        self._waiting: List[Optional[Asked]] = []
+
+    def serve(self) -> None:
+        """Answers requests up to the end of the session."""
+        install()
+        threading.Thread(target=self._read, daemon=True).start()
+        try:
+            while not self.debugger.is_done and not self._sender.is_closed:
+                request = self._waiting.pop(0) if self._waiting else self._asked.get()
+                if request is None:
+                    return
+                self._answer(request)
+        finally:
+            self.debugger.close()
+
+    def _read(self) -> None:
+        """Reads requests, in a thread of its own."""
+        while True:
+            try:
+                body = self._frames.read()
+                request = None if body is None else read(body)
+            except Broken as broken:
+                self._sender.send(failed(0, "", str(broken)))
+                continue
+            except Unreadable as wrong:
+                self._sender.send(failed(wrong.seq, wrong.command, str(wrong)))
+                continue
+            if request is None or request.command in ENDING:
+                if self.debugger.is_running:
+                    self.debugger.pause.ask()
+            self._asked.put(request)
+            if request is None:
+                return
+
+    def _meanwhile(self) -> None:
+        """Answers what can be answered while the target runs."""
+        while True:
+            try:
+                request = self._asked.get_nowait()
+            except queue.Empty:
+                return
+            if request is not None and request.command in MEANWHILE:
+                self._answer(request)
+            else:
+                self._waiting.append(request)
+
+    def _answer(self, request: Asked) -> None:
+        """Answers a request, and does what comes behind the answer."""
+        it = self.debugger
+        outer, it.later = it.later, []
+        with gathered() as pieces:
+            self._done(request)
+            later, it.later = it.later, outer
+            for each in later:
+                self._guarded(each)
+        said = text_of(pieces)
+        if said:
+            it.say(said)
+
+    def _done(self, request: Asked) -> None:
+        it = self.debugger
+        try:
+            if request.command not in REQUESTS:
+                raise Wrong(f"rdbg answers no request '{request.command[:100]}'")
+            body = REQUESTS[request.command](it, request.arguments)
+            self._sender.send(done(request, body))
+            return
+        except Refused as refused:
+            why = str(it.wrong("", refused)) if it.has_shell else f"rdbg says no {refused}"
+        except (Wrong, Unable) as wrong:
+            why = str(wrong)
+        except Interrupted:
+            why = "it was ended by a pause"
+        except Failure as failure:
+            why = str(failure)
+            it.later = [lambda: self._end(why)]
+        self._sender.send(failed(request.seq, request.command, why))
+        if request.command in MOVING:
+            it.later.append(it.still)
+
+    def _guarded(self, each: "object") -> None:
+        """Does something behind an answer."""
+        assert callable(each)
+        try:
+            each()
+        except (Refused, Wrong, Unable, Interrupted) as wrong:
+            self.debugger.say(str(wrong), category="stderr")
+            self.debugger.still()
+        except Failure as failure:
+            self._end(str(failure))
+
+    def _end(self, why: str) -> None:
+        """Tells the editor that the program has ended."""
+        it = self.debugger
+        it.say(why, category="stderr")
+        status = it.close()
+        it.is_running = False
+        it.send(event("exited", {"exitCode": status or 0}))
+        it.send(event("terminated", {}))

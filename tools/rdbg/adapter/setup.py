@@ -1,0 +1,143 @@
+"""Requests that begin and end: `initialize`, `launch`, `attach`, `restart`, `disconnect`."""
+from typing import Callable, Dict, Optional
+
+from rdbg.adapter import opening
+from rdbg.adapter.breakpoints import FAILURES
+from rdbg.adapter.debugger import LIMIT, Debugger
+from rdbg.adapter.messages import Arguments, Values, Wrong, event
+from rdbg.adapter.threads import TIME
+from rdbg.replies import Refused
+from rdbg.shell.shell import Shell
+
+Request = Callable[[Debugger, Arguments], Optional[Values]]
+CAN = (
+    "supportsConfigurationDoneRequest",
+    "supportsFunctionBreakpoints",
+    "supportsConditionalBreakpoints",
+    "supportsHitConditionalBreakpoints",
+    "supportsEvaluateForHovers",
+    "supportsStepBack",
+    "supportsSetVariable",
+    "supportsSetExpression",
+    "supportsGotoTargetsRequest",
+    "supportsCompletionsRequest",
+    "supportsRestartRequest",
+    "supportsValueFormattingOptions",
+    "supportsExceptionInfoRequest",
+    "supportsLoadedSourcesRequest",
+    "supportsDataBreakpoints",
+    "supportsBreakpointLocationsRequest",
+)
+
+
+def initialize(it: Debugger, given: Arguments) -> Optional[Values]:
+    """`initialize`: what rdbg can do for an editor."""
+    if given.text("pathFormat", "path") != "path":
+        raise Wrong("paths are paths; URIs aren't known")
+    line = int(given.flag("linesStartAt1", True))
+    it.text.count_from(line, int(given.flag("columnsStartAt1", True)))
+    it.shows_invalidated = given.flag("supportsInvalidatedEvent")
+    body: Values = {name: True for name in CAN}
+    body["completionTriggerCharacters"] = [" "]
+    body["exceptionBreakpointFilters"] = [
+        {"filter": name, "label": label, "default": is_on}
+        for name, (label, is_on) in FAILURES.items()
+    ]
+    return body
+
+
+def started(it: Debugger, given: Arguments, shell: Shell) -> None:
+    """Goes on with a target, once the request was answered."""
+    it.given = given
+    it.limit = opening.count(given, "limit", LIMIT)
+    it.take(shell)
+    it.later.append(lambda: it.send(event("initialized", {})))
+
+
+def launch(it: Debugger, given: Arguments) -> Optional[Values]:
+    """`launch`: a program of its own."""
+    if it.has_shell:
+        raise Wrong("something is debugged already")
+    opening.count(given, "limit", LIMIT)
+    started(it, given, opening.launch(given, it.pause, lambda text: it.say(text)))
+    return None
+
+
+def attach(it: Debugger, given: Arguments) -> Optional[Values]:
+    """`attach`: one more session at a port."""
+    if it.has_shell:
+        raise Wrong("something is debugged already")
+    opening.count(given, "limit", LIMIT)
+    it.is_attached = True
+    started(it, given, opening.attach(given, it.pause, it.hear))
+    return None
+
+
+def configured(it: Debugger, given: Arguments) -> Optional[Values]:
+    """`configurationDone`: the target stands at the start, or runs."""
+    from rdbg.adapter.moving import begin_run
+
+    place = it.shell.target.places().done
+    it.is_configured = True
+    first = next((name for name in it.look().cores.running if name), None)
+    it.focus = it.threads.number(first) if first else TIME
+    if it.is_attached:
+        it.later.append(lambda: it.stopped("entry", f"attached at {place}", it.focus))
+    elif it.given.flag("stopOnEntry", True):
+        it.later.append(lambda: it.stopped("entry", "at 0: the start", it.focus))
+    else:
+        begin_run(it, lambda runner: runner.begin(it.limit), it.stops)
+    return None
+
+
+def restart(it: Debugger, given: Arguments) -> Optional[Values]:
+    """`restart`: a new program on the file as it is now; of a target of others, back to its start."""
+    it.failure = ""
+    if it.is_attached:
+        try:
+            with it.wheel():
+                it.shell.walk.goto(it.shell.target.base)
+        except Refused as refused:
+            raise it.wrong("back 1", refused) from None
+        place = it.shell.target.place
+        it.later.append(lambda: it.stopped("entry", f"at {place}: the start", it.focus))
+        it.changed()
+        return None
+    arguments = given.part("arguments")
+    chosen = arguments if arguments.has("program") else it.given
+    watches = sorted(it.shell.target.watches.items())
+    shell = opening.launch(chosen, it.pause, lambda text: it.say(text))
+    it.close()
+    it.take(shell)
+    it.given = chosen
+    it.shell.target.tell_all([f"watch {text}" for _, text in watches])
+    it.later.append(lambda: restarted(it))
+    return None
+
+
+def restarted(it: Debugger, where: str = "at 0: the start") -> None:
+    """Says what has become of the breakpoints in the file as it is now, and stops."""
+    for value in it.breakpoints.lines_again(it.shell, it.text):
+        it.send(event("breakpoint", {"reason": "changed", "breakpoint": value}))
+    it.went()
+    it.stopped("entry", where, it.focus)
+
+
+def disconnect(it: Debugger, given: Arguments) -> Optional[Values]:
+    """`disconnect`: the end of the session, and of its program; of a target of others, of the
+    session alone."""
+    status = it.close()
+    if status:
+        it.say(f"rdbg has ended, with status {status}", category="stderr")
+    it.is_done = True
+    return None
+
+
+SETUP: Dict[str, Request] = {
+    "initialize": initialize,
+    "launch": launch,
+    "attach": attach,
+    "configurationDone": configured,
+    "restart": restart,
+    "disconnect": disconnect,
+}

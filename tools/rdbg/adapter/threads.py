@@ -1,0 +1,70 @@
+"""Tasks as threads, and one thread more, whose steps are ticks."""
+from typing import List, Optional, Sequence
+
+from rdbg import replies
+from rdbg.adapter.messages import Values, Wrong
+from rdbg.adapter.sources import Text
+from rdbg.looks import Look
+from rdbg.shell.views import phase_text
+
+# The thread of the time; tasks are numbered behind it.
+TIME, TIME_NAME = 1, "time"
+
+
+class Threads:
+    """The numbers of the tasks, which stay the same as more become known."""
+
+    def __init__(self) -> None:
+        self.names: List[str] = []
+
+    def learn(self, names: Sequence[str]) -> None:
+        """Takes note of tasks."""
+        self.names += [name for name in names if name not in self.names]
+
+    def number(self, task: str) -> int:
+        """The number of a task."""
+        self.learn([task])
+        return TIME + 1 + self.names.index(task)
+
+    def task(self, number: int) -> Optional[str]:
+        """The task of this number; none for the time. Raises `Wrong` where there is none."""
+        if number == TIME:
+            return None
+        at = number - TIME - 1
+        if not 0 <= at < len(self.names):
+            raise Wrong(f"there is no thread {number}")
+        return self.names[at]
+
+    def values(self, look: Optional[Look]) -> List[Values]:
+        """All of them, each with what it does where that is known."""
+        texts = [f"{TIME_NAME}: tick {look.cores.tick}" if look else TIME_NAME]
+        for name in self.names:
+            it = look.tasks.get(name) if look else None
+            texts.append(f"{name}: {state(it)}" if it else name)
+        return [{"id": TIME + at, "name": text} for at, text in enumerate(texts)]
+
+
+def state(task: replies.Task) -> str:
+    """What a task does, in a word or two."""
+    if task.core is not None:
+        return f"core {task.core}"
+    if task.phase.word == "wait":
+        return f"waits {task.phase.place}"
+    return task.phase.word if task.phase.word in ("ended", "failed") else "ready"
+
+
+def frame(number: int, task: Optional[replies.Task], look: Look, text: Text) -> Values:
+    """Where a task stands, as the one frame of its stack; of the time, which tick it is."""
+    if task is None:
+        name = f"tick {look.cores.tick}, at place {look.place}"
+        return {"id": number, "name": name, "line": 0, "column": 0, "presentationHint": "label"}
+    spot = text.of(task.name, task.pc)
+    name = str(spot) if spot else f"{task.name} {task.pc}"
+    if task.phase.word != "run":
+        name += f" ({phase_text(task)})"
+    found: Values = {"id": number, "name": name, "line": 0, "column": 0}
+    source = text.value()
+    if spot is not None and source is not None:
+        found.update(text.place(spot))
+        found["source"] = source
+    return found

@@ -1,0 +1,37 @@
+"""A debugger for editors: the Debug Adapter Protocol over standard input, or at a port."""
+import argparse
+import os
+import sys
+from typing import Optional, Sequence
+
+from rdbg.adapter.listening import listen
+from rdbg.adapter.server import Server
+from rdbg.companions.sh import port
+
+SUMMARY = "the debugger of an editor, with its buttons: breakpoints, steps, and both ways"
+EPILOG = (
+    "An editor starts it, and says by `launch` which file to debug, or by `attach` at which port:"
+    " docs/EDITORS.md. It talks the Debug Adapter Protocol over standard input and output, or, with"
+    " --port, with each editor that connects to that port of 127.0.0.1."
+)
+
+
+def parser() -> argparse.ArgumentParser:
+    """The words of the command line."""
+    made = argparse.ArgumentParser(prog="rdbg dap", description=SUMMARY, epilog=EPILOG)
+    made.add_argument("--port", type=port, metavar="P", help="listens at this port of 127.0.0.1")
+    return made
+
+
+def main(words: Sequence[str]) -> int:
+    """Serves an editor, or several at a port."""
+    given = parser().parse_args(words)
+    number: Optional[int] = given.port
+    if number is not None:
+        listen(number)
+        return 0
+    # (streams of their own: nothing that is printed comes between, and none is waited for at the end)
+    lines = os.fdopen(os.dup(sys.stdin.fileno()), "rb")
+    answers = os.fdopen(os.dup(sys.stdout.fileno()), "wb")
+    Server(lines, answers).serve()
+    return 0
