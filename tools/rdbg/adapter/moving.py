@@ -10,6 +10,7 @@ from rdbg.adapter.sources import Spot
 from rdbg.adapter.stops import Amount, Stop
 from rdbg.adapter.breakpoints import arrival
 from rdbg.adapter.threads import TIME
+from rdbg.effects import Move
 from rdbg.replies import Refused
 from rdbg.shell import trail
 from rdbg.shell.steps import why_on_none
@@ -81,22 +82,22 @@ def step(it: Debugger, given: Arguments) -> Optional[Values]:
         with it.wheel():
             before = it.look()
             line = "tick" if task is None else f"step {core_of(it, task)}"
-            it.make(line)
+            move = it.make(line)
             after = it.look()
     except Refused as refused:
         raise it.wrong("step 0", refused) from None
     failure = it.failed_here(before, after)
     it.failure = ""
-    it.later.append(lambda: tell_step(it, thread, failure))
+    it.later.append(lambda: tell_step(it, thread, failure, move))
     return None
 
 
-def tell_step(it: Debugger, thread: int, failure: str) -> None:
+def tell_step(it: Debugger, thread: int, failure: str, move: Move) -> None:
     """Stops behind a step."""
     if failure:
         it.tell_failure(failure, thread)
     else:
-        it.stopped("step", f"at {it.shell.target.place}", thread)
+        it.stopped("step", f"at {move.place}: {move.text()}", thread)
 
 
 def core_of(it: Debugger, name: str) -> int:

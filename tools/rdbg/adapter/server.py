@@ -128,9 +128,9 @@ class Server:
         except Failure as failure:
             why = str(failure)
             it.later = [lambda: self._end(why)]
-        self._sender.send(failed(request.seq, request.command, why))
         if request.command in MOVING:
-            it.later.append(it.still)
+            it.still()  # (before the answer: dap-mode drops what comes behind one that is an error)
+        self._sender.send(failed(request.seq, request.command, why))
 
     def _guarded(self, each: "object") -> None:
         """Does something behind an answer."""
