@@ -61,7 +61,7 @@ class Becomes(Stop):
 
     def __init__(self, condition: Condition, text: str = "", is_at_start: bool = False) -> None:
         self.condition, self.text = condition, text or condition.text
-        self._goal, self._is_at_start = goals.Becomes(condition), is_at_start
+        self._goal, self.is_at_start = goals.Becomes(condition), is_at_start
 
     def look(self, target: Target) -> bool:
         return self._goal.is_so(target)
@@ -71,7 +71,7 @@ class Becomes(Stop):
 
     def is_met(self, walk: Walk) -> bool:
         if walk.place == 0:
-            return self._is_at_start and self.look(walk.target)
+            return self.is_at_start and self.look(walk.target)
         return super().is_met(walk)
 
     def next(self, walk: Walk, limit: int) -> Optional[int]:
@@ -86,7 +86,7 @@ class Becomes(Stop):
                 return walk.place + 1
         other = latest(walk, self.condition.others(earlier=True))
         if other is None:
-            return 0 if self._is_at_start and not walk.target.base else None
+            return 0 if self.is_at_start and not walk.target.base else None
         return other + 1
 
 
