@@ -162,7 +162,13 @@ def editor() -> Iterator[Client]:
     here, there = socket.socketpair()
     here.settimeout(PATIENCE)
     lines, answers = there.makefile("rb"), there.makefile("wb")
-    thread = threading.Thread(target=Server(lines, answers).serve)
+
+    def serve() -> None:
+        Server(lines, answers).serve()
+        with contextlib.suppress(OSError):
+            there.shutdown(socket.SHUT_RDWR)
+
+    thread = threading.Thread(target=serve)
     thread.start()
     with here, here.makefile("rb") as told, here.makefile("wb") as asked:
         client = Client(told, asked)
@@ -170,10 +176,12 @@ def editor() -> Iterator[Client]:
         try:
             yield client
         finally:
-            here.shutdown(socket.SHUT_RDWR)
+            with contextlib.suppress(OSError):
+                here.shutdown(socket.SHUT_RDWR)
             thread.join(PATIENCE)
             for stream in (lines, answers):
-                stream.close()
+                with contextlib.suppress(OSError):
+                    stream.close()
             there.close()
 
 

@@ -1,0 +1,206 @@
+"""`rdbg dap` where what comes is broken: each gets an answer that says so, and what follows is
+served."""
+import json
+import random
+import socket
+import unittest
+from typing import Any, List, Tuple
+
+from rdbg.adapter.framing import MOST_BODY
+from rdbg.adapter.server import REQUESTS
+from tests.dap_client import Client, Message, editor
+from tests.dap_schema import Held
+from tests.paths import EXAMPLES
+
+LOST = EXAMPLES / "lost_item.json"
+REQUEST: Message = {"seq": 7, "type": "request", "command": "threads"}
+
+
+def told(client: Client, number: int = 0) -> str:
+    """Why something isn't answered as it was asked."""
+    answer = client.answer(number)
+    if answer["success"]:
+        raise AssertionError(f"it is done: {answer}")
+    return str(answer["message"])
+
+
+class Frames(Held):
+    """Bytes that are no frames, and frames that are no requests."""
+
+    def wrong(self, content: bytes, *expected: str) -> None:
+        """What is said of some bytes; then the session goes on."""
+        with editor() as client:
+            client.bytes(content)
+            client.send("initialize")
+            said = []
+            while True:
+                message = client._next()
+                if message["type"] == "response" and message["success"]:
+                    break
+                said.append(message["message"])
+            self.assertEqual(len(said), len(expected), said)
+            for one, other in zip(said, expected):
+                self.assertIn(other, one)
+
+    def test_headers(self) -> None:
+        self.wrong(b"Content-Length: many\r\n\r\n", "Content-Length is no number of bytes")
+        self.wrong(b"Content-Length: -3\r\n\r\n", "Content-Length is no number of bytes")
+        self.wrong(b"hello\r\n\r\n", "a header has lines such as")
+        self.wrong(b"hello\r\n", "a header has lines such as")
+        self.wrong(b"\r\n\r\n\n")
+        self.wrong(b"x" * 100_000 + b"\r\n", "a header has lines such as")
+        self.wrong(b"Content-Length: 99999999999\r\n\r\n{}", "at most", "a header has")
+        body = json.dumps(REQUEST).encode()
+        self.wrong(
+            b"Content-Length: %d\r\n\r\n%s" % (len(body) - 3, body), "no JSON", "a header has"
+        )
+
+    def test_a_type_beside_the_length_is_taken(self) -> None:
+        with editor() as client:
+            body = json.dumps({**REQUEST, "command": "initialize"}).encode()
+            head = b"content-type: json\r\ncontent-length:%d\r\n\r\n" % len(body)
+            client.bytes(head + body)
+            self.assertTrue(client.answer(7)["success"])
+
+    def test_a_browser_gets_no_answer(self) -> None:
+        body = json.dumps(REQUEST).encode()
+        for head in (b"POST / HTTP/1.1\r\n", b"Host: 127.0.0.1:4711\r\n", b"Origin: null\r\n"):
+            with editor() as client:
+                client.bytes(head + b"Content-Length: %d\r\n\r\n%s" % (len(body), body))
+                self.assertIsNone(client.receive())
+
+    def test_messages(self) -> None:
+        for body, text in (
+            (b"", "no JSON"),
+            (b"{", "no JSON"),
+            (b"\xff\xfe", "no JSON"),
+            (b"[" * 50_000, "no JSON"),
+            (b'{"seq": 1%s}' % (b"0" * 5_000), "no JSON"),
+            (b'{"seq": NaN}', "no JSON"),
+            (b"3", "no object"),
+            (b"{}", "its type is another"),
+            (b'{"type": "event", "event": "stopped"}', "its type is another"),
+            (b'{"type": "request", "command": "threads"}', "a number as seq"),
+            (b'{"type": "request", "seq": "1", "command": "threads"}', "a number as seq"),
+            (b'{"type": "request", "seq": true, "command": "threads"}', "a number as seq"),
+        ):
+            with self.subTest(body[:50]), editor() as client:
+                client.raw(body)
+                self.assertIn(text, told(client))
+                client.ask("initialize")
+
+    def test_messages_whose_number_is_known(self) -> None:
+        with editor() as client:
+            wrong: List[Tuple[Message, str]] = [
+                ({"arguments": 3}, "arguments must be an object"),
+                ({"command": ""}, "a text as command"),
+                ({"command": "dance"}, "rdbg answers no request 'dance'"),
+                ({"command": "d" * 100_000}, "rdbg answers no request"),
+                ({"command": "\ud800{}"}, "rdbg answers no request"),
+            ]
+            for more, text in wrong:
+                client.raw(json.dumps({**REQUEST, **more}).encode())
+                self.assertIn(text, told(client, 7))
+                client.told.clear()
+                client._read = 0
+
+
+class Arguments(Held):
+    """Arguments that aren't as they should be."""
+
+    def test_before_anything_is_debugged(self) -> None:
+        with editor() as client:
+            for command in sorted(set(REQUESTS) - {"initialize", "launch", "attach", "disconnect"}):
+                if command not in ("threads", "loadedSources", "pause", "setExceptionBreakpoints"):
+                    asked = {"source": {}, "breakpoints": [{"line": 1}], "text": "", "column": 1}
+                    answer = client.answer(client.send(command, asked, name="x", expression="x"))
+                    self.assertNotIn("Traceback", json.dumps(answer))
+            self.assertIn("nothing is debugged", client.refused("evaluate", expression="tick"))
+
+    def test_files_that_can_not_be_debugged(self) -> None:
+        for program, text in (
+            ("/nowhere/x.json", "cannot read"),
+            ("/nowhere\0x", "embedded null"),
+            ("\ud800", "cannot read"),
+            (str(EXAMPLES), "cannot read"),
+            (str(EXAMPLES / "lost_item.commands"), "is refused as L1 NotJson"),
+            (3, "program must be a text"),
+        ):
+            with self.subTest(program), editor() as client:
+                client.ask("initialize")
+                self.assertIn(text, client.refused("launch", program=program))
+                client.ask("launch", program=None)
+
+    def test_limits(self) -> None:
+        with editor() as client:
+            client.ask("initialize")
+            wrong: List[Message] = [{"moves": 0}, {"history": 1}, {"limit": 2_000_000}]
+            for more in [*wrong, {"moves": True}]:
+                said = client.refused("launch", {"program": str(LOST), **more})
+                self.assertIn(list(more)[0], said)
+            for port in (0, 65_536, -1):
+                self.assertIn("1 to 65535", client.refused("attach", port=port))
+            with socket.socket() as free:
+                free.bind(("127.0.0.1", 0))
+                port = free.getsockname()[1]
+            self.assertIn("cannot attach to port", client.refused("attach", port=port))
+
+    def test_what_is_not_there(self) -> None:
+        with editor() as client:
+            client.begin(LOST)
+            wrong: List[Tuple[str, Message, str]] = [
+                ("launch", {}, "something is debugged already"),
+                ("stackTrace", {"threadId": 99}, "there is no thread 99"),
+                ("stackTrace", {}, "lacks threadId"),
+                ("next", {"threadId": "2"}, "threadId must be a number"),
+                ("continue", {"threadId": 9}, "there is no thread 9"),
+                ("scopes", {"frameId": 0}, "there is no thread 0"),
+                ("variables", {"variablesReference": 77}, "there are no variables 77"),
+                ("goto", {"threadId": 2, "targetId": 5}, "there is no target 5"),
+                ("source", {"sourceReference": 5}, "there is no text 5"),
+                ("exceptionInfo", {"threadId": 2}, "nothing has failed"),
+                ("setExceptionBreakpoints", {"filters": ["all"]}, "no filter 'all'"),
+                ("setExceptionBreakpoints", {"filters": [3]}, "a list of texts"),
+                ("setBreakpoints", {"source": {}, "breakpoints": [3]}, "a list of objects"),
+                ("evaluate", {"expression": "quit"}, "Disconnect"),
+                ("evaluate", {"expression": "x\n" * 2_000}, "2000 lines at once"),
+                ("evaluate", {"expression": "x", "context": "hover"}, "is no register"),
+                ("evaluate", {"expression": "reg nobody 0 = 1", "context": "watch"}, "isn't there"),
+                ("evaluate", {"expression": "step 0", "context": "hover"}, "is no register"),
+                ("stepInTargets", {"frameId": 2}, "rdbg answers no request"),
+            ]
+            for command, asked, text in wrong:
+                with self.subTest(command, asked=str(asked)[:60]):
+                    self.assertIn(text, client.refused(command, asked))
+            self.assertEqual(client.place(), 0)
+
+    def test_any_arguments_get_an_answer(self) -> None:
+        chance = random.Random(5)
+        values: List[Any] = [
+            None,
+            True,
+            -1,
+            2,
+            1e9,
+            "",
+            "r0",
+            "0",
+            [],
+            [{}],
+            {},
+            {"path": str(LOST)},
+        ]
+        keys = ["threadId", "frameId", "variablesReference", "name", "value", "source", "line"]
+        keys += ["breakpoints", "filters", "expression", "text", "column", "targetId", "start"]
+        commands = sorted(set(REQUESTS) - {"disconnect", "restart", "launch", "attach"})
+        with editor() as client:
+            client.begin(LOST, limit=50)
+            for _ in range(250):
+                asked = {key: chance.choice(values) for key in chance.sample(keys, 5)}
+                answer = client.answer(client.send(chance.choice(commands), asked))
+                self.assertIsInstance(answer["success"], bool)
+            self.assertGreaterEqual(client.place(), 0)
+
+
+if __name__ == "__main__":
+    unittest.main()
