@@ -156,9 +156,9 @@ class Hunts(Emacs):
             "exception | at 11: nothing goes on: left waits at group:there without end; right waits at group:there without end",
             "function breakpoint | at 9: changes there",
             "function breakpoint | at 4: changes there",
-            "group there = bits 0 0x000000",
+            "group there = 0x000000",
             "step | at 3, before: left 2 gclear there 3 -> 3, there bits 0",
-            "group there = bits 3 0x000003",
+            "group there = 0x000003",
             "step | at 4: right 1 gwait there 3 all keep max -> 3",
             "r0 = 3",
         )

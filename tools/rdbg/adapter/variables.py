@@ -124,7 +124,8 @@ def of_object(key: Key, it: Object) -> Variable:
     """An object as one variable."""
     kind, name = key
     waiting = waiters(it)
-    value = f"{holding(it)} {contents(it)}" + ("" if waiting == "nobody" else f", waits: {waiting}")
+    holds = "" if kind == "group" else f"{holding(it)} "
+    value = f"{holds}{contents(it)}" + ("" if waiting == "nobody" else f", waits: {waiting}")
     return Variable(f"{kind} {name}", value, within=("object", kind, name), expression=name)
 
 
