@@ -5,6 +5,7 @@ from typing import Callable, Dict, Iterator, List, Optional, Sequence, Tuple
 
 from rdbg import replies
 from rdbg.adapter.breakpoints import Breakpoint, Breakpoints
+from rdbg.adapter.hearing import MOVED, Hearing
 from rdbg.adapter.messages import Arguments, Values, Wrong, event
 from rdbg.adapter.pausing import Pause
 from rdbg.adapter.running import Outcome, Runner
@@ -38,10 +39,15 @@ class Debugger:
         self.references, self.breakpoints = References(), Breakpoints()
         self.begins: Dict[str, Stop] = {name: Begins(name) for name in ("failed", "stuck")}
         self._shell: Optional[Shell] = None
+        self.hearing: Optional[Hearing] = None
+        # What others have done, as long as the editor doesn't stand where that has led.
+        self.others = ""
         # What is done once a request was answered.
         self.later: List[Callable[[], None]] = []
         # Serves what the editor asks meanwhile, while something long goes on.
         self.serve: Callable[[], None] = lambda: None
+        # Is called, from any thread, where something has come from a room.
+        self.came: Callable[[], None] = lambda: None
         self.is_attached = self.is_configured = self.is_running = self.is_done = False
         self.shows_invalidated = False
         # The thread that stopped last, and how, where a failure is told.
@@ -92,12 +98,11 @@ class Debugger:
     def look(self) -> Look:
         """What there is, looked at once as long as nothing moves."""
         if self._seen is None:
-            if self.shell.target.is_own:
-                self._seen = self.shell.look()
-            else:
-                self._seen = self.shell.target.look()
-            self.threads.learn(self.shell.target.names.tasks)
+            target = self.shell.target
+            look = self.shell.look() if target.is_own else target.look()
+            self.threads.learn(target.names.tasks)
             self.notice()
+            self._seen = look
         return self._seen
 
     def shown(self, is_hex: bool = False) -> Shown:
@@ -236,8 +241,28 @@ class Debugger:
         self.send(event("continued", body))
 
     def hear(self, notice: str) -> None:
-        """Takes what a room says besides."""
-        self.say(notice)
+        """Takes what a room says besides: what others do, the editor is told."""
+        mover = MOVED.match(notice)
+        own: Optional[str] = (
+            getattr(self._shell.target.session, "name", None) if self._shell else None
+        )
+        if mover is None or mover[1] != own:
+            self.say(notice.lstrip("# "))
+            self.others = self.others or (notice.lstrip("# ") if mover else "")
+
+    def heard(self) -> None:
+        """Hears what a room has said since, and goes where others have moved the target to."""
+        if self.hearing is None or self._shell is None:
+            return
+        if not self.hearing.hear():
+            self._shell.target.tell("")  # (which raises `Failure`, and says why)
+        others, self.others = self.others, ""
+        if others and self.is_configured and not self.is_running:
+            self._shell.target.places()
+            self._shell.target.drift = None
+            self.changed()
+            self.went()
+            self.stopped("pause", others, self.focus)
 
     def still(self) -> None:
         """Tells the editor that the target stands where it stood: once it has asked for a move, it
@@ -305,6 +330,8 @@ class Debugger:
     def close(self) -> Optional[int]:
         """Ends the session; the status of its program."""
         shell, self._shell = self._shell, None
+        if self.hearing is not None:
+            self.hearing.end()
         return shell.target.session.close() if shell else None
 
 

@@ -2,7 +2,7 @@
 import dataclasses
 from typing import Callable, List, Optional, Sequence
 
-from rdbg.adapter.stops import Stop, first_of
+from rdbg.adapter.stops import Begins, Stop, first_of
 from rdbg.shell.goals import is_stuck
 from rdbg.shell.interrupt import Interrupted
 from rdbg.shell.walk import Walk
@@ -101,15 +101,22 @@ class Runner:
         return self.walk.place == place
 
     def _first(self, stops: Sequence[Stop], limit: int) -> Optional[int]:
-        """The first place of so many moves where a stop is met. Stays where it is."""
+        """The first place of so many moves where a stop is met. Ends anywhere among them."""
         start, found = self.walk.place, None
         for stop in stops:
-            if limit < 1:
-                break
-            place = stop.next(self.walk, limit)
-            if place is not None:
-                found, limit = place, place - start - 1
-            self.walk.reach(start)
+            if limit > 0 and not isinstance(stop, Begins):
+                self.walk.reach(start)
+                place = stop.next(self.walk, limit)
+                if place is not None:
+                    found, limit = place, place - start - 1
+        self.walk.reach(start + limit)
+        # (what stays so once it is so hasn't begun where it isn't so at the end)
+        for stop in stops:
+            if isinstance(stop, Begins) and stop.look(self.walk.target):
+                place = stop.began(self.walk, start)
+                if place is not None:
+                    found, limit = place, place - start - 1
+                    self.walk.reach(start + limit)
         return found
 
     def backwards(self) -> Outcome:

@@ -8,7 +8,7 @@ from rdbg.adapter.evaluating import Request, evaluate
 from rdbg.adapter.framing import Broken, Frames, Sender
 from rdbg.adapter.looking import LOOKING
 from rdbg.adapter.messages import Request as Asked
-from rdbg.adapter.messages import Unreadable, Wrong, done, event, failed, read
+from rdbg.adapter.messages import Arguments, Unreadable, Wrong, done, event, failed, read
 from rdbg.adapter.moving import MOVING, OTHERS
 from rdbg.adapter.printing import gathered, install, text_of
 from rdbg.adapter.setting import SETTING
@@ -40,8 +40,15 @@ MEANWHILE = (
 )
 # What ends what runs.
 ENDING = ("pause", "disconnect")
+# No request: something has come from a room.
+HEARD = Asked(0, "", Arguments({}, ""))
 # So many requests may wait.
 MOST_WAITING = 1_000
+
+
+def fault(error: Exception) -> str:
+    """What is said of a fault of this program."""
+    return f"a fault of rdbg dap: {type(error).__name__}: {error}"
 
 
 class Server:
@@ -51,6 +58,7 @@ class Server:
         self._frames, self._sender = Frames(lines), Sender(answers)
         self.debugger = Debugger(self._sender.send)
         self.debugger.serve = self._meanwhile
+        self.debugger.came = lambda: self._asked.put(HEARD)
         self._asked: "queue.Queue[Optional[Asked]]" = queue.Queue(MOST_WAITING)
         self._waiting: List[Optional[Asked]] = []
 
@@ -63,7 +71,10 @@ class Server:
                 request = self._waiting.pop(0) if self._waiting else self._asked.get()
                 if request is None:
                     return
-                self._answer(request)
+                if request is HEARD:
+                    self._guarded(self.debugger.heard)
+                else:
+                    self._answer(request)
         finally:
             self.debugger.close()
 
@@ -128,6 +139,8 @@ class Server:
         except Failure as failure:
             why = str(failure)
             it.later = [lambda: self._end(why)]
+        except Exception as error:  # (so that the editor isn't left without an answer)
+            why = fault(error)
         if request.command in MOVING:
             it.still()  # (before the answer: dap-mode drops what comes behind one that is an error)
         self._sender.send(failed(request.seq, request.command, why))
@@ -142,6 +155,9 @@ class Server:
             self.debugger.still()
         except Failure as failure:
             self._end(str(failure))
+        except Exception as error:
+            self.debugger.say(fault(error), category="stderr")
+            self.debugger.still()
 
     def _end(self, why: str) -> None:
         """Tells the editor that the program has ended."""

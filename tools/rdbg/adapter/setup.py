@@ -4,6 +4,7 @@ from typing import Callable, Dict, Optional
 from rdbg.adapter import opening
 from rdbg.adapter.breakpoints import FAILURES
 from rdbg.adapter.debugger import LIMIT, Debugger
+from rdbg.adapter.hearing import Hearing
 from rdbg.adapter.messages import Arguments, Values, Wrong, event
 from rdbg.adapter.threads import TIME
 from rdbg.replies import Refused
@@ -70,6 +71,8 @@ def attach(it: Debugger, given: Arguments) -> Optional[Values]:
     opening.count(given, "limit", LIMIT)
     it.is_attached = True
     started(it, given, opening.attach(given, it.pause, it.hear))
+    it.hearing = Hearing(it.shell.target.session, it.came)
+    it.hearing.begin()
     return None
 
 

@@ -169,9 +169,12 @@ class Begins(Stop):
         if walk.place <= base:
             return None
         walk.goto(walk.place - 1)
-        if not self.look(walk.target):
-            return None
-        high, low = walk.place, base
+        return self.began(walk, base) if self.look(walk.target) else None
+
+    def began(self, walk: Walk, low: int) -> Optional[int]:
+        """The place behind `low` where it has become so, up to here, where it is so; none where it
+        was so before."""
+        high = walk.place
         walk.goto(low)
         if self.look(walk.target):
             return None
