@@ -7,9 +7,18 @@ from rdbg.adapter.messages import Arguments, Values, Wrong, event
 from rdbg.adapter.sources import REFERENCE
 from rdbg.adapter.threads import TIME, frame
 from rdbg.adapter.variables import Shown, Variable, named, within
-from rdbg.shell import glossary
 
 Request = Callable[[Debugger, Arguments], Optional[Values]]
+# Why a task has failed, as docs/FORMATS.md has it.
+PLACE = "the task was to wait at the reader's or the writer's place of a buffer that names another"
+CAUSES: Dict[str, str] = {
+    "SetFull": "an item was to be put into a member of a set that has no room for its handle",
+    "TwoReaders": PLACE,
+    "TwoWriters": PLACE,
+    "EmptyData": "data of no bytes was to be written to a buffer",
+    "BadBits": "bits above 16,777,215 were to be set, cleared or waited for at an event group, or no"
+    " bits to be waited for",
+}
 
 
 def threads(it: Debugger, given: Arguments) -> Optional[Values]:
@@ -133,8 +142,7 @@ def exception(it: Debugger, given: Arguments) -> Optional[Values]:
     task = it.look().tasks.get(name) if name else None
     if task and task.phase.word == "failed":
         cause = task.phase.cause or "failed"
-        meaning = " ".join(glossary.meaning(cause))
-        text = f"{task.name} failed: {cause}. {meaning}".strip()
+        text = f"{task.name} failed: {cause}: {CAUSES.get(cause, 'a call went wrong')}"
         return {"exceptionId": cause, "description": text, "breakMode": "always"}
     if not it.failure:
         raise Wrong("nothing has failed here")
