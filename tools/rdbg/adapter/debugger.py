@@ -1,7 +1,7 @@
 """What is debugged for one editor: the target with its threads, sources and breakpoints, how it is
 moved, and what the editor is told of it."""
 import contextlib
-from typing import Callable, Dict, Iterator, List, Optional, Sequence, Tuple
+from typing import Any, Callable, Dict, Iterator, List, Optional, Sequence, Tuple
 
 from rdbg import replies
 from rdbg.adapter.breakpoints import Breakpoint, Breakpoints
@@ -56,6 +56,8 @@ class Debugger:
         self.limit = LIMIT
         # What `gotoTargets` named last.
         self.gotos: List[Tuple[Spot, Optional[int]]] = []
+        # The last move, behind a run.
+        self._last: Optional[Move] = None
         self._seen: Optional[Look] = None
         self._watches: Dict[str, Stop] = {}
 
@@ -70,6 +72,12 @@ class Debugger:
     def has_shell(self) -> bool:
         """Whether something is debugged."""
         return self._shell is not None
+
+    @property
+    def own_name(self) -> Optional[str]:
+        """The name by which a room knows this session; none where it is at no room."""
+        session: Any = self._shell.target.session if self._shell else None
+        return getattr(session, "name", None)
 
     def take(self, shell: Shell) -> None:
         """Goes on with this shell and its file."""
@@ -91,6 +99,10 @@ class Debugger:
         """Says where others have moved the target since that was last told."""
         target = self.shell.target
         drift, target.drift = target.drift, None
+        if drift is not None:
+            self._seen = None
+        if self.own_name is not None:
+            return  # (what moved it was told)
         if drift is not None and drift[0] != drift[1]:
             self._seen = None
             self.say(f"others have moved the target: {drift[0]} -> {drift[1]}")
@@ -192,7 +204,7 @@ class Debugger:
         self.say(f"{moved.at}  {line}")
 
     def _made(self, move: Move, after: Look) -> Move:
-        self._seen = after
+        self._seen, self._last = after, None
         self.say(move.row(), move)
         return move
 
@@ -211,15 +223,19 @@ class Debugger:
         if here < start:
             self.say(f"back at {here}, next: {self.shell.next_moves()}")
         elif here > start:
-            shown = here - start if here - start <= MANY else FEW
+            # (in a room, each move was told already)
+            most, few = (MANY, FEW) if self.own_name is None else (1, 1)
+            shown = here - start if here - start <= most else few
             if shown < here - start:
                 self.say(f".. {here - start - shown} moves before these")
             for move in self.last_moves(shown):
                 self.say(move.row(len(str(here))), move)
+                self._last = move
 
     def mover(self, default: Optional[int] = None) -> int:
         """The thread that made the last move; another where no task did."""
-        moves = self.last_moves(1)
+        known = self._last if self._last and self._last.place == self.shell.target.place else None
+        moves = (known,) if known else self.last_moves(1)
         if moves and moves[0].task:
             return self.threads.number(moves[0].task)
         return self.focus if default is None else default
@@ -299,6 +315,7 @@ class Debugger:
     def tell_outcome(self, outcome: Outcome, start: int) -> None:
         """Stops behind a run, and says why."""
         self.changed()
+        self._last = None
         self.tell_run(start)
         here = self.shell.target.place
         if outcome.how == "met":

@@ -2,7 +2,7 @@
 import os
 import subprocess
 import threading
-from typing import IO, Any, Callable, List, Optional
+from typing import IO, Callable, List, Optional
 
 from rdbg import client, commands
 from rdbg import source as sources
@@ -24,7 +24,16 @@ Tell = Callable[[str], None]
 
 
 class EditorShell(Shell):
-    """A shell whose words an editor's user types."""
+    """A shell whose words an editor's user types. `hear` is told what a room says besides."""
+
+    hear: Optional[Tell] = None
+
+    def _notice(self, notice: str) -> None:
+        """Tells what others do."""
+        if self.hear is None:
+            print(notice)
+        else:
+            self.hear(notice)
 
     def stopped(self, where: str) -> None:
         """Says that something was paused, and where the target is."""
@@ -136,7 +145,7 @@ def attach(given: Arguments, pause: Pause, hear: Tell) -> Shell:
     path = file_of(given)
     source = None if path is None else read(path)
     try:
-        session = connect(port, given.text("name", ""), hear)
+        session = connect(port, given.text("name", ""))
         greet(session)
         target = Target(session, source.application if source else None, None)
         try:
@@ -151,13 +160,12 @@ def attach(given: Arguments, pause: Pause, hear: Tell) -> Shell:
         raise Wrong(str(failure)) from None
     except Refused as refused:
         raise Wrong(f"the server lets nobody else in: no {refused}") from None
-    return EditorShell(target, source, pause)
+    shell = EditorShell(target, source, pause)
+    shell.hear = hear
+    return shell
 
 
-def connect(port: int, name: str, hear: Tell) -> Session:
+def connect(port: int, name: str) -> Session:
     """A session at a port, by a name where the server is a room."""
     attached: Callable[..., Session] = Session.attach
-    session = attached(port, name) if name else attached(port)
-    heard: Any = session
-    heard.on_notice = hear
-    return session
+    return attached(port, name) if name else attached(port)

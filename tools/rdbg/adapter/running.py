@@ -2,7 +2,7 @@
 import dataclasses
 from typing import Callable, List, Optional, Sequence
 
-from rdbg.adapter.stops import Begins, Stop, first_of
+from rdbg.adapter.stops import Begins, Stop, first_of, met_here
 from rdbg.shell.goals import is_stuck
 from rdbg.shell.interrupt import Interrupted
 from rdbg.shell.walk import Walk
@@ -33,7 +33,7 @@ class Runner:
 
     def _met(self) -> Outcome:
         """What is met here."""
-        return Outcome("met", [it for it in self._stops() if it.is_met(self.walk)])
+        return Outcome("met", met_here(self.walk, self._stops()))
 
     def begin(self, limit: int) -> Outcome:
         """From the start on: to the first place where a stop is met, the start among them."""
@@ -109,14 +109,14 @@ class Runner:
                 place = stop.next(self.walk, limit)
                 if place is not None:
                     found, limit = place, place - start - 1
-        self.walk.reach(start + limit)
+        self.walk.reach(start + limit if found is None else found)
         # (what stays so once it is so hasn't begun where it isn't so at the end)
         for stop in stops:
             if isinstance(stop, Begins) and stop.look(self.walk.target):
                 place = stop.began(self.walk, start)
                 if place is not None:
-                    found, limit = place, place - start - 1
-                    self.walk.reach(start + limit)
+                    found = place
+                    self.walk.reach(place)
         return found
 
     def backwards(self) -> Outcome:

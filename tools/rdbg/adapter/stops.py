@@ -43,16 +43,17 @@ class Stop:
         """The last place before this one where it is met."""
         raise NotImplementedError
 
+    def is_met_at_start(self, walk: Walk) -> bool:
+        """Whether it is met at the first place, to which no move leads."""
+        return False
+
+    def passes(self, walk: Walk) -> bool:
+        """Whether it is met here, where what it hangs on has met it."""
+        return True
+
     def is_met(self, walk: Walk) -> bool:
         """Whether the move to this place has met it. Stays where it is."""
-        place = walk.place
-        if place <= walk.target.base:
-            return False
-        after = self.look(walk.target)
-        walk.goto(place - 1)
-        before = self.look(walk.target)
-        walk.goto(place)
-        return self.is_met_by(before, after)
+        return bool(met_here(walk, [self]))
 
 
 class Becomes(Stop):
@@ -69,10 +70,8 @@ class Becomes(Stop):
     def is_met_by(self, before: bool, after: bool) -> bool:
         return after and not before
 
-    def is_met(self, walk: Walk) -> bool:
-        if walk.place == 0:
-            return self.is_at_start and self.look(walk.target)
-        return super().is_met(walk)
+    def is_met_at_start(self, walk: Walk) -> bool:
+        return self.is_at_start and walk.place == 0 and self.look(walk.target)
 
     def next(self, walk: Walk, limit: int) -> Optional[int]:
         return self._goal.next(walk, limit)
@@ -215,11 +214,17 @@ class Where(Stop):
         self._stop, self._condition = stop, condition
         self.text = f"{stop.text}, {condition.text}"
 
-    def _holds(self, walk: Walk) -> bool:
-        return self._condition.holds(replies.read(walk.target.tell(self._condition.view)))
+    def look(self, target: Target) -> Any:
+        return self._stop.look(target)
 
-    def is_met(self, walk: Walk) -> bool:
-        return self._holds(walk) and self._stop.is_met(walk)
+    def is_met_by(self, before: Any, after: Any) -> bool:
+        return self._stop.is_met_by(before, after)
+
+    def is_met_at_start(self, walk: Walk) -> bool:
+        return self._stop.is_met_at_start(walk) and self.passes(walk)
+
+    def passes(self, walk: Walk) -> bool:
+        return self._condition.holds(replies.read(walk.target.tell(self._condition.view)))
 
     def next(self, walk: Walk, limit: int) -> Optional[int]:
         end = walk.place + limit
@@ -228,7 +233,7 @@ class Where(Stop):
             if place is None:
                 return None
             walk.reach(place)
-            if self._holds(walk):
+            if self.passes(walk):
                 return place
             # (it isn't met before the condition holds again)
             if walk.until(self._condition.text, end - place) is None:
@@ -244,7 +249,7 @@ class Where(Stop):
             if place is None:
                 return None
             walk.goto(place)
-            if self._holds(walk):
+            if self.passes(walk):
                 return place
             if walk.back_until(self._condition.text) is None:
                 return None
@@ -276,8 +281,17 @@ class Counted(Stop):
         walk.goto(here)
         return found[::-1]
 
-    def is_met(self, walk: Walk) -> bool:
-        return self._stop.is_met(walk) and self._counts(len(self._places(walk, True)))
+    def look(self, target: Target) -> Any:
+        return self._stop.look(target)
+
+    def is_met_by(self, before: Any, after: Any) -> bool:
+        return self._stop.is_met_by(before, after)
+
+    def is_met_at_start(self, walk: Walk) -> bool:
+        return self._stop.is_met_at_start(walk) and self._counts(1)
+
+    def passes(self, walk: Walk) -> bool:
+        return self._stop.passes(walk) and self._counts(len(self._places(walk, True)))
 
     def next(self, walk: Walk, limit: int) -> Optional[int]:
         end, hits = walk.place + limit, len(self._places(walk, True))
@@ -297,6 +311,20 @@ class Counted(Stop):
             if self._counts(hits):
                 return places[hits - 1]
         return None
+
+
+def met_here(walk: Walk, stops: Sequence[Stop]) -> List[Stop]:
+    """Those of some stops that the move to this place has met. Stays where it is."""
+    place = walk.place
+    if place <= walk.target.base:
+        return [stop for stop in stops if stop.is_met_at_start(walk)]
+    after = [stop.look(walk.target) for stop in stops]
+    walk.goto(place - 1)
+    before = [stop.look(walk.target) for stop in stops]
+    walk.goto(place)
+    seen = zip(stops, before, after)
+    met = [stop for stop, was, now in seen if stop.is_met_by(was, now)]
+    return [stop for stop in met if stop.passes(walk)]
 
 
 def last_up_to(walk: Walk, stop: Stop, place: int) -> Optional[int]:
