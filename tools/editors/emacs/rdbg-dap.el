@@ -8,6 +8,13 @@
 (require 'dap-mode)
 (require 'dap-ui)
 
+;; (lsp-treemacs asks for it, and the treemacs of some versions, as Debian's, doesn't have it)
+(defvar treemacs-text-scale nil)
+
+;; (in a terminal dap-mode shows no breakpoints by itself)
+(face-spec-set 'dap-ui-verified-breakpoint-face '((((type tty)) :foreground "red")))
+(face-spec-set 'dap-ui-pending-breakpoint-face '((((type tty)) :foreground "red")))
+
 (defvar rdbg-program
   (let* ((here (file-name-directory (file-truename (or load-file-name buffer-file-name))))
          (checkout (expand-file-name "../../../rdbg" here))
@@ -93,6 +100,50 @@
   (let ((said (dap-request (dap--cur-active-session-or-die) "evaluate"
                            :expression line :context "repl")))
     (message "%s" (gethash "result" said))))
+
+(defun rdbg-variables ()
+  "Show the variables beside the file."
+  (interactive)
+  (save-selected-window (dap-ui-locals)))
+
+(defun rdbg-go ()
+  "Go on to the next breakpoint; where nothing is debugged, debug the file of this buffer."
+  (interactive)
+  (if (dap--session-running (dap--cur-session))
+      (call-interactively #'dap-continue)
+    (dap-ui-mode 1)
+    (dap-debug (list :type "rdbg" :request "launch" :name "rdbg" :unproved t))
+    (rdbg-variables)))
+
+(defvar rdbg-keys-mode-map
+  (let ((map (make-sparse-keymap)))
+    (define-key map (kbd "<f5>") #'rdbg-go)
+    (define-key map (kbd "<f6>") #'rdbg-reverse-continue)
+    (define-key map (kbd "<f7>") #'rdbg-step-back)
+    (define-key map (kbd "<f8>") #'dap-next)
+    (define-key map (kbd "<f9>") #'dap-breakpoint-toggle)
+    (define-key map (kbd "<f11>") #'rdbg-step-task)
+    (define-key map (kbd "<f12>") #'rdbg-tick)
+    (define-key map (kbd "C-c C-b") #'rdbg-break)
+    (define-key map (kbd "C-c C-l") #'rdbg-line)
+    (define-key map (kbd "C-c C-v") #'rdbg-variables)
+    (define-key map (kbd "C-c C-k") #'dap-disconnect)
+    map)
+  "The keys of `rdbg-keys-mode'.")
+
+;;;###autoload
+(define-minor-mode rdbg-keys-mode
+  "Keys of rdbg's debugger, in files of applications.
+
+\\{rdbg-keys-mode-map}"
+  :lighter " rdbg")
+
+(defun rdbg-maybe-keys ()
+  "Turn the keys on in a file that can be an application."
+  (when (and buffer-file-name (string-match-p "\\.\\(fw\\|json\\)\\'" buffer-file-name))
+    (rdbg-keys-mode 1)))
+
+(add-hook 'find-file-hook #'rdbg-maybe-keys)
 
 (provide 'rdbg-dap)
 ;;; rdbg-dap.el ends here

@@ -145,7 +145,7 @@ def attach(given: Arguments, pause: Pause, hear: Tell) -> Shell:
     path = file_of(given)
     source = None if path is None else read(path)
     try:
-        session = connect(port, given.text("name", ""))
+        session = connect(port, given.text("as", ""))
         greet(session)
         target = Target(session, source.application if source else None, None)
         try:

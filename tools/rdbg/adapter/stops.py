@@ -165,7 +165,7 @@ class Begins(Stop):
 
     def last(self, walk: Walk) -> Optional[int]:
         base = walk.target.base
-        if walk.place <= base:
+        if walk.place <= base or not self.look(walk.target):
             return None
         walk.goto(walk.place - 1)
         return self.began(walk, base) if self.look(walk.target) else None

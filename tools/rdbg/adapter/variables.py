@@ -246,7 +246,7 @@ LISTS: Dict[str, Callable[..., List[Variable]]] = {
     "object": within_object,
 }
 # What is shown of a task's frame: how it is called, and what stands in it.
-SCOPES = (("Registers", "registers"), ("Task", "task"), ("Objects", "objects"), ("Time", "time"))
+SCOPES = (("Task", "task"), ("Registers", "registers"), ("Objects", "objects"), ("Time", "time"))
 
 
 class References:
