@@ -120,6 +120,16 @@
   "Stop where NAME is so, too."
   (let ((inhibit-message t)) (rdbg-break name)))
 
+(defun drive-key (key &optional chosen)
+  "Press KEY, and where it asks for a task answer CHOSEN; wait for the stop, but not behind F9."
+  (cl-letf (((symbol-function 'completing-read)
+             (lambda (_prompt choices &rest _)
+               (car (seq-find (lambda (it) (string-prefix-p (concat chosen ":") (car it))) choices)))))
+    (let ((inhibit-message t))
+      (call-interactively (lookup-key rdbg-keys-mode-map (kbd key)))))
+  (unless (equal key "<f9>")
+    (drive-stopped)))
+
 (defun drive-line (line)
   "Tell rdbg LINE."
   (let ((inhibit-message t)) (rdbg-line line)))

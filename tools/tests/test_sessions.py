@@ -9,7 +9,7 @@ class Sessions(unittest.TestCase):
     """Each document whose sessions call `./rdbg` from a shell."""
 
     def test_documents(self) -> None:
-        names = ("COMPANIONS.md", "HUNTING.md", "LOST_WAKEUP.md")
+        names = ("COMPANIONS.md", "EDITORS.md", "HUNTING.md", "LOST_WAKEUP.md")
         for document in (TOP / "README.md", *(DOCS / name for name in names)):
             with self.subTest(document.name):
                 self.assertEqual(list(sessions.wrong(document)), [])
