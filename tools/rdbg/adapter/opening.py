@@ -131,11 +131,6 @@ def begin(words: List[str], file: Optional[Source], source: Source, limits: Limi
     return Target(session, source.application, limits)
 
 
-def again(given: Arguments, pause: Pause, tell: Tell) -> Shell:
-    """A new program on the file as it is now."""
-    return launch(given, pause, tell)
-
-
 def attach(given: Arguments, pause: Pause, hear: Tell) -> Shell:
     """One more session at a server or in a room, whose notices `hear` is told. Raises `Wrong` where
     nobody is let in, or where a file was given that isn't the application there."""
