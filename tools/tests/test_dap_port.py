@@ -165,7 +165,7 @@ class Pauses(Held):
         with editor() as client:
             client.begin(EXAMPLES / "turns.json", limit=1_000_000, moves=1_000_000)
             client.ask("continue", threadId=2)
-            client.ask("setFunctionBreakpoints", breakpoints=[{"name": "tick = 9000"}])
+            client.ask("setFunctionBreakpoints", breakpoints=[{"name": "tick = 2000"}])
             stop = client.event("stopped")
             self.assertEqual(stop["reason"], "function breakpoint")
 

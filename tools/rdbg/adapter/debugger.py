@@ -40,6 +40,9 @@ class Debugger:
         self.begins: Dict[str, Stop] = {name: Begins(name) for name in ("failed", "stuck")}
         self._shell: Optional[Shell] = None
         self.hearing: Optional[Hearing] = None
+        # Whether a run has the wheel, and what is told once it is given back.
+        self.is_held = False
+        self.waiting: List[Values] = []
         # What others have done, as long as the editor doesn't stand where that has led.
         self.others = ""
         # What is done once a request was answered.
@@ -78,6 +81,11 @@ class Debugger:
         """The name by which a room knows this session; none where it is at no room."""
         session: Any = self._shell.target.session if self._shell else None
         return getattr(session, "name", None)
+
+    def standing(self) -> None:
+        """Raises `Wrong` while the target runs, or before there is one."""
+        if self.shell and self.is_running:
+            raise Wrong("the target runs: Pause first")
 
     def take(self, shell: Shell) -> None:
         """Goes on with this shell and its file."""
@@ -249,7 +257,14 @@ class Debugger:
         body.update({"text": description, "allThreadsStopped": True, "preserveFocusHint": False})
         if hit:
             body["hitBreakpointIds"] = [it.number for it in hit]
-        self.send(event("stopped", body))
+        self.waiting.append(event("stopped", body))
+        if not self.is_held:
+            self.tell_waiting()
+
+    def tell_waiting(self) -> None:
+        """Tells that the target stands, once the wheel is given back."""
+        while self.waiting:
+            self.send(self.waiting.pop(0))
 
     def went(self) -> None:
         """Tells the editor that the target went on, so that it follows to where it stops."""

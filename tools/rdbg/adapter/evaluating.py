@@ -3,7 +3,7 @@ from typing import Callable, Dict, List, Optional
 
 from rdbg.adapter import moving
 from rdbg.adapter.debugger import Debugger
-from rdbg.adapter.looking import standing, value_of
+from rdbg.adapter.looking import value_of
 from rdbg.adapter.messages import Arguments, Values, Wrong
 from rdbg.adapter.printing import gathered, text_of
 from rdbg.replies import Refused
@@ -28,7 +28,7 @@ def evaluate(it: Debugger, given: Arguments) -> Optional[Values]:
     """`evaluate`."""
     if given.text("context", "repl") in LOOKS:
         return value_of(it, given)
-    standing(it)
+    it.standing()
     lines = [line for line in given.text("expression").splitlines() if line.strip()]
     if len(lines) > MOST_LINES:
         raise Wrong(f"{len(lines)} lines at once; {MOST_LINES} are done")

@@ -27,15 +27,9 @@ def threads(it: Debugger, given: Arguments) -> Optional[Values]:
     return {"threads": it.threads.values(look)}
 
 
-def standing(it: Debugger) -> None:
-    """Raises `Wrong` while the target runs."""
-    if it.is_running:
-        raise Wrong("the target runs: Pause first")
-
-
 def stack(it: Debugger, given: Arguments) -> Optional[Values]:
     """`stackTrace`: the instruction that a task stands at."""
-    standing(it)
+    it.standing()
     number = given.number("threadId")
     name = it.threads.task(number)
     look = it.look()
@@ -49,7 +43,7 @@ def stack(it: Debugger, given: Arguments) -> Optional[Values]:
 
 def scopes(it: Debugger, given: Arguments) -> Optional[Values]:
     """`scopes` of a frame, which has the number of its thread."""
-    standing(it)
+    it.standing()
     task = it.threads.task(given.number("frameId"))
     return {"scopes": it.references.scopes(task, it.look())}
 
@@ -61,7 +55,7 @@ def is_hex(given: Arguments) -> bool:
 
 def variables(it: Debugger, given: Arguments) -> Optional[Values]:
     """`variables`: what stands in something, or a part of it."""
-    standing(it)
+    it.standing()
     shown = it.shown(is_hex(given))
     found = within(shown, it.references.path(given.number("variablesReference")))
     only = given.text("filter", "")
@@ -74,7 +68,7 @@ def variables(it: Debugger, given: Arguments) -> Optional[Values]:
 
 def put(it: Debugger, variable: Variable, value: str) -> None:
     """Sets a variable, by an edit. Raises `Wrong` where there is none."""
-    standing(it)
+    it.standing()
     if variable.put is None:
         raise Wrong(f"{variable.name} can't be set: there is no edit for it")
     it.edit(variable.put(value))
@@ -109,7 +103,7 @@ def expressed(shown: Shown, task: Optional[str], text: str) -> Variable:
 
 def value_of(it: Debugger, given: Arguments) -> Values:
     """What an expression says, that changes nothing."""
-    standing(it)
+    it.standing()
     text = given.text("expression").strip()
     said = names.holds(it.shell, text) or names.view(it.shell, text)
     if said is not None:
@@ -137,7 +131,7 @@ def sources(it: Debugger, given: Arguments) -> Optional[Values]:
 
 def exception(it: Debugger, given: Arguments) -> Optional[Values]:
     """`exceptionInfo`: why a task has failed, or what nothing goes on for."""
-    standing(it)
+    it.standing()
     name = it.threads.task(given.number("threadId", TIME))
     task = it.look().tasks.get(name) if name else None
     if task and task.phase.word == "failed":
@@ -151,7 +145,7 @@ def exception(it: Debugger, given: Arguments) -> Optional[Values]:
 
 def completions(it: Debugger, given: Arguments) -> Optional[Values]:
     """`completions` of a line that is typed."""
-    standing(it)
+    it.standing()
     lines = given.text("text").split("\n")
     at = given.number("line", it.text.first_line) - it.text.first_line
     text = lines[at] if 0 <= at < len(lines) else lines[-1]

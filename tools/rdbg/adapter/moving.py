@@ -1,5 +1,6 @@
 """Requests that move the target: both ways, a move or to where something is met."""
 import contextlib
+import dataclasses
 from typing import Callable, Dict, List, Optional
 
 from rdbg import replies
@@ -17,12 +18,18 @@ from rdbg.shell.steps import why_on_none
 from rdbg.shell.target import Unable
 
 Request = Callable[[Debugger, Arguments], Optional[Values]]
-Run = Callable[[Runner], Outcome]
 
 
-def begin_run(
-    it: Debugger, run: Run, stops: Callable[[], List[Stop]], thread: Optional[int] = None
-) -> None:
+@dataclasses.dataclass(frozen=True)
+class Going:
+    """A run: how it goes, at what it stops, and in which thread where nothing is met."""
+
+    run: Callable[[Runner], Outcome]
+    stops: Callable[[], List[Stop]]
+    thread: Optional[int] = None
+
+
+def begin_run(it: Debugger, going: Going) -> None:
     """Takes the wheel, and lets the target run once the request was answered."""
     held = contextlib.ExitStack()
     try:
@@ -31,46 +38,50 @@ def begin_run(
         raise it.wrong("wheel take", refused) from None
     it.pause.forget()
     it.is_running, it.failure = True, ""
-    it.later.append(lambda: end_run(it, held, run, stops, thread))
+    it.later.append(lambda: end_run(it, held, going))
 
 
-def end_run(
-    it: Debugger,
-    held: contextlib.ExitStack,
-    run: Run,
-    stops: Callable[[], List[Stop]],
-    thread: Optional[int],
-) -> None:
-    """Runs, and tells where it has ended."""
+def end_run(it: Debugger, held: contextlib.ExitStack, going: Going) -> None:
+    """Runs, gives the wheel back, and tells where that has ended."""
+    it.is_held = True
+    try:
+        with held:
+            run_held(it, going)
+    finally:
+        it.is_held = False
+        it.tell_waiting()
+
+
+def run_held(it: Debugger, going: Going) -> None:
+    """Runs, while nobody else may move the target."""
     start = it.shell.target.place
-    with held:
-        try:
-            outcome = run(it.runner(stops))
-            it.serve()
-            it.is_running = False
-            it.pause.forget()
-            it.tell_outcome(outcome, start)
-        except (Unable, Refused, Wrong) as wrong:
-            it.is_running = False
-            it.shell.walk.reach(start)
-            it.changed()
-            it.say(str(wrong), category="stderr")
-            it.stopped("pause", f"at {it.shell.target.place}: {wrong}", thread or it.focus)
-        finally:
-            it.is_running = False
+    try:
+        outcome = going.run(it.runner(going.stops))
+        it.serve()
+        it.is_running = False
+        it.pause.forget()
+        it.tell_outcome(outcome, start)
+    except (Unable, Refused, Wrong) as wrong:
+        it.is_running = False
+        it.shell.walk.reach(start)
+        it.changed()
+        it.say(str(wrong), category="stderr")
+        it.stopped("pause", f"at {it.shell.target.place}: {wrong}", going.thread or it.focus)
+    finally:
+        it.is_running = False
 
 
 def go_on(it: Debugger, given: Arguments) -> Optional[Values]:
     """`continue`."""
     it.threads.task(given.number("threadId", TIME))
-    begin_run(it, lambda runner: runner.forwards(it.limit), it.stops)
+    begin_run(it, Going(lambda runner: runner.forwards(it.limit), it.stops))
     return {"allThreadsContinued": True}
 
 
 def go_back(it: Debugger, given: Arguments) -> Optional[Values]:
     """`reverseContinue`."""
     it.threads.task(given.number("threadId", TIME))
-    begin_run(it, lambda runner: runner.backwards(), it.stops)
+    begin_run(it, Going(lambda runner: runner.backwards(), it.stops))
     return None
 
 
@@ -121,7 +132,8 @@ def step_out(it: Debugger, given: Arguments) -> Optional[Values]:
         raise Wrong(f"{task} has {now.phase.word}")
     done = Amount(f"pc {task}")
     done.text = f"{task} goes on"
-    begin_run(it, lambda runner: runner.forwards(it.limit), lambda: [*it.stops(), done], thread)
+    stops = lambda: [*it.stops(), done]
+    begin_run(it, Going(lambda runner: runner.forwards(it.limit), stops, thread))
     return None
 
 

@@ -127,6 +127,8 @@ class Server:
         try:
             if request.command not in REQUESTS:
                 raise Wrong(f"rdbg answers no request '{request.command[:100]}'")
+            if request.command in MOVING:
+                it.standing()
             body = REQUESTS[request.command](it, request.arguments)
             self._sender.send(done(request, body))
             return

@@ -78,7 +78,7 @@ def attach(it: Debugger, given: Arguments) -> Optional[Values]:
 
 def configured(it: Debugger, given: Arguments) -> Optional[Values]:
     """`configurationDone`: the target stands at the start, or runs."""
-    from rdbg.adapter.moving import begin_run
+    from rdbg.adapter.moving import Going, begin_run
 
     place = it.shell.target.places().done
     it.is_configured = True
@@ -89,7 +89,7 @@ def configured(it: Debugger, given: Arguments) -> Optional[Values]:
     elif it.given.flag("stopOnEntry", True):
         it.later.append(lambda: it.stopped("entry", "at 0: the start", it.focus))
     else:
-        begin_run(it, lambda runner: runner.begin(it.limit), it.stops)
+        begin_run(it, Going(lambda runner: runner.begin(it.limit), it.stops))
     return None
 
 
