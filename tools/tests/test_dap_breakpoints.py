@@ -50,7 +50,7 @@ class Lines(Held):
 
     def test_where_they_are(self) -> None:
         with editor() as client:
-            client.begin(self.file)
+            client.begin(self.file, limit=200)
             found = client.lines(self.file, 1, 7, 11, 14, 99)
             self.assertEqual([it.get("line") for it in found], [7, 7, 13, 14, None])
             self.assertEqual(found[3]["message"], "taker 1 add r2 1")
@@ -61,7 +61,7 @@ class Lines(Held):
 
     def test_lines_as_old_editors_send_them(self) -> None:
         with editor() as client:
-            client.begin(self.file)
+            client.begin(self.file, limit=200)
             asked = {"source": {"path": str(self.file)}, "lines": [14]}
             self.assertEqual(client.ask("setBreakpoints", asked)["breakpoints"][0]["line"], 14)
 
@@ -88,7 +88,7 @@ class Lines(Held):
 
     def test_both_ways_and_by_conditions(self) -> None:
         with editor() as client:
-            client.begin(self.file)
+            client.begin(self.file, limit=200)
             client.lines(self.file, 14)
             ahead = self.stops(client, "continue", 4)
             self.assertEqual([it.split(": ")[1] for it in ahead], ["taker comes to 1"] * 4)
@@ -107,7 +107,7 @@ class Lines(Held):
 
     def test_what_can_not_be_met(self) -> None:
         with editor() as client:
-            client.begin(self.file)
+            client.begin(self.file, limit=200)
             for more, why in (
                 ({"condition": "count job > 0"}, "near it is `jobs`"),
                 ({"condition": "jobs>0"}, ""),

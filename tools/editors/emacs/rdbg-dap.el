@@ -139,8 +139,13 @@
   :lighter " rdbg")
 
 (defun rdbg-maybe-keys ()
-  "Turn the keys on in a file that can be an application."
-  (when (and buffer-file-name (string-match-p "\\.\\(fw\\|json\\)\\'" buffer-file-name))
+  "Turn the keys on in a file that can be an application: .fw, or JSON that has tasks."
+  (when (and buffer-file-name
+             (or (string-suffix-p ".fw" buffer-file-name)
+                 (and (string-suffix-p ".json" buffer-file-name)
+                      (save-excursion
+                        (goto-char (point-min))
+                        (search-forward "\"tasks\"" nil t)))))
     (rdbg-keys-mode 1)))
 
 (add-hook 'find-file-hook #'rdbg-maybe-keys)

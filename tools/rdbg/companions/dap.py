@@ -30,6 +30,8 @@ def main(words: Sequence[str]) -> int:
     if number is not None:
         listen(number)
         return 0
+    if sys.stdin.isatty():
+        print("rdbg dap: an editor starts this (docs/EDITORS.md); Ctrl-D ends it", file=sys.stderr)
     # (streams of their own: nothing that is printed comes between, and none is waited for at the end)
     lines = os.fdopen(os.dup(sys.stdin.fileno()), "rb")
     answers = os.fdopen(os.dup(sys.stdout.fileno()), "wb")
