@@ -134,6 +134,11 @@
   "Tell rdbg LINE."
   (let ((inhibit-message t)) (rdbg-line line)))
 
+(defun drive-restart ()
+  "Begin again."
+  (let ((inhibit-message t)) (dap-debug-restart))
+  (drive-stopped))
+
 (defun drive-variables (reference)
   "The variables that stand in REFERENCE."
   (gethash "variables" (dap-request (drive-session) "variables" :variablesReference reference)))

@@ -111,6 +111,7 @@ class Sessions(Emacs):
 (drive-refused (drive-step))
 (drive-thread "worker")
 (drive-out)
+(drive-restart)
 """,
             "lost_item.json",
             "entry | at 0: the start",
@@ -124,6 +125,7 @@ class Sessions(Emacs):
             "pause | still at 12",
             "refused: producer is on no core: it has ended",
             "breakpoint | at 16: poller comes to 0, count jobs = 0",
+            "entry | at 0: the start",
         )
 
 

@@ -29,8 +29,9 @@ HITS: Dict[str, Callable[[int], bool]] = {
 }
 
 
+AMOUNTS = {"queue": "count", "stream": "bytes", "message": "msgs", "group": "bits"}
 NAMES = ("lost_item", "barrier", "stale")
-SEEDS = 2
+SEEDS = 1
 
 
 def applications() -> Iterator[Tuple[str, str]]:
@@ -117,7 +118,8 @@ class Known:
         look, chance = self.looks[0], self.chance
         task = chance.choice(list(look.tasks))
         watched = [f"reg {task} 0", f"pc {task}", f"phase {task}"]
-        watched += [f"count {name}" for kind, name in look.objects if kind == "queue"]
+        watched += [f"note {task} 0", "tick"]
+        watched += [f"{AMOUNTS[kind]} {name}" for kind, name in look.objects if kind in AMOUNTS]
         stops: List[Stop] = [
             Becomes(self.condition(), is_at_start=True),
             Becomes(self.condition()),
