@@ -139,6 +139,15 @@ class Lines(Held):
             self.assertEqual(stop["description"], "at 50: 50 moves, and nothing was met")
             self.assertIn(".. 45 moves before these", client.output())
 
+    def test_the_end(self) -> None:
+        with editor() as client:
+            client.begin(self.file, moves=20)
+            for _ in range(2):
+                stop = client.stopped("continue", threadId=2)
+                said = "at 20: there is no further move: MovesFull"
+                self.assertEqual(stop["description"], said)
+            self.assertIn("rdbg says no MovesFull", client.refused("next", threadId=1))
+
 
 class Names(Held):
     """Breakpoints by name, on variables, and at failures."""
@@ -334,6 +343,7 @@ class Places(Held):
             client.ask("restart", arguments={})
             changed = client.event("breakpoint")
             self.assertEqual((changed["reason"], changed["breakpoint"]["line"]), ("changed", 14))
+            self.assertEqual(changed["breakpoint"]["id"], 1)
             self.assertEqual(client.event("stopped")["description"], "at 0: the start")
             self.assertIn(
                 "w0 holds", client.typed("info watches").replace("     ", " ") + "w0 holds"

@@ -1,6 +1,5 @@
 """What an editor's user sets to be stopped at: lines, names and conditions, variables, failures."""
 import dataclasses
-import functools
 import re
 from typing import Callable, Dict, List, Optional, Sequence, Tuple
 
@@ -32,6 +31,8 @@ HITS: Dict[str, Callable[[int, int], bool]] = {
     "%": lambda hits, number: hits % number == 0,
 }
 HIT = re.compile(r"\s*(==?|>=?|<=?|%)?\s*([0-9]{1,7})\s*")
+# The kinds of breakpoints, as a stop at one is called.
+LINE, NAME, DATA = "breakpoint", "function breakpoint", "data breakpoint"
 # So many breakpoints of a kind are looked at.
 MOST = 256
 
@@ -140,29 +141,38 @@ class Breakpoints:
         self._count = 0
         self._of: Dict[str, List[Breakpoint]] = {}
         # What was asked for last, to be looked at anew where the file is another.
-        self._lines: List[Arguments] = []
+        self._asked: Dict[str, Sequence[Arguments]] = {}
         self.failures = [name for name, (_, is_on) in FAILURES.items() if is_on]
 
     def all(self) -> List[Breakpoint]:
         """Those that can be met."""
         return [it for group in self._of.values() for it in group if it.stops]
 
-    def _new(self, reason: str, make: Callable[[int], Breakpoint]) -> Breakpoint:
-        """A breakpoint, or one that says why it can't be met."""
-        self._count += 1
-        try:
-            return make(self._count)
-        except Wrong as wrong:
-            value = {"id": self._count, "verified": False, "message": str(wrong)}
-            return Breakpoint(self._count, reason, (), value)
-
-    def _put(
-        self, kind: str, given: Sequence[Arguments], make: Callable[[Arguments, int], Breakpoint]
-    ) -> List[Values]:
+    def put(self, kind: str, shell: Shell, text: Text, asked: Sequence[Arguments]) -> List[Values]:
         """Sets all of a kind."""
-        if len(given) > MOST:
-            raise Wrong(f"there are {len(given)} breakpoints; {MOST} are looked at")
-        found = [self._new(kind, functools.partial(make, it)) for it in given]
+        if len(asked) > MOST:
+            raise Wrong(f"there are {len(asked)} breakpoints; {MOST} are looked at")
+        numbers = range(self._count + 1, self._count + 1 + len(asked))
+        self._count += len(asked)
+        self._asked[kind] = asked
+        return self._made(kind, shell, text, numbers)
+
+    def again(self, shell: Shell, text: Text) -> List[Values]:
+        """All of them, each with its number, for a target and a text that are others now."""
+        found: List[Values] = []
+        for kind in self._asked:
+            numbers = [it.number for it in self._of[kind]]
+            found += self._made(kind, shell, text, numbers)
+        return found
+
+    def _made(self, kind: str, shell: Shell, text: Text, numbers: Sequence[int]) -> List[Values]:
+        found: List[Breakpoint] = []
+        for asked, number in zip(self._asked[kind], numbers):
+            try:
+                found.append(MAKERS[kind](shell, text, asked, number))
+            except Wrong as wrong:
+                value = {"id": number, "verified": False, "message": str(wrong)}
+                found.append(Breakpoint(number, kind, (), value))
         self._of[kind] = found
         return [it.value for it in found]
 
@@ -174,26 +184,9 @@ class Breakpoints:
         if not given.has("breakpoints"):
             asked = [Arguments({"line": it}, "setBreakpoints.lines") for it in given.all("lines")]
         if text.is_named(source):
-            self._lines = asked
-            return self.lines_again(shell, text)
+            return self.put(LINE, shell, text, asked)
         found = "no file is known here" if text.source is None else f"it isn't {text.source.path}"
         return [{"verified": False, "message": found} for _ in asked]
-
-    def lines_again(self, shell: Shell, text: Text) -> List[Values]:
-        """The breakpoints at lines, which are found in the text as it is."""
-        return self._put(
-            "breakpoint", self._lines, lambda it, number: at_line(shell, text, it, number)
-        )
-
-    def put_names(self, shell: Shell, text: Text, given: Sequence[Arguments]) -> List[Values]:
-        """Sets the breakpoints by name."""
-        return self._put(
-            "function breakpoint", given, lambda it, number: by_name(shell, text, it, number)
-        )
-
-    def put_data(self, shell: Shell, given: Sequence[Arguments]) -> List[Values]:
-        """Sets the breakpoints on variables."""
-        return self._put("data breakpoint", given, lambda it, number: on_data(shell, it, number))
 
 
 def at_line(shell: Shell, text: Text, given: Arguments, number: int) -> Breakpoint:
@@ -206,7 +199,7 @@ def at_line(shell: Shell, text: Text, given: Arguments, number: int) -> Breakpoi
     source = text.value()
     if source is not None:
         value["source"] = source
-    return Breakpoint(number, "breakpoint", (stop,), value, spot.task)
+    return Breakpoint(number, LINE, (stop,), value, spot.task)
 
 
 def by_name(shell: Shell, text: Text, given: Arguments, number: int) -> Breakpoint:
@@ -214,10 +207,10 @@ def by_name(shell: Shell, text: Text, given: Arguments, number: int) -> Breakpoi
     stops = [limited(shell, it, given) for it in named(shell, text, given.text("name"))]
     texts = "; ".join(it.text for it in stops)
     value: Values = {"id": number, "verified": True, "message": texts[:1_000]}
-    return Breakpoint(number, "function breakpoint", tuple(stops), value)
+    return Breakpoint(number, NAME, tuple(stops), value)
 
 
-def on_data(shell: Shell, given: Arguments, number: int) -> Breakpoint:
+def on_data(shell: Shell, text: Text, given: Arguments, number: int) -> Breakpoint:
     """A breakpoint on a variable, by what `dataBreakpointInfo` has said."""
     if given.text("accessType", "write") != "write":
         raise Wrong("a variable is watched as it changes; reads aren't known")
@@ -226,10 +219,17 @@ def on_data(shell: Shell, given: Arguments, number: int) -> Breakpoint:
     if words[:1] == ["changes"] and len(words) == 3:
         stop: Stop = goal_of(shell, words)
     else:
-        text = f"{watched} run" if words[:1] == ["phase"] else f"{watched} = 0"
-        condition_of(shell, text)  # (what it names is there)
+        condition = f"{watched} run" if words[:1] == ["phase"] else f"{watched} = 0"
+        condition_of(shell, condition)  # (what it names is there)
         stop = Amount(watched)
     stop = limited(shell, stop, given)
-    return Breakpoint(
-        number, "data breakpoint", (stop,), {"id": number, "verified": True, "message": stop.text}
-    )
+    value: Values = {"id": number, "verified": True, "message": stop.text}
+    return Breakpoint(number, DATA, (stop,), value)
+
+
+# What makes a breakpoint of each kind.
+MAKERS: Dict[str, Callable[[Shell, Text, Arguments, int], Breakpoint]] = {
+    LINE: at_line,
+    NAME: by_name,
+    DATA: on_data,
+}

@@ -1,7 +1,7 @@
 """Requests that set breakpoints, and say where there can be some."""
 from typing import Callable, Dict, List, Optional
 
-from rdbg.adapter.breakpoints import FAILURES
+from rdbg.adapter.breakpoints import DATA, FAILURES, NAME
 from rdbg.adapter.debugger import Debugger
 from rdbg.adapter.messages import Arguments, Values, Wrong
 from rdbg.adapter.names import found
@@ -18,12 +18,12 @@ def in_source(it: Debugger, given: Arguments) -> Optional[Values]:
 
 def by_name(it: Debugger, given: Arguments) -> Optional[Values]:
     """`setFunctionBreakpoints`: a condition, a goal, an instruction or what FreeRTOS calls one."""
-    return {"breakpoints": it.breakpoints.put_names(it.shell, it.text, given.parts("breakpoints"))}
+    return {"breakpoints": it.breakpoints.put(NAME, it.shell, it.text, given.parts("breakpoints"))}
 
 
 def on_data(it: Debugger, given: Arguments) -> Optional[Values]:
     """`setDataBreakpoints`."""
-    return {"breakpoints": it.breakpoints.put_data(it.shell, given.parts("breakpoints"))}
+    return {"breakpoints": it.breakpoints.put(DATA, it.shell, it.text, given.parts("breakpoints"))}
 
 
 def on_failures(it: Debugger, given: Arguments) -> Optional[Values]:

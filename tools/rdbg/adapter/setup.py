@@ -120,7 +120,7 @@ def restart(it: Debugger, given: Arguments) -> Optional[Values]:
 
 def restarted(it: Debugger, where: str = "at 0: the start") -> None:
     """Says what has become of the breakpoints in the file as it is now, and stops."""
-    for value in it.breakpoints.lines_again(it.shell, it.text):
+    for value in it.breakpoints.again(it.shell, it.text):
         it.send(event("breakpoint", {"reason": "changed", "breakpoint": value}))
     it.went()
     it.stopped("entry", where, it.focus)

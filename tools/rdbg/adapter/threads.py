@@ -37,11 +37,15 @@ class Threads:
 
     def values(self, look: Optional[Look]) -> List[Values]:
         """All of them, each with what it does where that is known."""
-        texts = [f"{TIME_NAME}: tick {look.cores.tick}" if look else TIME_NAME]
-        for name in self.names:
-            it = look.tasks.get(name) if look else None
-            texts.append(f"{name}: {state(it)}" if it else name)
-        return [{"id": TIME + at, "name": text} for at, text in enumerate(texts)]
+        time = f"{TIME_NAME}: tick {look.cores.tick}" if look else TIME_NAME
+        found: List[Values] = [{"id": TIME, "name": time}]
+        for number, name in enumerate(self.names, TIME + 1):
+            if look is None:
+                found.append({"id": number, "name": name})
+            elif name in look.tasks:
+                text = f"{name}: {state(look.tasks[name])}"
+                found.append({"id": number, "name": text})
+        return found
 
 
 def state(task: replies.Task) -> str:

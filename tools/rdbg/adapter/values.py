@@ -1,6 +1,6 @@
 """Values as an editor shows them and as its user types them."""
 import re
-from typing import Optional
+from typing import Sequence
 
 from rdbg import commands
 from rdbg.adapter.messages import Wrong
@@ -48,8 +48,6 @@ def bytes_shown(value: bytes) -> str:
     return f'{value.hex()} ("{value.decode("ascii")}")' if is_text else value.hex()
 
 
-def names(waiting: "Optional[object]") -> str:
+def names(waiting: Sequence[str]) -> str:
     """Who waits, the first to be served first."""
-    if isinstance(waiting, (tuple, list)):
-        return ", ".join(map(str, waiting)) or "-"
-    return "-" if waiting is None else str(waiting)
+    return ", ".join(waiting) or "-"

@@ -175,8 +175,8 @@ def within_stream(it: replies.Stream) -> List[Variable]:
         Variable("bytes", str(it.held), watched=f"bytes {it.name}", expression=f"{it.name}.bytes"),
         Variable("size", str(it.size)),
         Variable("trigger", str(it.trigger)),
-        Variable("waits to read", values.names(it.reader)),
-        Variable("waits to write", values.names(it.writer)),
+        Variable("waits to read", it.reader or "-"),
+        Variable("waits to write", it.writer or "-"),
     ]
     return found + [
         Variable(
@@ -200,8 +200,8 @@ def within_messages(it: replies.Messages) -> List[Variable]:
         ),
         Variable("held", str(it.held)),
         Variable("size", str(it.size)),
-        Variable("waits to read", values.names(it.reader)),
-        Variable("waits to write", values.names(it.writer)),
+        Variable("waits to read", it.reader or "-"),
+        Variable("waits to write", it.writer or "-"),
     ]
     messages = enumerate(it.messages)
     return found + [
