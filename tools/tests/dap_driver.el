@@ -131,8 +131,8 @@
     (drive-stopped)))
 
 (defun drive-line (line)
-  "Tell rdbg LINE."
-  (let ((inhibit-message t)) (rdbg-line line)))
+  "Tell rdbg LINE, and print what it says."
+  (drive-say "%s" (let ((inhibit-message t)) (rdbg-line line))))
 
 (defun drive-restart ()
   "Begin again."

@@ -9,7 +9,9 @@ import tempfile
 import unittest
 from typing import List
 
+from rdbg.client import Session
 from tests.paths import EXAMPLES
+from tests.test_shell_port import server
 
 DRIVER = pathlib.Path(__file__).with_name("dap_driver.el")
 
@@ -127,6 +129,29 @@ class Sessions(Emacs):
             "breakpoint | at 16: poller comes to 0, count jobs = 0",
             "entry | at 0: the start",
         )
+
+
+class Attached(Emacs):
+    """dap-mode beside another session."""
+
+    def test_a_wheel_that_another_has_is_told(self) -> None:
+        with server() as (port, _), Session.attach(port) as other:
+            other.tell("wheel take")
+            self.told(
+                f"""
+(drive-attach {port})
+(drive-refused (drive-step))
+(drive-line "show wheel")
+(drive-line "show moves")
+""",
+                "lost_item.json",
+                "entry | attached at 0",
+                "pause | still at 0",
+                "refused: rdbg says no Held 1: session 1 has the wheel: views go on, moves once it"
+                " gives it",
+                "wheel 1",
+                "moves 0 undone 0 kept 0",
+            )
 
 
 class Hunts(Emacs):
