@@ -2,12 +2,13 @@
 
 The hunts of docs/LOST_ITEM.md and docs/HUNTING.md are gone through in an editor's words.
 """
+import dataclasses
 import os
 import pathlib
 import subprocess
 import tempfile
 import unittest
-from typing import List
+from typing import List, Sequence, Tuple
 
 from rdbg.client import Session
 from tests.paths import EXAMPLES
@@ -16,8 +17,20 @@ from tests.test_shell_port import server
 DRIVER = pathlib.Path(__file__).with_name("dap_driver.el")
 
 
-# The hunt of docs/LOST_ITEM.md, and its mend by an edit.
-LOST_ITEM = """
+@dataclasses.dataclass(frozen=True)
+class Hunt:
+    """A fault of a page: its example, a session that comes to it, and what that tells."""
+
+    example: str
+    text: str
+    tells: Sequence[str]
+
+
+# Those of docs/LOST_ITEM.md, with its mend by an edit, and of docs/HUNTING.md.
+HUNTS = (
+    Hunt(
+        "lost_item",
+        """
 (drive-launch)
 (drive-stop-where "changes jobs")
 (drive-continue)
@@ -39,36 +52,165 @@ LOST_ITEM = """
 (drive-step "poller")
 (drive-step "worker")
 (drive-show "Registers" "r0")
-"""
-# What comes of it.
-LOST_ITEM_TELLS = (
-    "entry | at 0: the start",
-    "function breakpoint | at 5: changes jobs",
-    "queue jobs = 1/1 41",
-    "step | at 6: producer 2 end, left core 1 (ended), poller took core 1",
-    "step | at 7: poller 1 jump 0",
-    "step | at 8: poller 0 recv jobs 0 -> 1, data 41, jobs 0/1",
-    "step | at 9: worker 0 recv jobs max, left core 0 (waits without end)",
-    "phase = waits at recv:jobs without end",
-    "function breakpoint | at 8: changes jobs",
-    "step | at 7, before: poller 0 recv jobs 0 -> 1, data 41, jobs 0/1",
-    "queue jobs = 1/1 41",
-    "step | at 8: worker 0 recv jobs max -> 1, data 41, jobs 0/1",
-    "r0 = 1",
-    'data = 41 ("A")',
-    "step | at 7, before: worker 0 recv jobs max -> 1, data 41, jobs 0/1",
-    "step | at 9: poller 1 jump 0",
-    "step | at 10: worker 0 recv jobs max -> 1, data 41, jobs 0/1",
-    "r0 = 1",
+""",
+        (
+            "entry | at 0: the start",
+            "function breakpoint | at 5: changes jobs",
+            "queue jobs = 1/1 41",
+            "step | at 6: producer 2 end, left core 1 (ended), poller took core 1",
+            "step | at 7: poller 1 jump 0",
+            "step | at 8: poller 0 recv jobs 0 -> 1, data 41, jobs 0/1",
+            "step | at 9: worker 0 recv jobs max, left core 0 (waits without end)",
+            "phase = waits at recv:jobs without end",
+            "function breakpoint | at 8: changes jobs",
+            "step | at 7, before: poller 0 recv jobs 0 -> 1, data 41, jobs 0/1",
+            "queue jobs = 1/1 41",
+            "step | at 8: worker 0 recv jobs max -> 1, data 41, jobs 0/1",
+            "r0 = 1",
+            'data = 41 ("A")',
+            "step | at 7, before: worker 0 recv jobs max -> 1, data 41, jobs 0/1",
+            "step | at 9: poller 1 jump 0",
+            "step | at 10: worker 0 recv jobs max -> 1, data 41, jobs 0/1",
+            "r0 = 1",
+        ),
+    ),
+    Hunt(
+        "meeting",
+        """
+(drive-launch)
+(drive-step "left")
+(drive-step "right")
+(drive-step "left")
+(drive-step "left")
+(drive-continue)
+(drive-stop-where "changes there")
+(drive-reverse)
+(drive-reverse)
+(drive-show "Objects" "group there")
+(drive-back)
+(drive-show "Objects" "group there")
+(drive-step "right")
+(drive-show "Registers" "r0")
+""",
+        (
+            "entry | at 0: the start",
+            "step | at 1: left 0 gset there 1 -> 1, there bits 1",
+            "step | at 2: right 0 gset there 2 -> 3, there bits 3",
+            "step | at 3: left 1 gwait there 3 all keep max -> 3",
+            "step | at 4: left 2 gclear there 3 -> 3, there bits 0",
+            "exception | at 11: nothing goes on: left waits at group:there without end; right waits at group:there without end",
+            "function breakpoint | at 9: changes there",
+            "function breakpoint | at 4: changes there",
+            "group there = 0x000000",
+            "step | at 3, before: left 2 gclear there 3 -> 3, there bits 0",
+            "group there = 0x000003",
+            "step | at 4: right 1 gwait there 3 all keep max -> 3",
+            "r0 = 3",
+        ),
+    ),
+    Hunt(
+        "frames",
+        """
+(drive-launch)
+(drive-step "host")
+(drive-step "host")
+(drive-continue)
+(drive-show "Objects" "stream rx")
+(drive-stop-where "changes rx")
+(drive-reverse)
+(drive-reverse)
+(drive-thread "parser")
+(drive-show "Registers" "r0")
+(drive-show "Task" "data")
+""",
+        (
+            "entry | at 0: the start",
+            "step | at 1: host 0 data 4142",
+            "step | at 2: host 1 swrite rx 0 -> 2, rx 2/8 bytes",
+            "exception | at 26: nothing goes on: parser waits at sread:rx without end; host waits at recv:acks without end",
+            "stream rx = 2/8 bytes 4344, waits: read: parser",
+            "function breakpoint | at 24: changes rx",
+            "function breakpoint | at 4: changes rx",
+            "r0 = 2",
+            'data = 4142 ("AB")',
+        ),
+    ),
+    Hunt(
+        "stale",
+        """
+(drive-launch)
+(drive-step "uart")
+(drive-step)
+(drive-step)
+(drive-step)
+(drive-continue)
+(drive-show "Objects" "set inputs")
+(drive-stop-where "qreset")
+(drive-stop-where "sleeps server")
+(drive-reverse)
+(drive-reverse)
+(drive-show "Objects" "queue rx")
+(drive-reverse)
+""",
+        (
+            "entry | at 0: the start",
+            "step | at 1: uart 0 data 41",
+            "step | at 2: uart 1 send rx 0 -> 1, rx 1/1, inputs 1/1 handles",
+            "step | at 3: uart 2 set r1 1, r1 = 1",
+            "step | at 4: uart 3 jumpz r1 0, goes on at 4",
+            "exception | at 26: uart failed: SetFull",
+            "set inputs = 1/1 handles rx",
+            "function breakpoint | at 18: uart comes to 4",
+            "function breakpoint | at 9: sleeps server",
+            "queue rx = 0/1 -, waits: receive: server",
+            "function breakpoint | at 4: uart comes to 4",
+        ),
+    ),
+    Hunt(
+        "early_count",
+        """
+(drive-launch)
+(drive-stop-where "worker 1")
+(drive-continue)
+(drive-step)
+(drive-continue)
+(drive-show "Objects" "queue items")
+(drive-stop-where "changes items")
+(drive-reverse)
+(drive-reverse)
+(drive-step "sender")
+(drive-step "worker")
+(drive-show "Registers" "r0")
+""",
+        (
+            "entry | at 0: the start",
+            "function breakpoint | at 5: worker comes to 1",
+            "step | at 6: worker 1 recv items 0 -> 0",
+            "exception | at 12: nothing goes on: sender waits at recv:acks without end; worker waits at note:0 without end",
+            "queue items = 1/4 41",
+            "function breakpoint | at 8: changes items",
+            "function breakpoint | at 5: worker comes to 1",
+            "step | at 6: sender 2 send items 0 -> 1, items 1/4",
+            "step | at 7: worker 1 recv items 0 -> 1, data 41, items 0/4",
+            "r0 = 1",
+        ),
+    ),
 )
 
 
 def driven(text: str, file: str) -> List[str]:
     """What a session says that is driven so, on one of the examples."""
+    return driven_all([(text, file)])[0]
+
+
+def driven_all(sessions: Sequence[Tuple[str, str]]) -> List[List[str]]:
+    """What sessions say that are driven so, one behind the other in one Emacs."""
     with tempfile.TemporaryDirectory() as scratch:
         script = pathlib.Path(scratch) / "session.el"
-        opened = f'(drive-open "{EXAMPLES / file}")\n'
-        script.write_text(opened + text + "\n(drive-end)\n")
+        opened = [
+            f'(drive-open "{EXAMPLES / file}")\n{text}\n(drive-end)\n' for text, file in sessions
+        ]
+        script.write_text("".join(opened))
         environment = {**os.environ, "HOME": scratch, "RDBG_SCRATCH": scratch}
         ran = subprocess.run(
             ["emacs", "--batch", "-l", str(DRIVER), "-l", str(script)],
@@ -76,12 +218,12 @@ def driven(text: str, file: str) -> List[str]:
             stdin=subprocess.DEVNULL,
             stdout=subprocess.PIPE,
             stderr=subprocess.PIPE,
-            timeout=120,
+            timeout=240,
         )
-        said = ran.stdout.decode().splitlines()
-        if ran.returncode or said[-1:] != ["terminated"]:
-            raise AssertionError("\n".join([*said, ran.stderr.decode()[-4_000:]]))
-        return said[:-1]
+        parts = ran.stdout.decode().split("terminated\n")
+        if ran.returncode or len(parts) != len(sessions) + 1 or parts[-1]:
+            raise AssertionError("\n".join([*parts, ran.stderr.decode()[-4_000:]]))
+        return [part.splitlines() for part in parts[:-1]]
 
 
 class Emacs(unittest.TestCase):
@@ -154,132 +296,15 @@ class Attached(Emacs):
             )
 
 
-class Hunts(Emacs):
-    """The faults of the pages about faults, found with an editor's buttons."""
+class Hunts(unittest.TestCase):
+    """The faults of the pages about faults, found with an editor's buttons, all in one Emacs."""
 
-    def test_the_lost_item(self) -> None:
-        self.told(LOST_ITEM, "lost_item.json", *LOST_ITEM_TELLS)
-
-    def test_a_barrier_by_hand(self) -> None:
-        self.told(
-            """
-(drive-launch)
-(drive-step "left")
-(drive-step "right")
-(drive-step "left")
-(drive-step "left")
-(drive-continue)
-(drive-stop-where "changes there")
-(drive-reverse)
-(drive-reverse)
-(drive-show "Objects" "group there")
-(drive-back)
-(drive-show "Objects" "group there")
-(drive-step "right")
-(drive-show "Registers" "r0")
-""",
-            "meeting.json",
-            "entry | at 0: the start",
-            "step | at 1: left 0 gset there 1 -> 1, there bits 1",
-            "step | at 2: right 0 gset there 2 -> 3, there bits 3",
-            "step | at 3: left 1 gwait there 3 all keep max -> 3",
-            "step | at 4: left 2 gclear there 3 -> 3, there bits 0",
-            "exception | at 11: nothing goes on: left waits at group:there without end; right waits at group:there without end",
-            "function breakpoint | at 9: changes there",
-            "function breakpoint | at 4: changes there",
-            "group there = 0x000000",
-            "step | at 3, before: left 2 gclear there 3 -> 3, there bits 0",
-            "group there = 0x000003",
-            "step | at 4: right 1 gwait there 3 all keep max -> 3",
-            "r0 = 3",
-        )
-
-    def test_a_trigger_level(self) -> None:
-        self.told(
-            """
-(drive-launch)
-(drive-step "host")
-(drive-step "host")
-(drive-continue)
-(drive-show "Objects" "stream rx")
-(drive-stop-where "changes rx")
-(drive-reverse)
-(drive-reverse)
-(drive-thread "parser")
-(drive-show "Registers" "r0")
-(drive-show "Task" "data")
-""",
-            "frames.json",
-            "entry | at 0: the start",
-            "step | at 1: host 0 data 4142",
-            "step | at 2: host 1 swrite rx 0 -> 2, rx 2/8 bytes",
-            "exception | at 26: nothing goes on: parser waits at sread:rx without end; host waits at recv:acks without end",
-            "stream rx = 2/8 bytes 4344, waits: read: parser",
-            "function breakpoint | at 24: changes rx",
-            "function breakpoint | at 4: changes rx",
-            "r0 = 2",
-            'data = 4142 ("AB")',
-        )
-
-    def test_a_stale_handle(self) -> None:
-        self.told(
-            """
-(drive-launch)
-(drive-step "uart")
-(drive-step)
-(drive-step)
-(drive-step)
-(drive-continue)
-(drive-show "Objects" "set inputs")
-(drive-stop-where "qreset")
-(drive-stop-where "sleeps server")
-(drive-reverse)
-(drive-reverse)
-(drive-show "Objects" "queue rx")
-(drive-reverse)
-""",
-            "stale.json",
-            "entry | at 0: the start",
-            "step | at 1: uart 0 data 41",
-            "step | at 2: uart 1 send rx 0 -> 1, rx 1/1, inputs 1/1 handles",
-            "step | at 3: uart 2 set r1 1, r1 = 1",
-            "step | at 4: uart 3 jumpz r1 0, goes on at 4",
-            "exception | at 26: uart failed: SetFull",
-            "set inputs = 1/1 handles rx",
-            "function breakpoint | at 18: uart comes to 4",
-            "function breakpoint | at 9: sleeps server",
-            "queue rx = 0/1 -, waits: receive: server",
-            "function breakpoint | at 4: uart comes to 4",
-        )
-
-    def test_a_count_without_its_data(self) -> None:
-        self.told(
-            """
-(drive-launch)
-(drive-stop-where "worker 1")
-(drive-continue)
-(drive-step)
-(drive-continue)
-(drive-show "Objects" "queue items")
-(drive-stop-where "changes items")
-(drive-reverse)
-(drive-reverse)
-(drive-step "sender")
-(drive-step "worker")
-(drive-show "Registers" "r0")
-""",
-            "early_count.json",
-            "entry | at 0: the start",
-            "function breakpoint | at 5: worker comes to 1",
-            "step | at 6: worker 1 recv items 0 -> 0",
-            "exception | at 12: nothing goes on: sender waits at recv:acks without end; worker waits at note:0 without end",
-            "queue items = 1/4 41",
-            "function breakpoint | at 8: changes items",
-            "function breakpoint | at 5: worker comes to 1",
-            "step | at 6: sender 2 send items 0 -> 1, items 1/4",
-            "step | at 7: worker 1 recv items 0 -> 1, data 41, items 0/4",
-            "r0 = 1",
-        )
+    def test_hunts(self) -> None:
+        told = iter(driven_all([(it.text, f"{it.example}.json") for it in HUNTS]))
+        for it in HUNTS:
+            with self.subTest(it.example):
+                said = [line.rsplit(" | ", 1)[0] for line in next(told)]
+                self.assertEqual(said, list(it.tells))
 
 
 if __name__ == "__main__":
