@@ -14,8 +14,8 @@ ENDED = (0, "")
 class WebRoom(Process):
     """A room in a process of its own, its port, and the address of its page."""
 
-    def __init__(self, path: str) -> None:
-        super().__init__(["--sessions", "6", "--web", "0"], path)
+    def __init__(self, path: str, *words: str) -> None:
+        super().__init__(["--sessions", "6", "--web", "0", *words], path)
         self.address = self.token = ""
         self.web = 0
 
@@ -35,9 +35,9 @@ class WebRoom(Process):
 
 
 @contextlib.contextmanager
-def web_room(path: str = LOST) -> Iterator[WebRoom]:
-    """A room with a page; its audit is good at the end."""
-    found = WebRoom(path)
+def web_room(path: str = LOST, *words: str) -> Iterator[WebRoom]:
+    """A room with a page, started with these words besides; its audit is good at the end."""
+    found = WebRoom(path, *words)
     try:
         found.wait()
         yield found
