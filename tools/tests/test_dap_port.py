@@ -96,8 +96,8 @@ class Attached(Held):
             client.stopped("configurationDone")
             process.kill()
             process.wait()
-            self.assertIn("has closed the connection", client.refused("next", threadId=2))
             client.event("terminated")
+            self.assertIn("has closed the connection", " ".join(client.output()))
             self.assertIn("nothing is debugged", client.refused("next", threadId=2))
 
 
