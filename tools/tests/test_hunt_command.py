@@ -176,7 +176,8 @@ class Interrupted(unittest.TestCase):
 
     def test_it_says_what_was_tried(self) -> None:
         for workers in ("1", "2"):
-            words = [path("stale_mended"), "failed", "--workers", workers]
+            # (a search that has no end of its own)
+            words = [path("soak"), "failed", "--workers", workers]
             words += ["--surprises", "40", "--moves", "1000"]
             ran = subprocess.Popen(
                 [sys.executable, "-B", str(COMPANION), "hunt", *words],
