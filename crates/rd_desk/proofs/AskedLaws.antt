@@ -24,11 +24,12 @@ same_command : (words others : List (List ℕ)) (a b : CommandView) → command_
 same_command words others a b one other same =
     let whole : Some a ≡ Some b = sym one ∙ ap command_of same ∙ other in cc
 
--- The line of a command asks for the same exactly where it has the same words.
-pub asks_the_same : (kept line : List ℕ) (command : CommandView) (same : Bool) → FindsWhatIsSpelled → command_of (words_of kept) ≡ Some command
-    → IsSome (command_of (words_of line)) → (IsTrue same ↔ (words_of kept ≡ words_of line)) → (IsTrue same ↔ (command ≡ asked_by line))
-asks_the_same kept line command same law is some tells =
-    let other = some_asked (command_of (words_of line)) some in (
-      λ yes. same_command (words_of kept) (words_of line) command (asked_by line) is other (tells.0 yes),
-      λ equal. tells.1 (same_words (words_of kept) (words_of line) command (asked_by line) law is other equal),
+-- Two lines of commands ask for the same exactly where they have the same words.
+pub asks_the_same : (line other : List ℕ) (same : Bool) → FindsWhatIsSpelled → IsSome (command_of (words_of line))
+    → IsSome (command_of (words_of other)) → (IsTrue same ↔ (words_of line ≡ words_of other)) → (IsTrue same ↔ (asked_by line ≡ asked_by other))
+asks_the_same line other same law one two tells =
+    let is = some_asked (command_of (words_of line)) one in
+    let is_other = some_asked (command_of (words_of other)) two in (
+      λ yes. same_command (words_of line) (words_of other) (asked_by line) (asked_by other) is is_other (tells.0 yes),
+      λ equal. tells.1 (same_words (words_of line) (words_of other) (asked_by line) (asked_by other) law is is_other equal),
     )

@@ -1,7 +1,7 @@
 -- The lemmas of this crate.
 pub mod SessionLaws
 pub mod AskedLaws
-pub mod HistoryLaws
+pub mod RowLaws
 pub mod MachineLaws
 pub mod CommandedLaws
 pub mod DeskLaws

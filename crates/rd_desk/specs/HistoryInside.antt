@@ -1,16 +1,12 @@
--- The history that the fields of a `History` stand for.
-use Rattle.std.specs.Prelude.{◌-◌, All, vec_capacity, vec_len}
+-- The history that the field of a `History` stands for.
+use Rattle.std.specs.Prelude.{map}
 use Rattle.rd_desk.specs.declared.history.History.TheInside.{Inside}
-use Rattle.rd_desk.specs.HistoryRows.{entries_in, IsRowOf}
 use Rattle.rd_desk.specs.HistoryView.{HistoryView}
+use Rattle.rd_desk.specs.Rows.{entry_noted}
 
 abbrev pub history_of : Inside → HistoryView
 history_of h = record {
-  entries = entries_in h.bytes.items h.rows.items;
-  row_room = vec_capacity h.rows - vec_len h.rows;
-  byte_room = vec_capacity h.bytes - vec_len h.bytes;
+  entries = map entry_noted h.rows.noted;
+  row_room = h.rows.row_room;
+  byte_room = h.rows.byte_room;
 }
-
--- Each entry has its bytes.
-pub record IsHistory (h : Inside) : Type 0 where
-  pub rows : All (IsRowOf h.bytes.items) h.rows.items

@@ -6,8 +6,8 @@ use Rattle.rd_desk.specs.declared.entry.Entry.{Entry}
 use Rattle.rd_desk.specs.declared.entry.Event.{Event}
 use Rattle.rd_desk.specs.declared.entry.Event.TheVariants as event
 use Rattle.rd_desk.specs.declared.entry.Receipt.{Receipt}
-use Rattle.rd_desk.specs.declared.history.Deed.{Deed}
-use Rattle.rd_desk.specs.declared.history.Deed.TheVariants.{Enter, Ask, Leave}
+use Rattle.rd_desk.specs.declared.rows.Deed.{Deed}
+use Rattle.rd_desk.specs.declared.rows.Deed.TheVariants.{Enter, Ask, Leave}
 use Rattle.rd_desk.specs.declared.reply.Reply.{Reply}
 use Rattle.rd_desk.specs.declared.reply.Reply.TheVariants.{Done, Told, Shown}
 use Rattle.rd_desk.specs.Asked.{asked_by}
@@ -23,6 +23,12 @@ abbrev pub deed_event : Deed → List ℕ → Event
 deed_event Enter line = event.Enter
 deed_event Ask line = event.Ask (asked_by line)
 deed_event Leave line = event.Leave
+
+-- what was done, but for the line of a command
+abbrev pub deed_of : Event → Deed
+deed_of event.Enter = Enter
+deed_of (event.Ask command) = Ask
+deed_of event.Leave = Leave
 
 -- The line is one of a command, if one was asked for.
 abbrev pub IsLineOf : Deed → List ℕ → Type 0

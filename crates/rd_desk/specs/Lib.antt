@@ -8,7 +8,8 @@ pub mod Views
 pub mod Serving
 pub mod MachineInside
 pub mod HistoryView
-pub mod HistoryRows
+pub mod Rows
+pub mod RowsInside
 pub mod HistoryInside
 pub mod Legal
 pub mod DeskView

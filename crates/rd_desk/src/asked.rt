@@ -53,15 +53,16 @@ impl Asked {
     {
         self.line.as_slice()
     }
+}
 
-    /// Whether the line of a command is one of this command. (It may have other spaces.)
-    pub(crate) fn is_of(&self, line: &[u8]) -> bool
-        requires { IsSome (command_of (words_of line.now)) }
-        ensures { IsTrue result ↔ (self.now ≡ asked_by line.now) }
-    {
-        what_is_spelled_is_found();
-        have_same_words(self.line(), line)
-    }
+// Whether two lines of commands ask for the same. (They may have other spaces.)
+pub(crate) fn are_same_command(line: &[u8], other: &[u8]) -> bool
+    requires line { IsSome (command_of (words_of line.now)) }
+    requires other { IsSome (command_of (words_of other.now)) }
+    ensures { IsTrue result ↔ (asked_by line.now ≡ asked_by other.now) }
+{
+    what_is_spelled_is_found();
+    have_same_words(line, other)
 }
 
 // Whether two lines have the same words. (Mostly they have the same bytes; then no word is cut.)

@@ -9,6 +9,7 @@ ghost use Rattle.rd_desk.specs.Debugger.{opening, target_of};
 ghost use Rattle.rd_desk.specs.DeskView.{entry_of, used, Does, IsKept};
 ghost use Rattle.rd_desk.specs.HistoryView.{reply_bytes, IsView};
 ghost use Rattle.rd_desk.specs.Memory.{MayLackMemory, TakesAtMost};
+ghost use Rattle.rd_desk.specs.Rows.{HasNoLess};
 ghost use Rattle.rd_desk.specs.Serving.{entered};
 ghost use Rattle.rd_desk.specs.Refusals.{tally_of, IfEnterFull, IfServeFull, is_enter_full};
 ghost use Rattle.rd_desk.specs.Refusals.{is_serve_full};
@@ -16,10 +17,11 @@ ghost use Rattle.rd_desk.specs.Sessions.{IsPresent, present_count, watch_count};
 
 use crate::asked::Asked;
 use crate::entry::{Entry, Event, Receipt};
-use crate::history::{Deed, History};
+use crate::history::History;
 use crate::limits::Limits;
 use crate::machine::Machine;
 use crate::reply::Reply;
+use crate::rows::{Deed, Rows};
 use crate::sessions::MAX_JOINS;
 use crate::tally::Tally;
 use rd_app::app::Program;
@@ -119,25 +121,35 @@ fn admit(machine: &mut Machine, history: &mut History) -> Receipt
     }
 }
 
-// Makes room for so many entries and for the bytes of the first one, where there is room but for
-// those of its reply. An `Err` says that there is no memory for them; only a view has some.
+// Makes room for the bytes of a reply, in the history for so many entries more and in what its
+// session keeps, where there is room for all but the reply of the first. An `Err` says that there
+// is no memory for them; only a view has some.
 fn make_room_for(
     history: &mut History,
     rows: usize,
+    receipts: &mut Rows,
     line: &[u8],
     reply: &Reply,
 ) -> Result<(), NoMemory>
     requires rows { rows ≤ history.old.row_room }
     requires line { length line.now ≤ history.old.byte_room }
+    requires receipts { length line.now ≤ receipts.old.byte_room }
     ensures entries { history.new.entries ≡ history.old.entries }
     ensures rows { history.old.row_room ≤ history.new.row_room }
     ensures bytes { OnOk result
         (length line.now + length (reply_bytes reply.now) ≤ history.new.byte_room) }
     ensures kept_bytes { history.old.byte_room ≤ history.new.byte_room }
+    ensures receipts { HasNoLess receipts.old receipts.new }
+    ensures receipt_bytes { OnOk result
+        (length line.now + length (reply_bytes reply.now) ≤ receipts.new.byte_room) }
     ensures err { OnErr result (IsView reply.now) }
 {
     match reply {
-        Reply::Shown { text } => history.make_room(rows, line.len() + text.as_slice().len()),
+        Reply::Shown { text } => {
+            let bytes = line.len() + text.as_slice().len();
+            history.make_room(rows, bytes)?;
+            receipts.make_room(0, bytes)
+        }
         Reply::Done | Reply::Told { .. } => Ok(()),
     }
 }
@@ -291,14 +303,22 @@ impl Desk {
     }
 
     /// Serves a command of a session that is present, which was bound for the application of this
-    /// desk. `HistoryFull` where no place is free, else `NoMemory` where a growth was refused: for
-    /// the entry, for the copy of a line of more than 24 bytes, for the records of moves or for the
-    /// text of a view. A command with a line of at most 24 bytes that makes no move, shows no text
-    /// and finds room for its entry is never refused for memory. A refusal changes nothing. All
-    /// other refusals are replies, and take a place in the history.
-    pub fn serve(&mut self, who: u32, order: &Order<'_, '_>) -> Result<Receipt, NotServed>
+    /// desk. What the session keeps of its receipts has room for the command's line, and gets room
+    /// for the text of a view; the receipt is not put there. `HistoryFull` where no place is free,
+    /// else `NoMemory` where a growth was refused: for the entry, for the copy of a line of more
+    /// than 24 bytes, for the records of moves or for the text of a view. A command with a line of
+    /// at most 24 bytes that makes no move, shows no text and finds room for its entry is never
+    /// refused for memory. A refusal changes nothing. All other refusals are replies, and take a
+    /// place in the history.
+    pub fn serve(
+        &mut self,
+        who: u32,
+        order: &Order<'_, '_>,
+        receipts: &mut Rows,
+    ) -> Result<Receipt, NotServed>
         requires there { IsPresent self.old.desk.debugger.sessions who }
         requires application { order.now.known ≡ known_of self.old.desk.debugger.app }
+        requires line { length order.now.line ≤ receipts.old.byte_room }
         ensures ok { IfOk result (Does self.old.desk who (Ask order.now.command) self.new.desk) }
         ensures history_full { IsTrue (is_serve_full result)
             ↔ (self.old.desk.most_entries ≡ used self.old.desk) }
@@ -313,19 +333,29 @@ impl Desk {
             (length order.now.line + length (reply_bytes receipt.entry.reply))
             self.old self.new) }
         ensures not_taken { OnErr result (TakesAtMost 0 0 self.old self.new) }
+        ensures receipts { HasNoLess receipts.old receipts.new }
+        ensures receipt_bytes { IfOk result (λ receipt.
+            length order.now.line + length (reply_bytes receipt.entry.reply)
+            ≤ receipts.new.byte_room) }
     {
         if self.free() == 0 {
             return Err(NotServed::HistoryFull {
                 tally: self.tally(),
             });
         }
-        self.record_command(who, order)
+        self.record_command(who, order, receipts)
     }
 
     // Serves a command where a place is free.
-    fn record_command(&mut self, who: u32, order: &Order<'_, '_>) -> Result<Receipt, NotServed>
+    fn record_command(
+        &mut self,
+        who: u32,
+        order: &Order<'_, '_>,
+        receipts: &mut Rows,
+    ) -> Result<Receipt, NotServed>
         requires there { IsPresent self.old.desk.debugger.sessions who }
         requires application { order.now.known ≡ known_of self.old.desk.debugger.app }
+        requires line { length order.now.line ≤ receipts.old.byte_room }
         requires free { used self.old.desk < self.old.desk.most_entries }
         ensures ok { IfOk result (Does self.old.desk who (Ask order.now.command) self.new.desk) }
         ensures no_memory { IfErr result (λ error. error ≡ NotServed.NoMemory) }
@@ -336,13 +366,17 @@ impl Desk {
             (length order.now.line + length (reply_bytes receipt.entry.reply))
             self.old self.new) }
         ensures not_taken { OnErr result (TakesAtMost 0 0 self.old self.new) }
+        ensures receipts { HasNoLess receipts.old receipts.new }
+        ensures receipt_bytes { IfOk result (λ receipt.
+            length order.now.line + length (reply_bytes receipt.entry.reply)
+            ≤ receipts.new.byte_room) }
     {
         let line = order.line();
         let rows = self.machine.present() + 1;
         self.history.make_room(rows, line.len())?;
         let asked = Asked::new(self.alloc, line)?;
         let reply = self.machine.serve(who, order)?;
-        make_room_for(&mut self.history, rows, line, &reply)?;
+        make_room_for(&mut self.history, rows, receipts, line, &reply)?;
         let place = self.history.len();
         self.history.push(who, Deed::Ask, line, &reply);
         Ok(Receipt {

@@ -33,3 +33,15 @@ pub struct Receipt {
     /// The entry.
     pub entry: Entry,
 }
+
+/// What a session did and what was replied, under a number: the session's in a history, and its
+/// place in the history among a session's own.
+#[derive(Drop)]
+pub struct Noted {
+    /// The session's number, or the place.
+    pub number: u32,
+    /// What was done.
+    pub event: Event,
+    /// What was replied.
+    pub reply: Reply,
+}

@@ -1,54 +1,20 @@
-//! The history: entries that are kept one behind the other, with their bytes in one place.
+//! The history: the entries so far, in order.
 
 ghost use Rattle.std.specs.Prelude.{◌≡◌, ◌↔◌, ◌+◌, ◌≤◌, ◌<◌, ◌⊎◌, ◌∷◌, ◌++◌, [], length};
-ghost use Rattle.std.specs.Prelude.{vec_capacity, vec_len, IsTrue, OnErr, OnOk};
+ghost use Rattle.std.specs.Prelude.{slice_get, IsSomeAnd, IsTrue, OnErr, OnOk};
 ghost use Rattle.rd_desk.specs.HistoryView.{deed_event, reply_bytes, IsEntered, IsLineOf};
-ghost use Rattle.rd_desk.specs.HistoryRows.{entry_in, kept_of, reply_from, IsRowOf};
+ghost use Rattle.rd_desk.specs.Rows.{receipt_of};
 
-use crate::entry::{Entry, Event, Receipt};
 use crate::reply::Reply;
+use crate::rows::{Deed, Rows};
 use rd_bytes::no_memory::NoMemory;
-use rd_reply::reply::Reply as Short;
 use std::alloc::Global;
 use std::marker::Model;
 
-/// What a session did, but for the line of a command.
-#[derive(Clone, Copy)]
-pub enum Deed {
-    /// It entered.
-    Enter,
-    /// It asked for something.
-    Ask,
-    /// It left.
-    Leave,
-}
-
-// What was replied, but for the line of a view.
-#[derive(Clone, Copy)]
-enum Kept {
-    Done,
-    Told { told: Short },
-    Shown,
-}
-
-// An entry, but for its bytes: the line of its command stands from `start` on, and that of its view
-// from `middle` up to `end`.
-#[derive(Clone, Copy)]
-struct Row {
-    start: usize,
-    middle: usize,
-    end: usize,
-    who: u32,
-    deed: Deed,
-    kept: Kept,
-}
-
-/// The entries so far, in order. An entry takes a row of 64 bytes, and the bytes of the line of its
-/// command and of its view.
+/// The entries so far, in order: rows, each under the number of who did it.
 #[derive(Drop)]
 pub struct History {
-    rows: Vec<Row>,
-    bytes: Vec<u8>,
+    rows: Rows,
 }
 
 impl Model for History {
@@ -56,76 +22,9 @@ impl Model for History {
 
     ghost Value = { HistoryView };
 
-    ghost use Rattle.rd_desk.specs.HistoryInside.{history_of, IsHistory};
+    ghost use Rattle.rd_desk.specs.HistoryInside.{history_of};
 
     ghost view = { history_of };
-
-    ghost invariant = { IsHistory };
-}
-
-// What is kept of a reply, but for its bytes.
-fn kept_of(reply: &Reply) -> Kept
-    ensures { result ≡ kept_of reply.now }
-{
-    match reply {
-        Reply::Done => Kept::Done,
-        Reply::Told { told } => Kept::Told { told: *told },
-        Reply::Shown { .. } => Kept::Shown,
-    }
-}
-
-/// The bytes of a reply: the line of a view, and else none.
-pub fn reply_bytes(reply: &Reply) -> &[u8]
-    ensures { result.now ≡ reply_bytes reply.now }
-{
-    match reply {
-        Reply::Done | Reply::Told { .. } => &[],
-        Reply::Shown { text } => text.as_slice(),
-    }
-}
-
-// Appends bytes that there is room for.
-fn append_reserved(bytes: &mut Vec<u8>, more: &[u8])
-    requires { vec_len bytes.old + length more.now ≤ vec_capacity bytes.old }
-    ensures items { bytes.new.items ≡ bytes.old.items ++ more.now }
-    ensures len { vec_len bytes.new ≡ vec_len bytes.old + length more.now }
-    ensures room { vec_capacity bytes.old ≤ vec_capacity bytes.new }
-{
-    bytes.extend_from_slice(more).unwrap();
-}
-
-// Whether the event is what is kept of one.
-fn is_event(deed: Deed, line: &[u8], event: &Event) -> bool
-    requires { IsLineOf deed line.now }
-    ensures { IsTrue result ↔ (event.now ≡ deed_event deed line.now) }
-{
-    match (deed, event) {
-        (Deed::Enter, Event::Enter) | (Deed::Leave, Event::Leave) => true,
-        (Deed::Ask, Event::Ask { command }) => command.is_of(line),
-        _ => false,
-    }
-}
-
-// Whether the reply is what is kept of one.
-fn is_reply(kept: Kept, bytes: &[u8], reply: &Reply) -> bool
-    ensures { IsTrue result ↔ (reply.now ≡ reply_from kept bytes.now) }
-{
-    match (kept, reply) {
-        (Kept::Done, Reply::Done) => true,
-        (Kept::Told { told: kept }, Reply::Told { told }) => kept == *told,
-        (Kept::Shown, Reply::Shown { text }) => text.as_slice() == bytes,
-        _ => false,
-    }
-}
-
-// Whether the entry is that of a row.
-fn is_entry(bytes: &[u8], row: Row, entry: &Entry) -> bool
-    requires { IsRowOf bytes.now row }
-    ensures { IsTrue result ↔ (entry.now ≡ entry_in bytes.now row) }
-{
-    row.who == entry.who
-        && is_event(row.deed, &bytes[row.start..row.middle], &entry.event)
-        && is_reply(row.kept, &bytes[row.middle..row.end], &entry.reply)
 }
 
 impl History {
@@ -134,8 +33,7 @@ impl History {
         ensures { result.entries ≡ [] }
     {
         History {
-            rows: Vec::new(alloc),
-            bytes: Vec::new(alloc),
+            rows: Rows::new(alloc),
         }
     }
 
@@ -146,14 +44,17 @@ impl History {
         self.rows.len()
     }
 
-    /// Whether a receipt is the entry at its place.
-    pub fn has(&self, receipt: &Receipt) -> bool
-        ensures { IsTrue result ↔ IsEntered self.now.entries receipt.now }
+    /// Whether a receipt of a session is the entry at its place. Rows have it at this index, under
+    /// the number of its place.
+    pub fn has(&self, who: u32, receipts: &Rows, index: usize) -> bool
+        requires { index < length receipts.now.noted }
+        ensures { IsTrue result ↔ IsSomeAnd (slice_get receipts.now.noted index)
+            (λ noted. IsEntered self.now.entries (receipt_of who noted)) }
     {
-        match self.rows.get(receipt.place) {
-            Some(row) => is_entry(self.bytes.as_slice(), *row, &receipt.entry),
-            None => false,
-        }
+        let place = receipts.number(index) as usize;
+        place < self.len()
+            && self.rows.number(place) == who
+            && self.rows.has_same(place, receipts, index)
     }
 
     /// Makes room for so many entries more, and for so many bytes of theirs. Where there is no
@@ -168,9 +69,7 @@ impl History {
         ensures full { OnErr result
             ((self.old.row_room < rows) ⊎ (self.old.byte_room < bytes)) }
     {
-        self.rows.reserve(rows)?;
-        self.bytes.reserve(bytes)?;
-        Ok(())
+        self.rows.make_room(rows, bytes)
     }
 
     /// Appends an entry, which there is room for. The line is that of the command, if one was asked
@@ -185,17 +84,6 @@ impl History {
         ensures byte_room { self.old.byte_room
             ≤ self.new.byte_room + (length line.now + length (reply_bytes reply.now)) }
     {
-        let start = self.bytes.len();
-        append_reserved(&mut self.bytes, line);
-        let middle = self.bytes.len();
-        append_reserved(&mut self.bytes, reply_bytes(reply));
-        self.rows.push_reserved(Row {
-            start,
-            middle,
-            end: self.bytes.len(),
-            who,
-            deed,
-            kept: kept_of(reply),
-        });
+        self.rows.push(who, deed, line, reply);
     }
 }

@@ -9,6 +9,7 @@ pub mod laws;
 pub mod limits;
 pub mod machine;
 pub mod reply;
+pub mod rows;
 pub mod sessions;
 pub mod showing;
 pub mod tally;

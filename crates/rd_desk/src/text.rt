@@ -28,13 +28,20 @@ impl Text {
         Text { bytes }
     }
 
+    /// A text of these bytes. An `Err` says that there is no memory for it.
+    pub(crate) fn of(alloc: Global, bytes: &[u8]) -> Result<Text, NoMemory>
+        ensures { IfOk result (λ text. text ≡ bytes.now) }
+    {
+        let mut copied = Vec::with_capacity(alloc, bytes.len())?;
+        copied.extend_from_slice(bytes)?;
+        Ok(Text { bytes: copied })
+    }
+
     /// An equal text. An `Err` says that there is no memory for it.
     pub fn copy(&self, alloc: Global) -> Result<Text, NoMemory>
         ensures { IfOk result (λ text. text ≡ self.now) }
     {
-        let mut bytes = Vec::with_capacity(alloc, self.bytes.len())?;
-        bytes.extend_from_slice(self.bytes.as_slice())?;
-        Ok(Text { bytes })
+        Text::of(alloc, self.as_slice())
     }
 
     /// The bytes.

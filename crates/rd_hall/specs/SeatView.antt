@@ -1,6 +1,9 @@
 -- What a contract sees of a seat.
-use Rattle.std.specs.Prelude.{ℕ, ◌≡◌, ◌+◌, ◌<◌, ◌≤◌, List, [], ◌∷◌, ◌++◌, length}
+use Rattle.std.specs.Prelude.{ℕ, ◌≡◌, ◌+◌, ◌-◌, ◌<◌, ◌≤◌, List, [], ◌∷◌, ◌++◌, length, map}
+use Rattle.std.specs.Prelude.{slice_get, Some}
+use Rattle.rd_desk.specs.declared.entry.Noted.{Noted}
 use Rattle.rd_desk.specs.declared.entry.Receipt.{Receipt}
+use Rattle.rd_desk.specs.Rows.{receipt_of}
 
 -- the session, its receipts in the order in which they came, and how much it has of the ledger
 pub record SeatView : Type 0 where
@@ -8,10 +11,25 @@ pub record SeatView : Type 0 where
   pub receipts : List Receipt
   pub share : ℕ
 
--- a session that hasn't left, and for how many receipts more it has room
+-- a session that hasn't left, for how many receipts more it has room, and for how many bytes of
+-- theirs
 pub record RoomedSeat : Type 0 where
   pub session : SeatView
   pub room : ℕ
+  pub byte_room : ℕ
+
+-- the session of which this is kept
+abbrev pub seat_of : ℕ → List Noted → ℕ → SeatView
+seat_of who noted share =
+    record { who = who; receipts = map (receipt_of who) noted; share = share }
+
+-- It is the seat's last receipt.
+abbrev pub IsLast : SeatView → Receipt → Type 0
+IsLast seat receipt = slice_get seat.receipts (length seat.receipts - 1) ≡ Some receipt
+
+-- A place is kept as a number of 32 bits.
+abbrev pub IsPlace : ℕ → Type 0
+IsPlace place = place < 4294967296
 
 -- The receipts all name the session, and rise in place, from this place on.
 abbrev pub IsSeries : ℕ → ℕ → List Receipt → Type 0

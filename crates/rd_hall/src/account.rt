@@ -4,45 +4,24 @@ ghost use Rattle.std.specs.Prelude.{◌≡◌, ◌↔◌, ◌≤◌, [], length,
 ghost use Rattle.rd_hall.specs.SeatView.{IsSeries, next_place};
 ghost use Rattle.rd_desk.specs.HistoryView.{IsEntered};
 ghost use Rattle.rd_hall.specs.Account.{IsAccount, IsAccounted, Fits, AllFit};
-ghost use Rattle.rd_hall.specs.Account.{receipts_of, count_of, ends_in_leave, first_place};
+ghost use Rattle.rd_hall.specs.Account.{receipts_of, count_of};
 
 use crate::seat::Gone;
 use crate::setup::Setup;
-use rd_desk::entry::{Event, Receipt};
 use rd_desk::history::History;
 use std::marker::Model;
 use thiserror::Error;
 
 // Whether each receipt is the entry at its place.
-fn are_entered(history: &History, receipts: &[Receipt]) -> bool
-    ensures { IsTrue result ↔ All (IsEntered history.now.entries) receipts.now }
+fn are_entered<L: Setup>(history: &History, gone: &Gone<L>) -> bool
+    ensures { IsTrue result ↔ All (IsEntered history.now.entries) gone.now.receipts }
 {
-    for receipt in receipts {
-        if !history.has(receipt) {
+    for index in 0..gone.len() {
+        if !gone.is_entered(history, index) {
             return false;
         }
     }
     true
-}
-
-// Whether the last receipt is of a leave.
-fn ends_in_leave(receipts: &[Receipt]) -> bool
-    ensures { result ≡ ends_in_leave receipts.now }
-{
-    match receipts.last() {
-        Some(receipt) => matches!(receipt.entry.event, Event::Leave),
-        None => false,
-    }
-}
-
-// The place of the first receipt.
-fn first_place(receipts: &[Receipt]) -> usize
-    ensures { result ≡ first_place receipts.now }
-{
-    match receipts {
-        [receipt, ..] => receipt.place,
-        [] => 0,
-    }
 }
 
 // The place behind a seat's receipts, where it is the session's.
@@ -69,9 +48,9 @@ fn next_of<L: Setup>(gones: &[Gone<L>], who: u32) -> usize
 fn fits<L: Setup>(history: &History, before: &[Gone<L>], gone: &Gone<L>) -> bool
     ensures { IsTrue result ↔ Fits history.now.entries before.now gone.now }
 {
-    ends_in_leave(gone.receipts())
-        && are_entered(history, gone.receipts())
-        && next_of(before, gone.who()) <= first_place(gone.receipts())
+    gone.ends_in_leave()
+        && are_entered(history, gone)
+        && next_of(before, gone.who()) <= gone.first()
 }
 
 // Whether the seats have so many receipts.
@@ -80,10 +59,10 @@ fn is_count<L: Setup>(gones: &[Gone<L>], count: usize) -> bool
 {
     let mut left = count;
     for gone in gones {
-        if gone.receipts().len() > left {
+        if gone.len() > left {
             return false;
         }
-        left -= gone.receipts().len();
+        left -= gone.len();
     }
     left == 0
 }

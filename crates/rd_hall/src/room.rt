@@ -22,6 +22,8 @@ use rd_bytes::no_memory::NoMemory;
 use rd_command::order::Order;
 use rd_desk::desk::{Desk, EnterError, NotServed};
 use rd_desk::limits::Limits;
+use rd_desk::reply::Reply;
+use rd_desk::rows::{Deed, Rows};
 use rd_desk::sessions::MAX_JOINS;
 use rd_names::app::App;
 use rd_state::state::State;
@@ -40,13 +42,15 @@ pub struct Room<L: Setup> {
 impl<L: Setup> Model for Room<L> {
     ghost use Rattle.std.specs.Prelude.{◌≡◌, length};
     ghost use Rattle.rd_hall.specs.Seats.{IsOf, RoomView};
+    ghost use Rattle.rd_hall.specs.SeatView.{IsPlace};
 
     ghost Value = { RoomView };
 
     ghost view = { λ r. record { desk = r.desk.desk; total = r.book.total } };
 
     ghost invariant = { λ r. (length r.desk.desk.history ≡ r.book.total)
-        × IsOf r.desk.desk L.app L.most_moves L.most_entries };
+        × IsOf r.desk.desk L.app L.most_moves L.most_entries
+        × IsPlace L.most_entries };
 }
 
 // The book of a ledger in which nothing is counted, and 64 passes.
@@ -150,19 +154,20 @@ impl<L: Setup> Room<L> {
             × (tally.limit < tally.entries + tally.present + 2))) }
         ensures err { OnErr result (self.new ≡ self.old) }
     {
-        let Ok(mut receipts) = Vec::with_capacity(self.alloc, 2) else {
+        let mut receipts = Rows::new(self.alloc);
+        let Ok(()) = receipts.make_room(2, 0) else {
             return Err((pass, EnterError::NoMemory));
         };
         match self.desk.enter() {
             Ok(entered) => {
                 let Pass { mut share } = pass;
                 self.book.add(&mut share, 1);
-                let who = entered.entry.who;
                 let next = self.desk.entries();
-                receipts.push_reserved(entered);
+                receipts.push(entered.place as u32, Deed::Enter, &[], &Reply::Done);
                 Ok(Seat {
-                    who,
+                    who: entered.entry.who,
                     receipts,
+                    last: entered,
                     next,
                     share,
                 })
@@ -191,9 +196,10 @@ impl<L: Setup> Room<L> {
     /// Serves a command that was bound for the application; the seat gets the receipt of that.
     /// `Broken` where the history doesn't reach past the seat's last receipt, or its session isn't
     /// present, else `NoMemory` where the seat has no room for two more receipts, this and that of
-    /// its leave, and no memory for them, else `HistoryFull` where no place is free, else
-    /// `NoMemory` where the debugger has none. A refusal changes nothing. It takes no memory beside
-    /// that of the seat and of the debugger.
+    /// its leave, or for the line of this one, and no memory for them, else `HistoryFull` where no
+    /// place is free, else `NoMemory` where the debugger has none, or the seat none for the text of
+    /// a view. A refusal changes nothing. It takes no memory beside that of the seat and of the
+    /// debugger.
     pub fn ask(&mut self, seat: &mut Seat<L>, order: &Order<'_, '_>) -> Result<(), NotServed>
         requires application { order.now.known ≡ known_of L.app }
         ensures ok { OnOk result (DoesFor self.old.desk seat.old.session
@@ -203,7 +209,8 @@ impl<L: Setup> Room<L> {
         ensures history_full { IsTrue (is_serve_full result)
             ↔ (Reaches self.old.desk seat.old.session
             × (self.old.desk.most_entries ≡ used self.old.desk)
-            × (2 ≤ seat.new.room)) }
+            × (2 ≤ seat.new.room)
+            × (length order.now.line ≤ seat.new.byte_room)) }
         ensures room { OnOk result (used self.old.desk < self.old.desk.most_entries) }
         ensures tally { IfErr result (λ error. IfServeFull error (λ tally.
             (tally ≡ tally_of self.old.desk)
@@ -227,7 +234,9 @@ impl<L: Setup> Room<L> {
             (Ask order.now.command) self.new.desk seat.new.session) }
         ensures not_broken { IfErr result (λ error. error ≢ NotServed.Broken) }
         ensures history_full { IsTrue (is_serve_full result)
-            ↔ ((self.old.desk.most_entries ≡ used self.old.desk) × (2 ≤ seat.new.room)) }
+            ↔ ((self.old.desk.most_entries ≡ used self.old.desk)
+            × (2 ≤ seat.new.room)
+            × (length order.now.line ≤ seat.new.byte_room)) }
         ensures room { OnOk result (used self.old.desk < self.old.desk.most_entries) }
         ensures tally { IfErr result (λ error. IfServeFull error (λ tally.
             (tally ≡ tally_of self.old.desk)
@@ -237,10 +246,10 @@ impl<L: Setup> Room<L> {
         ensures room_kept { OnErr result (seat.old.room ≤ seat.new.room) }
         ensures room_taken { OnOk result (seat.old.room ≤ seat.new.room + 1) }
     {
-        seat.make_room()?;
-        let served = self.desk.serve(seat.who, order)?;
+        seat.make_room(order.line().len())?;
+        let served = self.desk.serve(seat.who, order, &mut seat.receipts)?;
         let next = self.desk.entries();
-        seat.gain(&mut self.book, served, next);
+        seat.gain(&mut self.book, served, next, order);
         Ok(())
     }
 
@@ -256,6 +265,7 @@ impl<L: Setup> Room<L> {
         if !self.reaches(&seat) {
             return seat.gone();
         }
+        self.desk.keeps();
         let left = self.desk.depart(seat.who);
         let next = self.desk.entries();
         seat.leave(&mut self.book, left, next)

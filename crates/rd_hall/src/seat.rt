@@ -1,11 +1,21 @@
 //! The sessions of a hall: who may join, who has joined, and who has left.
 
-ghost use Rattle.std.specs.Prelude.{◌≡◌, ◌+◌, ◌-◌, ◌<◌, ◌≤◌, length, slice_get, OnErr, OnOk, Some};
-ghost use Rattle.rd_hall.specs.SeatView.{IsSeries, next_place, with_receipt};
+ghost use Rattle.std.specs.Prelude.{◌≡◌, ◌↔◌, ◌+◌, ◌-◌, ◌<◌, ◌≤◌, ◌⊎◌, length, slice_get};
+ghost use Rattle.std.specs.Prelude.{IfOk, IsSomeAnd, IsTrue, OnErr, OnOk, Some};
+ghost use Rattle.rd_desk.specs.HistoryView.{reply_bytes, IsEntered};
+ghost use Rattle.rd_desk.specs.declared.entry.Event.TheVariants.{Ask, Leave};
+ghost use Rattle.rd_desk.specs.declared.reply.Reply.TheVariants.{Done};
+ghost use Rattle.rd_hall.specs.Account.{ends_in_leave, first_place};
+ghost use Rattle.rd_hall.specs.SeatView.{IsPlace, IsSeries, next_place, with_receipt};
 
 use crate::setup::Setup;
 use rd_bytes::no_memory::NoMemory;
-use rd_desk::entry::Receipt;
+use rd_command::order::Order;
+use rd_desk::entry::{Entry, Receipt};
+use rd_desk::history::History;
+use rd_desk::reply::Reply;
+use rd_desk::rows::{Deed, Rows};
+use std::alloc::Global;
 use std::marker::Model;
 use std::sync::ledger::{Book, Share};
 
@@ -31,59 +41,54 @@ impl<L: Setup> Pass<L> {
     }
 }
 
-/// A session that has joined, with its receipts. It must be spent: it ends in `leave`.
+/// A session that has joined, with its receipts, of which the last also stands by itself. It must
+/// be spent: it ends in `leave`.
 pub struct Seat<L: Setup> {
     pub(crate) who: u32,
-    pub(crate) receipts: Vec<Receipt>,
+    pub(crate) receipts: Rows,
+    pub(crate) last: Receipt,
     pub(crate) next: usize,
     pub(crate) share: Share<L>,
 }
 
 impl<L: Setup> Model for Seat<L> {
-    ghost use Rattle.std.specs.Prelude.{◌-◌, ◌<◌, length, vec_capacity, vec_len};
-    ghost use Rattle.rd_hall.specs.SeatView.{RoomedSeat, IsSeat};
+    ghost use Rattle.std.specs.Prelude.{◌<◌};
+    ghost use Rattle.rd_hall.specs.SeatView.{RoomedSeat, seat_of, IsLast, IsSeat};
 
     ghost Value = { RoomedSeat };
 
     ghost view = { λ s. record {
-      session = record {
-        who = s.who;
-        receipts = s.receipts.items;
-        share = s.share.amount;
-      };
-      room = vec_capacity s.receipts - vec_len s.receipts;
+      session = seat_of s.who s.receipts.noted s.share.amount;
+      room = s.receipts.row_room;
+      byte_room = s.receipts.byte_room;
     } };
 
     // There is room for the receipt of its leave.
     ghost invariant = { λ s.
-        IsSeat (record { who = s.who; receipts = s.receipts.items; share = s.share.amount })
-        s.next s.share.parts s.share.amount
-        × (length s.receipts.items < vec_capacity s.receipts) };
+        IsSeat (seat_of s.who s.receipts.noted s.share.amount) s.next s.share.parts s.share.amount
+        × IsLast (seat_of s.who s.receipts.noted s.share.amount) s.last
+        × (0 < s.receipts.row_room) };
 }
 
 /// A session that has left, with its receipts.
 #[derive(Drop)]
 pub struct Gone<L: Setup> {
     pub(crate) who: u32,
-    pub(crate) receipts: Vec<Receipt>,
+    pub(crate) receipts: Rows,
     pub(crate) next: usize,
     pub(crate) share: Share<L>,
 }
 
 impl<L: Setup> Model for Gone<L> {
-    ghost use Rattle.rd_hall.specs.SeatView.{SeatView, IsSeat};
+    ghost use Rattle.rd_hall.specs.SeatView.{SeatView, seat_of, IsSeat};
 
     ghost Value = { SeatView };
 
-    ghost view = { λ s. record {
-      who = s.who;
-      receipts = s.receipts.items;
-      share = s.share.amount;
-    } };
+    ghost view = { λ s. seat_of s.who s.receipts.noted s.share.amount };
 
     ghost invariant = { λ s.
-        IsSeat (record { who = s.who; receipts = s.receipts.items; share = s.share.amount })
-        s.next s.share.parts s.share.amount };
+        IsSeat (seat_of s.who s.receipts.noted s.share.amount) s.next s.share.parts
+        s.share.amount };
 }
 
 impl<L: Setup> Seat<L> {
@@ -94,20 +99,12 @@ impl<L: Setup> Seat<L> {
         self.who
     }
 
-    /// The receipts, in the order in which they came.
-    pub fn receipts(&self) -> &[Receipt]
-        ensures { result.now ≡ self.now.session.receipts }
-    {
-        self.receipts.as_slice()
-    }
-
     /// The last receipt.
     pub fn last(&self) -> &Receipt
         ensures { slice_get self.now.session.receipts (length self.now.session.receipts - 1)
             ≡ Some result.now }
     {
-        let receipts = self.receipts.as_slice();
-        &receipts[receipts.len() - 1]
+        &self.last
     }
 
     /// There are receipts, all name the session, and they rise in place. The session has as much of
@@ -123,29 +120,45 @@ impl<L: Setup> Seat<L> {
 }
 
 impl<L: Setup> Seat<L> {
-    // Makes room for two more receipts. An `Err` says that there is no memory for them.
-    pub(crate) fn make_room(&mut self) -> Result<(), NoMemory>
+    // Makes room for two more receipts, of which the first has so many bytes beside those of its
+    // reply. An `Err` says that there is no memory for them.
+    pub(crate) fn make_room(&mut self, bytes: usize) -> Result<(), NoMemory>
         ensures session { self.new.session ≡ self.old.session }
         ensures room { OnOk result (2 ≤ self.new.room) }
+        ensures bytes { OnOk result (bytes ≤ self.new.byte_room) }
         ensures kept { self.old.room ≤ self.new.room }
-        ensures short { OnErr result (self.new.room < 2) }
+        ensures kept_bytes { self.old.byte_room ≤ self.new.byte_room }
+        ensures short { OnErr result ((self.new.room < 2) ⊎ (self.new.byte_room < bytes)) }
     {
-        self.receipts.reserve(2)?;
-        Ok(())
+        self.receipts.make_room(2, bytes)
     }
 
-    // Gains a receipt, which the ledger counts. There is room for it, and for that of the leave.
-    pub(crate) fn gain(&mut self, book: &mut Book<L>, receipt: Receipt, next: usize)
+    // Gains the receipt of a command, which the ledger counts. There is room for it, and for that
+    // of the leave.
+    pub(crate) fn gain(
+        &mut self,
+        book: &mut Book<L>,
+        receipt: Receipt,
+        next: usize,
+        order: &Order<'_, '_>,
+    )
         requires who { receipt.entry.who ≡ self.old.session.who }
         requires behind { next_place 0 self.old.session.receipts ≤ receipt.place }
         requires next { next ≡ receipt.place + 1 }
+        requires place { IsPlace receipt.place }
+        requires event { receipt.entry.event ≡ Ask order.now.command }
         requires room { 2 ≤ self.old.room }
+        requires bytes { length order.now.line + length (reply_bytes receipt.entry.reply)
+            ≤ self.old.byte_room }
         ensures session { self.new.session ≡ with_receipt self.old.session receipt }
         ensures room { self.new.room + 1 ≡ self.old.room }
         ensures book { book.new.total ≡ book.old.total + 1 }
     {
         book.add(&mut self.share, 1);
-        self.receipts.push_reserved(receipt);
+        let place = receipt.place as u32;
+        let reply = &receipt.entry.reply;
+        self.receipts.push(place, Deed::Ask, order.line(), reply);
+        self.last = receipt;
         self.next = next;
     }
 
@@ -156,6 +169,7 @@ impl<L: Setup> Seat<L> {
         let Seat {
             who,
             receipts,
+            last: _last,
             next,
             share,
         } = self;
@@ -172,17 +186,21 @@ impl<L: Setup> Seat<L> {
         requires who { receipt.entry.who ≡ self.session.who }
         requires behind { next_place 0 self.session.receipts ≤ receipt.place }
         requires next { next ≡ receipt.place + 1 }
+        requires place { IsPlace receipt.place }
+        requires event { receipt.entry.event ≡ Leave }
+        requires reply { receipt.entry.reply ≡ Done }
         ensures session { result ≡ with_receipt self.session receipt }
         ensures book { book.new.total ≡ book.old.total + 1 }
     {
         let Seat {
             who,
             mut receipts,
+            last: _last,
             next: _,
             mut share,
         } = self;
         book.add(&mut share, 1);
-        receipts.push_reserved(receipt);
+        receipts.push(receipt.place as u32, Deed::Leave, &[], &Reply::Done);
         Gone {
             who,
             receipts,
@@ -200,11 +218,28 @@ impl<L: Setup> Gone<L> {
         self.who
     }
 
-    /// The receipts, in the order in which they came.
-    pub fn receipts(&self) -> &[Receipt]
-        ensures { result.now ≡ self.now.receipts }
+    /// How many receipts there are.
+    pub fn len(&self) -> usize
+        ensures { result ≡ length self.now.receipts }
     {
-        self.receipts.as_slice()
+        self.receipts.len()
+    }
+
+    /// The receipt at an index, in the order in which they came. An `Err` says that there is no
+    /// memory for it.
+    pub fn receipt(&self, alloc: Global, index: usize) -> Result<Receipt, NoMemory>
+        requires { index < length self.now.receipts }
+        ensures { IfOk result (λ receipt. slice_get self.now.receipts index ≡ Some receipt) }
+    {
+        let noted = self.receipts.get(alloc, index)?;
+        Ok(Receipt {
+            place: noted.number as usize,
+            entry: Entry {
+                who: self.who,
+                event: noted.event,
+                reply: noted.reply,
+            },
+        })
     }
 
     /// There are receipts, all name the session, and they rise in place. The session has as much of
@@ -222,5 +257,31 @@ impl<L: Setup> Gone<L> {
         ensures { result ≡ next_place 0 self.now.receipts }
     {
         self.next
+    }
+
+    // The place of the first receipt.
+    pub(crate) fn first(&self) -> usize
+        ensures { result ≡ first_place self.now.receipts }
+    {
+        self.receipts.number(0) as usize
+    }
+
+    // Whether the last receipt is of a leave.
+    pub(crate) fn ends_in_leave(&self) -> bool
+        ensures { result ≡ ends_in_leave self.now.receipts }
+    {
+        match self.receipts.deed(self.receipts.len() - 1) {
+            Deed::Enter | Deed::Ask => false,
+            Deed::Leave => true,
+        }
+    }
+
+    /// Whether the receipt at an index is the entry at its place.
+    pub fn is_entered(&self, history: &History, index: usize) -> bool
+        requires { index < length self.now.receipts }
+        ensures { IsTrue result
+            ↔ IsSomeAnd (slice_get self.now.receipts index) (IsEntered history.now.entries) }
+    {
+        history.has(self.who, &self.receipts, index)
     }
 }

@@ -10,6 +10,7 @@ use rd_desk::desk::{Desk, EnterError, NotServed};
 use rd_desk::entry::Receipt;
 use rd_desk::limits::Limits;
 use rd_desk::reply::Reply;
+use rd_desk::rows::Rows;
 use rd_desk::tally::Tally;
 use rd_names::app::App;
 use rd_reply::reply::{MAX_REPLY, append_reply};
@@ -113,7 +114,11 @@ fn ask<H: AllocGlobal + Abort>(
     let cores = desk.program().cores();
     let entries = desk.program().entries();
     let order = Order::new(&command, &names, cores, entries);
-    desk.serve(who, &order)
+    let mut receipts = Rows::new(rt.alloc());
+    let Ok(()) = receipts.make_room(0, order.line().len()) else {
+        panic!(rt; "no memory");
+    };
+    desk.serve(who, &order, &mut receipts)
 }
 
 // The session is answered so.

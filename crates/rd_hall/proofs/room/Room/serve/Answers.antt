@@ -7,4 +7,5 @@ pub invariant_of-self-2 : goal.invariant_of-self-2
 invariant_of-self-2 g c = (
   omega (arith, counted-does _ _ _ _ _ c.in_ok-served.ensures.ok, c.self.invariant.0, c.gain.ensures.book),
   IsOf-does _ _ _ _ _ _ _ _ c.in_ok-served.ensures.ok c.self.invariant.1,
+  c.self.invariant.2,
 )

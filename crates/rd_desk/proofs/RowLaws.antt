@@ -1,0 +1,179 @@
+-- Rows with one more, and the one at an index.
+use Rattle.std.proofs.Common.{◌≡◌, ◌∙◌, ℕ, zero, suc, ◌+◌, ◌-◌, ◌≤◌, ◌<◌, List, [], ◌∷◌, ◌++◌, length, take, drop, refl, ap, subst, sym, arith, append_assoc, length-append}
+use Rattle.std.specs.Prelude.{Some, get_or, slice_get, slice_range}
+use Rattle.std.proofs.lemmas.List.{append-nil, drop-append-le, length-drop, take-append-le, take_all}
+use Rattle.std.proofs.lemmas.Option.{slice_get_read}
+use Rattle.rd_desk.specs.declared.entry.Noted.{Noted}
+use Rattle.rd_desk.specs.declared.rows.Deed.{Deed}
+use Rattle.rd_desk.specs.declared.rows.Deed.TheVariants.{Enter, Ask, Leave}
+use Rattle.rd_desk.specs.declared.rows.Row.{Row}
+use Rattle.rd_desk.specs.declared.rows.Rows.TheInside.{Inside}
+use Rattle.rd_desk.specs.declared.reply.Reply.{Reply}
+use Rattle.rd_desk.specs.declared.reply.Reply.TheVariants.{Done, Told, Shown}
+use Rattle.rd_desk.specs.HistoryView.{IsLineOf, deed_event, deed_of, reply_bytes}
+use Rattle.rd_desk.specs.Rows.{RowsView}
+use Rattle.rd_desk.specs.RowsInside.{AreRows, IsRowOf, kept_of, line_end, noted_from, noted_in, reply_from, rows_of, start_at}
+
+-- ---- parts of bytes, where others came behind
+
+range_before : (bytes more : List ℕ) (from to : ℕ) → from ≤ to → to ≤ length bytes → slice_range (bytes ++ more) from to ≡ slice_range bytes from to
+range_before bytes more from to rising within =
+    ap (take (to - from)) (drop-append-le from bytes more (omega (arith, rising, within)))
+    ∙ take-append-le (to - from) (drop from bytes) more (omega (arith, length-drop from bytes, rising, within))
+
+drop_front : (xs ys : List ℕ) → drop (length xs) (xs ++ ys) ≡ ys
+drop_front [] ys = refl
+drop_front (x ∷ xs) ys = drop_front xs ys
+
+take_front : (xs ys : List ℕ) → take (length xs) (xs ++ ys) ≡ xs
+take_front xs ys = take-append-le (length xs) xs ys (omega arith) ∙ take_all (length xs) xs (omega arith)
+
+-- the part that came behind, and the one behind that
+range_behind : (bytes line others : List ℕ) (from to : ℕ) → from ≡ length bytes → to ≡ length bytes + length line
+    → slice_range (bytes ++ (line ++ others)) from to ≡ line
+range_behind bytes line others from to starts ends =
+    ap (λ n. take (to - n) (drop n (bytes ++ (line ++ others)))) starts
+    ∙ ap (take (to - length bytes)) (drop_front bytes (line ++ others))
+    ∙ ap (λ n. take n (line ++ others)) (let n : to - length bytes ≡ length line = omega (arith, ends) in n)
+    ∙ take_front line others
+
+-- ---- what stands in a row, where other bytes came behind
+
+noted_before : (bytes more : List ℕ) (start : ℕ) (row : Row) → IsRowOf bytes start row → noted_in (bytes ++ more) start row ≡ noted_in bytes start row
+noted_before bytes more start row within =
+    ap (λ (line : List ℕ). record {
+      number = row.number;
+      event = deed_event row.deed line;
+      reply = reply_from row.kept (slice_range (bytes ++ more) (line_end start row) row.end);
+    }) (range_before bytes more start (line_end start row) within.starts (omega (arith, within.middles, within.ends)))
+    ∙ ap (λ (text : List ℕ). record {
+      number = row.number;
+      event = deed_event row.deed (slice_range bytes start (line_end start row));
+      reply = reply_from row.kept text;
+    }) (range_before bytes more (line_end start row) row.end within.middles within.ends)
+
+row_before : (bytes more : List ℕ) (start : ℕ) (row : Row) → IsRowOf bytes start row → IsRowOf (bytes ++ more) start row
+row_before bytes more start row is = record {
+  ends = omega (arith, length-append bytes more, is.ends);
+  middles = is.middles;
+  starts = is.starts;
+  line = subst (IsLineOf row.deed) (sym (range_before bytes more start (line_end start row) is.starts (omega (arith, is.middles, is.ends)))) is.line;
+}
+
+-- ---- one row more, whose bytes came behind the others
+
+pub rows_push : (bytes more : List ℕ) (start : ℕ) (rows : List Row) (row : Row) → AreRows bytes start rows → IsRowOf (bytes ++ more) (length bytes) row
+    → row.end ≡ length (bytes ++ more) → AreRows (bytes ++ more) start (rows ++ row ∷ [])
+rows_push bytes more start [] row ends is end =
+    (subst (λ (from : ℕ). IsRowOf (bytes ++ more) from row) (sym ends) is, end)
+rows_push bytes more start (first ∷ rows) row are is end =
+    (row_before bytes more start first are.0, rows_push bytes more first.end rows row are.1 is end)
+
+pub noted_push : (bytes more : List ℕ) (start : ℕ) (rows : List Row) (row : Row) → AreRows bytes start rows
+    → noted_from (bytes ++ more) start (rows ++ row ∷ []) ≡ noted_from bytes start rows ++ noted_in (bytes ++ more) (length bytes) row ∷ []
+noted_push bytes more start [] row ends = ap (λ (from : ℕ). noted_in (bytes ++ more) from row ∷ []) ends
+noted_push bytes more start (first ∷ rows) row are =
+    ap (λ (noted : Noted). noted ∷ noted_from (bytes ++ more) first.end (rows ++ row ∷ [])) (noted_before bytes more start first are.0)
+    ∙ ap (λ (later : List Noted). noted_in bytes start first ∷ later) (noted_push bytes more first.end rows row are.1)
+
+kept_again : (line : ℕ) (reply : Reply) → reply_from (kept_of line reply) (reply_bytes reply) ≡ reply
+kept_again line Done = refl
+kept_again line (Told told) = refl
+kept_again line (Shown text) = refl
+
+-- The row of a reply behind a line that comes behind these bytes.
+abbrev pub row_of : List ℕ → ℕ → Deed → List ℕ → Reply → Row
+row_of bytes number deed line reply = record {
+  end = length bytes + length line + length (reply_bytes reply);
+  number = number;
+  deed = deed;
+  kept = kept_of (length line) reply;
+}
+
+line_end_behind : (bytes : List ℕ) (number : ℕ) (deed : Deed) (line : List ℕ) (reply : Reply)
+    → line_end (length bytes) (row_of bytes number deed line reply) ≡ length bytes + length line
+line_end_behind bytes number deed line Done = omega arith
+line_end_behind bytes number deed line (Told told) = omega arith
+line_end_behind bytes number deed line (Shown text) = refl
+
+-- its bytes
+line_behind : (bytes : List ℕ) (number : ℕ) (deed : Deed) (line : List ℕ) (reply : Reply)
+    → slice_range (bytes ++ (line ++ reply_bytes reply)) (length bytes) (line_end (length bytes) (row_of bytes number deed line reply)) ≡ line
+line_behind bytes number deed line reply =
+    range_behind bytes line (reply_bytes reply) (length bytes) (line_end (length bytes) (row_of bytes number deed line reply)) refl
+    (line_end_behind bytes number deed line reply)
+
+text_behind : (bytes : List ℕ) (number : ℕ) (deed : Deed) (line : List ℕ) (reply : Reply) → let row = row_of bytes number deed line reply in
+    slice_range (bytes ++ (line ++ reply_bytes reply)) (line_end (length bytes) row) row.end ≡ reply_bytes reply
+text_behind bytes number deed line reply =
+    let row = row_of bytes number deed line reply in
+    let text = reply_bytes reply in
+    let middle = line_end_behind bytes number deed line reply in
+    ap (λ (all : List ℕ). slice_range all (line_end (length bytes) row) row.end)
+    (sym (append_assoc bytes line text) ∙ ap (λ (last : List ℕ). (bytes ++ line) ++ last) (sym (append-nil text)))
+    ∙ range_behind (bytes ++ line) text [] (line_end (length bytes) row) row.end (omega (arith, middle, length-append bytes line))
+    (omega (arith, length-append bytes line))
+
+pub noted_behind : (bytes : List ℕ) (number : ℕ) (deed : Deed) (line : List ℕ) (reply : Reply)
+    → noted_in (bytes ++ (line ++ reply_bytes reply)) (length bytes) (row_of bytes number deed line reply)
+    ≡ record { number = number; event = deed_event deed line; reply = reply }
+noted_behind bytes number deed line reply =
+    let row = row_of bytes number deed line reply in
+    let all = bytes ++ (line ++ reply_bytes reply) in
+    ap (λ (l : List ℕ). record { number = number; event = deed_event deed l; reply = reply_from row.kept (slice_range all (line_end (length bytes) row) row.end) })
+    (line_behind bytes number deed line reply)
+    ∙ ap (λ (t : List ℕ). record { number = number; event = deed_event deed line; reply = reply_from row.kept t }) (text_behind bytes number deed line reply)
+    ∙ ap (λ (r : Reply). record { number = number; event = deed_event deed line; reply = r }) (kept_again (length line) reply)
+
+pub row_behind : (bytes : List ℕ) (number : ℕ) (deed : Deed) (line : List ℕ) (reply : Reply) → IsLineOf deed line
+    → IsRowOf (bytes ++ (line ++ reply_bytes reply)) (length bytes) (row_of bytes number deed line reply)
+row_behind bytes number deed line reply is =
+    let middle = line_end_behind bytes number deed line reply in record {
+      ends = omega (arith, length-append bytes (line ++ reply_bytes reply), length-append line (reply_bytes reply));
+      middles = omega (arith, middle);
+      starts = omega (arith, middle);
+      line = subst (IsLineOf deed) (sym (line_behind bytes number deed line reply)) is;
+    }
+
+-- ---- the row at an index
+
+pub noted_length : (bytes : List ℕ) (start : ℕ) (rows : List Row) → length (noted_from bytes start rows) ≡ length rows
+noted_length bytes start [] = refl
+noted_length bytes start (row ∷ rows) = ap suc (noted_length bytes row.end rows)
+
+pub noted_at : (bytes : List ℕ) (start : ℕ) (rows : List Row) (index : ℕ) (row : Row) → slice_get rows index ≡ Some row
+    → slice_get (noted_from bytes start rows) index ≡ Some (noted_in bytes (start_at start rows index) row)
+noted_at bytes start [] index row at = absurd cc
+noted_at bytes start (first ∷ rows) zero row at =
+    let is : first ≡ row = cc in ap (λ (r : Row). Some (noted_in bytes start r)) is
+noted_at bytes start (first ∷ rows) (suc index) row at = noted_at bytes first.end rows index row at
+
+pub row_at : (bytes : List ℕ) (start : ℕ) (rows : List Row) (index : ℕ) (row : Row) → AreRows bytes start rows → slice_get rows index ≡ Some row
+    → IsRowOf bytes (start_at start rows index) row
+row_at bytes start [] index row are at = absurd cc
+row_at bytes start (first ∷ rows) zero row are at =
+    let is : first ≡ row = cc in subst (IsRowOf bytes start) is are.0
+row_at bytes start (first ∷ rows) (suc index) row are at = row_at bytes first.end rows index row are.1 at
+
+pub start_behind : (start : ℕ) (rows : List Row) (index : ℕ) (row : Row) → slice_get rows index ≡ Some row → start_at start rows (suc index) ≡ row.end
+start_behind start [] index row at = absurd cc
+start_behind start (first ∷ rows) zero row at =
+    let is : first ≡ row = cc in ap (λ (r : Row). r.end) is
+start_behind start (first ∷ rows) (suc index) row at = start_behind first.end rows index row at
+
+-- as many as there are rows
+pub as_many : (r : Inside) (now : RowsView) → rows_of r ≡ now → length r.rows.items ≡ length now.noted
+as_many r now seen = sym (noted_length r.bytes.items 0 r.rows.items) ∙ ap (λ (v : RowsView). length v.noted) seen
+
+-- a row that was read is what is noted at its index
+pub noted_read : (r : Inside) (now : RowsView) (index : ℕ) (row : Row) → rows_of r ≡ now → index < length now.noted → row ≡ get_or r.rows.items index row
+    → slice_get now.noted index ≡ Some (noted_in r.bytes.items (start_at 0 r.rows.items index) row)
+noted_read r now index row seen within read =
+    ap (λ (v : RowsView). slice_get v.noted index) (sym seen)
+    ∙ noted_at r.bytes.items 0 r.rows.items index row
+    (slice_get_read r.rows.items (length r.rows.items) index row refl (omega (arith, within, as_many r now seen)) read)
+
+pub deed_again : (deed : Deed) (line : List ℕ) → deed ≡ deed_of (deed_event deed line)
+deed_again Enter line = refl
+deed_again Ask line = refl
+deed_again Leave line = refl

@@ -1,0 +1,72 @@
+-- What the fields of `Rows` stand for.
+use Rattle.std.specs.Prelude.{ℕ, zero, suc, ◌≡◌, ◌+◌, ◌-◌, ◌≤◌, List, [], ◌∷◌, length}
+use Rattle.std.specs.Prelude.{slice_range, vec_capacity, vec_len}
+use Rattle.rd_desk.specs.declared.entry.Noted.{Noted}
+use Rattle.rd_desk.specs.declared.reply.Reply.{Reply}
+use Rattle.rd_desk.specs.declared.reply.Reply.TheVariants.{Done, Told, Shown}
+use Rattle.rd_desk.specs.declared.rows.Kept.{Kept}
+use Rattle.rd_desk.specs.declared.rows.Kept.TheVariants as kept
+use Rattle.rd_desk.specs.declared.rows.Row.{Row}
+use Rattle.rd_desk.specs.declared.rows.Rows.TheInside.{Inside}
+use Rattle.rd_desk.specs.HistoryView.{deed_event, IsLineOf}
+use Rattle.rd_desk.specs.Rows.{RowsView}
+
+-- what is kept of a reply behind a line of so many bytes, but for its own bytes
+abbrev pub kept_of : ℕ → Reply → Kept
+kept_of line Done = kept.Done
+kept_of line (Told told) = kept.Told told
+kept_of line (Shown text) = kept.Shown line
+
+-- the reply, with its bytes
+abbrev pub reply_from : Kept → List ℕ → Reply
+reply_from kept.Done bytes = Done
+reply_from (kept.Told told) bytes = Told told
+reply_from (kept.Shown line) bytes = Shown bytes
+
+-- where the line ends in bytes from one place to another
+abbrev pub line_end_of : ℕ → ℕ → Kept → ℕ
+line_end_of start end kept.Done = end
+line_end_of start end (kept.Told told) = end
+line_end_of start end (kept.Shown line) = start + line
+
+-- the same of a row that begins there
+abbrev pub line_end : ℕ → Row → ℕ
+line_end start row = line_end_of start row.end row.kept
+
+-- what stands in a row that begins there
+abbrev pub noted_in : List ℕ → ℕ → Row → Noted
+noted_in bytes start row = record {
+  number = row.number;
+  event = deed_event row.deed (slice_range bytes start (line_end start row));
+  reply = reply_from row.kept (slice_range bytes (line_end start row) row.end);
+}
+
+-- the same of rows, each of which begins where the one before ends
+abbrev pub noted_from : List ℕ → ℕ → List Row → List Noted
+noted_from bytes start [] = []
+noted_from bytes start (row ∷ later) = noted_in bytes start row ∷ noted_from bytes row.end later
+
+-- where the row at an index begins
+abbrev pub start_at : ℕ → List Row → ℕ → ℕ
+start_at start rows zero = start
+start_at start [] (suc index) = start
+start_at start (row ∷ later) (suc index) = start_at row.end later index
+
+-- The bytes of a row are there, and its line is a command's, if one was asked for.
+pub record IsRowOf (bytes : List ℕ) (start : ℕ) (row : Row) : Type 0 where
+  pub ends : row.end ≤ length bytes
+  pub middles : line_end start row ≤ row.end
+  pub starts : start ≤ line_end start row
+  pub line : IsLineOf row.deed (slice_range bytes start (line_end start row))
+
+-- The same of each row, and the last one ends where the bytes do.
+abbrev pub AreRows : List ℕ → ℕ → List Row → Type 0
+AreRows bytes start [] = start ≡ length bytes
+AreRows bytes start (row ∷ later) = IsRowOf bytes start row × AreRows bytes row.end later
+
+abbrev pub rows_of : Inside → RowsView
+rows_of r = record {
+  noted = noted_from r.bytes.items 0 r.rows.items;
+  row_room = vec_capacity r.rows - vec_len r.rows;
+  byte_room = vec_capacity r.bytes - vec_len r.bytes;
+}

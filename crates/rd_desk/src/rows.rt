@@ -1,0 +1,315 @@
+//! Rows: what was done and what was replied, kept one behind the other, with their bytes in one
+//! place.
+
+ghost use Rattle.std.specs.Prelude.{◌≡◌, ◌↔◌, ◌+◌, ◌≤◌, ◌<◌, ◌⊎◌, ◌∷◌, ◌++◌, [], length};
+ghost use Rattle.std.specs.Prelude.{slice_get, slice_range, vec_capacity, vec_len};
+ghost use Rattle.std.specs.Prelude.{IfOk, IsSomeAnd, IsTrue, OnErr, OnOk};
+ghost use Rattle.rd_desk.specs.HistoryView.{deed_event, deed_of, reply_bytes, IsLineOf};
+ghost use Rattle.rd_desk.specs.Rows.{AreSame};
+ghost use Rattle.rd_desk.specs.RowsInside.{kept_of, line_end, reply_from, start_at, IsRowOf};
+
+use crate::asked::{Asked, are_same_command};
+use crate::entry::{Event, Noted};
+use crate::reply::Reply;
+use crate::text::Text;
+use rd_bytes::no_memory::NoMemory;
+use rd_reply::reply::Reply as Short;
+use std::alloc::Global;
+use std::marker::Model;
+
+/// What a session did, but for the line of a command.
+#[derive(Clone, Copy)]
+pub enum Deed {
+    /// It entered.
+    Enter,
+    /// It asked for something.
+    Ask,
+    /// It left.
+    Leave,
+}
+
+// What was replied, but for the text of a view, which stands behind a line of so many bytes.
+#[derive(Clone, Copy)]
+enum Kept {
+    Done,
+    Told { told: Short },
+    Shown { line: usize },
+}
+
+// What is kept of an entry or of a receipt, but for its bytes: the line of its command, and behind
+// it the text of its view. They begin where those of the row before end.
+#[derive(Clone, Copy)]
+struct Row {
+    end: usize,
+    number: u32,
+    deed: Deed,
+    kept: Kept,
+}
+
+// A row with its bytes.
+#[derive(Clone, Copy)]
+struct Unpacked<'a> {
+    deed: Deed,
+    line: &'a [u8],
+    kept: Kept,
+    text: &'a [u8],
+}
+
+/// What was done and replied so far, in order, each under a number. Each takes a row of 48 bytes,
+/// and the bytes of the line of its command and of its view.
+#[derive(Drop)]
+pub struct Rows {
+    rows: Vec<Row>,
+    bytes: Vec<u8>,
+}
+
+impl Model for Rows {
+    ghost use Rattle.rd_desk.specs.Rows.{RowsView};
+
+    ghost Value = { RowsView };
+
+    ghost use Rattle.rd_desk.specs.RowsInside.{rows_of, AreRows};
+
+    ghost view = { rows_of };
+
+    ghost invariant = { λ r. AreRows r.bytes.items 0 r.rows.items };
+}
+
+// What is kept of a reply behind a line of so many bytes, but for its own bytes.
+fn kept_of(line: usize, reply: &Reply) -> Kept
+    ensures { result ≡ kept_of line reply.now }
+{
+    match reply {
+        Reply::Done => Kept::Done,
+        Reply::Told { told } => Kept::Told { told: *told },
+        Reply::Shown { .. } => Kept::Shown { line },
+    }
+}
+
+/// The bytes of a reply: the line of a view, and else none.
+pub fn reply_bytes(reply: &Reply) -> &[u8]
+    ensures { result.now ≡ reply_bytes reply.now }
+{
+    match reply {
+        Reply::Done | Reply::Told { .. } => &[],
+        Reply::Shown { text } => text.as_slice(),
+    }
+}
+
+// Appends bytes that there is room for.
+fn append_reserved(bytes: &mut Vec<u8>, more: &[u8])
+    requires { vec_len bytes.old + length more.now ≤ vec_capacity bytes.old }
+    ensures items { bytes.new.items ≡ bytes.old.items ++ more.now }
+    ensures len { vec_len bytes.new ≡ vec_len bytes.old + length more.now }
+    ensures room { vec_capacity bytes.old ≤ vec_capacity bytes.new }
+{
+    bytes.extend_from_slice(more).unwrap();
+}
+
+// Where the bytes of a row begin.
+fn start_of(rows: &[Row], index: usize) -> usize
+    requires { index < length rows.now }
+    ensures { result ≡ start_at 0 rows.now index }
+{
+    if index == 0 { 0 } else { rows[index - 1].end }
+}
+
+// Where the line of a row ends that begins there.
+fn line_end(start: usize, row: Row) -> usize
+    requires { line_end start row ≤ row.end }
+    ensures { result ≡ line_end start row }
+{
+    match row.kept {
+        Kept::Done | Kept::Told { .. } => row.end,
+        Kept::Shown { line } => start + line,
+    }
+}
+
+// The row that begins there, with its bytes.
+fn unpack(bytes: &[u8], start: usize, row: Row) -> Unpacked<'_>
+    requires { IsRowOf bytes.now start row }
+    ensures deed { result.deed ≡ row.deed }
+    ensures line { result.line.now ≡ slice_range bytes.now start (line_end start row) }
+    ensures kept { result.kept ≡ row.kept }
+    ensures text { result.text.now ≡ slice_range bytes.now (line_end start row) row.end }
+    ensures said { IsLineOf result.deed result.line.now }
+{
+    let middle = line_end(start, row);
+    Unpacked {
+        deed: row.deed,
+        line: &bytes[start..middle],
+        kept: row.kept,
+        text: &bytes[middle..row.end],
+    }
+}
+
+// Whether the same was done.
+fn is_same_event(one: Unpacked<'_>, other: Unpacked<'_>) -> bool
+    requires one { IsLineOf one.deed one.line.now }
+    requires other { IsLineOf other.deed other.line.now }
+    ensures { IsTrue result
+        ↔ (deed_event one.entry.deed one.entry.line.now
+        ≡ deed_event other.entry.deed other.entry.line.now) }
+{
+    match (one.deed, other.deed) {
+        (Deed::Enter, Deed::Enter) | (Deed::Leave, Deed::Leave) => true,
+        (Deed::Ask, Deed::Ask) => are_same_command(one.line, other.line),
+        (Deed::Enter, Deed::Ask | Deed::Leave) => false,
+        (Deed::Ask, Deed::Enter | Deed::Leave) => false,
+        (Deed::Leave, Deed::Enter | Deed::Ask) => false,
+    }
+}
+
+// Whether the same was replied.
+fn is_same_reply(one: Unpacked<'_>, other: Unpacked<'_>) -> bool
+    ensures { IsTrue result
+        ↔ (reply_from one.entry.kept one.entry.text.now
+        ≡ reply_from other.entry.kept other.entry.text.now) }
+{
+    match (one.kept, other.kept) {
+        (Kept::Done, Kept::Done) => true,
+        (Kept::Told { told }, Kept::Told { told: other }) => told == other,
+        (Kept::Shown { .. }, Kept::Shown { .. }) => one.text == other.text,
+        (Kept::Done, Kept::Told { .. } | Kept::Shown { .. }) => false,
+        (Kept::Told { .. }, Kept::Done | Kept::Shown { .. }) => false,
+        (Kept::Shown { .. }, Kept::Done | Kept::Told { .. }) => false,
+    }
+}
+
+// What was done.
+fn event_of(alloc: Global, deed: Deed, line: &[u8]) -> Result<Event, NoMemory>
+    requires { IsLineOf deed line.now }
+    ensures { IfOk result (λ event. event ≡ deed_event deed line.now) }
+{
+    match deed {
+        Deed::Enter => Ok(Event::Enter),
+        Deed::Ask => Ok(Event::Ask {
+            command: Asked::new(alloc, line)?,
+        }),
+        Deed::Leave => Ok(Event::Leave),
+    }
+}
+
+// What was replied.
+fn reply_of(alloc: Global, kept: Kept, text: &[u8]) -> Result<Reply, NoMemory>
+    ensures { IfOk result (λ reply. reply ≡ reply_from kept text.now) }
+{
+    match kept {
+        Kept::Done => Ok(Reply::Done),
+        Kept::Told { told } => Ok(Reply::Told { told }),
+        Kept::Shown { .. } => Ok(Reply::Shown {
+            text: Text::of(alloc, text)?,
+        }),
+    }
+}
+
+impl Rows {
+    /// None. They take no memory.
+    pub fn new(alloc: Global) -> Rows
+        ensures { result.noted ≡ [] }
+    {
+        Rows {
+            rows: Vec::new(alloc),
+            bytes: Vec::new(alloc),
+        }
+    }
+
+    /// How many there are.
+    pub fn len(&self) -> usize
+        ensures { result ≡ length self.now.noted }
+    {
+        self.rows.len()
+    }
+
+    /// The number of the one at this index.
+    pub fn number(&self, index: usize) -> u32
+        requires { index < length self.now.noted }
+        ensures { IsSomeAnd (slice_get self.now.noted index) (λ noted. result ≡ noted.number) }
+    {
+        self.rows[index].number
+    }
+
+    /// What was done at this index.
+    pub fn deed(&self, index: usize) -> Deed
+        requires { index < length self.now.noted }
+        ensures { IsSomeAnd (slice_get self.now.noted index)
+            (λ noted. result ≡ deed_of noted.event) }
+    {
+        self.rows[index].deed
+    }
+
+    // The row at this index, with its bytes.
+    fn unpack(&self, index: usize) -> Unpacked<'_>
+        requires { index < length self.now.noted }
+        ensures noted { IsSomeAnd (slice_get self.now.noted index) (λ noted.
+            (noted.event ≡ deed_event result.deed result.line.now)
+            × (noted.reply ≡ reply_from result.kept result.text.now)) }
+        ensures said { IsLineOf result.deed result.line.now }
+    {
+        let rows = self.rows.as_slice();
+        unpack(self.bytes.as_slice(), start_of(rows, index), rows[index])
+    }
+
+    /// Whether the one at this index is the same as one of others, but for their numbers.
+    pub fn has_same(&self, index: usize, others: &Rows, other: usize) -> bool
+        requires index { index < length self.now.noted }
+        requires other { other < length others.now.noted }
+        ensures { IsTrue result ↔ AreSame (slice_get self.now.noted index)
+            (slice_get others.now.noted other) }
+    {
+        let one = self.unpack(index);
+        let other = others.unpack(other);
+        is_same_event(one, other) && is_same_reply(one, other)
+    }
+
+    /// The one at this index, by itself. An `Err` says that there is no memory for its bytes.
+    pub fn get(&self, alloc: Global, index: usize) -> Result<Noted, NoMemory>
+        requires { index < length self.now.noted }
+        ensures { IfOk result (λ noted. slice_get self.now.noted index ≡ Some noted) }
+    {
+        let number = self.number(index);
+        let one = self.unpack(index);
+        Ok(Noted {
+            number,
+            event: event_of(alloc, one.deed, one.line)?,
+            reply: reply_of(alloc, one.kept, one.text)?,
+        })
+    }
+
+    /// Makes room for so many more, and for so many bytes of theirs. Where there is no memory for
+    /// them, all stay, there is no less room, and no room for one of them.
+    pub fn make_room(&mut self, rows: usize, bytes: usize) -> Result<(), NoMemory>
+        ensures noted { self.new.noted ≡ self.old.noted }
+        ensures ok_rows { OnOk result (rows ≤ self.new.row_room) }
+        ensures ok_bytes { OnOk result (bytes ≤ self.new.byte_room) }
+        ensures kept_rows { self.old.row_room ≤ self.new.row_room }
+        ensures kept_bytes { self.old.byte_room ≤ self.new.byte_room }
+        ensures full { OnErr result
+            ((self.new.row_room < rows) ⊎ (self.new.byte_room < bytes)) }
+    {
+        self.rows.reserve(rows)?;
+        self.bytes.reserve(bytes)?;
+        Ok(())
+    }
+
+    /// Appends one, which there is room for. The line is that of the command, if one was asked for.
+    pub fn push(&mut self, number: u32, deed: Deed, line: &[u8], reply: &Reply)
+        requires line { IsLineOf deed line.now }
+        requires row { 0 < self.old.row_room }
+        requires bytes { length line.now + length (reply_bytes reply.now) ≤ self.old.byte_room }
+        ensures noted { self.new.noted ≡ self.old.noted
+            ++ record { number = number; event = deed_event deed line.now; reply = reply.now } ∷ [] }
+        ensures room { self.new.row_room + 1 ≡ self.old.row_room }
+        ensures byte_room { self.old.byte_room
+            ≤ self.new.byte_room + (length line.now + length (reply_bytes reply.now)) }
+    {
+        append_reserved(&mut self.bytes, line);
+        append_reserved(&mut self.bytes, reply_bytes(reply));
+        self.rows.push_reserved(Row {
+            end: self.bytes.len(),
+            number,
+            deed,
+            kept: kept_of(line.len(), reply),
+        });
+    }
+}
