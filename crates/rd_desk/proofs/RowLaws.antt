@@ -6,13 +6,14 @@ use Rattle.std.proofs.lemmas.Option.{slice_get_read}
 use Rattle.rd_desk.specs.declared.entry.Noted.{Noted}
 use Rattle.rd_desk.specs.declared.rows.Deed.{Deed}
 use Rattle.rd_desk.specs.declared.rows.Deed.TheVariants.{Enter, Ask, Leave}
+use Rattle.rd_desk.specs.declared.kept.Kept.{Kept}
 use Rattle.rd_desk.specs.declared.rows.Row.{Row}
 use Rattle.rd_desk.specs.declared.rows.Rows.TheInside.{Inside}
 use Rattle.rd_desk.specs.declared.reply.Reply.{Reply}
-use Rattle.rd_desk.specs.declared.reply.Reply.TheVariants.{Done, Told, Shown}
 use Rattle.rd_desk.specs.HistoryView.{IsLineOf, deed_event, deed_of, reply_bytes}
+use Rattle.rd_desk.specs.Kept.{IsKeptOf, reply_kept}
 use Rattle.rd_desk.specs.Rows.{RowsView}
-use Rattle.rd_desk.specs.RowsInside.{AreRows, IsRowOf, kept_of, line_end, noted_from, noted_in, reply_from, rows_of, start_at}
+use Rattle.rd_desk.specs.RowsInside.{AreRows, IsRowOf, line_end, noted_from, noted_in, rows_of, start_at}
 
 -- ---- parts of bytes, where others came behind
 
@@ -44,12 +45,12 @@ noted_before bytes more start row within =
     ap (λ (line : List ℕ). record {
       number = row.number;
       event = deed_event row.deed line;
-      reply = reply_from row.kept (slice_range (bytes ++ more) (line_end start row) row.end);
+      reply = reply_kept row.kept (slice_range (bytes ++ more) (line_end start row) row.end);
     }) (range_before bytes more start (line_end start row) within.starts (omega (arith, within.middles, within.ends)))
     ∙ ap (λ (text : List ℕ). record {
       number = row.number;
       event = deed_event row.deed (slice_range bytes start (line_end start row));
-      reply = reply_from row.kept text;
+      reply = reply_kept row.kept text;
     }) (range_before bytes more (line_end start row) row.end within.middles within.ends)
 
 row_before : (bytes more : List ℕ) (start : ℕ) (row : Row) → IsRowOf bytes start row → IsRowOf (bytes ++ more) start row
@@ -76,63 +77,52 @@ noted_push bytes more start (first ∷ rows) row are =
     ap (λ (noted : Noted). noted ∷ noted_from (bytes ++ more) first.end (rows ++ row ∷ [])) (noted_before bytes more start first are.0)
     ∙ ap (λ (later : List Noted). noted_in bytes start first ∷ later) (noted_push bytes more first.end rows row are.1)
 
-kept_again : (line : ℕ) (reply : Reply) → reply_from (kept_of line reply) (reply_bytes reply) ≡ reply
-kept_again line Done = refl
-kept_again line (Told told) = refl
-kept_again line (Shown text) = refl
-
 -- The row of a reply behind a line that comes behind these bytes.
-abbrev pub row_of : List ℕ → ℕ → Deed → List ℕ → Reply → Row
-row_of bytes number deed line reply = record {
+abbrev pub row_of : List ℕ → ℕ → Deed → List ℕ → Reply → Kept → Row
+row_of bytes number deed line reply kept = record {
   end = length bytes + length line + length (reply_bytes reply);
   number = number;
   deed = deed;
-  kept = kept_of (length line) reply;
+  kept = kept;
 }
 
-line_end_behind : (bytes : List ℕ) (number : ℕ) (deed : Deed) (line : List ℕ) (reply : Reply)
-    → line_end (length bytes) (row_of bytes number deed line reply) ≡ length bytes + length line
-line_end_behind bytes number deed line Done = omega arith
-line_end_behind bytes number deed line (Told told) = omega arith
-line_end_behind bytes number deed line (Shown text) = refl
-
 -- its bytes
-line_behind : (bytes : List ℕ) (number : ℕ) (deed : Deed) (line : List ℕ) (reply : Reply)
-    → slice_range (bytes ++ (line ++ reply_bytes reply)) (length bytes) (line_end (length bytes) (row_of bytes number deed line reply)) ≡ line
-line_behind bytes number deed line reply =
-    range_behind bytes line (reply_bytes reply) (length bytes) (line_end (length bytes) (row_of bytes number deed line reply)) refl
-    (line_end_behind bytes number deed line reply)
+line_behind : (bytes : List ℕ) (number : ℕ) (deed : Deed) (line : List ℕ) (reply : Reply) (kept : Kept) → IsKeptOf kept (length line) reply
+    → slice_range (bytes ++ (line ++ reply_bytes reply)) (length bytes) (line_end (length bytes) (row_of bytes number deed line reply kept)) ≡ line
+line_behind bytes number deed line reply kept is =
+    range_behind bytes line (reply_bytes reply) (length bytes) (line_end (length bytes) (row_of bytes number deed line reply kept)) refl (is.ends (length bytes))
 
-text_behind : (bytes : List ℕ) (number : ℕ) (deed : Deed) (line : List ℕ) (reply : Reply) → let row = row_of bytes number deed line reply in
+text_behind : (bytes : List ℕ) (number : ℕ) (deed : Deed) (line : List ℕ) (reply : Reply) (kept : Kept) → IsKeptOf kept (length line) reply
+    → let row = row_of bytes number deed line reply kept in
     slice_range (bytes ++ (line ++ reply_bytes reply)) (line_end (length bytes) row) row.end ≡ reply_bytes reply
-text_behind bytes number deed line reply =
-    let row = row_of bytes number deed line reply in
+text_behind bytes number deed line reply kept is =
+    let row = row_of bytes number deed line reply kept in
     let text = reply_bytes reply in
-    let middle = line_end_behind bytes number deed line reply in
+    let middle = is.ends (length bytes) in
     ap (λ (all : List ℕ). slice_range all (line_end (length bytes) row) row.end)
     (sym (append_assoc bytes line text) ∙ ap (λ (last : List ℕ). (bytes ++ line) ++ last) (sym (append-nil text)))
     ∙ range_behind (bytes ++ line) text [] (line_end (length bytes) row) row.end (omega (arith, middle, length-append bytes line))
     (omega (arith, length-append bytes line))
 
-pub noted_behind : (bytes : List ℕ) (number : ℕ) (deed : Deed) (line : List ℕ) (reply : Reply)
-    → noted_in (bytes ++ (line ++ reply_bytes reply)) (length bytes) (row_of bytes number deed line reply)
+pub noted_behind : (bytes : List ℕ) (number : ℕ) (deed : Deed) (line : List ℕ) (reply : Reply) (kept : Kept) → IsKeptOf kept (length line) reply
+    → noted_in (bytes ++ (line ++ reply_bytes reply)) (length bytes) (row_of bytes number deed line reply kept)
     ≡ record { number = number; event = deed_event deed line; reply = reply }
-noted_behind bytes number deed line reply =
-    let row = row_of bytes number deed line reply in
+noted_behind bytes number deed line reply kept is =
+    let row = row_of bytes number deed line reply kept in
     let all = bytes ++ (line ++ reply_bytes reply) in
-    ap (λ (l : List ℕ). record { number = number; event = deed_event deed l; reply = reply_from row.kept (slice_range all (line_end (length bytes) row) row.end) })
-    (line_behind bytes number deed line reply)
-    ∙ ap (λ (t : List ℕ). record { number = number; event = deed_event deed line; reply = reply_from row.kept t }) (text_behind bytes number deed line reply)
-    ∙ ap (λ (r : Reply). record { number = number; event = deed_event deed line; reply = r }) (kept_again (length line) reply)
+    ap (λ (l : List ℕ). record { number = number; event = deed_event deed l; reply = reply_kept kept (slice_range all (line_end (length bytes) row) row.end) })
+    (line_behind bytes number deed line reply kept is)
+    ∙ ap (λ (t : List ℕ). record { number = number; event = deed_event deed line; reply = reply_kept kept t }) (text_behind bytes number deed line reply kept is)
+    ∙ ap (λ (r : Reply). record { number = number; event = deed_event deed line; reply = r }) is.gives
 
-pub row_behind : (bytes : List ℕ) (number : ℕ) (deed : Deed) (line : List ℕ) (reply : Reply) → IsLineOf deed line
-    → IsRowOf (bytes ++ (line ++ reply_bytes reply)) (length bytes) (row_of bytes number deed line reply)
-row_behind bytes number deed line reply is =
-    let middle = line_end_behind bytes number deed line reply in record {
+pub row_behind : (bytes : List ℕ) (number : ℕ) (deed : Deed) (line : List ℕ) (reply : Reply) (kept : Kept) → IsKeptOf kept (length line) reply
+    → IsLineOf deed line → IsRowOf (bytes ++ (line ++ reply_bytes reply)) (length bytes) (row_of bytes number deed line reply kept)
+row_behind bytes number deed line reply kept is said =
+    let middle = is.ends (length bytes) in record {
       ends = omega (arith, length-append bytes (line ++ reply_bytes reply), length-append line (reply_bytes reply));
       middles = omega (arith, middle);
       starts = omega (arith, middle);
-      line = subst (IsLineOf deed) (sym (line_behind bytes number deed line reply)) is;
+      line = subst (IsLineOf deed) (sym (line_behind bytes number deed line reply kept is)) said;
     }
 
 -- ---- the row at an index

@@ -8,6 +8,7 @@ pub mod Views
 pub mod Serving
 pub mod MachineInside
 pub mod HistoryView
+pub mod Kept
 pub mod Rows
 pub mod RowsInside
 pub mod HistoryInside

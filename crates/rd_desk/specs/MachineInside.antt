@@ -3,6 +3,7 @@ use Rattle.rd_names.specs.Apps.{AreAsMany}
 use Rattle.rd_timeline.specs.Runs.{moves_of}
 use Rattle.rd_desk.specs.declared.machine.Machine.TheInside.{Inside}
 use Rattle.rd_desk.specs.Debugger.{Debugger}
+use Rattle.rd_desk.specs.Kept.{IsShort}
 use Rattle.rd_desk.specs.Sessions.{AreSessionsOf}
 
 abbrev pub debugger_of : Inside → Debugger
@@ -14,7 +15,9 @@ debugger_of m = record {
   sessions = m.sessions;
 }
 
--- Each kind has as many names as things, and each watch is of what the application has.
+-- Each kind has as many names as things, each watch is of what the application has, and so many
+-- moves may be done that a number of 32 bits tells how many are.
 pub record IsMachine (m : Inside) : Type 0 where
   pub named : AreAsMany m.timeline.app m.names
   pub watches : AreSessionsOf m.timeline.app m.sessions
+  pub few : IsShort m.timeline.limit

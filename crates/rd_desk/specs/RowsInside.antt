@@ -1,35 +1,14 @@
 -- What the fields of `Rows` stand for.
-use Rattle.std.specs.Prelude.{ℕ, zero, suc, ◌≡◌, ◌+◌, ◌-◌, ◌≤◌, List, [], ◌∷◌, length}
+use Rattle.std.specs.Prelude.{ℕ, zero, suc, ◌≡◌, ◌-◌, ◌≤◌, List, [], ◌∷◌, length}
 use Rattle.std.specs.Prelude.{slice_range, vec_capacity, vec_len}
 use Rattle.rd_desk.specs.declared.entry.Noted.{Noted}
-use Rattle.rd_desk.specs.declared.reply.Reply.{Reply}
-use Rattle.rd_desk.specs.declared.reply.Reply.TheVariants.{Done, Told, Shown}
-use Rattle.rd_desk.specs.declared.rows.Kept.{Kept}
-use Rattle.rd_desk.specs.declared.rows.Kept.TheVariants as kept
 use Rattle.rd_desk.specs.declared.rows.Row.{Row}
 use Rattle.rd_desk.specs.declared.rows.Rows.TheInside.{Inside}
 use Rattle.rd_desk.specs.HistoryView.{deed_event, IsLineOf}
+use Rattle.rd_desk.specs.Kept.{line_end_of, reply_kept}
 use Rattle.rd_desk.specs.Rows.{RowsView}
 
--- what is kept of a reply behind a line of so many bytes, but for its own bytes
-abbrev pub kept_of : ℕ → Reply → Kept
-kept_of line Done = kept.Done
-kept_of line (Told told) = kept.Told told
-kept_of line (Shown text) = kept.Shown line
-
--- the reply, with its bytes
-abbrev pub reply_from : Kept → List ℕ → Reply
-reply_from kept.Done bytes = Done
-reply_from (kept.Told told) bytes = Told told
-reply_from (kept.Shown line) bytes = Shown bytes
-
--- where the line ends in bytes from one place to another
-abbrev pub line_end_of : ℕ → ℕ → Kept → ℕ
-line_end_of start end kept.Done = end
-line_end_of start end (kept.Told told) = end
-line_end_of start end (kept.Shown line) = start + line
-
--- the same of a row that begins there
+-- where the line ends of a row that begins there
 abbrev pub line_end : ℕ → Row → ℕ
 line_end start row = line_end_of start row.end row.kept
 
@@ -38,7 +17,7 @@ abbrev pub noted_in : List ℕ → ℕ → Row → Noted
 noted_in bytes start row = record {
   number = row.number;
   event = deed_event row.deed (slice_range bytes start (line_end start row));
-  reply = reply_from row.kept (slice_range bytes (line_end start row) row.end);
+  reply = reply_kept row.kept (slice_range bytes (line_end start row) row.end);
 }
 
 -- the same of rows, each of which begins where the one before ends

@@ -8,6 +8,7 @@ ghost use Rattle.rd_desk.specs.declared.entry.Event.TheVariants.{Enter, Ask, Lea
 ghost use Rattle.rd_desk.specs.Debugger.{opening, target_of};
 ghost use Rattle.rd_desk.specs.DeskView.{entry_of, used, Does, IsKept};
 ghost use Rattle.rd_desk.specs.HistoryView.{reply_bytes, IsView};
+ghost use Rattle.rd_desk.specs.Kept.{IsNarrow};
 ghost use Rattle.rd_desk.specs.Memory.{MayLackMemory, TakesAtMost};
 ghost use Rattle.rd_desk.specs.Rows.{HasNoLess};
 ghost use Rattle.rd_desk.specs.Serving.{entered};
@@ -333,6 +334,7 @@ impl Desk {
             (length order.now.line + length (reply_bytes receipt.entry.reply))
             self.old self.new) }
         ensures not_taken { OnErr result (TakesAtMost 0 0 self.old self.new) }
+        ensures narrow { IfOk result (λ receipt. IsNarrow receipt.entry.reply) }
         ensures receipts { HasNoLess receipts.old receipts.new }
         ensures receipt_bytes { IfOk result (λ receipt.
             length order.now.line + length (reply_bytes receipt.entry.reply)
@@ -366,6 +368,7 @@ impl Desk {
             (length order.now.line + length (reply_bytes receipt.entry.reply))
             self.old self.new) }
         ensures not_taken { OnErr result (TakesAtMost 0 0 self.old self.new) }
+        ensures narrow { IfOk result (λ receipt. IsNarrow receipt.entry.reply) }
         ensures receipts { HasNoLess receipts.old receipts.new }
         ensures receipt_bytes { IfOk result (λ receipt.
             length order.now.line + length (reply_bytes receipt.entry.reply)

@@ -3,6 +3,7 @@
 ghost use Rattle.std.specs.Prelude.{◌≡◌, ◌↔◌, ◌+◌, ◌≤◌, ◌<◌, ◌⊎◌, ◌∷◌, ◌++◌, [], length};
 ghost use Rattle.std.specs.Prelude.{slice_get, IsSomeAnd, IsTrue, OnErr, OnOk};
 ghost use Rattle.rd_desk.specs.HistoryView.{deed_event, reply_bytes, IsEntered, IsLineOf};
+ghost use Rattle.rd_desk.specs.Kept.{IsNarrow};
 ghost use Rattle.rd_desk.specs.Rows.{receipt_of};
 
 use crate::reply::Reply;
@@ -76,6 +77,7 @@ impl History {
     /// for.
     pub fn push(&mut self, who: u32, deed: Deed, line: &[u8], reply: &Reply)
         requires line { IsLineOf deed line.now }
+        requires narrow { IsNarrow reply.now }
         requires row { 0 < self.old.row_room }
         requires bytes { length line.now + length (reply_bytes reply.now) ≤ self.old.byte_room }
         ensures entries { self.new.entries ≡ self.old.entries

@@ -5,6 +5,7 @@ pub mod asked;
 pub mod desk;
 pub mod entry;
 pub mod history;
+mod kept;
 pub mod laws;
 pub mod limits;
 pub mod machine;

@@ -12,6 +12,7 @@ ghost use Rattle.rd_timeline.specs.Runs.{kept, may_make_moves};
 ghost use Rattle.rd_desk.specs.Debugger.{freed, is_holder, opening, other_holder, own_watches};
 ghost use Rattle.rd_desk.specs.Debugger.{target_of, watching};
 ghost use Rattle.rd_desk.specs.DeskView.{LeadsBack};
+ghost use Rattle.rd_desk.specs.Kept.{IsNarrow, IsShort};
 ghost use Rattle.rd_desk.specs.Memory.{is_text, makes_moves, needs_memory, NeedsMemory};
 ghost use Rattle.rd_desk.specs.Serving.{after_request, entered, held_by, left, overview_of};
 ghost use Rattle.rd_desk.specs.Serving.{refused, reply_to_request, shown, view_of};
@@ -131,6 +132,7 @@ impl Machine {
             ≡ Ok (target_of self.now) }
         ensures leads_back { LeadsBack self.now.app.runs self.now.moves (target_of self.now) }
         ensures paired { AreNamesOf (target_of self.now) self.now.app.names }
+        ensures few { IsShort (length self.now.moves.done + length self.now.moves.undone) }
     {
         self.timeline.keeps();
     }
@@ -436,9 +438,11 @@ impl Machine {
         requires there { IsPresent self.old.sessions who }
         requires application { order.now.known ≡ known_of self.old.app }
         ensures ok { IfOk result (IsAnswered self.old who order.now.command self.new) }
+        ensures narrow { IfOk result IsNarrow }
         ensures no_memory { IsErr result → NeedsMemory self.old who order.now.command }
         ensures err { OnErr result (self.new ≡ self.old) }
     {
+        self.keeps();
         if let Some(holder) = self.held_by(who, order.command()) {
             return Ok(refused(Refusal::Held { holder }));
         }

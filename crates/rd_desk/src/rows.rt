@@ -6,14 +6,14 @@ ghost use Rattle.std.specs.Prelude.{slice_get, slice_range, vec_capacity, vec_le
 ghost use Rattle.std.specs.Prelude.{IfOk, IsSomeAnd, IsTrue, OnErr, OnOk};
 ghost use Rattle.rd_desk.specs.HistoryView.{deed_event, deed_of, reply_bytes, IsLineOf};
 ghost use Rattle.rd_desk.specs.Rows.{AreSame};
-ghost use Rattle.rd_desk.specs.RowsInside.{kept_of, line_end, reply_from, start_at, IsRowOf};
+ghost use Rattle.rd_desk.specs.Kept.{reply_kept, IsNarrow};
+ghost use Rattle.rd_desk.specs.RowsInside.{line_end, start_at, IsRowOf};
 
 use crate::asked::{Asked, are_same_command};
 use crate::entry::{Event, Noted};
+use crate::kept::Kept;
 use crate::reply::Reply;
-use crate::text::Text;
 use rd_bytes::no_memory::NoMemory;
-use rd_reply::reply::Reply as Short;
 use std::alloc::Global;
 use std::marker::Model;
 
@@ -26,14 +26,6 @@ pub enum Deed {
     Ask,
     /// It left.
     Leave,
-}
-
-// What was replied, but for the text of a view, which stands behind a line of so many bytes.
-#[derive(Clone, Copy)]
-enum Kept {
-    Done,
-    Told { told: Short },
-    Shown { line: usize },
 }
 
 // What is kept of an entry or of a receipt, but for its bytes: the line of its command, and behind
@@ -55,7 +47,7 @@ struct Unpacked<'a> {
     text: &'a [u8],
 }
 
-/// What was done and replied so far, in order, each under a number. Each takes a row of 48 bytes,
+/// What was done and replied so far, in order, each under a number. Each takes a row of 32 bytes,
 /// and the bytes of the line of its command and of its view.
 #[derive(Drop)]
 pub struct Rows {
@@ -73,17 +65,6 @@ impl Model for Rows {
     ghost view = { rows_of };
 
     ghost invariant = { λ r. AreRows r.bytes.items 0 r.rows.items };
-}
-
-// What is kept of a reply behind a line of so many bytes, but for its own bytes.
-fn kept_of(line: usize, reply: &Reply) -> Kept
-    ensures { result ≡ kept_of line reply.now }
-{
-    match reply {
-        Reply::Done => Kept::Done,
-        Reply::Told { told } => Kept::Told { told: *told },
-        Reply::Shown { .. } => Kept::Shown { line },
-    }
 }
 
 /// The bytes of a reply: the line of a view, and else none.
@@ -119,9 +100,10 @@ fn line_end(start: usize, row: Row) -> usize
     requires { line_end start row ≤ row.end }
     ensures { result ≡ line_end start row }
 {
-    match row.kept {
-        Kept::Done | Kept::Told { .. } => row.end,
-        Kept::Shown { line } => start + line,
+    if let Kept::Shown { line } = row.kept {
+        start + line
+    } else {
+        row.end
     }
 }
 
@@ -163,16 +145,13 @@ fn is_same_event(one: Unpacked<'_>, other: Unpacked<'_>) -> bool
 // Whether the same was replied.
 fn is_same_reply(one: Unpacked<'_>, other: Unpacked<'_>) -> bool
     ensures { IsTrue result
-        ↔ (reply_from one.entry.kept one.entry.text.now
-        ≡ reply_from other.entry.kept other.entry.text.now) }
+        ↔ (reply_kept one.entry.kept one.entry.text.now
+        ≡ reply_kept other.entry.kept other.entry.text.now) }
 {
-    match (one.kept, other.kept) {
-        (Kept::Done, Kept::Done) => true,
-        (Kept::Told { told }, Kept::Told { told: other }) => told == other,
-        (Kept::Shown { .. }, Kept::Shown { .. }) => one.text == other.text,
-        (Kept::Done, Kept::Told { .. } | Kept::Shown { .. }) => false,
-        (Kept::Told { .. }, Kept::Done | Kept::Shown { .. }) => false,
-        (Kept::Shown { .. }, Kept::Done | Kept::Told { .. }) => false,
+    if let (Kept::Shown { .. }, Kept::Shown { .. }) = (one.kept, other.kept) {
+        one.text == other.text
+    } else {
+        one.kept == other.kept
     }
 }
 
@@ -187,19 +166,6 @@ fn event_of(alloc: Global, deed: Deed, line: &[u8]) -> Result<Event, NoMemory>
             command: Asked::new(alloc, line)?,
         }),
         Deed::Leave => Ok(Event::Leave),
-    }
-}
-
-// What was replied.
-fn reply_of(alloc: Global, kept: Kept, text: &[u8]) -> Result<Reply, NoMemory>
-    ensures { IfOk result (λ reply. reply ≡ reply_from kept text.now) }
-{
-    match kept {
-        Kept::Done => Ok(Reply::Done),
-        Kept::Told { told } => Ok(Reply::Told { told }),
-        Kept::Shown { .. } => Ok(Reply::Shown {
-            text: Text::of(alloc, text)?,
-        }),
     }
 }
 
@@ -243,7 +209,7 @@ impl Rows {
         requires { index < length self.now.noted }
         ensures noted { IsSomeAnd (slice_get self.now.noted index) (λ noted.
             (noted.event ≡ deed_event result.deed result.line.now)
-            × (noted.reply ≡ reply_from result.kept result.text.now)) }
+            × (noted.reply ≡ reply_kept result.kept result.text.now)) }
         ensures said { IsLineOf result.deed result.line.now }
     {
         let rows = self.rows.as_slice();
@@ -272,7 +238,7 @@ impl Rows {
         Ok(Noted {
             number,
             event: event_of(alloc, one.deed, one.line)?,
-            reply: reply_of(alloc, one.kept, one.text)?,
+            reply: one.kept.reply(alloc, one.text)?,
         })
     }
 
@@ -295,6 +261,7 @@ impl Rows {
     /// Appends one, which there is room for. The line is that of the command, if one was asked for.
     pub fn push(&mut self, number: u32, deed: Deed, line: &[u8], reply: &Reply)
         requires line { IsLineOf deed line.now }
+        requires narrow { IsNarrow reply.now }
         requires row { 0 < self.old.row_room }
         requires bytes { length line.now + length (reply_bytes reply.now) ≤ self.old.byte_room }
         ensures noted { self.new.noted ≡ self.old.noted
@@ -309,7 +276,7 @@ impl Rows {
             end: self.bytes.len(),
             number,
             deed,
-            kept: kept_of(line.len(), reply),
+            kept: Kept::of(line.len(), reply),
         });
     }
 }

@@ -3,6 +3,7 @@
 ghost use Rattle.std.specs.Prelude.{◌≡◌, ◌↔◌, ◌+◌, ◌-◌, ◌<◌, ◌≤◌, ◌⊎◌, length, slice_get};
 ghost use Rattle.std.specs.Prelude.{IfOk, IsSomeAnd, IsTrue, OnErr, OnOk, Some};
 ghost use Rattle.rd_desk.specs.HistoryView.{reply_bytes, IsEntered};
+ghost use Rattle.rd_desk.specs.Kept.{IsNarrow};
 ghost use Rattle.rd_desk.specs.declared.entry.Event.TheVariants.{Ask, Leave};
 ghost use Rattle.rd_desk.specs.declared.reply.Reply.TheVariants.{Done};
 ghost use Rattle.rd_hall.specs.Account.{ends_in_leave, first_place};
@@ -147,6 +148,7 @@ impl<L: Setup> Seat<L> {
         requires next { next ≡ receipt.place + 1 }
         requires place { IsPlace receipt.place }
         requires event { receipt.entry.event ≡ Ask order.now.command }
+        requires narrow { IsNarrow receipt.entry.reply }
         requires room { 2 ≤ self.old.room }
         requires bytes { length order.now.line + length (reply_bytes receipt.entry.reply)
             ≤ self.old.byte_room }

@@ -1,5 +1,5 @@
 -- The goal of new that the check left open.
-use Rattle.std.proofs.Common.{rules, ◌∙◌, ap, subst, sym}
+use Rattle.std.proofs.Common.{rules, ◌∙◌, ap, arith, subst, sym}
 use Rattle.rd_app.specs.Application.{Application}
 use Rattle.rd_names.specs.Apps.{AreAsMany}
 use Rattle.rd_names.specs.Names.{NamesView}
@@ -13,5 +13,6 @@ invariant_of-result c =
     record {
       named = subst (λ (names : NamesView). AreAsMany timeline.app names) (sym c.split-program.ensures.names)
           (subst (λ (app : Application). AreAsMany app c.args.app.names) (sym runs) c.limits.ensures.paired);
+      few = omega (arith, ap (λ (course : Course). course.limit) c.in_ok-timeline.ensures, c.ranges.moves.fits);
       watches = rw c.in_ok-sessions.ensures (search rules);
     }

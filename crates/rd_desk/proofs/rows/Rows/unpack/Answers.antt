@@ -5,11 +5,12 @@ use Rattle.std.proofs.lemmas.Option.{slice_get-get_or}
 use Rattle.rd_desk.specs.declared.entry.Noted.{Noted}
 use Rattle.rd_desk.specs.declared.rows.Deed.{Deed}
 use Rattle.rd_desk.specs.declared.rows.Deed.TheVariants.{Enter}
-use Rattle.rd_desk.specs.declared.rows.Kept.TheVariants as kept
+use Rattle.rd_desk.specs.declared.kept.Kept.TheVariants as kept
 use Rattle.rd_desk.specs.declared.rows.Row.{Row}
 use Rattle.rd_desk.specs.HistoryView.{deed_event}
+use Rattle.rd_desk.specs.Kept.{reply_kept}
 use Rattle.rd_desk.specs.Rows.{RowsView}
-use Rattle.rd_desk.specs.RowsInside.{AreRows, IsRowOf, line_end, noted_from, noted_in, reply_from, start_at}
+use Rattle.rd_desk.specs.RowsInside.{AreRows, IsRowOf, line_end, noted_from, noted_in, start_at}
 use Rattle.rd_desk.proofs.RowLaws.{as_many, noted_at, row_at}
 use Rattle.rd_desk.proofs.rows.Rows.unpack.Goals as goal
 
@@ -51,14 +52,14 @@ returns-clause-noted c =
     ∙ ap (λ (all : List Row). slice_get (noted_from bytes 0 all) c.args.index) (sym c.as_slice-rows.ensures.value)
     ∙ noted_at bytes 0 rows c.args.index row (slice_get-get_or rows c.args.index _ within) in
     let P : Option Noted → Type 0 = λ o. IsSomeAnd o (λ noted. (noted.event ≡ deed_event c.unpack.result.deed c.unpack.result.line.now)
-    × (noted.reply ≡ reply_from c.unpack.result.kept c.unpack.result.text.now)) in
+    × (noted.reply ≡ reply_kept c.unpack.result.kept c.unpack.result.text.now)) in
     subst P (sym is) (
       sym (ap (λ (d : Deed). deed_event d c.unpack.result.line.now) c.unpack.ensures.deed
           ∙ ap (deed_event row.deed) (c.unpack.ensures.line
           ∙ ap (λ (all : List ℕ). slice_range all c.start_of.result (line_end c.start_of.result row)) c.as_slice.ensures.value
           ∙ ap (λ (start : ℕ). slice_range bytes start (line_end start row)) c.start_of.ensures)),
-      sym (ap (λ k. reply_from k c.unpack.result.text.now) c.unpack.ensures.kept
-          ∙ ap (reply_from row.kept) (c.unpack.ensures.text
+      sym (ap (λ k. reply_kept k c.unpack.result.text.now) c.unpack.ensures.kept
+          ∙ ap (reply_kept row.kept) (c.unpack.ensures.text
           ∙ ap (λ (all : List ℕ). slice_range all (line_end c.start_of.result row) row.end) c.as_slice.ensures.value
           ∙ ap (λ (start : ℕ). slice_range bytes (line_end start row) row.end) c.start_of.ensures)),
     )

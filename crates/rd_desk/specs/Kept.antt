@@ -1,0 +1,89 @@
+-- What is kept of a reply, but for the text of a view.
+use Rattle.std.specs.Prelude.{ℕ, ◌≡◌, ◌+◌, ◌<◌, ⊤, List, length}
+use Rattle.rd_refusal.specs.declared.refusal.Refusal.{Refusal}
+use Rattle.rd_refusal.specs.declared.refusal.Refusal.TheVariants as refusal
+use Rattle.rd_reply.specs.declared.reply.Reply.TheVariants as told
+use Rattle.rd_reply.specs.declared.reply.Reply as short
+use Rattle.rd_desk.specs.declared.kept.Cause.{Cause}
+use Rattle.rd_desk.specs.declared.kept.Cause.TheVariants as cause
+use Rattle.rd_desk.specs.declared.kept.Kept.{Kept}
+use Rattle.rd_desk.specs.declared.kept.Kept.TheVariants as kept
+use Rattle.rd_desk.specs.declared.reply.Reply.{Reply}
+use Rattle.rd_desk.specs.declared.reply.Reply.TheVariants.{Done, Told, Shown}
+use Rattle.rd_desk.specs.HistoryView.{reply_bytes}
+
+-- the refusal of a cause
+abbrev pub cause_refusal : Cause → Refusal
+cause_refusal cause.NoTask = refusal.NoTask
+cause_refusal cause.TickLimit = refusal.TickLimit
+cause_refusal cause.NothingUndone = refusal.NothingUndone
+cause_refusal cause.MovesFull = refusal.MovesFull
+cause_refusal cause.NoSuch = refusal.NoSuch
+cause_refusal cause.BadEdit = refusal.BadEdit
+cause_refusal cause.NoIsr = refusal.NoIsr
+cause_refusal cause.HistoryFull = refusal.HistoryFull
+cause_refusal cause.NoMemory = refusal.NoMemory
+cause_refusal cause.Syntax = refusal.Syntax
+cause_refusal cause.LineTooLong = refusal.LineTooLong
+cause_refusal cause.WatchesFull = refusal.WatchesFull
+cause_refusal cause.NoWatch = refusal.NoWatch
+cause_refusal cause.NotHolder = refusal.NotHolder
+cause_refusal cause.Broken = refusal.Broken
+cause_refusal cause.Full = refusal.Full
+
+-- the reply, with its bytes
+abbrev pub reply_kept : Kept → List ℕ → Reply
+reply_kept kept.Done bytes = Done
+reply_kept (kept.Reached at) bytes = Told (told.Done at)
+reply_kept (kept.Answered answer at) bytes = Told (told.Answered at answer)
+reply_kept (kept.Ended end at) bytes = Told (told.Ended at end)
+reply_kept (kept.Moves done undone kept) bytes = Told (told.Moves done undone kept)
+reply_kept kept.Wheel bytes = Told told.Wheel
+reply_kept (kept.Holder holder) bytes = Told (told.Holder holder)
+reply_kept (kept.Watch number) bytes = Told (told.Watch number)
+reply_kept (kept.TooFar kept) bytes = Told (told.Refused (refusal.TooFar kept))
+reply_kept (kept.Held holder) bytes = Told (told.Refused (refusal.Held holder))
+reply_kept (kept.Refused cause) bytes = Told (told.Refused (cause_refusal cause))
+reply_kept (kept.Shown line) bytes = Shown bytes
+
+-- where the line ends in bytes from one place to another
+abbrev pub line_end_of : ℕ → ℕ → Kept → ℕ
+line_end_of start end kept.Done = end
+line_end_of start end (kept.Reached at) = end
+line_end_of start end (kept.Answered answer at) = end
+line_end_of start end (kept.Ended way at) = end
+line_end_of start end (kept.Moves done undone kept) = end
+line_end_of start end kept.Wheel = end
+line_end_of start end (kept.Holder holder) = end
+line_end_of start end (kept.Watch number) = end
+line_end_of start end (kept.TooFar kept) = end
+line_end_of start end (kept.Held holder) = end
+line_end_of start end (kept.Refused cause) = end
+line_end_of start end (kept.Shown line) = start + line
+
+-- It is kept of this reply, behind a line of so many bytes: with the reply's bytes it gives the
+-- reply, and from where the line begins it tells where it ends.
+pub record IsKeptOf (kept : Kept) (line : ℕ) (reply : Reply) : Type 0 where
+  pub gives : reply_kept kept (reply_bytes reply) ≡ reply
+  pub ends : (start : ℕ)
+      → line_end_of start (start + line + length (reply_bytes reply)) kept ≡ start + line
+
+-- A number is kept with 32 bits.
+abbrev pub IsShort : ℕ → Type 0
+IsShort number = number < 4294967296
+
+-- How many moves there are is kept with 32 bits each.
+abbrev pub IsNarrowTold : short.Reply → Type 0
+IsNarrowTold (told.Done at) = ⊤
+IsNarrowTold (told.Answered at answer) = ⊤
+IsNarrowTold (told.Ended at end) = ⊤
+IsNarrowTold (told.Moves done undone kept) = IsShort done × IsShort undone × IsShort kept
+IsNarrowTold told.Wheel = ⊤
+IsNarrowTold (told.Holder holder) = ⊤
+IsNarrowTold (told.Watch number) = ⊤
+IsNarrowTold (told.Refused refusal) = ⊤
+
+abbrev pub IsNarrow : Reply → Type 0
+IsNarrow Done = ⊤
+IsNarrow (Told told) = IsNarrowTold told
+IsNarrow (Shown text) = ⊤
