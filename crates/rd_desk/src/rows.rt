@@ -77,14 +77,17 @@ pub fn reply_bytes(reply: &Reply) -> &[u8]
     }
 }
 
-// Appends bytes that there is room for.
+// Appends bytes that there is room for. (Mostly a reply has none.)
+#[inline]
 fn append_reserved(bytes: &mut Vec<u8>, more: &[u8])
     requires { vec_len bytes.old + length more.now ≤ vec_capacity bytes.old }
     ensures items { bytes.new.items ≡ bytes.old.items ++ more.now }
     ensures len { vec_len bytes.new ≡ vec_len bytes.old + length more.now }
     ensures room { vec_capacity bytes.old ≤ vec_capacity bytes.new }
 {
-    bytes.extend_from_slice(more).unwrap();
+    if !more.is_empty() {
+        bytes.extend_from_slice(more).unwrap();
+    }
 }
 
 // Where the bytes of a row begin.
