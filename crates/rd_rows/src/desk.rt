@@ -1,6 +1,7 @@
 //! Sessions of a desk, by calls.
 
-ghost use Rattle.std.specs.Prelude.{◌≡◌};
+ghost use Rattle.std.specs.Prelude.{◌≡◌, IfOk};
+ghost use Rattle.rd_desk.specs.Kept.{IsNarrow};
 ghost use Rattle.rd_desk.specs.Sessions.{IsPresent};
 
 use crate::asserts::assert_same;
@@ -58,7 +59,8 @@ fn assert_present(rt: &impl Abort, desk: &Desk, who: u32)
     assert!(rt; desk.is_present(who), "session {who} isn't present");
 }
 
-fn assert_departs(rt: &impl Abort, desk: &mut Desk, who: u32) {
+/// A session departs.
+pub fn assert_departs(rt: &impl Abort, desk: &mut Desk, who: u32) {
     assert_present(rt, desk, who);
     let place = desk.entries();
     let receipt = desk.depart(who);
@@ -104,6 +106,7 @@ fn ask<H: AllocGlobal + Abort>(
     line: &str,
 ) -> Result<Receipt, NotServed>
     requires { IsPresent desk.old.desk.debugger.sessions who }
+    ensures { IfOk result (λ receipt. IsNarrow receipt.entry.reply) }
 {
     let Ok(command) = parse_line(line.as_bytes()) else {
         panic!(rt; "{line} is no command");
@@ -543,39 +546,12 @@ fn two_places(rt: HostRuntime) -> Result<(), Fail> {
 }
 
 /// A session is served, and gets its receipt.
-pub fn serve<H: AllocGlobal + Abort>(rt: &H, desk: &mut Desk, who: u32, line: &str) -> Receipt {
+pub fn serve<H: AllocGlobal + Abort>(rt: &H, desk: &mut Desk, who: u32, line: &str) -> Receipt
+    ensures { IsNarrow result.entry.reply }
+{
     assert_present(rt, desk, who);
     match ask(rt, desk, who, line) {
         Ok(receipt) => receipt,
         Err(_) => panic!(rt; "{line} isn't served"),
     }
-}
-
-// A session ticks, looks at the wheel twice, in lines of other spaces, and departs.
-fn serve_three<H: AllocGlobal + Abort>(rt: &H, desk: &mut Desk) -> (Receipt, Receipt, Receipt) {
-    assert_enters(rt, desk, 1);
-    let ticked = serve(rt, desk, 1, "tick");
-    let first = serve(rt, desk, 1, "show wheel");
-    let second = serve(rt, desk, 1, " show  wheel ");
-    assert_departs(rt, desk, 1);
-    (ticked, first, second)
-}
-
-// A history has a receipt at its own place, and at that of an equal entry, and nowhere else.
-#[test]
-fn receipts(rt: HostRuntime) -> Result<(), Fail> {
-    let mut desk = open(&rt, 100)?;
-    let (ticked, mut first, second) = serve_three(&rt, &mut desk);
-    let history = desk.close();
-    assert_same(&rt, history.len(), 5);
-    for receipt in [&ticked, &first, &second] {
-        assert!(&rt; history.has(receipt));
-    }
-    first.place = second.place;
-    assert!(&rt; history.has(&first));
-    for place in [0, ticked.place, 4, 5] {
-        first.place = place;
-        assert!(&rt; !history.has(&first));
-    }
-    Ok(())
 }
