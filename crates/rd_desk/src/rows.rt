@@ -267,8 +267,11 @@ impl Rows {
         requires narrow { IsNarrow reply.now }
         requires row { 0 < self.old.row_room }
         requires bytes { length line.now + length (reply_bytes reply.now) ≤ self.old.byte_room }
-        ensures noted { self.new.noted ≡ self.old.noted
-            ++ record { number = number; event = deed_event deed line.now; reply = reply.now } ∷ [] }
+        ensures noted { self.new.noted ≡ self.old.noted ++ record {
+          number = number;
+          event = deed_event deed line.now;
+          reply = reply.now;
+        } ∷ [] }
         ensures room { self.new.row_room + 1 ≡ self.old.row_room }
         ensures byte_room { self.old.byte_room
             ≤ self.new.byte_room + (length line.now + length (reply_bytes reply.now)) }

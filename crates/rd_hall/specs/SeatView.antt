@@ -27,10 +27,6 @@ seat_of who noted share =
 abbrev pub IsLast : SeatView → Receipt → Type 0
 IsLast seat receipt = slice_get seat.receipts (length seat.receipts - 1) ≡ Some receipt
 
--- A place is kept as a number of 32 bits.
-abbrev pub IsPlace : ℕ → Type 0
-IsPlace place = place < 4294967296
-
 -- The receipts all name the session, and rise in place, from this place on.
 abbrev pub IsSeries : ℕ → ℕ → List Receipt → Type 0
 IsSeries who place [] = Unit {0}

@@ -41,8 +41,8 @@ pub struct Room<L: Setup> {
 
 impl<L: Setup> Model for Room<L> {
     ghost use Rattle.std.specs.Prelude.{◌≡◌, length};
+    ghost use Rattle.rd_desk.specs.Kept.{IsShort};
     ghost use Rattle.rd_hall.specs.Seats.{IsOf, RoomView};
-    ghost use Rattle.rd_hall.specs.SeatView.{IsPlace};
 
     ghost Value = { RoomView };
 
@@ -50,7 +50,7 @@ impl<L: Setup> Model for Room<L> {
 
     ghost invariant = { λ r. (length r.desk.desk.history ≡ r.book.total)
         × IsOf r.desk.desk L.app L.most_moves L.most_entries
-        × IsPlace L.most_entries };
+        × IsShort L.most_entries };
 }
 
 // The book of a ledger in which nothing is counted, and 64 passes.
@@ -218,6 +218,7 @@ impl<L: Setup> Room<L> {
         ensures err { OnErr result
             ((self.new ≡ self.old) × (seat.new.session ≡ seat.old.session)) }
         ensures room_kept { OnErr result (seat.old.room ≤ seat.new.room) }
+        ensures bytes_kept { OnErr result (seat.old.byte_room ≤ seat.new.byte_room) }
         ensures room_taken { OnOk result (seat.old.room ≤ seat.new.room + 1) }
     {
         if !self.reaches(seat) {
@@ -244,6 +245,7 @@ impl<L: Setup> Room<L> {
         ensures err { OnErr result
             ((self.new ≡ self.old) × (seat.new.session ≡ seat.old.session)) }
         ensures room_kept { OnErr result (seat.old.room ≤ seat.new.room) }
+        ensures bytes_kept { OnErr result (seat.old.byte_room ≤ seat.new.byte_room) }
         ensures room_taken { OnOk result (seat.old.room ≤ seat.new.room + 1) }
     {
         seat.make_room(order.line().len())?;

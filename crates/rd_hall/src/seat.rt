@@ -3,11 +3,11 @@
 ghost use Rattle.std.specs.Prelude.{◌≡◌, ◌↔◌, ◌+◌, ◌-◌, ◌<◌, ◌≤◌, ◌⊎◌, length, slice_get};
 ghost use Rattle.std.specs.Prelude.{IfOk, IsSomeAnd, IsTrue, OnErr, OnOk, Some};
 ghost use Rattle.rd_desk.specs.HistoryView.{reply_bytes, IsEntered};
-ghost use Rattle.rd_desk.specs.Kept.{IsNarrow};
+ghost use Rattle.rd_desk.specs.Kept.{IsNarrow, IsShort};
 ghost use Rattle.rd_desk.specs.declared.entry.Event.TheVariants.{Ask, Leave};
 ghost use Rattle.rd_desk.specs.declared.reply.Reply.TheVariants.{Done};
 ghost use Rattle.rd_hall.specs.Account.{ends_in_leave, first_place};
-ghost use Rattle.rd_hall.specs.SeatView.{IsPlace, IsSeries, next_place, with_receipt};
+ghost use Rattle.rd_hall.specs.SeatView.{IsSeries, next_place, with_receipt};
 
 use crate::setup::Setup;
 use rd_bytes::no_memory::NoMemory;
@@ -146,7 +146,7 @@ impl<L: Setup> Seat<L> {
         requires who { receipt.entry.who ≡ self.old.session.who }
         requires behind { next_place 0 self.old.session.receipts ≤ receipt.place }
         requires next { next ≡ receipt.place + 1 }
-        requires place { IsPlace receipt.place }
+        requires place { IsShort receipt.place }
         requires event { receipt.entry.event ≡ Ask order.now.command }
         requires narrow { IsNarrow receipt.entry.reply }
         requires room { 2 ≤ self.old.room }
@@ -188,7 +188,7 @@ impl<L: Setup> Seat<L> {
         requires who { receipt.entry.who ≡ self.session.who }
         requires behind { next_place 0 self.session.receipts ≤ receipt.place }
         requires next { next ≡ receipt.place + 1 }
-        requires place { IsPlace receipt.place }
+        requires place { IsShort receipt.place }
         requires event { receipt.entry.event ≡ Leave }
         requires reply { receipt.entry.reply ≡ Done }
         ensures session { result ≡ with_receipt self.session receipt }
