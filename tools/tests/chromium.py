@@ -1,4 +1,4 @@
-"""A real browser without a window, Debian's chromium, driven over the DevTools protocol by pipes."""
+"""A real browser without a window, Debian's chromium, driven over DevTools by pipes."""
 import base64
 import fcntl
 import json

@@ -1,5 +1,5 @@
-"""Makes three pictures of the page of a run, and two of that of a room, for who changes them to look
-at.
+"""Makes three pictures of the page of a run, and two of that of a room, for who changes them to
+look at.
 
 usage, in tools/: python3 -B -m tests.screenshots FOLDER
 

@@ -1,5 +1,5 @@
-"""Runs of `rdbg dap` end at the first place where a stop is met, ways back at the last: held against
-a look at each place."""
+"""Runs of `rdbg dap` end at the first place where a stop is met, ways back at the last: held
+against a look at each place."""
 import json
 import pathlib
 import random

@@ -16,8 +16,8 @@ CAUSES: Dict[str, str] = {
     "TwoReaders": PLACE,
     "TwoWriters": PLACE,
     "EmptyData": "data of no bytes was to be written to a buffer",
-    "BadBits": "bits above 16,777,215 were to be set, cleared or waited for at an event group, or no"
-    " bits to be waited for",
+    "BadBits": "bits above 16,777,215 were to be set, cleared or waited for at an event group, or"
+    " no bits to be waited for",
 }
 
 

@@ -94,7 +94,7 @@ def configured(it: Debugger, given: Arguments) -> Optional[Values]:
 
 
 def restart(it: Debugger, given: Arguments) -> Optional[Values]:
-    """`restart`: a new program on the file as it is now; of a target of others, back to its start."""
+    """`restart`: a new program on the file as it is; a target of others goes back to its start."""
     it.failure = ""
     if it.is_attached:
         try:

@@ -40,7 +40,7 @@ def spot(lines: Sequence[str], task: str, pc: int, code: Instruction) -> Spot:
 
 
 class Text:
-    """The text of an application, where it is known. An editor may count lines and columns from 0."""
+    """The text of an application, where known. An editor may count lines and columns from 0."""
 
     def __init__(self, source: Optional[Source]) -> None:
         self.source = source

@@ -334,7 +334,7 @@ def last_up_to(walk: Walk, stop: Stop, place: int) -> Optional[int]:
 
 
 def first_between(walk: Walk, stop: Stop, low: int, high: int) -> Optional[int]:
-    """The first place behind `low` up to `high` where a stop is met, among places that there are."""
+    """The first place behind `low` up to `high` where a stop is met, among those there are."""
     first = last_up_to(walk, stop, high)
     if first is None or first <= low:
         return None

@@ -32,7 +32,7 @@ def main(words: Sequence[str]) -> int:
         return 0
     if sys.stdin.isatty():
         print("rdbg dap: an editor starts this (docs/EDITORS.md); Ctrl-D ends it", file=sys.stderr)
-    # (streams of their own: nothing that is printed comes between, and none is waited for at the end)
+    # (streams of their own: no print comes between, and none is waited for at the end)
     lines = os.fdopen(os.dup(sys.stdin.fileno()), "rb")
     answers = os.fdopen(os.dup(sys.stdout.fileno()), "wb")
     Server(lines, answers).serve()

@@ -92,7 +92,7 @@ class Signals:
 
 
 def with_pages(room: Room, number: int) -> Served:
-    """The room's pages, at a port. Where that can't be had the room ends, and `Failure` is raised."""
+    """The room's pages, at a port. Where that can't be had the room ends, by a `Failure`."""
     try:
         return web.serve(room, number)
     except Failure:

@@ -32,7 +32,7 @@ def file_of(source: Optional[Source]) -> str:
 def of_run(
     source: Optional[Source], told: Sequence[Told], moves: Optional[int], base: int
 ) -> Dict[str, object]:
-    """The way to the places of a run; `base` is the first one to which `back` leads from its end."""
+    """The way to the places of a run; `base` is the first to which `back` leads from its end."""
     name = file_of(source)
     words = [shlex.quote(name)] if source else []
     more = ["--moves", str(moves)] if moves else []
