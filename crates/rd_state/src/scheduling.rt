@@ -5,8 +5,9 @@ ghost use Rattle.std.specs.Prelude.{Ok, false, IfOk, IsOk, OnOk, OnErr};
 ghost use Rattle.rd_wait.specs.Joined.{joined};
 ghost use Rattle.rd_state.specs.Edit.{room_for, GivesUp, Reaches};
 ghost use Rattle.rd_state.specs.Settled.{settled, settled_in, rotated, weakest_of, rank_of};
-ghost use Rattle.rd_state.specs.Settled.{head_of, seated_on, after_one_round, seating_of};
-ghost use Rattle.rd_state.specs.Settled.{shares_core, with_seats, IsSettled, SchedulingSettles};
+ghost use Rattle.rd_state.specs.Settled.{head_of, running_on, seated_on, after_one_round};
+ghost use Rattle.rd_state.specs.Settled.{seating_of, shares_core, with_seats, IsSettled};
+ghost use Rattle.rd_state.specs.Settled.{SchedulingSettles};
 ghost use Rattle.rd_state.specs.Sizes.{IsTaskOrIdle};
 
 use crate::change::Change;
@@ -27,21 +28,24 @@ fn rank_of(priorities: &[u8], running: Option<usize>) -> usize
 
 impl State {
     /// The core that is easiest to take: an idle one, else the one whose task has the lowest
-    /// priority; the lowest of those where several are.
-    fn weakest_core(&self, priorities: &[u8]) -> usize
+    /// priority; the lowest of those where several are. And how hard that is to take.
+    fn weakest_core(&self, priorities: &[u8]) -> (usize, usize)
         requires cores { 0 < length self.now.cores }
         requires priorities { length priorities.now ≡ length self.now.tasks }
-        ensures weakest { result ≡ weakest_of priorities.now self.now.cores }
-        ensures within { result < length self.now.cores }
+        ensures weakest { result.0 ≡ weakest_of priorities.now self.now.cores }
+        ensures within { result.0 < length self.now.cores }
+        ensures rank { result.1 ≡ rank_of priorities.now (running_on self.now.cores result.0) }
     {
         let mut weakest = 0;
+        let mut lowest = rank_of(priorities, self.core(0));
         for core in 1..self.cores().len() {
             let rank = rank_of(priorities, self.core(core));
-            if rank < rank_of(priorities, self.core(weakest)) {
+            if rank < lowest {
                 weakest = core;
+                lowest = rank;
             }
         }
-        weakest
+        (weakest, lowest)
     }
 }
 
@@ -94,9 +98,8 @@ impl Editing {
         let Some(head) = self.state().ready().first() else {
             return Ok(false);
         };
-        let core = self.state().weakest_core(priorities);
-        let running = self.state().core(core);
-        if rank_of(priorities, running) > usize::from(priorities[head]) {
+        let (core, rank) = self.state().weakest_core(priorities);
+        if rank > usize::from(priorities[head]) {
             return Ok(false);
         }
         self.seat_on(priorities, core, head)?;
