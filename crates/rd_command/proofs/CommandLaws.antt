@@ -1,6 +1,6 @@
 -- A command that is read is spelled by its words, and what spells a command is read.
 use Rattle.std.proofs.Common.{◌≡◌, ◌∙◌, ℕ, Bool, true, false, cond, nat_eq, List, [], ◌∷◌, ◌++◌, Option, Some, None, option_and_then, refl, sym, ap, subst}
-use Rattle.std.specs.Prelude.{IfOk, Result, is_some, ok_or}
+use Rattle.std.specs.Prelude.{Err, IfOk, Ok, Result, is_some}
 use Rattle.std.specs.List.{find}
 use Rattle.std.specs.Option.{option_or}
 use Rattle.std.specs.Result.{result_ok}
@@ -311,15 +311,11 @@ no_line_is_two_commands words command other h i =
 
 -- ---- of a line
 
-read_is : {Fault : Type 0} (read : Option CommandView) (fault : Fault) → result_ok (ok_or read fault) ≡ read
-read_is (Some command) fault = refl
-read_is None fault = refl
+pub read_spelled : {Fault : Type 0} (result : Result CommandView Fault) (words : List (List ℕ))
+    → result_ok result ≡ command_of words → IfOk result (Spells words)
+read_spelled (Ok command) words e = command_takes words command (sym e)
+read_spelled (Err fault) words e = tt
 
-pub read_spelled : {Fault : Type 0} (result : Result CommandView Fault) (read : Option CommandView) (fault : Fault) (words : List (List ℕ))
-    → result ≡ ok_or read fault → read ≡ command_of words → IfOk result (Spells words)
-read_spelled result (Some command) fault words is e = rw is (command_takes words command (sym e))
-read_spelled result None fault words is e = rw is tt
-
-pub spelled_read : {Fault : Type 0} (result : Result CommandView Fault) (read : Option CommandView) (fault : Fault) (words : List (List ℕ))
-    → result ≡ ok_or read fault → read ≡ command_of words → (command : CommandView) → Spells words command → result_ok result ≡ Some command
-spelled_read result read fault words is e command h = ap result_ok is ∙ read_is read fault ∙ e ∙ command_again words command h
+pub spelled_read : {Fault : Type 0} (result : Result CommandView Fault) (words : List (List ℕ))
+    → result_ok result ≡ command_of words → (command : CommandView) → Spells words command → result_ok result ≡ Some command
+spelled_read result words e command h = e ∙ command_again words command h

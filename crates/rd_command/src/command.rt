@@ -115,21 +115,24 @@ pub fn parse_line(line: &[u8]) -> Result<Command<'_>, Syntax>
     ensures only { (command : CommandView) → Spells (words_of line.now) command
         → result_ok result ≡ Some command }
 {
-    read_line(line).ok_or(Syntax)
+    read_line(line)
 }
 
-// The command that the words of the line spell, if they do.
-fn read_line(line: &[u8]) -> Option<Command<'_>>
-    ensures { result ≡ command_of (words_of line.now) }
+// The command that the words of the line spell, if they do. (It is made where it is returned, since
+// a command with its words is large.)
+fn read_line(line: &[u8]) -> Result<Command<'_>, Syntax>
+    ensures { result_ok result ≡ command_of (words_of line.now) }
 {
     let mut words = words_in(line);
-    let first = words.next()?;
+    let Some(first) = words.next() else {
+        return Err(Syntax);
+    };
     let mut behind = Behind::new();
     if !behind.read(words) {
-        return None;
+        return Err(Syntax);
     }
-    let Found { keyword, own } = command_from(first, behind.as_slice())?;
-    Some(Command {
+    let Found { keyword, own } = command_from(first, behind.as_slice()).ok_or(Syntax)?;
+    Ok(Command {
         line,
         keyword,
         behind,

@@ -4,9 +4,7 @@ use Rattle.rd_command.proofs.CommandLaws.{read_spelled, spelled_read}
 use Rattle.rd_command.proofs.command.parse_line.Goals as goal
 
 pub returns-clause-spelled : goal.returns-clause-spelled
-returns-clause-spelled c =
-    read_spelled c.ok_or.result c.read_line.result _ (words_of c.args.line.now) c.ok_or.ensures.value c.read_line.ensures
+returns-clause-spelled c = read_spelled c.read_line.result (words_of c.args.line.now) c.read_line.ensures
 
 pub returns-clause-only : goal.returns-clause-only
-returns-clause-only c =
-    spelled_read c.ok_or.result c.read_line.result _ (words_of c.args.line.now) c.ok_or.ensures.value c.read_line.ensures
+returns-clause-only c = spelled_read c.read_line.result (words_of c.args.line.now) c.read_line.ensures

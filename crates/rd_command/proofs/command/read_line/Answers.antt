@@ -7,5 +7,5 @@ use Rattle.rd_command.proofs.command.read_line.Goals as goal
 pub returns-then-not-read : goal.returns-then-not-read
 returns-then-not-read c =
     sym
-    (longer_is_none (words_of c.args.line.now) c.in_ok-first.first.now c.next.new.self (sym c.words_in-words.ensures ∙ c.in_ok-first.ensures.steps)
+    (longer_is_none (words_of c.args.line.now) c.in-Some.first.now c.next.new.self (sym c.words_in-words.ensures ∙ c.in-Some.ensures.steps)
     (sym c.if-not-read.ensures.few))
