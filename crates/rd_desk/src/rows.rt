@@ -245,6 +245,14 @@ impl Rows {
         })
     }
 
+    /// Whether there is room for so many more, and for so many bytes of theirs.
+    pub fn has_room(&self, rows: usize, bytes: usize) -> bool
+        ensures { IsTrue result ↔ ((rows ≤ self.now.row_room) × (bytes ≤ self.now.byte_room)) }
+    {
+        rows <= self.rows.capacity() - self.rows.len()
+            && bytes <= self.bytes.capacity() - self.bytes.len()
+    }
+
     /// Makes room for so many more, and for so many bytes of theirs. Where there is no memory for
     /// them, all stay, there is no less room, and no room for one of them.
     pub fn make_room(&mut self, rows: usize, bytes: usize) -> Result<(), NoMemory>

@@ -146,6 +146,9 @@ impl<L: Setup> Hall<L> {
             TurnsAway d seat.old.session error)) }
     {
         let order = Order::new(command, &self.names, self.cores, self.entries);
+        // The seat grows before the lock. Whether it has the room then is seen under it, where it
+        // is known whether the history is the seat's own.
+        let _ = seat.make_room(order.line().len());
         let mut room = self.room.lock(rt);
         room.keeps();
         room.backs(seat);

@@ -196,10 +196,9 @@ impl<L: Setup> Room<L> {
     /// Serves a command that was bound for the application; the seat gets the receipt of that.
     /// `Broken` where the history doesn't reach past the seat's last receipt, or its session isn't
     /// present, else `NoMemory` where the seat has no room for two more receipts, this and that of
-    /// its leave, or for the line of this one, and no memory for them, else `HistoryFull` where no
-    /// place is free, else `NoMemory` where the debugger has none, or the seat none for the text of
-    /// a view. A refusal changes nothing. It takes no memory beside that of the seat and of the
-    /// debugger.
+    /// its leave, or for the line of this one, else `HistoryFull` where no place is free, else
+    /// `NoMemory` where the debugger has none, or the seat none for the text of a view. A refusal
+    /// changes nothing. It takes no memory beside that of the debugger and of a view's text.
     pub fn ask(&mut self, seat: &mut Seat<L>, order: &Order<'_, '_>) -> Result<(), NotServed>
         requires application { order.now.known ≡ known_of L.app }
         ensures ok { OnOk result (DoesFor self.old.desk seat.old.session
@@ -209,8 +208,8 @@ impl<L: Setup> Room<L> {
         ensures history_full { IsTrue (is_serve_full result)
             ↔ (Reaches self.old.desk seat.old.session
             × (self.old.desk.most_entries ≡ used self.old.desk)
-            × (2 ≤ seat.new.room)
-            × (length order.now.line ≤ seat.new.byte_room)) }
+            × (2 ≤ seat.old.room)
+            × (length order.now.line ≤ seat.old.byte_room)) }
         ensures room { OnOk result (used self.old.desk < self.old.desk.most_entries) }
         ensures tally { IfErr result (λ error. IfServeFull error (λ tally.
             (tally ≡ tally_of self.old.desk)
@@ -236,8 +235,8 @@ impl<L: Setup> Room<L> {
         ensures not_broken { IfErr result (λ error. error ≢ NotServed.Broken) }
         ensures history_full { IsTrue (is_serve_full result)
             ↔ ((self.old.desk.most_entries ≡ used self.old.desk)
-            × (2 ≤ seat.new.room)
-            × (length order.now.line ≤ seat.new.byte_room)) }
+            × (2 ≤ seat.old.room)
+            × (length order.now.line ≤ seat.old.byte_room)) }
         ensures room { OnOk result (used self.old.desk < self.old.desk.most_entries) }
         ensures tally { IfErr result (λ error. IfServeFull error (λ tally.
             (tally ≡ tally_of self.old.desk)
@@ -248,7 +247,9 @@ impl<L: Setup> Room<L> {
         ensures bytes_kept { OnErr result (seat.old.byte_room ≤ seat.new.byte_room) }
         ensures room_taken { OnOk result (seat.old.room ≤ seat.new.room + 1) }
     {
-        seat.make_room(order.line().len())?;
+        if !seat.has_room(order.line().len()) {
+            return Err(NotServed::NoMemory);
+        }
         let served = self.desk.serve(seat.who, order, &mut seat.receipts)?;
         let next = self.desk.entries();
         seat.gain(&mut self.book, served, next, order);

@@ -121,9 +121,17 @@ impl<L: Setup> Seat<L> {
 }
 
 impl<L: Setup> Seat<L> {
-    // Makes room for two more receipts, of which the first has so many bytes beside those of its
-    // reply. An `Err` says that there is no memory for them.
-    pub(crate) fn make_room(&mut self, bytes: usize) -> Result<(), NoMemory>
+    // Whether there is that room.
+    pub(crate) fn has_room(&self, bytes: usize) -> bool
+        ensures { IsTrue result ↔ ((2 ≤ self.now.room) × (bytes ≤ self.now.byte_room)) }
+    {
+        self.receipts.has_room(2, bytes)
+    }
+
+    /// Makes room for two more receipts, that of a command whose line has so many bytes, and that
+    /// of the leave. An `Err` says that there is no memory for them; the receipts stay, and there is
+    /// no less room.
+    pub fn make_room(&mut self, bytes: usize) -> Result<(), NoMemory>
         ensures session { self.new.session ≡ self.old.session }
         ensures room { OnOk result (2 ≤ self.new.room) }
         ensures bytes { OnOk result (bytes ≤ self.new.byte_room) }

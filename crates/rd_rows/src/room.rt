@@ -60,6 +60,10 @@ fn ask<L: Setup>(
     };
     let order = Order::new(&command, &outside.names, outside.cores, outside.entries);
     let mut seat = seat;
+    assert!(rt;
+        seat.make_room(line.len()).is_ok(),
+        "there is no memory for {line}"
+    );
     let served = room.ask(&mut seat, &order);
     assert!(rt; served.is_ok(), "{line} isn't served");
     seat
