@@ -157,7 +157,8 @@ pub fn move_answer(app: &Program, state: &State, action: &Move<Lent<'_>>) -> Opt
 /// to those of the moves before. A refusal leaves the state and the record as they were: `NoTask`
 /// where the core is idle, `TickLimit` where the tick is 4,294,967,295, `BadEdit` where the edit
 /// can't be made, `NoIsr` where an interrupt comes to an application of profile 1, `NoMemory` where
-/// a growth was refused, as none is where the record has room for the move. There is no other. The record keeps the memory that it has.
+/// a growth was refused, as none is where the record has room for the move. There is no other. The
+/// record keeps the memory that it has.
 pub fn play_on(editing: &mut Editing, app: &Program, action: &Move<Lent<'_>>) -> Result<(), Refusal>
     requires valid { IsValid app.now editing.old.now }
     requires named { IsMoveOf app.now action.now }
