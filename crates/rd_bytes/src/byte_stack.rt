@@ -20,18 +20,20 @@ pub struct ByteStack {
     // The bytes, and behind them those that are ready to be written over: so a few bytes are put in
     // by a few instructions, whether they lie here or elsewhere.
     slots: SmallVec<u8, INLINE_BYTES>,
+    // how many slots there are, which is asked each time that something is put in
+    ready: usize,
     len: usize,
 }
 
 impl Model for ByteStack {
-    ghost use Rattle.std.specs.Prelude.{◌≤◌, length, take};
+    ghost use Rattle.std.specs.Prelude.{◌≡◌, ◌≤◌, length, take};
     ghost use Rattle.rd_bytes.specs.StackView.{StackView};
 
     ghost Value = { StackView };
 
     ghost view = { λ s. record { bytes = take s.len s.slots.items; capacity = s.slots.capacity } };
 
-    ghost invariant = { λ s. s.len ≤ length s.slots.items };
+    ghost invariant = { λ s. (s.ready ≡ length s.slots.items) × (s.len ≤ s.ready) };
 }
 
 // Writes a few bytes over as many, from `at` on, one by one: where `N` is known, by as few stores.
@@ -89,6 +91,7 @@ impl ByteStack {
     {
         ByteStack {
             slots: SmallVec::new(alloc),
+            ready: 0,
             len: 0,
         }
     }
@@ -113,8 +116,8 @@ impl ByteStack {
     }
 
     /// Puts a few bytes at the end. It takes no memory where there is room for them. Where there is
-    /// no memory for them, nothing has changed.
-    #[inline(never)]
+    /// no memory for them, nothing has changed. (Inlined: for a few bytes a call is dearer.)
+    #[inline(always)]
     pub fn push<const N: usize>(&mut self, bytes: &[u8; N]) -> Result<(), NoMemory>
         ensures ok { OnOk result (self.new.bytes ≡ self.old.bytes ++ bytes.now) }
         ensures enough { length self.old.bytes + length bytes.now ≤ self.old.capacity
@@ -122,8 +125,9 @@ impl ByteStack {
         ensures grows { self.old.capacity ≤ self.new.capacity }
         ensures err { OnErr result (self.new ≡ self.old) }
     {
-        if self.slots.len() - self.len < N {
+        if self.ready - self.len < N {
             make_ready(&mut self.slots, self.len, N)?;
+            self.ready = self.slots.len();
         }
         write_each(self.slots.as_mut_slice(), self.len, bytes);
         self.len += N;
@@ -140,8 +144,9 @@ impl ByteStack {
         ensures grows { self.old.capacity ≤ self.new.capacity }
         ensures err { OnErr result (self.new ≡ self.old) }
     {
-        if self.slots.len() - self.len < bytes.len() {
+        if self.ready - self.len < bytes.len() {
             make_ready(&mut self.slots, self.len, bytes.len())?;
+            self.ready = self.slots.len();
         }
         write_at(self.slots.as_mut_slice(), self.len, bytes);
         self.len += bytes.len();
@@ -183,7 +188,7 @@ impl ByteStack {
         if self.slots.capacity() - len >= more {
             return Ok(());
         }
-        let missing = more.saturating_sub(self.slots.len() - len);
+        let missing = more.saturating_sub(self.ready - len);
         self.slots.reserve(missing)?;
         Ok(())
     }

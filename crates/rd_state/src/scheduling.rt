@@ -51,6 +51,7 @@ impl State {
 
 impl Editing {
     /// Joins a task to the ready list, at the index of its priority.
+    #[inline(always)]
     pub fn join_ready(&mut self, priorities: &[u8], task: usize) -> Result<(), NoMemory>
         requires task { task < length self.old.now.tasks }
         requires room { length self.old.now.ready < length self.old.now.tasks }
