@@ -101,7 +101,7 @@ retraces_push c move last s kept steps back valid settled =
 
 -- Whether a course is kept hangs on its application, its limit, its target, what is done and undone, and the most that was.
 kept_as : (t : Inside) (c : Course) → IsKept c → t.app ≡ c.app → t.limit ≡ c.limit → t.journal.target ≡ c.target → t.journal.done ≡ c.done
-    → t.journal.records ≡ c.log → t.journal.undone ≡ c.undone → t.most_done ≡ c.most_done → t.most_carried ≡ c.most_carried → IsKept (course_of t)
+    → t.journal.records ≡ c.log → t.journal.undone ≡ c.undone → t.most_done.value ≡ c.most_done → t.most_carried.value ≡ c.most_carried → IsKept (course_of t)
 kept_as t c kept app limit target done log undone most carried =
     let P : Application → ℕ → Snapshot → List PlainMove → List (List Change) → List PlainMove → ℕ → ℕ → Type 0 =
     λ a n s ms rs us m e. IsKept (record (course_of t) {
@@ -120,21 +120,21 @@ kept_as t c kept app limit target done log undone most carried =
       rewinds = kept.rewinds;
       made = kept.made;
     } in
-    subst (λ (a : Application). P a t.limit t.journal.target t.journal.done t.journal.records t.journal.undone t.most_done t.most_carried) (sym app)
-    (subst (λ n. P c.app n t.journal.target t.journal.done t.journal.records t.journal.undone t.most_done t.most_carried) (sym limit)
-    (subst (λ (s : Snapshot). P c.app c.limit s t.journal.done t.journal.records t.journal.undone t.most_done t.most_carried) (sym target)
-    (subst (λ (ms : List PlainMove). P c.app c.limit c.target ms t.journal.records t.journal.undone t.most_done t.most_carried) (sym done)
-    (subst (λ (rs : List (List Change)). P c.app c.limit c.target c.done rs t.journal.undone t.most_done t.most_carried) (sym log)
-    (subst (λ (us : List PlainMove). P c.app c.limit c.target c.done c.log us t.most_done t.most_carried) (sym undone)
-    (subst (λ m. P c.app c.limit c.target c.done c.log c.undone m t.most_carried) (sym most)
+    subst (λ (a : Application). P a t.limit t.journal.target t.journal.done t.journal.records t.journal.undone t.most_done.value t.most_carried.value) (sym app)
+    (subst (λ n. P c.app n t.journal.target t.journal.done t.journal.records t.journal.undone t.most_done.value t.most_carried.value) (sym limit)
+    (subst (λ (s : Snapshot). P c.app c.limit s t.journal.done t.journal.records t.journal.undone t.most_done.value t.most_carried.value) (sym target)
+    (subst (λ (ms : List PlainMove). P c.app c.limit c.target ms t.journal.records t.journal.undone t.most_done.value t.most_carried.value) (sym done)
+    (subst (λ (rs : List (List Change)). P c.app c.limit c.target c.done rs t.journal.undone t.most_done.value t.most_carried.value) (sym log)
+    (subst (λ (us : List PlainMove). P c.app c.limit c.target c.done c.log us t.most_done.value t.most_carried.value) (sym undone)
+    (subst (λ m. P c.app c.limit c.target c.done c.log c.undone m t.most_carried.value) (sym most)
     (subst (λ e. P c.app c.limit c.target c.done c.log c.undone c.most_done e) (sym carried) here)))))))
 
 pub IsWhole-new : (t : Inside) (s : Snapshot) → IsApplication t.app → s ≡ boot_of t.app → IsValid t.app s → IsSettled (priorities_of t.app) s
-    → t.journal.target ≡ s → t.journal.done ≡ [] → t.journal.records ≡ [] → t.journal.undone ≡ [] → IsFresh t → t.most_carried ≡ 0
+    → t.journal.target ≡ s → t.journal.done ≡ [] → t.journal.records ≡ [] → t.journal.undone ≡ [] → IsFresh t → t.most_carried.value ≡ 0
     → IsWhole t
 IsWhole-new t s limits boot valid settled target done log undone fresh none_carried =
     let at_boot : IsKept (record (course_of t) { target = s; done = []; log = []; undone = [] }) =
-    record { records = omega arith; retraces = Retraces-boot t.app s boot valid settled; rewinds = tt; made = AreMade-none t.app t.limit t.most_done t.most_carried } in
+    record { records = omega arith; retraces = Retraces-boot t.app s boot valid settled; rewinds = tt; made = AreMade-none t.app t.limit t.most_done.value t.most_carried.value } in
     record {
       kept = kept_as t _ at_boot refl refl target done log undone refl refl;
       limits = limits;
@@ -231,11 +231,11 @@ pub IsWhole-push : (t t' : Inside) (move : PlainMove) (last : List Change) → I
     → IsMoveOf t.app move → length t.journal.done ≢ t.limit → step t.app t.journal.target move ≡ Ok t'.journal.target → undone t'.journal.target last ≡ t.journal.target
     → CanUndo t'.journal.target last
     → IsValid t.app t'.journal.target → IsSettled (priorities_of t.app) t'.journal.target → t'.journal.done ≡ t.journal.done ++ move ∷ []
-    → t'.journal.records ≡ t.journal.records ++ last ∷ [] → t'.journal.undone ≡ [] → length t.journal.done < t'.most_done
-    → carried_in (t.journal.done ++ move ∷ []) ≤ t'.most_carried → t'.most_done ≤ t'.journal.capacity → t'.most_carried ≤ t'.journal.carried_capacity
-    → t'.most_bytes + MAX_KEPT_BYTES ≤ t'.journal.memory → IsWhole t'
+    → t'.journal.records ≡ t.journal.records ++ last ∷ [] → t'.journal.undone ≡ [] → length t.journal.done < t'.most_done.value
+    → carried_in (t.journal.done ++ move ∷ []) ≤ t'.most_carried.value → t'.most_done.value ≤ t'.journal.capacity → t'.most_carried.value ≤ t'.journal.carried_capacity
+    → t'.most_bytes.value + MAX_KEPT_BYTES ≤ t'.journal.memory → IsWhole t'
 IsWhole-push t t' move last whole app limit named more steps back can valid settled done log undone were carried_were capacity carried memory =
-    let pushed = IsKept-push (course_of t) move last t'.journal.target t'.most_done t'.most_carried whole.kept named more were carried_were steps back can valid settled in
+    let pushed = IsKept-push (course_of t) move last t'.journal.target t'.most_done.value t'.most_carried.value whole.kept named more were carried_were steps back can valid settled in
     record {
       kept = kept_as t' _ pushed app limit refl done log undone refl refl;
       limits = subst IsApplication (sym app) whole.limits;
@@ -280,8 +280,8 @@ IsWhole-aside t journal whole is =
         retraces = whole.kept.retraces;
         rewinds = whole.kept.rewinds;
         made =
-            subst (AreMade t.app t.limit t.most_done t.most_carried) (sym (append-nil t.journal.done))
-            (AreMade-done t.app t.limit t.most_done t.most_carried t.journal.done t.journal.undone t.journal.target whole.kept.made (state_now t whole).state);
+            subst (AreMade t.app t.limit t.most_done.value t.most_carried.value) (sym (append-nil t.journal.done))
+            (AreMade-done t.app t.limit t.most_done.value t.most_carried.value t.journal.done t.journal.undone t.journal.target whole.kept.made (state_now t whole).state);
       };
       limits = whole.limits;
       capacity = whole.capacity;
@@ -306,14 +306,14 @@ IsWhole-cancel t journal start n is whole can target done log undone capacity ca
       done = take m t.journal.done;
       log = take (length t.journal.records - n) t.journal.records;
       undone = start.undone;
-      most_done = start.most_done;
-      most_carried = start.most_carried;
+      most_done = start.most_done.value;
+      most_carried = start.most_carried.value;
     }) = record {
       records = back.records;
       retraces = back.retraces;
       rewinds = back.rewinds;
       made =
-          subst (λ k. AreMade t.app t.limit start.most_done start.most_carried (take k t.journal.done ++ start.undone)) first can.made;
+          subst (λ k. AreMade t.app t.limit start.most_done.value start.most_carried.value (take k t.journal.done ++ start.undone)) first can.made;
     } in
     record {
       kept = kept_as now _ kept refl refl target done log undone refl refl;
@@ -344,8 +344,8 @@ IsWhole-replay t journal move last whole same steps back can valid settled done 
     }
 
 -- Once a move is made with room for the longest record, there is as much room again: for the bytes before that move, and for the most before.
-pub grown : (t : Inside) (bytes most : ℕ) (reserved journal : JournalView) → IsFresh t ⊎ (t.most_bytes + MAX_KEPT_BYTES ≤ t.journal.memory)
-    → bytes ≡ bytes_of reserved.records → most ≡ max t.most_bytes bytes → bytes_of reserved.records + MAX_KEPT_BYTES ≤ journal.memory
+pub grown : (t : Inside) (bytes most : ℕ) (reserved journal : JournalView) → IsFresh t ⊎ (t.most_bytes.value + MAX_KEPT_BYTES ≤ t.journal.memory)
+    → bytes ≡ bytes_of reserved.records → most ≡ max t.most_bytes.value bytes → bytes_of reserved.records + MAX_KEPT_BYTES ≤ journal.memory
     → t.journal.memory ≤ journal.memory → most + MAX_KEPT_BYTES ≤ journal.memory
 grown t bytes most reserved journal before are is ahead more =
     elim before [

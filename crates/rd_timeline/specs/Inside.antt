@@ -13,20 +13,20 @@ course_of t = record {
   done = t.journal.done;
   log = t.journal.records;
   undone = t.journal.undone;
-  most_done = t.most_done;
-  most_carried = t.most_carried;
-  most_bytes = t.most_bytes;
+  most_done = t.most_done.value;
+  most_carried = t.most_carried.value;
+  most_bytes = t.most_bytes.value;
   read = t.read.bytes;
 }
 
 -- No move was made yet.
 abbrev pub IsFresh : Inside → Type 0
-IsFresh t = (t.most_done ≡ 0) × (t.most_bytes ≡ 0)
+IsFresh t = (t.most_done.value ≡ 0) × (t.most_bytes.value ≡ 0)
 
 -- The way back is kept, and the room for as much as there was once.
 pub record IsWhole (t : Inside) : Type 0 where
   pub kept : IsKept (course_of t)
   pub limits : IsApplication t.app
-  pub capacity : t.most_done ≤ t.journal.capacity
-  pub carried : t.most_carried ≤ t.journal.carried_capacity
-  pub memory : IsFresh t ⊎ (t.most_bytes + MAX_KEPT_BYTES ≤ t.journal.memory)
+  pub capacity : t.most_done.value ≤ t.journal.capacity
+  pub carried : t.most_carried.value ≤ t.journal.carried_capacity
+  pub memory : IsFresh t ⊎ (t.most_bytes.value + MAX_KEPT_BYTES ≤ t.journal.memory)

@@ -8,6 +8,7 @@ pub mod journal;
 pub mod laws;
 pub mod log;
 pub mod logged;
+mod most;
 pub mod running;
 pub mod runs;
 pub mod timeline;

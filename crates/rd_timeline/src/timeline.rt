@@ -21,6 +21,7 @@ ghost use Rattle.rd_timeline.specs.Starts.{CanCancel, IsCancelled, IsStartOf};
 
 use crate::journal::{Aside, Journal};
 use crate::log::Log;
+use crate::most::Most;
 use rd_app::app::Program;
 use rd_bytes::no_memory::NoMemory;
 use rd_calls::play::why_not;
@@ -40,10 +41,10 @@ pub struct Timeline {
     journal: Journal,
     // How many moves were done at the most so far, how many of those done carried something at the
     // most, and from how many bytes of records a move was made at the most. There is room for as
-    // much.
-    most_done: usize,
-    most_carried: usize,
-    most_bytes: usize,
+    // much. (Contracts alone see them.)
+    most_done: Most,
+    most_carried: Most,
+    most_bytes: Most,
     // How many bytes of records `back` has read. What a trim reads doesn't count.
     read: ReadCount,
 }
@@ -66,9 +67,9 @@ impl Model for Timeline {
 pub(crate) struct Start {
     done: usize,
     undone: Aside,
-    most_done: usize,
-    most_carried: usize,
-    most_bytes: usize,
+    most_done: Most,
+    most_carried: Most,
+    most_bytes: Most,
 }
 
 impl Timeline {
@@ -95,9 +96,9 @@ impl Timeline {
             app,
             limit,
             journal,
-            most_done: 0,
-            most_carried: 0,
-            most_bytes: 0,
+            most_done: Most::none(),
+            most_carried: Most::none(),
+            most_bytes: Most::none(),
             read: ReadCount::new(),
         })
     }
@@ -209,9 +210,9 @@ impl Timeline {
         let bytes = self.journal.bytes();
         self.journal.play(&self.app, action)?;
         let at = self.journal.done();
-        self.most_done = self.most_done.max(at);
-        self.most_carried = self.most_carried.max(self.journal.carried());
-        self.most_bytes = self.most_bytes.max(bytes);
+        self.most_done = self.most_done.with(at);
+        self.most_carried = self.most_carried.with(self.journal.carried());
+        self.most_bytes = self.most_bytes.with(bytes);
         Ok(at)
     }
 
@@ -298,9 +299,9 @@ impl Timeline {
         Ok(Start {
             done: self.at(),
             undone: self.journal.set_aside()?,
-            most_done: self.most_done,
-            most_carried: self.most_carried,
-            most_bytes: self.most_bytes,
+            most_done: self.most_done.same(),
+            most_carried: self.most_carried.same(),
+            most_bytes: self.most_bytes.same(),
         })
     }
 

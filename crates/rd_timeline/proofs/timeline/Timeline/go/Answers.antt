@@ -50,21 +50,21 @@ invariant_of-self-2 c =
       app = t.app;
       limit = t.limit;
       journal = c.play.new.self;
-      most_done = c.max-self-inside.result;
-      most_carried = c.max-self-inside-2.result;
-      most_bytes = c.max-self-inside-3.result;
+      most_done = c.with-self-inside.result;
+      most_carried = c.with-self-inside-2.result;
+      most_bytes = c.with-self-inside-3.result;
       read = t.read;
     })
     c.args.action.now made.lays.undo c.self.invariant refl refl (subst (λ (course : Course). IsMoveOf course.app c.args.action.now) (sym c.self.view_is) c.requires.named) (search rules) from_target (played.leads_back ∙ same.target) played.can_undo
     played.valid settled all
     (made.lays.records ∙ ap (λ (records : List (List Change)). records ++ made.lays.undo ∷ []) same.records)
-    made.undone (omega (arith, c.max-self-inside.ensures, c.done-at.ensures, one_more, ap length same.done))
-    (omega (arith, c.max-self-inside-2.ensures, c.carried.ensures, ap carried_in all))
-    (omega (arith, c.max-self-inside.ensures, c.done-at.ensures, one_more, capacity, made.kept_capacity, c.reserve_for.ensures.grows, c.self.invariant.capacity))
-    (at_most_room c.args.action.now t.most_carried c.carried.result c.max-self-inside-2.result c.reserve_for.new.self c.play.new.self c.max-self-inside-2.ensures c.carried.ensures
+    made.undone (omega (arith, c.with-self-inside.ensures, c.done-at.ensures, one_more, ap length same.done))
+    (omega (arith, c.with-self-inside-2.ensures, c.carried.ensures, ap carried_in all))
+    (omega (arith, c.with-self-inside.ensures, c.done-at.ensures, one_more, capacity, made.kept_capacity, c.reserve_for.ensures.grows, c.self.invariant.capacity))
+    (at_most_room c.args.action.now t.most_carried.value c.carried.result c.with-self-inside-2.result.value c.reserve_for.new.self c.play.new.self c.with-self-inside-2.ensures c.carried.ensures
     made.done made.kept_carried_capacity (omega (arith, c.reserve_for.ensures.more_carried, c.self.invariant.carried)) ok_carried
     (omega (arith, ap carried_in same.done, c.self.invariant.kept.made.carried_were, carried_in-append t.journal.done t.journal.undone)))
-    (grown t c.bytes-bytes.result c.max-self-inside-3.result c.reserve_for.new.self c.play.new.self c.self.invariant.memory c.bytes-bytes.ensures c.max-self-inside-3.ensures
+    (grown t c.bytes-bytes.result c.with-self-inside-3.result.value c.reserve_for.new.self c.play.new.self c.self.invariant.memory c.bytes-bytes.ensures c.with-self-inside-3.ensures
     made.ahead (omega (arith, c.reserve_for.ensures.same_memory, c.play.ensures.grows)))
 
 pub returns-clause-leads : goal.returns-clause-leads

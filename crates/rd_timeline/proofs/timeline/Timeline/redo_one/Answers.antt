@@ -59,7 +59,7 @@ returns-in-Err-clause-short c =
       | inr lacks ↦ lacks.1
     ] in
     let short = c.in-Err.ensures.short (ap (λ (r : Refusal). Err r) none) in
-    let less : t.most_bytes < bytes_of j.records = elim c.self.invariant.memory [
+    let less : t.most_bytes.value < bytes_of j.records = elim c.self.invariant.memory [
       | inl fresh ↦ absurd (omega (arith, fresh.0, some, c.self.invariant.kept.made.were, length-append j.done j.undone))
       | inr room ↦ omega (arith, room, short)
     ] in
