@@ -323,7 +323,7 @@ fn read_bound<'a>(keyword: Keyword, reader: &mut Reader<'_, 'a>) -> Result<Bound
 /// entries below the number that each task has, and names of each kind, also inside a condition.
 /// `Unknown` exactly where one of these isn't there.
 pub fn bind<'a>(
-    command: &Command<'a>,
+    command: &Command<'_, 'a>,
     names: &Names,
     cores: usize,
     entries: usize,

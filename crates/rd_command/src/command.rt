@@ -20,28 +20,26 @@ use thiserror::Error;
 
 /// A command of a session: its keyword, and the words of its operands, which have the forms that
 /// the keyword asks for. So the word of a count is a number of 1 to 1,000,000, and `bind` makes a
-/// `Count` of it. Each word was cut once, and its number read. What the words name is looked up by
-/// `bind`.
+/// `Count` of it. Each word was cut once, and its number read, where the words lie. What they name
+/// is looked up by `bind`.
 #[derive(Drop)]
-pub struct Command<'a> {
-    line: &'a [u8],
+pub struct Command<'w, 'l> {
+    line: &'l [u8],
     keyword: Keyword,
-    behind: Behind<'a>,
-    // how many of the words behind the first one are the keyword's
-    own: usize,
+    operands: &'w [Word<'l>],
 }
 
-impl<'a> Model for Command<'a> {
-    ghost use Rattle.std.specs.Prelude.{◌≡◌, ◌≤◌, Some, drop, length};
+impl<'w, 'l> Model for Command<'w, 'l> {
+    ghost use Rattle.std.specs.Prelude.{◌≡◌, Some};
     ghost use Rattle.rd_text.specs.Words.{words_of};
     ghost use Rattle.rd_command.specs.Commands.{CommandView, command_of};
 
     ghost Value = { CommandView };
 
-    ghost view = { λ c. record { keyword = c.keyword; operands = drop c.own c.behind } };
+    ghost view = { λ c. record { keyword = c.keyword; operands = c.operands.now } };
 
-    ghost invariant = { λ c. (c.own ≤ length c.behind) × (command_of (words_of c.line.now)
-        ≡ Some (record { keyword = c.keyword; operands = drop c.own c.behind })) };
+    ghost invariant = { λ c. command_of (words_of c.line.now)
+        ≡ Some (record { keyword = c.keyword; operands = c.operands.now }) };
 }
 
 /// What the words of a line were found to be: a keyword, and how many of the words behind the first
@@ -57,21 +55,9 @@ struct Found {
 #[error("the line is no command")]
 pub struct Syntax;
 
-impl<'a> Command<'a> {
-    /// The same command. It takes no memory.
-    pub fn copy(&self) -> Command<'a>
-        ensures { result ≡ self.now }
-    {
-        Command {
-            line: self.line,
-            keyword: self.keyword,
-            behind: self.behind.copy(),
-            own: self.own,
-        }
-    }
-
+impl<'w, 'l> Command<'w, 'l> {
     /// The line that the command was read from. The line alone says which command it is.
-    pub fn line(&self) -> &'a [u8]
+    pub fn line(&self) -> &'l [u8]
         ensures { command_of (words_of result.now) ≡ Some self.now }
     {
         self.line
@@ -93,10 +79,10 @@ impl<'a> Command<'a> {
     }
 
     /// The words of the operands.
-    pub(crate) fn operands(&self) -> &[Word<'a>]
+    pub(crate) fn operands(&self) -> &'w [Word<'l>]
         ensures { result.now ≡ self.now.operands }
     {
-        &self.behind.as_slice()[self.own..]
+        self.operands
     }
 
     /// The keyword.
@@ -107,36 +93,38 @@ impl<'a> Command<'a> {
     }
 }
 
-/// Reads a command from its line. `Syntax` exactly where the words of the line spell none.
-pub fn parse_line(line: &[u8]) -> Result<Command<'_>, Syntax>
+/// Reads a command from its line. Its words come to lie in `behind`, whatever lay there before.
+/// `Syntax` exactly where the words of the line spell no command.
+pub fn parse_line<'w, 'l>(
+    line: &'l [u8],
+    behind: &'w mut Behind<'l>,
+) -> Result<Command<'w, 'l>, Syntax>
     ensures exact { result_ok result ≡ command_of (words_of line.now) }
     // What is read is spelled so, and what is spelled so is read.
     ensures spelled { IfOk result (Spells (words_of line.now)) }
     ensures only { (command : CommandView) → Spells (words_of line.now) command
         → result_ok result ≡ Some command }
 {
-    read_line(line)
+    read_line(line, behind)
 }
 
-// The command that the words of the line spell, if they do. (It is made where it is returned, since
-// a command with its words is large.)
-fn read_line(line: &[u8]) -> Result<Command<'_>, Syntax>
+// The command that the words of the line spell, if they do.
+fn read_line<'w, 'l>(line: &'l [u8], behind: &'w mut Behind<'l>) -> Result<Command<'w, 'l>, Syntax>
     ensures { result_ok result ≡ command_of (words_of line.now) }
 {
     let mut words = words_in(line);
     let Some(first) = words.next() else {
         return Err(Syntax);
     };
-    let mut behind = Behind::new();
     if !behind.read(words) {
         return Err(Syntax);
     }
-    let Found { keyword, own } = command_from(first, behind.as_slice()).ok_or(Syntax)?;
+    let behind = behind.as_slice();
+    let Found { keyword, own } = command_from(first, behind).ok_or(Syntax)?;
     Ok(Command {
         line,
         keyword,
-        behind,
-        own,
+        operands: &behind[own..],
     })
 }
 

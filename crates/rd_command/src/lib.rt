@@ -10,4 +10,4 @@ pub mod laws;
 pub mod order;
 mod reader;
 pub mod view;
-mod word;
+pub mod word;

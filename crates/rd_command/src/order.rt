@@ -13,7 +13,7 @@ use std::marker::Model;
 /// A command with what it is bound to in an application, or that this lacks something it names.
 #[derive(Drop)]
 pub struct Order<'r, 'a> {
-    command: &'r Command<'a>,
+    command: &'r Command<'r, 'a>,
     line: &'a [u8],
     names: &'r Names,
     cores: usize,
@@ -46,7 +46,7 @@ impl<'r, 'a> Order<'r, 'a> {
     /// Looks up what a command names, in an application with these names and so many cores, of
     /// whose tasks each has so many notification entries.
     pub fn new(
-        command: &'r Command<'a>,
+        command: &'r Command<'r, 'a>,
         names: &'r Names,
         cores: usize,
         entries: usize,
@@ -66,7 +66,7 @@ impl<'r, 'a> Order<'r, 'a> {
     }
 
     /// The command.
-    pub fn command(&self) -> &Command<'a>
+    pub fn command(&self) -> &Command<'r, 'a>
         ensures { result.now ≡ self.now.command }
     {
         self.command

@@ -49,16 +49,6 @@ impl<'a> Word<'a> {
         }
     }
 
-    /// The same word.
-    pub(crate) fn copy(&self) -> Word<'a>
-        ensures { result ≡ self.now }
-    {
-        Word {
-            text: self.text,
-            number: self.number,
-        }
-    }
-
     /// The word.
     pub(crate) fn text(&self) -> &'a [u8]
         ensures { result.now ≡ self.now }
@@ -74,9 +64,10 @@ impl<'a> Word<'a> {
     }
 }
 
-/// The words behind the first one of a line, as many as a command may have.
+/// The words behind the first one of a line, as many as a command may have. They lie where whoever
+/// reads a line wants them, since what is handed on with all of them is copied each time.
 #[derive(Drop)]
-pub(crate) struct Behind<'a> {
+pub struct Behind<'a> {
     words: ArrayVec<Word<'a>, MAX_WORDS>,
 }
 
@@ -90,7 +81,7 @@ impl<'a> Model for Behind<'a> {
 
 impl<'a> Behind<'a> {
     /// No words yet.
-    pub(crate) fn new() -> Behind<'a>
+    pub fn new() -> Behind<'a>
         ensures { result ≡ [] }
     {
         Behind {
@@ -98,14 +89,13 @@ impl<'a> Behind<'a> {
         }
     }
 
-    /// Reads these words, where none is read yet. Answers whether they are no more than a command
-    /// may have; of more not all are read. (They are read where they are kept: an array that is
-    /// handed on is copied each time.)
+    /// Reads these words, in place of those that were read before. Answers whether they are no more
+    /// than a command may have; of more not all are read.
     pub(crate) fn read(&mut self, words: Words<'a>) -> bool
-        requires { self.old ≡ [] }
         ensures few { result ≡ nat_le (length words.entry) MAX_WORDS }
         ensures all { IsTrue result → self.new ≡ words.entry }
     {
+        self.words.clear();
         for text in words {
             if self.words.is_full() {
                 return false;
@@ -113,17 +103,6 @@ impl<'a> Behind<'a> {
             self.words.push(Word::new(text));
         }
         true
-    }
-
-    /// An equal list of words.
-    pub(crate) fn copy(&self) -> Behind<'a>
-        ensures { result ≡ self.now }
-    {
-        let mut words = ArrayVec::new();
-        for word in self.words.as_slice() {
-            words.push(word.copy());
-        }
-        Behind { words }
     }
 
     /// The words.

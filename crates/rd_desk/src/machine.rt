@@ -418,7 +418,7 @@ impl Machine {
     }
 
     // The other session that a command is refused for, if it is.
-    fn held_by(&self, who: u32, command: &Command<'_>) -> Option<u32>
+    fn held_by(&self, who: u32, command: &Command<'_, '_>) -> Option<u32>
         ensures { result ≡ held_by self.now who command.now }
     {
         if command.needs_wheel() {

@@ -131,7 +131,7 @@ impl<L: Setup> Hall<L> {
         &self,
         rt: &impl Wait,
         seat: &mut Seat<L>,
-        command: &Command<'_>,
+        command: &Command<'_, '_>,
     ) -> Result<(), NotServed>
         ensures ok { OnOk result (Gained seat.old.session (Ask command.now) seat.new.session) }
         ensures tally { IfErr result (λ error. IfServeFull error (λ tally.
@@ -160,7 +160,7 @@ impl<L: Setup> Hall<L> {
         &self,
         rt: &impl Wait,
         seat: Seat<L>,
-        command: &Command<'_>,
+        command: &Command<'_, '_>,
     ) -> (Seat<L>, Result<(), NotServed>)
         ensures ok { OnOk result.1
             (Gained seat.session (Ask command.now) result.0.session) }

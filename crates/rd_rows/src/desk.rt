@@ -7,6 +7,7 @@ ghost use Rattle.rd_desk.specs.Sessions.{IsPresent};
 use crate::asserts::assert_same;
 use rd_command::command::parse_line;
 use rd_command::order::Order;
+use rd_command::word::Behind;
 use rd_desk::desk::{Desk, EnterError, NotServed};
 use rd_desk::entry::Receipt;
 use rd_desk::limits::Limits;
@@ -108,7 +109,8 @@ fn ask<H: AllocGlobal + Abort>(
     requires { IsPresent desk.old.desk.debugger.sessions who }
     ensures { IfOk result (λ receipt. IsNarrow receipt.entry.reply) }
 {
-    let Ok(command) = parse_line(line.as_bytes()) else {
+    let mut behind = Behind::new();
+    let Ok(command) = parse_line(line.as_bytes(), &mut behind) else {
         panic!(rt; "{line} is no command");
     };
     let Ok(names) = desk.names().copy(rt.alloc()) else {

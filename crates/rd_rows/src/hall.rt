@@ -6,6 +6,7 @@ ghost use Rattle.rd_desk.specs.declared.sessions.TheConstants.{MAX_JOINS};
 use crate::asserts::assert_same;
 use crate::desk::line_of;
 use rd_command::command::parse_line;
+use rd_command::word::Behind;
 use rd_desk::limits::Limits;
 use rd_desk::sessions::MAX_JOINS;
 use rd_hall::hall::Hall;
@@ -55,7 +56,8 @@ fn ask<L: Setup, H: Wait + Abort + AllocGlobal>(
     line: &str,
     reply: &str,
 ) -> Seat<L> {
-    let Ok(command) = parse_line(line.as_bytes()) else {
+    let mut behind = Behind::new();
+    let Ok(command) = parse_line(line.as_bytes(), &mut behind) else {
         panic!(rt; "{line} is no command");
     };
     let (seat, served) = hall.ask(rt, seat, &command);

@@ -7,6 +7,7 @@ use crate::asserts::assert_same;
 use crate::hall::next_pass;
 use rd_command::command::parse_line;
 use rd_command::order::Order;
+use rd_command::word::Behind;
 use rd_desk::limits::Limits;
 use rd_desk::sessions::MAX_JOINS;
 use rd_hall::room::Room;
@@ -55,7 +56,8 @@ fn ask<L: Setup>(
     requires cores { outside.now.cores ≡ L.app.runs.cores }
     requires entries { outside.now.entries ≡ L.app.runs.entries }
 {
-    let Ok(command) = parse_line(line.as_bytes()) else {
+    let mut behind = Behind::new();
+    let Ok(command) = parse_line(line.as_bytes(), &mut behind) else {
         panic!(rt; "{line} is no command");
     };
     let order = Order::new(&command, &outside.names, outside.cores, outside.entries);

@@ -6,6 +6,7 @@ use crate::rows::{Row, Who};
 use crate::told::is_told;
 use crate::wrong::Wrong;
 use rd_command::command::{Command, parse_line};
+use rd_command::word::Behind;
 use rd_desk::desk::{EnterError, NotServed};
 use rd_hall::seat::{Pass, Seat};
 use rd_hall::setup::Setup;
@@ -67,7 +68,7 @@ fn note_refusal<R: Wait, L: Setup>(
 fn ask_command<R: Wait, L: Setup>(
     host: Host<'_, R, L>,
     seat: Seat<L>,
-    command: &Command<'_>,
+    command: &Command<'_, '_>,
     before: &Before,
     refused: &mut Refused,
 ) -> (Seat<L>, Result<(), Wrong>) {
@@ -94,7 +95,8 @@ pub fn ask<R: Wait, L: Setup>(
     row: Row,
     refused: &mut Refused,
 ) -> (Seat<L>, Result<(), Wrong>) {
-    let Ok(command) = parse_line(row.line.as_bytes()) else {
+    let mut behind = Behind::new();
+    let Ok(command) = parse_line(row.line.as_bytes(), &mut behind) else {
         return (seat, Err(Wrong::Line { line: row.line }));
     };
     let before = match Before::of(host, refused) {

@@ -22,6 +22,7 @@ use crate::lines::{Front, Lines};
 use crate::pending::Pending;
 use crate::telling::{flush, tell};
 use rd_command::command::{Command, parse_line};
+use rd_command::word::Behind;
 use rd_desk::desk::NotServed;
 use rd_ends::ends::{Sink, Source, WriteFault};
 use rd_hall::hall::Hall;
@@ -147,7 +148,7 @@ fn ask<R: Wait, L: Setup, G: Gate, W: Sink>(
     gate: &mut G,
     seat: &mut Seat<L>,
     line: &[u8],
-    command: &Command<'_>,
+    command: &Command<'_, '_>,
     pending: &mut Pending,
     sink: &mut W,
 ) -> Result<(), WriteFault>
@@ -192,9 +193,9 @@ fn answer<R: Wait, L: Setup, G: Gate, W: Sink>(
     ensures out { OnOk result (pending.new.out ≤ pending.new.begun) }
     ensures faults { (W.seen sink.new).faults ≡ faults_after (W.seen sink.old).faults result }
 {
-    // (by reference, since a command with its words is large)
-    match &parse_line(line) {
-        Ok(command) => ask(host, gate, seat, line, command, pending, sink),
+    let mut behind = Behind::new();
+    match parse_line(line, &mut behind) {
+        Ok(command) => ask(host, gate, seat, line, &command, pending, sink),
         Err(_) => {
             let refusal = Refusal::Syntax;
             pending.put_short(Short::Refused { refusal });

@@ -1,5 +1,5 @@
 -- The goal of keeps that the check left open.
-use Rattle.std.proofs.Common.{drop, subst}
+use Rattle.std.proofs.Common.{subst}
 use Rattle.rd_text.specs.Words.{words_of}
 use Rattle.rd_command.specs.Commands.{AreOperands, CommandView}
 use Rattle.rd_command.specs.Keywords.{spelling_of}
@@ -9,6 +9,6 @@ use Rattle.rd_command.proofs.command.Command.keeps.Goals as goal
 pub returns : goal.returns
 returns c =
     let m = c.self.inside in
-    let command : CommandView = record { keyword = m.keyword; operands = drop m.own m.behind } in
+    let command : CommandView = record { keyword = m.keyword; operands = m.operands.now } in
     subst (λ (command : CommandView). AreOperands (spelling_of command.keyword).operands command.operands) c.self.view_is
-    (command_takes (words_of m.line.now) command c.self.invariant.1).formed
+    (command_takes (words_of m.line.now) command c.self.invariant).formed
