@@ -75,6 +75,7 @@ impl History {
 
     /// Appends an entry, which there is room for. The line is that of the command, if one was asked
     /// for.
+    #[inline(always)]
     pub fn push(&mut self, who: u32, deed: Deed, line: &[u8], reply: &Reply)
         requires line { IsLineOf deed line.now }
         requires narrow { IsNarrow reply.now }

@@ -270,6 +270,7 @@ impl Rows {
     }
 
     /// Appends one, which there is room for. The line is that of the command, if one was asked for.
+    #[inline(always)]
     pub fn push(&mut self, number: u32, deed: Deed, line: &[u8], reply: &Reply)
         requires line { IsLineOf deed line.now }
         requires narrow { IsNarrow reply.now }
