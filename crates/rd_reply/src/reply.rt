@@ -1,6 +1,6 @@
 //! Replies in a few words, and their lines.
 
-ghost use Rattle.std.specs.Prelude.{◌≡◌, ◌+◌, ◌*◌, ◌++◌, ◌≤◌, decimal, length};
+ghost use Rattle.std.specs.Prelude.{◌≡◌, ◌+◌, ◌*◌, ◌++◌, ◌≤◌, [], decimal, length};
 ghost use Rattle.std.specs.Prelude.{vec_capacity, vec_len};
 ghost use Rattle.arrayvec.specs.ArrayVec.{array_vec_len};
 ghost use Rattle.rd_reply.specs.Replies.{answer_reply, answered_text, done_text, end_text};
@@ -187,6 +187,32 @@ fn append_watch(line: &mut ReplyLine, number: usize)
     append_number(line, number);
 }
 
+// The line of a reply, where nothing stands yet. (It is written where it is wanted, since a line
+// that is handed on is copied.)
+fn write_line(line: &mut ReplyLine, reply: Reply)
+    requires { line.old.items ≡ [] }
+    ensures { line.new.items ≡ line_of (reply_text reply) }
+{
+    match reply {
+        Reply::Done { at } => append_done(line, at),
+        Reply::Answered { at, answer } => append_answered(line, at, answer),
+        Reply::Ended { at, end } => {
+            append_done(line, at);
+            append_text(line, b" ");
+            append_end(line, end);
+        }
+        Reply::Moves { done, undone, kept } => append_moves(line, done, undone, kept),
+        Reply::Wheel => append_text(line, b"ok wheel"),
+        Reply::Holder { holder } => append_holder(line, holder),
+        Reply::Watch { number } => append_watch(line, number),
+        Reply::Refused { refusal } => {
+            append_text(line, b"no ");
+            append_refusal(line, refusal);
+        }
+    }
+    append_text(line, b"\n");
+}
+
 impl Reply {
     /// What is replied to a request of the timeline.
     pub fn of(answer: Answer) -> Reply
@@ -205,24 +231,7 @@ impl Reply {
         ensures { result.items ≡ line_of (reply_text self) }
     {
         let mut line = ArrayVec::new();
-        match self {
-            Reply::Done { at } => append_done(&mut line, at),
-            Reply::Answered { at, answer } => append_answered(&mut line, at, answer),
-            Reply::Ended { at, end } => {
-                append_done(&mut line, at);
-                append_text(&mut line, b" ");
-                append_end(&mut line, end);
-            }
-            Reply::Moves { done, undone, kept } => append_moves(&mut line, done, undone, kept),
-            Reply::Wheel => append_text(&mut line, b"ok wheel"),
-            Reply::Holder { holder } => append_holder(&mut line, holder),
-            Reply::Watch { number } => append_watch(&mut line, number),
-            Reply::Refused { refusal } => {
-                append_text(&mut line, b"no ");
-                append_refusal(&mut line, refusal);
-            }
-        }
-        append_text(&mut line, b"\n");
+        write_line(&mut line, self);
         line
     }
 }
@@ -233,5 +242,7 @@ pub fn append_reply(page: &mut Vec<u8>, reply: Reply)
     ensures text { page.new.items ≡ page.old.items ++ line_of (reply_text reply) }
     ensures room { vec_capacity page.old ≤ vec_capacity page.new }
 {
-    page.extend_from_slice(reply.line().as_slice()).unwrap();
+    let mut line = ArrayVec::new();
+    write_line(&mut line, reply);
+    page.extend_from_slice(line.as_slice()).unwrap();
 }
