@@ -1,18 +1,21 @@
 -- What an event leaves of a debugger as it was, and what is known at its end.
-use Rattle.std.proofs.Common.{◌≡◌, ◌∙◌, ℕ, ◌+◌, List, length, ap, subst, sym}
-use Rattle.std.specs.Prelude.{Result, Ok, Err, IfOk}
+use Rattle.std.proofs.Common.{◌≡◌, ◌∙◌, ℕ, ◌+◌, ◌≤◌, List, [], ◌∷◌, ◌++◌, length, map, ap, subst, sym}
+use Rattle.std.specs.Prelude.{Result, Ok, Err, IfOk, OnErr}
 use Rattle.std.proofs.lemmas.List.{length_push}
 use Rattle.rd_names.specs.Apps.{AppView}
 use Rattle.rd_desk.specs.declared.entry.Event.{Event}
+use Rattle.rd_desk.specs.declared.entry.Noted.{Noted}
 use Rattle.rd_desk.specs.declared.entry.Receipt.{Receipt}
+use Rattle.rd_desk.specs.Rows.{receipt_of}
 use Rattle.rd_desk.specs.Debugger.{Debugger, opening}
-use Rattle.rd_desk.specs.DeskView.{DeskView, Does}
+use Rattle.rd_desk.specs.DeskView.{DeskView, Does, IsKept}
 use Rattle.rd_desk.specs.Legal.{IsLegal, Leads}
 use Rattle.rd_desk.proofs.Offered.{same_served}
 use Rattle.rd_hall.specs.Account.{ClosedView}
-use Rattle.rd_hall.specs.SeatView.{SeatView}
+use Rattle.rd_hall.proofs.SeatLaws.{receipts_push}
+use Rattle.rd_hall.specs.SeatView.{SeatView, seat_of, with_receipt}
 use Rattle.rd_desk.specs.declared.entry.Entry.{Entry}
-use Rattle.rd_hall.specs.Seats.{IsOf}
+use Rattle.rd_hall.specs.Seats.{Finds, IsFound, IsOf, RoomView, Serves}
 
 -- ---- the application and the limits
 
@@ -28,6 +31,43 @@ IsOf-does old new who event receipt app moves entries does kept =
 pub counted-does : (old new : DeskView) (who : ℕ) (event : Event) (receipt : Receipt) → Does old who event new receipt
     → length new.history ≡ length old.history + 1
 counted-does old new who event receipt does = ap length does.history ∙ length_push old.history _
+
+-- ---- what is found behind the lock
+
+-- It is found as it was before the share was looked at.
+pub found_so : (seen now : RoomView) (app : AppView) (moves entries share : ℕ) → now ≡ seen → IsKept seen.desk → IsOf seen.desk app moves entries
+    → share ≤ length seen.desk.history → IsFound app moves entries share now.desk
+found_so seen now app moves entries share same kept set_up backed =
+    subst (λ (room : RoomView). IsFound app moves entries share room.desk) (sym same) (record { kept = kept; set_up = set_up; backed = backed })
+
+-- what was served then for what a seat keeps, whose receipt it keeps now
+pub serves_seat : (seat : SeatView) (who : ℕ) (noted longer : List Noted) (share counted : ℕ) (receipt : Receipt) (event asked : Event) (app : AppView) (moves entries : ℕ)
+    → seat_of who noted share ≡ seat → event ≡ asked
+    → longer ≡ noted ++ record { number = receipt.place; event = receipt.entry.event; reply = receipt.entry.reply } ∷ [] → receipt.entry.who ≡ who
+    → counted ≡ share + 1 → Finds app moves entries share (λ d. (new : DeskView) × Does d who event new receipt)
+    → Finds app moves entries seat.share (λ d. Serves d seat asked (seat_of who longer counted))
+serves_seat seat who noted longer share counted receipt event asked app moves entries seen same is by one found =
+    let last : Noted = record { number = receipt.place; event = receipt.entry.event; reply = receipt.entry.reply } in
+    let own : receipt_of who last ≡ receipt =
+    ap (λ (who : ℕ). receipt_of who last) (sym by) in
+    let receipts = receipts_push who noted longer last receipt is own in
+    let after : seat_of who longer counted ≡ with_receipt (seat_of who noted share) receipt =
+    ap (λ (receipts : List Receipt). record { who = who; receipts = receipts; share = counted }) receipts
+    ∙ ap (λ (share : ℕ). record { who = who; receipts = map (receipt_of who) noted ++ receipt ∷ []; share = share }) one in
+    let does : Does found.0 who asked found.2.0 receipt = subst (λ (event : Event). Does found.0 who event found.2.0 receipt) same found.2.1 in
+    subst (λ (seat : SeatView). Finds app moves entries seat.share (λ d. Serves d seat asked (seat_of who longer counted))) seen
+    (found.0, found.1, (found.2.0, (receipt, does, after)))
+
+-- a seat that keeps what it kept
+pub seat_stays : (who : ℕ) (noted kept : List Noted) (share counted : ℕ) (seat : SeatView) → seat_of who noted share ≡ seat → kept ≡ noted → counted ≡ share
+    → seat_of who kept counted ≡ seat
+seat_stays who noted kept share counted seat seen same one =
+    ap (λ (noted : List Noted). seat_of who noted counted) same ∙ ap (λ (share : ℕ). seat_of who noted share) one ∙ seen
+
+-- What holds in any case holds where something is refused.
+pub on_err : {T E : Type 0} (result : Result T E) (P : Type 0) → P → OnErr result P
+on_err (Ok value) P holds = tt
+on_err (Err error) P holds = holds
 
 -- ---- what is known of a debugger that has ended
 

@@ -25,10 +25,14 @@ pub record IsOf (d : DeskView) (used_app : AppView) (moves entries : ℕ) : Type
   pub most_moves : d.debugger.most_moves ≡ moves
   pub most_entries : d.most_entries ≡ entries
 
+-- The history reaches to this place, and the session is present.
+pub record ReachesTo (d : DeskView) (who place : ℕ) : Type 0 where
+  pub past : place ≤ length d.history
+  pub present : IsPresent d.debugger.sessions who
+
 -- The history reaches past the seat's last receipt, and its session is present.
-pub record Reaches (d : DeskView) (seat : SeatView) : Type 0 where
-  pub past : next_place 0 seat.receipts ≤ length d.history
-  pub present : IsPresent d.debugger.sessions seat.who
+abbrev pub Reaches : DeskView → SeatView → Type 0
+Reaches d seat = ReachesTo d seat.who (next_place 0 seat.receipts)
 
 -- the seat of who enters next, without receipts yet
 abbrev pub newcomer : DeskView → SeatView

@@ -13,7 +13,7 @@ ghost use Rattle.rd_hall.specs.Seats.{newcomer};
 use crate::account::{Broken, Closed};
 use crate::look::Look;
 use crate::room::Room;
-use crate::seat::{Gone, Pass, Seat};
+use crate::seat::{Gone, Pass, Seat, put_receipt};
 use crate::setup::Setup;
 use rd_bytes::no_memory::NoMemory;
 use rd_command::command::Command;
@@ -149,10 +149,22 @@ impl<L: Setup> Hall<L> {
         // The seat grows before the lock. Whether it has the room then is seen under it, where it
         // is known whether the history is the seat's own.
         let _ = seat.make_room(order.line().len());
-        let mut room = self.room.lock(rt);
-        room.keeps();
-        room.backs(seat);
-        room.ask(seat, &order)
+        let (who, next) = (seat.who, seat.next);
+        let receipt = {
+            let mut room = self.room.lock(rt);
+            room.keeps();
+            room.backs(&mut seat.share);
+            room.serve(who, next, &mut seat.share, &mut seat.receipts, &order)?
+        };
+        // Nobody else sees what a seat keeps, so its receipt is put there behind the lock.
+        put_receipt(
+            &mut seat.receipts,
+            &mut seat.last,
+            &mut seat.next,
+            receipt,
+            &order,
+        );
+        Ok(())
     }
 
     /// The same for a seat that is handed in, and back.
@@ -190,7 +202,7 @@ impl<L: Setup> Hall<L> {
         let mut seat = seat;
         let mut room = self.room.lock(rt);
         room.keeps();
-        room.backs(&mut seat);
+        room.backs(&mut seat.share);
         room.leave(seat)
     }
 

@@ -4,7 +4,9 @@ ghost use Rattle.std.specs.Prelude.{◌≡◌, ◌≢◌, ◌↔◌, ◌+◌, �
 ghost use Rattle.std.specs.Prelude.{Ok, IfOk, IfErr, OnOk, OnErr, IsTrue, IsOk, IsErrOf};
 ghost use Rattle.rd_command.specs.Bindings.{known_of};
 ghost use Rattle.rd_desk.specs.Debugger.{opening};
-ghost use Rattle.rd_desk.specs.DeskView.{IsKept, LeadsBack, used};
+ghost use Rattle.rd_desk.specs.DeskView.{Does, IsKept, LeadsBack, used};
+ghost use Rattle.rd_desk.specs.HistoryView.{reply_bytes};
+ghost use Rattle.rd_desk.specs.Kept.{IsNarrow, IsShort};
 ghost use Rattle.rd_desk.specs.Legal.{IsLegal};
 ghost use Rattle.rd_desk.specs.Refusals.{tally_of, IfEnterFull, IfServeFull, is_serve_full};
 ghost use Rattle.rd_desk.specs.declared.entry.Event.TheVariants.{Enter, Ask, Leave};
@@ -12,15 +14,16 @@ ghost use Rattle.rd_desk.specs.declared.sessions.TheConstants.{MAX_JOINS};
 ghost use Rattle.rd_timeline.specs.History.{state_after};
 ghost use Rattle.rd_hall.specs.Account.{IsAccount, IsAccounted};
 ghost use Rattle.rd_hall.specs.Looks.{look_of};
-ghost use Rattle.rd_hall.specs.Seats.{newcomer, DoesFor, IsOf, Reaches};
+ghost use Rattle.rd_hall.specs.Seats.{newcomer, DoesFor, IsOf, Reaches, ReachesTo};
 
 use crate::account::{Broken, Closed, is_account};
 use crate::look::Look;
-use crate::seat::{Gone, Pass, Seat};
+use crate::seat::{Gone, Pass, Seat, put_receipt};
 use crate::setup::Setup;
 use rd_bytes::no_memory::NoMemory;
 use rd_command::order::Order;
 use rd_desk::desk::{Desk, EnterError, NotServed};
+use rd_desk::entry::Receipt;
 use rd_desk::limits::Limits;
 use rd_desk::reply::Reply;
 use rd_desk::rows::{Deed, Rows};
@@ -29,7 +32,7 @@ use rd_names::app::App;
 use rd_state::state::State;
 use std::alloc::Global;
 use std::marker::Model;
-use std::sync::ledger::{Blank, Book};
+use std::sync::ledger::{Blank, Book, Share};
 
 /// A debugger whose history is as long as the total of a ledger. It can't be dropped: it ends in
 /// `finish`.
@@ -176,21 +179,22 @@ impl<L: Setup> Room<L> {
         }
     }
 
-    /// The history has no fewer entries than the seat has of the ledger, whoever made them. It does
+    /// The history has no fewer entries than a share has of the ledger, whoever made them. It does
     /// nothing at run time.
-    pub fn backs(&mut self, seat: &mut Seat<L>)
+    pub(crate) fn backs(&mut self, share: &mut Share<L>)
         ensures room { self.new ≡ self.old }
-        ensures seat { seat.new ≡ seat.old }
-        ensures backed { seat.old.session.share ≤ length self.old.desk.history }
+        ensures amount { share.new.amount ≡ share.old.amount }
+        ensures parts { share.new.parts ≡ share.old.parts }
+        ensures backed { share.old.amount ≤ length self.old.desk.history }
     {
-        self.book.audit(&mut seat.share);
+        self.book.audit(share);
     }
 
-    // Whether the history reaches past the seat's last receipt, and its session is present.
-    fn reaches(&self, seat: &Seat<L>) -> bool
-        ensures { IsTrue result ↔ Reaches self.now.desk seat.now.session }
+    // Whether the history reaches to this place, and the session is present.
+    fn reaches(&self, who: u32, next: usize) -> bool
+        ensures { IsTrue result ↔ ReachesTo self.now.desk who next }
     {
-        seat.next <= self.desk.entries() && self.desk.is_present(seat.who)
+        next <= self.desk.entries() && self.desk.is_present(who)
     }
 
     /// Serves a command that was bound for the application; the seat gets the receipt of that.
@@ -220,40 +224,73 @@ impl<L: Setup> Room<L> {
         ensures bytes_kept { OnErr result (seat.old.byte_room ≤ seat.new.byte_room) }
         ensures room_taken { OnOk result (seat.old.room ≤ seat.new.room + 1) }
     {
-        if !self.reaches(seat) {
-            return Err(NotServed::Broken);
-        }
-        self.serve(seat, order)
+        let (who, next) = (seat.who, seat.next);
+        let receipt = self.serve(who, next, &mut seat.share, &mut seat.receipts, order)?;
+        put_receipt(
+            &mut seat.receipts,
+            &mut seat.last,
+            &mut seat.next,
+            receipt,
+            order,
+        );
+        Ok(())
     }
 
-    // Serves a command of a seat that the history reaches past.
-    fn serve(&mut self, seat: &mut Seat<L>, order: &Order<'_, '_>) -> Result<(), NotServed>
-        requires reaches { Reaches self.old.desk seat.old.session }
+    /// Serves a command of a session, which was bound for the application; the share counts its
+    /// receipt, which is yet to be put behind the others of the session. `Broken` where the history
+    /// doesn't reach past the last of these, or the session isn't present, else `NoMemory` where
+    /// there is no room for two more receipts, this and that of its leave, or for the line of this
+    /// one, else `HistoryFull` where no place is free, else `NoMemory` where the debugger has none,
+    /// or the session none for the text of a view. A refusal changes nothing. It takes no memory
+    /// beside that of the debugger and of a view's text.
+    pub(crate) fn serve(
+        &mut self,
+        who: u32,
+        next: usize,
+        share: &mut Share<L>,
+        receipts: &mut Rows,
+        order: &Order<'_, '_>,
+    ) -> Result<Receipt, NotServed>
         requires application { order.now.known ≡ known_of L.app }
-        ensures ok { OnOk result (DoesFor self.old.desk seat.old.session
-            (Ask order.now.command) self.new.desk seat.new.session) }
-        ensures not_broken { IfErr result (λ error. error ≢ NotServed.Broken) }
+        requires part { 0 < share.old.parts }
+        ensures ok { IfOk result (Does self.old.desk who (Ask order.now.command) self.new.desk) }
+        ensures who { IfOk result (λ receipt. receipt.entry.who ≡ who) }
+        ensures event { IfOk result (λ receipt. receipt.entry.event ≡ Ask order.now.command) }
+        ensures behind { IfOk result (λ receipt. next ≤ receipt.place) }
+        ensures short { IfOk result (λ receipt. IsShort receipt.place) }
+        ensures narrow { IfOk result (λ receipt. IsNarrow receipt.entry.reply) }
+        ensures broken { IsErrOf result NotServed.Broken
+            ↔ (¬ ReachesTo self.old.desk who next) }
         ensures history_full { IsTrue (is_serve_full result)
-            ↔ ((self.old.desk.most_entries ≡ used self.old.desk)
-            × (2 ≤ seat.old.room)
-            × (length order.now.line ≤ seat.old.byte_room)) }
+            ↔ (ReachesTo self.old.desk who next
+            × (self.old.desk.most_entries ≡ used self.old.desk)
+            × (2 ≤ receipts.old.row_room)
+            × (length order.now.line ≤ receipts.old.byte_room)) }
         ensures room { OnOk result (used self.old.desk < self.old.desk.most_entries) }
         ensures tally { IfErr result (λ error. IfServeFull error (λ tally.
             (tally ≡ tally_of self.old.desk)
             × (tally.limit ≡ tally.entries + tally.present))) }
-        ensures err { OnErr result
-            ((self.new ≡ self.old) × (seat.new.session ≡ seat.old.session)) }
-        ensures room_kept { OnErr result (seat.old.room ≤ seat.new.room) }
-        ensures bytes_kept { OnErr result (seat.old.byte_room ≤ seat.new.byte_room) }
-        ensures room_taken { OnOk result (seat.old.room ≤ seat.new.room + 1) }
+        ensures err { OnErr result (self.new ≡ self.old) }
+        ensures amount { OnOk result (share.new.amount ≡ share.old.amount + 1) }
+        ensures no_amount { OnErr result (share.new.amount ≡ share.old.amount) }
+        ensures parts { share.new.parts ≡ share.old.parts }
+        ensures noted { receipts.new.noted ≡ receipts.old.noted }
+        ensures rows { receipts.old.row_room ≤ receipts.new.row_room }
+        ensures some_rows { OnOk result (2 ≤ receipts.new.row_room) }
+        ensures bytes { receipts.old.byte_room ≤ receipts.new.byte_room }
+        ensures receipt_bytes { IfOk result (λ receipt.
+            length order.now.line + length (reply_bytes receipt.entry.reply)
+            ≤ receipts.new.byte_room) }
     {
-        if !seat.has_room(order.line().len()) {
+        if !self.reaches(who, next) {
+            return Err(NotServed::Broken);
+        }
+        if !receipts.has_room(2, order.line().len()) {
             return Err(NotServed::NoMemory);
         }
-        let served = self.desk.serve(seat.who, order, &mut seat.receipts)?;
-        let next = self.desk.entries();
-        seat.gain(&mut self.book, served, next, order);
-        Ok(())
+        let receipt = self.desk.serve(who, order, receipts)?;
+        self.book.add(share, 1);
+        Ok(receipt)
     }
 
     /// A session leaves, and gets the receipt of that. Where the history doesn't reach past the
@@ -265,7 +302,7 @@ impl<L: Setup> Room<L> {
         ensures broken { ¬ Reaches self.old.desk seat.session
             → (self.new ≡ self.old) × (result ≡ seat.session) }
     {
-        if !self.reaches(&seat) {
+        if !self.reaches(seat.who, seat.next) {
             return seat.gone();
         }
         self.desk.keeps();

@@ -1,6 +1,7 @@
 //! The sessions of a hall: who may join, who has joined, and who has left.
 
-ghost use Rattle.std.specs.Prelude.{◌≡◌, ◌↔◌, ◌+◌, ◌-◌, ◌<◌, ◌≤◌, ◌⊎◌, length, slice_get};
+ghost use Rattle.std.specs.Prelude.{◌≡◌, ◌↔◌, ◌+◌, ◌-◌, ◌<◌, ◌≤◌, ◌⊎◌, ◌∷◌, ◌++◌, []};
+ghost use Rattle.std.specs.Prelude.{length, slice_get};
 ghost use Rattle.std.specs.Prelude.{IfOk, IsSomeAnd, IsTrue, OnErr, OnOk, Some};
 ghost use Rattle.rd_desk.specs.HistoryView.{reply_bytes, IsEntered};
 ghost use Rattle.rd_desk.specs.Kept.{IsNarrow, IsShort};
@@ -92,6 +93,36 @@ impl<L: Setup> Model for Gone<L> {
         s.share.amount };
 }
 
+// Puts the receipt of a command behind the others of its session, of which it is the last then.
+// There is room for it.
+pub(crate) fn put_receipt(
+    receipts: &mut Rows,
+    last: &mut Receipt,
+    next: &mut usize,
+    receipt: Receipt,
+    order: &Order<'_, '_>,
+)
+    requires place { IsShort receipt.place }
+    requires event { receipt.entry.event ≡ Ask order.now.command }
+    requires narrow { IsNarrow receipt.entry.reply }
+    requires room { 0 < receipts.old.row_room }
+    requires bytes { length order.now.line + length (reply_bytes receipt.entry.reply)
+        ≤ receipts.old.byte_room }
+    ensures noted { receipts.new.noted ≡ receipts.old.noted ++ record {
+      number = receipt.place;
+      event = receipt.entry.event;
+      reply = receipt.entry.reply;
+    } ∷ [] }
+    ensures room { receipts.new.row_room + 1 ≡ receipts.old.row_room }
+    ensures last { last.new ≡ receipt }
+    ensures next { next.new ≡ receipt.place + 1 }
+{
+    let place = receipt.place as u32;
+    receipts.push(place, Deed::Ask, order.line(), &receipt.entry.reply);
+    *next = receipt.place + 1;
+    *last = receipt;
+}
+
 impl<L: Setup> Seat<L> {
     /// The number of the session, from 1 on.
     pub fn who(&self) -> u32
@@ -121,13 +152,6 @@ impl<L: Setup> Seat<L> {
 }
 
 impl<L: Setup> Seat<L> {
-    // Whether there is that room.
-    pub(crate) fn has_room(&self, bytes: usize) -> bool
-        ensures { IsTrue result ↔ ((2 ≤ self.now.room) × (bytes ≤ self.now.byte_room)) }
-    {
-        self.receipts.has_room(2, bytes)
-    }
-
     /// Makes room for two more receipts, that of a command whose line has so many bytes, and that
     /// of the leave. An `Err` says that there is no memory for them; the receipts stay, and there is
     /// no less room.
@@ -140,36 +164,6 @@ impl<L: Setup> Seat<L> {
         ensures short { OnErr result ((self.new.room < 2) ⊎ (self.new.byte_room < bytes)) }
     {
         self.receipts.make_room(2, bytes)
-    }
-
-    // Gains the receipt of a command, which the ledger counts. There is room for it, and for that
-    // of the leave.
-    pub(crate) fn gain(
-        &mut self,
-        book: &mut Book<L>,
-        receipt: Receipt,
-        next: usize,
-        order: &Order<'_, '_>,
-    )
-        requires who { receipt.entry.who ≡ self.old.session.who }
-        requires behind { next_place 0 self.old.session.receipts ≤ receipt.place }
-        requires next { next ≡ receipt.place + 1 }
-        requires place { IsShort receipt.place }
-        requires event { receipt.entry.event ≡ Ask order.now.command }
-        requires narrow { IsNarrow receipt.entry.reply }
-        requires room { 2 ≤ self.old.room }
-        requires bytes { length order.now.line + length (reply_bytes receipt.entry.reply)
-            ≤ self.old.byte_room }
-        ensures session { self.new.session ≡ with_receipt self.old.session receipt }
-        ensures room { self.new.room + 1 ≡ self.old.room }
-        ensures book { book.new.total ≡ book.old.total + 1 }
-    {
-        book.add(&mut self.share, 1);
-        let place = receipt.place as u32;
-        let reply = &receipt.entry.reply;
-        self.receipts.push(place, Deed::Ask, order.line(), reply);
-        self.last = receipt;
-        self.next = next;
     }
 
     // The session as one that has left, without a receipt of that.

@@ -5,7 +5,7 @@ use Rattle.rd_hall.proofs.room.Room.serve.Goals as goal
 
 pub invariant_of-self-2 : goal.invariant_of-self-2
 invariant_of-self-2 g c = (
-  omega (arith, counted-does _ _ _ _ _ c.in_ok-served.ensures.ok, c.self.invariant.0, c.gain.ensures.book),
-  IsOf-does _ _ _ _ _ _ _ _ c.in_ok-served.ensures.ok c.self.invariant.1,
+  omega (arith, counted-does _ _ _ _ _ c.in_ok-receipt.ensures.ok, c.self.invariant.0, c.add.ensures.total),
+  IsOf-does _ _ _ _ _ _ _ _ c.in_ok-receipt.ensures.ok c.self.invariant.1,
   c.self.invariant.2,
 )
