@@ -26,8 +26,8 @@ use rd_stream::message_packing::{LastMessageChange, last_message_change};
 use rd_stream::stream_packing::{LastStreamChange, last_stream_change};
 
 impl ObjectChange<'_> {
-    // Puts the bytes of this change behind the others.
-    #[inline(always)]
+    // Puts the bytes of this change behind the others. (Called: a function that is inlined together
+    // with it would be larger than what the compiler still inlines.)
     fn pack(self, bytes: &mut ByteStack) -> Result<(), NoMemory>
         requires { ObjectHasBytes (the_object_change self) }
         ensures ok { OnOk result (bytes.new.bytes
