@@ -14,7 +14,7 @@ ghost use Rattle.rd_desk.specs.declared.sessions.TheConstants.{MAX_JOINS};
 ghost use Rattle.rd_timeline.specs.History.{state_after};
 ghost use Rattle.rd_hall.specs.Account.{IsAccount, IsAccounted};
 ghost use Rattle.rd_hall.specs.Looks.{look_of};
-ghost use Rattle.rd_hall.specs.Seats.{newcomer, DoesFor, IsOf, Reaches, ReachesTo};
+ghost use Rattle.rd_hall.specs.Seats.{newcomer, DoesFor, IsOf, LetsGo, Reaches, ReachesTo};
 
 use crate::account::{Broken, Closed, is_account};
 use crate::look::Look;
@@ -301,6 +301,7 @@ impl<L: Setup> Room<L> {
             → DoesFor self.old.desk seat.session Leave self.new.desk result }
         ensures broken { ¬ Reaches self.old.desk seat.session
             → (self.new ≡ self.old) × (result ≡ seat.session) }
+        ensures lets_go { LetsGo self.old.desk seat.session result }
     {
         if !self.reaches(seat.who, seat.next) {
             return seat.gone();
