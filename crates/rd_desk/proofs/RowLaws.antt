@@ -6,14 +6,13 @@ use Rattle.std.proofs.lemmas.Option.{slice_get_read}
 use Rattle.rd_desk.specs.declared.entry.Noted.{Noted}
 use Rattle.rd_desk.specs.declared.rows.Deed.{Deed}
 use Rattle.rd_desk.specs.declared.rows.Deed.TheVariants.{Enter, Ask, Leave}
-use Rattle.rd_desk.specs.declared.kept.Kept.{Kept}
 use Rattle.rd_desk.specs.declared.rows.Row.{Row}
 use Rattle.rd_desk.specs.declared.rows.Rows.TheInside.{Inside}
 use Rattle.rd_desk.specs.declared.reply.Reply.{Reply}
 use Rattle.rd_desk.specs.HistoryView.{IsLineOf, deed_event, deed_of, reply_bytes}
-use Rattle.rd_desk.specs.Kept.{IsKeptOf, reply_kept}
+use Rattle.rd_desk.specs.Kept.{IsKeptOf, line_end_of, reply_kept}
 use Rattle.rd_desk.specs.Rows.{RowsView}
-use Rattle.rd_desk.specs.RowsInside.{AreRows, IsRowOf, line_end, noted_from, noted_in, rows_of, start_at}
+use Rattle.rd_desk.specs.RowsInside.{AreRows, IsRowOf, line_end, noted_from, noted_in, row_end, row_kept, rows_of, start_at}
 
 -- ---- parts of bytes, where others came behind
 
@@ -45,13 +44,13 @@ noted_before bytes more start row within =
     ap (λ (line : List ℕ). record {
       number = row.number;
       event = deed_event row.deed line;
-      reply = reply_kept row.kept (slice_range (bytes ++ more) (line_end start row) row.end);
+      reply = reply_kept (row_kept row) (slice_range (bytes ++ more) (line_end start row) (row_end row));
     }) (range_before bytes more start (line_end start row) within.starts (omega (arith, within.middles, within.ends)))
     ∙ ap (λ (text : List ℕ). record {
       number = row.number;
       event = deed_event row.deed (slice_range bytes start (line_end start row));
-      reply = reply_kept row.kept text;
-    }) (range_before bytes more (line_end start row) row.end within.middles within.ends)
+      reply = reply_kept (row_kept row) text;
+    }) (range_before bytes more (line_end start row) (row_end row) within.middles within.ends)
 
 row_before : (bytes more : List ℕ) (start : ℕ) (row : Row) → IsRowOf bytes start row → IsRowOf (bytes ++ more) start row
 row_before bytes more start row is = record {
@@ -64,92 +63,97 @@ row_before bytes more start row is = record {
 -- ---- one row more, whose bytes came behind the others
 
 pub rows_push : (bytes more : List ℕ) (start : ℕ) (rows : List Row) (row : Row) → AreRows bytes start rows → IsRowOf (bytes ++ more) (length bytes) row
-    → row.end ≡ length (bytes ++ more) → AreRows (bytes ++ more) start (rows ++ row ∷ [])
+    → row_end row ≡ length (bytes ++ more) → AreRows (bytes ++ more) start (rows ++ row ∷ [])
 rows_push bytes more start [] row ends is end =
     (subst (λ (from : ℕ). IsRowOf (bytes ++ more) from row) (sym ends) is, end)
 rows_push bytes more start (first ∷ rows) row are is end =
-    (row_before bytes more start first are.0, rows_push bytes more first.end rows row are.1 is end)
+    (row_before bytes more start first are.0, rows_push bytes more (row_end first) rows row are.1 is end)
 
 pub noted_push : (bytes more : List ℕ) (start : ℕ) (rows : List Row) (row : Row) → AreRows bytes start rows
     → noted_from (bytes ++ more) start (rows ++ row ∷ []) ≡ noted_from bytes start rows ++ noted_in (bytes ++ more) (length bytes) row ∷ []
 noted_push bytes more start [] row ends = ap (λ (from : ℕ). noted_in (bytes ++ more) from row ∷ []) ends
 noted_push bytes more start (first ∷ rows) row are =
-    ap (λ (noted : Noted). noted ∷ noted_from (bytes ++ more) first.end (rows ++ row ∷ [])) (noted_before bytes more start first are.0)
-    ∙ ap (λ (later : List Noted). noted_in bytes start first ∷ later) (noted_push bytes more first.end rows row are.1)
+    ap (λ (noted : Noted). noted ∷ noted_from (bytes ++ more) (row_end first) (rows ++ row ∷ [])) (noted_before bytes more start first are.0)
+    ∙ ap (λ (later : List Noted). noted_in bytes start first ∷ later) (noted_push bytes more (row_end first) rows row are.1)
 
--- The row of a reply behind a line that comes behind these bytes.
-abbrev pub row_of : List ℕ → ℕ → Deed → List ℕ → Reply → Kept → Row
-row_of bytes number deed line reply kept = record {
-  end = length bytes + length line + length (reply_bytes reply);
-  number = number;
-  deed = deed;
-  kept = kept;
-}
+-- It is the row of a reply behind a line that comes behind these bytes.
+pub record IsRowFor (bytes : List ℕ) (number : ℕ) (deed : Deed) (line : List ℕ) (reply : Reply) (row : Row) : Type 0 where
+  pub numbered : row.number ≡ number
+  pub done : row.deed ≡ deed
+  pub ends : row_end row ≡ length bytes + length line + length (reply_bytes reply)
+  pub keeps : IsKeptOf (row_kept row) (length line) reply
 
 -- its bytes
-line_behind : (bytes : List ℕ) (number : ℕ) (deed : Deed) (line : List ℕ) (reply : Reply) (kept : Kept) → IsKeptOf kept (length line) reply
-    → slice_range (bytes ++ (line ++ reply_bytes reply)) (length bytes) (line_end (length bytes) (row_of bytes number deed line reply kept)) ≡ line
-line_behind bytes number deed line reply kept is =
-    range_behind bytes line (reply_bytes reply) (length bytes) (line_end (length bytes) (row_of bytes number deed line reply kept)) refl (is.ends (length bytes))
+middle_of : (bytes : List ℕ) (number : ℕ) (deed : Deed) (line : List ℕ) (reply : Reply) (row : Row) → IsRowFor bytes number deed line reply row
+    → line_end (length bytes) row ≡ length bytes + length line
+middle_of bytes number deed line reply row is =
+    ap (λ (end : ℕ). line_end_of (length bytes) end (row_kept row)) is.ends ∙ is.keeps.ends (length bytes)
 
-text_behind : (bytes : List ℕ) (number : ℕ) (deed : Deed) (line : List ℕ) (reply : Reply) (kept : Kept) → IsKeptOf kept (length line) reply
-    → let row = row_of bytes number deed line reply kept in
-    slice_range (bytes ++ (line ++ reply_bytes reply)) (line_end (length bytes) row) row.end ≡ reply_bytes reply
-text_behind bytes number deed line reply kept is =
-    let row = row_of bytes number deed line reply kept in
+line_behind : (bytes : List ℕ) (number : ℕ) (deed : Deed) (line : List ℕ) (reply : Reply) (row : Row) → IsRowFor bytes number deed line reply row
+    → slice_range (bytes ++ (line ++ reply_bytes reply)) (length bytes) (line_end (length bytes) row) ≡ line
+line_behind bytes number deed line reply row is =
+    range_behind bytes line (reply_bytes reply) (length bytes) (line_end (length bytes) row) refl (middle_of bytes number deed line reply row is)
+
+text_behind : (bytes : List ℕ) (number : ℕ) (deed : Deed) (line : List ℕ) (reply : Reply) (row : Row) → IsRowFor bytes number deed line reply row
+    → slice_range (bytes ++ (line ++ reply_bytes reply)) (line_end (length bytes) row) (row_end row) ≡ reply_bytes reply
+text_behind bytes number deed line reply row is =
     let text = reply_bytes reply in
-    let middle = is.ends (length bytes) in
-    ap (λ (all : List ℕ). slice_range all (line_end (length bytes) row) row.end)
+    let middle = middle_of bytes number deed line reply row is in
+    let end = is.ends in
+    ap (λ (all : List ℕ). slice_range all (line_end (length bytes) row) (row_end row))
     (sym (append_assoc bytes line text) ∙ ap (λ (last : List ℕ). (bytes ++ line) ++ last) (sym (append-nil text)))
-    ∙ range_behind (bytes ++ line) text [] (line_end (length bytes) row) row.end (omega (arith, middle, length-append bytes line))
-    (omega (arith, length-append bytes line))
+    ∙ range_behind (bytes ++ line) text [] (line_end (length bytes) row) (row_end row) (omega (arith, middle, length-append bytes line))
+    (omega (arith, end, length-append bytes line))
 
-pub noted_behind : (bytes : List ℕ) (number : ℕ) (deed : Deed) (line : List ℕ) (reply : Reply) (kept : Kept) → IsKeptOf kept (length line) reply
-    → noted_in (bytes ++ (line ++ reply_bytes reply)) (length bytes) (row_of bytes number deed line reply kept)
+pub noted_behind : (bytes : List ℕ) (number : ℕ) (deed : Deed) (line : List ℕ) (reply : Reply) (row : Row) → IsRowFor bytes number deed line reply row
+    → noted_in (bytes ++ (line ++ reply_bytes reply)) (length bytes) row
     ≡ record { number = number; event = deed_event deed line; reply = reply }
-noted_behind bytes number deed line reply kept is =
-    let row = row_of bytes number deed line reply kept in
+noted_behind bytes number deed line reply row is =
     let all = bytes ++ (line ++ reply_bytes reply) in
-    ap (λ (l : List ℕ). record { number = number; event = deed_event deed l; reply = reply_kept kept (slice_range all (line_end (length bytes) row) row.end) })
-    (line_behind bytes number deed line reply kept is)
-    ∙ ap (λ (t : List ℕ). record { number = number; event = deed_event deed line; reply = reply_kept kept t }) (text_behind bytes number deed line reply kept is)
-    ∙ ap (λ (r : Reply). record { number = number; event = deed_event deed line; reply = r }) is.gives
+    ap (λ (l : List ℕ). record { number = row.number; event = deed_event row.deed l; reply = reply_kept (row_kept row) (slice_range all (line_end (length bytes) row) (row_end row)) })
+    (line_behind bytes number deed line reply row is)
+    ∙ ap (λ (t : List ℕ). record { number = row.number; event = deed_event row.deed line; reply = reply_kept (row_kept row) t }) (text_behind bytes number deed line reply row is)
+    ∙ ap (λ (r : Reply). record { number = row.number; event = deed_event row.deed line; reply = r }) is.keeps.gives
+    ∙ ap (λ (d : Deed). record { number = row.number; event = deed_event d line; reply = reply }) is.done
+    ∙ ap (λ (n : ℕ). record { number = n; event = deed_event deed line; reply = reply }) is.numbered
 
-pub row_behind : (bytes : List ℕ) (number : ℕ) (deed : Deed) (line : List ℕ) (reply : Reply) (kept : Kept) → IsKeptOf kept (length line) reply
-    → IsLineOf deed line → IsRowOf (bytes ++ (line ++ reply_bytes reply)) (length bytes) (row_of bytes number deed line reply kept)
-row_behind bytes number deed line reply kept is said =
-    let middle = is.ends (length bytes) in record {
-      ends = omega (arith, length-append bytes (line ++ reply_bytes reply), length-append line (reply_bytes reply));
-      middles = omega (arith, middle);
+pub row_behind : (bytes : List ℕ) (number : ℕ) (deed : Deed) (line : List ℕ) (reply : Reply) (row : Row) → IsRowFor bytes number deed line reply row
+    → IsLineOf deed line → IsRowOf (bytes ++ (line ++ reply_bytes reply)) (length bytes) row
+row_behind bytes number deed line reply row is said =
+    let middle = middle_of bytes number deed line reply row is in
+    let end = is.ends in record {
+      ends = omega (arith, end, length-append bytes (line ++ reply_bytes reply), length-append line (reply_bytes reply));
+      middles = omega (arith, middle, end);
       starts = omega (arith, middle);
-      line = subst (IsLineOf deed) (sym (line_behind bytes number deed line reply kept is)) said;
+      line = subst (λ (d : Deed). IsLineOf d (slice_range (bytes ++ (line ++ reply_bytes reply)) (length bytes) (line_end (length bytes) row))) (sym is.done)
+          (subst (IsLineOf deed) (sym (line_behind bytes number deed line reply row is)) said);
     }
 
 -- ---- the row at an index
 
 pub noted_length : (bytes : List ℕ) (start : ℕ) (rows : List Row) → length (noted_from bytes start rows) ≡ length rows
 noted_length bytes start [] = refl
-noted_length bytes start (row ∷ rows) = ap suc (noted_length bytes row.end rows)
+noted_length bytes start (row ∷ rows) = ap suc (noted_length bytes (row_end row) rows)
 
 pub noted_at : (bytes : List ℕ) (start : ℕ) (rows : List Row) (index : ℕ) (row : Row) → slice_get rows index ≡ Some row
     → slice_get (noted_from bytes start rows) index ≡ Some (noted_in bytes (start_at start rows index) row)
 noted_at bytes start [] index row at = absurd cc
 noted_at bytes start (first ∷ rows) zero row at =
     let is : first ≡ row = cc in ap (λ (r : Row). Some (noted_in bytes start r)) is
-noted_at bytes start (first ∷ rows) (suc index) row at = noted_at bytes first.end rows index row at
+noted_at bytes start (first ∷ rows) (suc index) row at = noted_at bytes (row_end first) rows index row at
 
 pub row_at : (bytes : List ℕ) (start : ℕ) (rows : List Row) (index : ℕ) (row : Row) → AreRows bytes start rows → slice_get rows index ≡ Some row
     → IsRowOf bytes (start_at start rows index) row
 row_at bytes start [] index row are at = absurd cc
 row_at bytes start (first ∷ rows) zero row are at =
     let is : first ≡ row = cc in subst (IsRowOf bytes start) is are.0
-row_at bytes start (first ∷ rows) (suc index) row are at = row_at bytes first.end rows index row are.1 at
+row_at bytes start (first ∷ rows) (suc index) row are at = row_at bytes (row_end first) rows index row are.1 at
 
-pub start_behind : (start : ℕ) (rows : List Row) (index : ℕ) (row : Row) → slice_get rows index ≡ Some row → start_at start rows (suc index) ≡ row.end
+pub start_behind : (start : ℕ) (rows : List Row) (index : ℕ) (row : Row) → slice_get rows index ≡ Some row → start_at start rows (suc index) ≡ row_end row
 start_behind start [] index row at = absurd cc
 start_behind start (first ∷ rows) zero row at =
-    let is : first ≡ row = cc in ap (λ (r : Row). r.end) is
-start_behind start (first ∷ rows) (suc index) row at = start_behind first.end rows index row at
+    let is : first ≡ row = cc in ap (λ (r : Row). row_end r) is
+start_behind start (first ∷ rows) (suc index) row at = start_behind (row_end first) rows index row at
 
 -- as many as there are rows
 pub as_many : (r : Inside) (now : RowsView) → rows_of r ≡ now → length r.rows.items ≡ length now.noted

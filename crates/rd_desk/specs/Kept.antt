@@ -1,5 +1,5 @@
 -- What is kept of a reply, but for the text of a view.
-use Rattle.std.specs.Prelude.{ℕ, ◌≡◌, ◌+◌, ◌<◌, ⊤, List, length}
+use Rattle.std.specs.Prelude.{ℕ, ◌≡◌, ◌+◌, ◌*◌, ◌<◌, ⊤, List, None, Some, length}
 use Rattle.rd_refusal.specs.declared.refusal.Refusal.{Refusal}
 use Rattle.rd_refusal.specs.declared.refusal.Refusal.TheVariants as refusal
 use Rattle.rd_reply.specs.declared.reply.Reply.TheVariants as told
@@ -8,6 +8,9 @@ use Rattle.rd_desk.specs.declared.kept.Cause.{Cause}
 use Rattle.rd_desk.specs.declared.kept.Cause.TheVariants as cause
 use Rattle.rd_desk.specs.declared.kept.Kept.{Kept}
 use Rattle.rd_desk.specs.declared.kept.Kept.TheVariants as kept
+use Rattle.rd_desk.specs.declared.kept.Kind.{Kind}
+use Rattle.rd_desk.specs.declared.kept.Kind.TheVariants as kind
+use Rattle.rd_desk.specs.declared.kept.Packed.{Packed}
 use Rattle.rd_desk.specs.declared.reply.Reply.{Reply}
 use Rattle.rd_desk.specs.declared.reply.Reply.TheVariants.{Done, Told, Shown}
 use Rattle.rd_desk.specs.HistoryView.{reply_bytes}
@@ -45,6 +48,29 @@ reply_kept (kept.TooFar kept) bytes = Told (told.Refused (refusal.TooFar kept))
 reply_kept (kept.Held holder) bytes = Told (told.Refused (refusal.Held holder))
 reply_kept (kept.Refused cause) bytes = Told (told.Refused (cause_refusal cause))
 reply_kept (kept.Shown line) bytes = Shown bytes
+
+-- the number of two halves
+abbrev pub wide : ℕ → ℕ → ℕ
+wide low high = low + 4294967296 * high
+
+-- what is kept, by its kind and its numbers
+abbrev pub kept_of : Kind → ℕ → ℕ → ℕ → Kept
+kept_of kind.Done first second third = kept.Done
+kept_of kind.Reached first second third = kept.Reached (wide first second)
+kept_of kind.Answered first second third = kept.Answered third (wide first second)
+kept_of (kind.Ended end) first second third = kept.Ended end (wide first second)
+kept_of kind.Moves first second third = kept.Moves first second third
+kept_of kind.Wheel first second third = kept.Wheel
+kept_of kind.Nobody first second third = kept.Holder None
+kept_of kind.Holder first second third = kept.Holder (Some first)
+kept_of kind.Watch first second third = kept.Watch (wide first second)
+kept_of kind.TooFar first second third = kept.TooFar (wide first second)
+kept_of kind.Held first second third = kept.Held first
+kept_of (kind.Refused cause) first second third = kept.Refused cause
+kept_of kind.Shown first second third = kept.Shown (wide first second)
+
+abbrev pub packed_kept : Packed → Kept
+packed_kept packed = kept_of packed.kind packed.first packed.second packed.third
 
 -- where the line ends in bytes from one place to another
 abbrev pub line_end_of : ℕ → ℕ → Kept → ℕ

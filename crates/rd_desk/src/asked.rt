@@ -73,6 +73,7 @@ fn have_same_words(line: &[u8], other: &[u8]) -> bool
 }
 
 // The same, looked at word by word.
+#[inline(never)]
 fn agree_word_by_word(line: &[u8], other: &[u8]) -> bool
     ensures { IsTrue result ↔ (words_of line.now ≡ words_of other.now) }
 {

@@ -1,8 +1,9 @@
-//! Replies in 16 bytes, but for the text of a view.
+//! Replies in 14 bytes, but for the text of a view.
 
-ghost use Rattle.std.specs.Prelude.{◌≡◌, [], IfOk};
+ghost use Rattle.std.specs.Prelude.{◌≡◌, ◌↔◌, [], IfOk, IsTrue};
 ghost use Rattle.rd_desk.specs.HistoryView.{reply_bytes};
-ghost use Rattle.rd_desk.specs.Kept.{cause_refusal, reply_kept, IsKeptOf, IsNarrow, IsNarrowTold};
+ghost use Rattle.rd_desk.specs.Kept.{cause_refusal, packed_kept, reply_kept, wide, IsKeptOf};
+ghost use Rattle.rd_desk.specs.Kept.{IsNarrow, IsNarrowTold};
 
 use crate::reply::Reply;
 use crate::text::Text;
@@ -50,24 +51,86 @@ pub(crate) enum Kept {
     Shown { line: usize },
 }
 
-// What is kept of a refusal without a number.
-fn refused(cause: Cause) -> Kept
-    ensures { result ≡ Kept.Refused cause }
+/// Which reply it is, with what of it isn't a number.
+#[derive(Clone, Copy, PartialEq, Eq)]
+pub(crate) enum Kind {
+    Done,
+    Reached,
+    Answered,
+    Ended { end: SearchEnd },
+    Moves,
+    Wheel,
+    Nobody,
+    Holder,
+    Watch,
+    TooFar,
+    Held,
+    Refused { cause: Cause },
+    Shown,
+}
+
+/// The same in 14 bytes: three numbers of 32 bits, of which the first two may be the halves of one
+/// of 64, the lower one first. A number that the kind doesn't have is 0.
+#[derive(Clone, Copy, PartialEq, Eq)]
+pub(crate) struct Packed {
+    pub(crate) first: u32,
+    pub(crate) second: u32,
+    pub(crate) third: u32,
+    pub(crate) kind: Kind,
+}
+
+// A kind that has no number.
+fn plain(kind: Kind) -> Packed
+    ensures kind { result.kind ≡ kind }
 {
-    Kept::Refused { cause }
+    narrow(kind, 0)
+}
+
+// A kind with a number of 32 bits.
+fn narrow(kind: Kind, number: u32) -> Packed
+    ensures kind { result.kind ≡ kind }
+    ensures number { result.first ≡ number }
+{
+    Packed {
+        first: number,
+        second: 0,
+        third: 0,
+        kind,
+    }
+}
+
+// A kind with a number of 64 bits, and one of 32.
+fn wide(kind: Kind, number: usize, third: u32) -> Packed
+    ensures kind { result.kind ≡ kind }
+    ensures number { wide result.first result.second ≡ number }
+    ensures third { result.third ≡ third }
+{
+    Packed {
+        first: (number % (1 << 32)) as u32,
+        second: (number / (1 << 32)) as u32,
+        third,
+        kind,
+    }
+}
+
+// What is kept of a refusal without a number.
+fn refused(cause: Cause) -> Packed
+    ensures { packed_kept result ≡ Kept.Refused cause }
+{
+    plain(Kind::Refused { cause })
 }
 
 // What is kept of a refusal.
-fn pack_refusal(refusal: Refusal) -> Kept
-    ensures { IsKeptOf result 0 (Reply.Told (Short.Refused refusal)) }
+fn pack_refusal(refusal: Refusal) -> Packed
+    ensures { IsKeptOf (packed_kept result) 0 (Reply.Told (Short.Refused refusal)) }
 {
     match refusal {
         Refusal::NoTask => refused(Cause::NoTask),
         Refusal::TickLimit => refused(Cause::TickLimit),
-        Refusal::TooFar { kept } => Kept::TooFar { kept },
+        Refusal::TooFar { kept } => wide(Kind::TooFar, kept, 0),
         Refusal::NothingUndone => refused(Cause::NothingUndone),
         Refusal::MovesFull => refused(Cause::MovesFull),
-        Refusal::Held { holder } => Kept::Held { holder },
+        Refusal::Held { holder } => narrow(Kind::Held, holder),
         Refusal::NoSuch => refused(Cause::NoSuch),
         Refusal::BadEdit => refused(Cause::BadEdit),
         Refusal::NoIsr => refused(Cause::NoIsr),
@@ -83,24 +146,110 @@ fn pack_refusal(refusal: Refusal) -> Kept
     }
 }
 
+// What is kept of who has the wheel.
+fn pack_holder(holder: Option<u32>) -> Packed
+    ensures { packed_kept result ≡ Kept.Holder holder }
+{
+    match holder {
+        Some(holder) => narrow(Kind::Holder, holder),
+        None => plain(Kind::Nobody),
+    }
+}
+
 // What is kept of a reply in a few words.
-fn pack_told(told: Short) -> Kept
-    requires { IsNarrowTold told }
-    ensures { IsKeptOf result 0 (Reply.Told told) }
+fn pack_told(told: &Short) -> Packed
+    requires { IsNarrowTold told.now }
+    ensures { IsKeptOf (packed_kept result) 0 (Reply.Told told.now) }
 {
     match told {
-        Short::Done { at } => Kept::Reached { at },
-        Short::Answered { at, answer } => Kept::Answered { answer, at },
-        Short::Ended { at, end } => Kept::Ended { end, at },
-        Short::Moves { done, undone, kept } => Kept::Moves {
-            done: done as u32,
-            undone: undone as u32,
-            kept: kept as u32,
+        Short::Done { at } => wide(Kind::Reached, *at, 0),
+        Short::Answered { at, answer } => wide(Kind::Answered, *at, *answer),
+        Short::Ended { at, end } => wide(Kind::Ended { end: *end }, *at, 0),
+        Short::Moves { done, undone, kept } => Packed {
+            first: *done as u32,
+            second: *undone as u32,
+            third: *kept as u32,
+            kind: Kind::Moves,
         },
-        Short::Wheel => Kept::Wheel,
-        Short::Holder { holder } => Kept::Holder { holder },
-        Short::Watch { number } => Kept::Watch { number },
-        Short::Refused { refusal } => pack_refusal(refusal),
+        Short::Wheel => plain(Kind::Wheel),
+        Short::Holder { holder } => pack_holder(*holder),
+        Short::Watch { number } => wide(Kind::Watch, *number, 0),
+        Short::Refused { refusal } => pack_refusal(*refusal),
+    }
+}
+
+impl Packed {
+    /// What is kept of a reply behind a line of so many bytes.
+    pub(crate) fn of(line: usize, reply: &Reply) -> Packed
+        requires { IsNarrow reply.now }
+        ensures { IsKeptOf (packed_kept result) line reply.now }
+    {
+        match reply {
+            Reply::Done => plain(Kind::Done),
+            Reply::Told { told } => pack_told(told),
+            Reply::Shown { .. } => wide(Kind::Shown, line, 0),
+        }
+    }
+
+    /// Whether the same is kept. (Mostly kind and numbers are the same; then no more is asked.)
+    pub(crate) fn is_same(self, other: Packed) -> bool
+        ensures { IsTrue result ↔ (packed_kept self ≡ packed_kept other) }
+    {
+        self == other || self.means_same(other)
+    }
+
+    // The same, looked at by what each says.
+    #[inline(never)]
+    fn means_same(self, other: Packed) -> bool
+        ensures { IsTrue result ↔ (packed_kept self ≡ packed_kept other) }
+    {
+        self.kept() == other.kept()
+    }
+
+    /// Its number of 64 bits.
+    pub(crate) fn number(&self) -> usize
+        ensures { result ≡ wide self.now.first self.now.second }
+    {
+        self.first as usize + (self.second as usize) * (1 << 32)
+    }
+
+    /// The same by its numbers.
+    pub(crate) fn kept(&self) -> Kept
+        ensures { result ≡ packed_kept self.now }
+    {
+        match self.kind {
+            Kind::Done => Kept::Done,
+            Kind::Reached => Kept::Reached { at: self.number() },
+            Kind::Answered => Kept::Answered {
+                answer: self.third,
+                at: self.number(),
+            },
+            Kind::Ended { end } => Kept::Ended {
+                end,
+                at: self.number(),
+            },
+            Kind::Moves => Kept::Moves {
+                done: self.first,
+                undone: self.second,
+                kept: self.third,
+            },
+            Kind::Wheel => Kept::Wheel,
+            Kind::Nobody => Kept::Holder { holder: None },
+            Kind::Holder => Kept::Holder {
+                holder: Some(self.first),
+            },
+            Kind::Watch => Kept::Watch {
+                number: self.number(),
+            },
+            Kind::TooFar => Kept::TooFar {
+                kept: self.number(),
+            },
+            Kind::Held => Kept::Held { holder: self.first },
+            Kind::Refused { cause } => Kept::Refused { cause },
+            Kind::Shown => Kept::Shown {
+                line: self.number(),
+            },
+        }
     }
 }
 
@@ -129,18 +278,6 @@ fn refusal_of(cause: Cause) -> Refusal
 }
 
 impl Kept {
-    /// What is kept of a reply behind a line of so many bytes.
-    pub(crate) fn of(line: usize, reply: &Reply) -> Kept
-        requires { IsNarrow reply.now }
-        ensures { IsKeptOf result line reply.now }
-    {
-        match reply {
-            Reply::Done => Kept::Done,
-            Reply::Told { told } => pack_told(*told),
-            Reply::Shown { .. } => Kept::Shown { line },
-        }
-    }
-
     /// The reply, with the text of a view. An `Err` says that there is no memory for that.
     pub(crate) fn reply(self, alloc: Global, text: &[u8]) -> Result<Reply, NoMemory>
         ensures { IfOk result (λ reply. reply ≡ reply_kept self text.now) }

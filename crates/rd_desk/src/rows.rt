@@ -6,16 +6,20 @@ ghost use Rattle.std.specs.Prelude.{slice_get, slice_range, vec_capacity, vec_le
 ghost use Rattle.std.specs.Prelude.{IfOk, IsSomeAnd, IsTrue, OnErr, OnOk};
 ghost use Rattle.rd_desk.specs.HistoryView.{deed_event, deed_of, reply_bytes, IsLineOf};
 ghost use Rattle.rd_desk.specs.Rows.{AreSame};
-ghost use Rattle.rd_desk.specs.Kept.{reply_kept, IsNarrow};
-ghost use Rattle.rd_desk.specs.RowsInside.{line_end, start_at, IsRowOf};
+ghost use Rattle.rd_desk.specs.Kept.{kept_of, packed_kept, reply_kept, IsNarrow};
+ghost use Rattle.rd_desk.specs.RowsInside.{line_end, row_end, row_kept, start_at, IsRowOf};
 
 use crate::asked::{Asked, are_same_command};
 use crate::entry::{Event, Noted};
-use crate::kept::Kept;
+use crate::kept::{Kind, Packed};
 use crate::reply::Reply;
 use rd_bytes::no_memory::NoMemory;
 use std::alloc::Global;
 use std::marker::Model;
+
+/// How many bytes the lines and views of rows have together at the most: more than any machine has
+/// memory for. Where a row ends is kept with 40 bits.
+pub(crate) const MAX_ROW_BYTES: usize = (1 << 40) - 1;
 
 /// What a session did, but for the line of a command.
 #[derive(Clone, Copy)]
@@ -29,13 +33,18 @@ pub enum Deed {
 }
 
 // What is kept of an entry or of a receipt, but for its bytes: the line of its command, and behind
-// it the text of its view. They begin where those of the row before end.
+// it the text of its view. They begin where those of the row before end. The halves of where they
+// end, and of the reply that is kept, lie side by side, so that a row has no gaps.
 #[derive(Clone, Copy)]
 struct Row {
-    end: usize,
+    first: u32,
+    second: u32,
+    third: u32,
     number: u32,
+    low_end: u32,
+    high_end: u8,
     deed: Deed,
-    kept: Kept,
+    kind: Kind,
 }
 
 // A row with its bytes.
@@ -43,11 +52,11 @@ struct Row {
 struct Unpacked<'a> {
     deed: Deed,
     line: &'a [u8],
-    kept: Kept,
+    packed: Packed,
     text: &'a [u8],
 }
 
-/// What was done and replied so far, in order, each under a number. Each takes a row of 32 bytes,
+/// What was done and replied so far, in order, each under a number. Each takes a row of 24 bytes,
 /// and the bytes of the line of its command and of its view.
 #[derive(Drop)]
 pub struct Rows {
@@ -60,11 +69,11 @@ impl Model for Rows {
 
     ghost Value = { RowsView };
 
-    ghost use Rattle.rd_desk.specs.RowsInside.{rows_of, AreRows};
+    ghost use Rattle.rd_desk.specs.RowsInside.{rows_of, AreKept};
 
     ghost view = { rows_of };
 
-    ghost invariant = { λ r. AreRows r.bytes.items 0 r.rows.items };
+    ghost invariant = { AreKept };
 }
 
 /// The bytes of a reply: the line of a view, and else none.
@@ -90,41 +99,89 @@ fn append_reserved(bytes: &mut Vec<u8>, more: &[u8])
     }
 }
 
+impl Row {
+    // Of what is kept, with where its bytes end.
+    fn new(end: usize, number: u32, deed: Deed, packed: Packed) -> Row
+        requires { end ≤ MAX_ROW_BYTES }
+        ensures end { row_end result ≡ end }
+        ensures number { result.number ≡ number }
+        ensures deed { result.deed ≡ deed }
+        ensures kept { row_kept result ≡ packed_kept packed }
+    {
+        Row {
+            first: packed.first,
+            second: packed.second,
+            third: packed.third,
+            number,
+            low_end: (end % (1 << 32)) as u32,
+            high_end: (end / (1 << 32)) as u8,
+            deed,
+            kind: packed.kind,
+        }
+    }
+
+    // Where its bytes end.
+    fn end(&self) -> usize
+        ensures { result ≡ row_end self.now }
+    {
+        self.low_end as usize + (self.high_end as usize) * (1 << 32)
+    }
+
+    // What is kept of its reply.
+    fn packed(&self) -> Packed
+        ensures { result ≡ record {
+          first = self.now.first;
+          second = self.now.second;
+          third = self.now.third;
+          kind = self.now.kind;
+        } }
+    {
+        Packed {
+            first: self.first,
+            second: self.second,
+            third: self.third,
+            kind: self.kind,
+        }
+    }
+}
+
 // Where the bytes of a row begin.
 fn start_of(rows: &[Row], index: usize) -> usize
     requires { index < length rows.now }
     ensures { result ≡ start_at 0 rows.now index }
 {
-    if index == 0 { 0 } else { rows[index - 1].end }
+    if index == 0 { 0 } else { rows[index - 1].end() }
 }
 
 // Where the line of a row ends that begins there.
-fn line_end(start: usize, row: Row) -> usize
-    requires { line_end start row ≤ row.end }
-    ensures { result ≡ line_end start row }
+fn line_end(start: usize, row: &Row) -> usize
+    requires { line_end start row.now ≤ row_end row.now }
+    ensures { result ≡ line_end start row.now }
 {
-    if let Kept::Shown { line } = row.kept {
-        start + line
+    let end = row.end();
+    if let Kind::Shown = row.kind {
+        start + row.packed().number()
     } else {
-        row.end
+        end
     }
 }
 
 // The row that begins there, with its bytes.
-fn unpack(bytes: &[u8], start: usize, row: Row) -> Unpacked<'_>
-    requires { IsRowOf bytes.now start row }
-    ensures deed { result.deed ≡ row.deed }
-    ensures line { result.line.now ≡ slice_range bytes.now start (line_end start row) }
-    ensures kept { result.kept ≡ row.kept }
-    ensures text { result.text.now ≡ slice_range bytes.now (line_end start row) row.end }
+fn unpack<'a>(bytes: &'a [u8], start: usize, row: &Row) -> Unpacked<'a>
+    requires { IsRowOf bytes.now start row.now }
+    ensures deed { result.deed ≡ row.now.deed }
+    ensures line { result.line.now ≡ slice_range bytes.now start (line_end start row.now) }
+    ensures kept { packed_kept result.packed ≡ row_kept row.now }
+    ensures text { result.text.now
+        ≡ slice_range bytes.now (line_end start row.now) (row_end row.now) }
     ensures said { IsLineOf result.deed result.line.now }
 {
     let middle = line_end(start, row);
     Unpacked {
         deed: row.deed,
         line: &bytes[start..middle],
-        kept: row.kept,
-        text: &bytes[middle..row.end],
+        packed: row.packed(),
+        text: &bytes[middle..row.end()],
     }
 }
 
@@ -148,13 +205,13 @@ fn is_same_event(one: Unpacked<'_>, other: Unpacked<'_>) -> bool
 // Whether the same was replied.
 fn is_same_reply(one: Unpacked<'_>, other: Unpacked<'_>) -> bool
     ensures { IsTrue result
-        ↔ (reply_kept one.entry.kept one.entry.text.now
-        ≡ reply_kept other.entry.kept other.entry.text.now) }
+        ↔ (reply_kept (packed_kept one.entry.packed) one.entry.text.now
+        ≡ reply_kept (packed_kept other.entry.packed) other.entry.text.now) }
 {
-    if let (Kept::Shown { .. }, Kept::Shown { .. }) = (one.kept, other.kept) {
+    if let (Kind::Shown, Kind::Shown) = (one.packed.kind, other.packed.kind) {
         one.text == other.text
     } else {
-        one.kept == other.kept
+        one.packed.is_same(other.packed)
     }
 }
 
@@ -212,11 +269,11 @@ impl Rows {
         requires { index < length self.now.noted }
         ensures noted { IsSomeAnd (slice_get self.now.noted index) (λ noted.
             (noted.event ≡ deed_event result.deed result.line.now)
-            × (noted.reply ≡ reply_kept result.kept result.text.now)) }
+            × (noted.reply ≡ reply_kept (packed_kept result.packed) result.text.now)) }
         ensures said { IsLineOf result.deed result.line.now }
     {
         let rows = self.rows.as_slice();
-        unpack(self.bytes.as_slice(), start_of(rows, index), rows[index])
+        unpack(self.bytes.as_slice(), start_of(rows, index), &rows[index])
     }
 
     /// Whether the one at this index is the same as one of others, but for their numbers.
@@ -241,7 +298,7 @@ impl Rows {
         Ok(Noted {
             number,
             event: event_of(alloc, one.deed, one.line)?,
-            reply: one.kept.reply(alloc, one.text)?,
+            reply: one.packed.kept().reply(alloc, one.text)?,
         })
     }
 
@@ -250,7 +307,7 @@ impl Rows {
         ensures { IsTrue result ↔ ((rows ≤ self.now.row_room) × (bytes ≤ self.now.byte_room)) }
     {
         rows <= self.rows.capacity() - self.rows.len()
-            && bytes <= self.bytes.capacity() - self.bytes.len()
+            && bytes <= self.bytes.capacity().min(MAX_ROW_BYTES) - self.bytes.len()
     }
 
     /// Makes room for so many more, and for so many bytes of theirs. Where there is no memory for
@@ -266,6 +323,9 @@ impl Rows {
     {
         self.rows.reserve(rows)?;
         self.bytes.reserve(bytes)?;
+        if bytes > MAX_ROW_BYTES - self.bytes.len() {
+            return Err(NoMemory);
+        }
         Ok(())
     }
 
@@ -287,11 +347,8 @@ impl Rows {
     {
         append_reserved(&mut self.bytes, line);
         append_reserved(&mut self.bytes, reply_bytes(reply));
-        self.rows.push_reserved(Row {
-            end: self.bytes.len(),
-            number,
-            deed,
-            kept: Kept::of(line.len(), reply),
-        });
+        let packed = Packed::of(line.len(), reply);
+        self.rows
+            .push_reserved(Row::new(self.bytes.len(), number, deed, packed));
     }
 }

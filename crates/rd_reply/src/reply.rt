@@ -189,25 +189,25 @@ fn append_watch(line: &mut ReplyLine, number: usize)
 
 // The line of a reply, where nothing stands yet. (It is written where it is wanted, since a line
 // that is handed on is copied.)
-fn write_line(line: &mut ReplyLine, reply: Reply)
+fn write_line(line: &mut ReplyLine, reply: &Reply)
     requires { line.old.items ≡ [] }
-    ensures { line.new.items ≡ line_of (reply_text reply) }
+    ensures { line.new.items ≡ line_of (reply_text reply.now) }
 {
     match reply {
-        Reply::Done { at } => append_done(line, at),
-        Reply::Answered { at, answer } => append_answered(line, at, answer),
+        Reply::Done { at } => append_done(line, *at),
+        Reply::Answered { at, answer } => append_answered(line, *at, *answer),
         Reply::Ended { at, end } => {
-            append_done(line, at);
+            append_done(line, *at);
             append_text(line, b" ");
-            append_end(line, end);
+            append_end(line, *end);
         }
-        Reply::Moves { done, undone, kept } => append_moves(line, done, undone, kept),
+        Reply::Moves { done, undone, kept } => append_moves(line, *done, *undone, *kept),
         Reply::Wheel => append_text(line, b"ok wheel"),
-        Reply::Holder { holder } => append_holder(line, holder),
-        Reply::Watch { number } => append_watch(line, number),
+        Reply::Holder { holder } => append_holder(line, *holder),
+        Reply::Watch { number } => append_watch(line, *number),
         Reply::Refused { refusal } => {
             append_text(line, b"no ");
-            append_refusal(line, refusal);
+            append_refusal(line, *refusal);
         }
     }
     append_text(line, b"\n");
@@ -227,8 +227,8 @@ impl Reply {
     }
 
     /// The line of the reply, its LF included. It takes no memory.
-    pub fn line(self) -> ReplyLine
-        ensures { result.items ≡ line_of (reply_text self) }
+    pub fn line(&self) -> ReplyLine
+        ensures { result.items ≡ line_of (reply_text self.now) }
     {
         let mut line = ArrayVec::new();
         write_line(&mut line, self);
@@ -237,9 +237,9 @@ impl Reply {
 }
 
 /// Appends the line of a reply, which there is room for.
-pub fn append_reply(page: &mut Vec<u8>, reply: Reply)
+pub fn append_reply(page: &mut Vec<u8>, reply: &Reply)
     requires { vec_len page.old + MAX_REPLY ≤ vec_capacity page.old }
-    ensures text { page.new.items ≡ page.old.items ++ line_of (reply_text reply) }
+    ensures text { page.new.items ≡ page.old.items ++ line_of (reply_text reply.now) }
     ensures room { vec_capacity page.old ≤ vec_capacity page.new }
 {
     let mut line = ArrayVec::new();

@@ -74,7 +74,7 @@ pub fn line_of<H: AllocGlobal>(rt: &H, reply: &Reply) -> Result<Vec<u8>, AllocEr
     let mut line = Vec::with_capacity(rt.alloc(), MAX_REPLY)?;
     match reply {
         Reply::Done => {}
-        Reply::Told { told } => append_reply(&mut line, *told),
+        Reply::Told { told } => append_reply(&mut line, told),
         Reply::Shown { text } => line.extend_from_slice(text.as_slice())?,
     }
     Ok(line)

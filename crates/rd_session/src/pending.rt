@@ -129,9 +129,9 @@ impl Pending {
     }
 
     /// Appends the line of a reply in a few words, which there is room for.
-    pub(crate) fn put_short(&mut self, told: Short)
+    pub(crate) fn put_short(&mut self, told: &Short)
         requires { length self.old.bytes + MAX_REPLY ≤ self.old.capacity }
-        ensures bytes { self.new.bytes ≡ self.old.bytes ++ line_of (reply_text told) }
+        ensures bytes { self.new.bytes ≡ self.old.bytes ++ line_of (reply_text told.now) }
         ensures begun { self.new.begun ≡ self.old.begun }
         ensures out { self.new.out ≡ self.old.out }
     {

@@ -168,7 +168,7 @@ fn ask<R: Wait, L: Setup, G: Gate, W: Sink>(
         Ok(()) => tell(gate, who, pending, sink, &seat.last().entry.reply),
         Err(error) => {
             let refusal = refusal_of(&error);
-            pending.put_short(Short::Refused { refusal });
+            pending.put_short(&Short::Refused { refusal });
             Ok(())
         }
     }
@@ -194,11 +194,12 @@ fn answer<R: Wait, L: Setup, G: Gate, W: Sink>(
     ensures faults { (W.seen sink.new).faults ≡ faults_after (W.seen sink.old).faults result }
 {
     let mut behind = Behind::new();
-    match parse_line(line, &mut behind) {
-        Ok(command) => ask(host, gate, seat, line, &command, pending, sink),
+    // (looked at where it is, since what is taken out of a result is copied)
+    match &parse_line(line, &mut behind) {
+        Ok(command) => ask(host, gate, seat, line, command, pending, sink),
         Err(_) => {
             let refusal = Refusal::Syntax;
-            pending.put_short(Short::Refused { refusal });
+            pending.put_short(&Short::Refused { refusal });
             Ok(())
         }
     }
@@ -252,7 +253,7 @@ fn answer_long<L: Setup, G: Gate, W: Sink>(
     let who = seat.who();
     begin(gate, who, pending, sink)?;
     let refusal = Refusal::LineTooLong;
-    pending.put_short(Short::Refused { refusal });
+    pending.put_short(&Short::Refused { refusal });
     finish(gate, who, pending, sink)
 }
 

@@ -94,7 +94,7 @@ pub(crate) fn tell<G: Gate, W: Sink>(
     match reply {
         Reply::Done => Ok(()),
         Reply::Told { told } => {
-            pending.put_short(*told);
+            pending.put_short(told);
             Ok(())
         }
         Reply::Shown { text } => {

@@ -10,4 +10,4 @@ returns-else-index-eq0 c =
     let rows = c.args.rows.now in
     let before = c.args.index - 1 in
     let next : suc before ≡ c.args.index = omega (arith, c.if-index-eq0.false) in
-    sym (sym (ap (start_at 0 rows) next) ∙ start_behind 0 rows before _ (slice_get-get_or rows before _ (omega (arith, c.requires))))
+    c.end.ensures ∙ sym (sym (ap (start_at 0 rows) next) ∙ start_behind 0 rows before _ (slice_get-get_or rows before _ (omega (arith, c.requires))))
