@@ -1,8 +1,7 @@
 //! Replies in a few words, and their lines.
 
-ghost use Rattle.std.specs.Prelude.{◌≡◌, ◌+◌, ◌*◌, ◌++◌, ◌≤◌, [], decimal, length};
+ghost use Rattle.std.specs.Prelude.{◌≡◌, ◌+◌, ◌*◌, ◌++◌, ◌≤◌, ℕ, List, decimal, length};
 ghost use Rattle.std.specs.Prelude.{vec_capacity, vec_len};
-ghost use Rattle.arrayvec.specs.ArrayVec.{array_vec_len};
 ghost use Rattle.rd_reply.specs.Replies.{answer_reply, answered_text, done_text, end_text};
 ghost use Rattle.rd_reply.specs.Replies.{holder_text, line_of, moves_text, refusal_text};
 ghost use Rattle.rd_reply.specs.Replies.{reply_text, watch_text};
@@ -63,154 +62,193 @@ pub type ReplyLine = ArrayVec<u8, MAX_REPLY>;
 // How many digits a `usize` has at the most.
 const MAX_DIGITS: usize = 20;
 
-// The functions below append to a line what their name says, which there is room for. (Inlined:
-// most texts are a few bytes that are known where it is called.)
-#[inline(always)]
-fn append_text(line: &mut ReplyLine, text: &[u8])
-    requires { array_vec_len line.old + length text.now ≤ MAX_REPLY }
-    ensures text { line.new.items ≡ line.old.items ++ text.now }
-    ensures len { array_vec_len line.new ≡ array_vec_len line.old + length text.now }
-{
-    line.try_extend_from_slice(text).unwrap();
+// Where the line of a reply is put: behind others that are yet to be written, or by itself.
+trait Line {
+    // What stands there.
+    ghost text: { Self → List ℕ };
+
+    // How many bytes may stand there.
+    ghost room: { Self → ℕ };
+
+    // Appends bytes that there is room for.
+    fn append(&mut self, bytes: &[u8])
+        requires { length (text self.old) + length bytes.now ≤ room self.old }
+        ensures text { text self.new ≡ text self.old ++ bytes.now }
+        ensures room { room self.old ≤ room self.new };
 }
 
-fn append_number(line: &mut ReplyLine, number: usize)
-    requires { array_vec_len line.old + MAX_DIGITS ≤ MAX_REPLY }
-    ensures text { line.new.items ≡ line.old.items ++ decimal number }
-    ensures len { array_vec_len line.new ≤ array_vec_len line.old + MAX_DIGITS }
+// (Inlined: most texts are a few bytes that are known where it is called.)
+impl Line for ReplyLine {
+    ghost use Rattle.rd_reply.specs.declared.reply.TheConstants.{MAX_REPLY};
+
+    ghost text = { λ line. line.items };
+
+    ghost room = { λ _. MAX_REPLY };
+
+    #[inline(always)]
+    fn append(&mut self, bytes: &[u8]) {
+        self.try_extend_from_slice(bytes).unwrap();
+    }
+}
+
+impl Line for Vec<u8> {
+    ghost text = { λ page. page.items };
+
+    ghost room = { vec_capacity };
+
+    #[inline(always)]
+    fn append(&mut self, bytes: &[u8]) {
+        self.extend_from_slice(bytes).unwrap();
+    }
+}
+
+// The functions below append to a line what their name says, which there is room for.
+
+fn append_number<L: Line>(line: &mut L, number: usize)
+    requires { length (L.text line.old) + MAX_DIGITS ≤ L.room line.old }
+    ensures text { L.text line.new ≡ L.text line.old ++ decimal number }
+    ensures len { length (L.text line.new) ≤ length (L.text line.old) + MAX_DIGITS }
+    ensures room { L.room line.old ≤ L.room line.new }
 {
-    append_text(line, Buffer::new().format(number).as_bytes());
+    line.append(Buffer::new().format(number).as_bytes());
 }
 
 // The longest refusal is `TooFar ` with its number.
-fn append_refusal(line: &mut ReplyLine, refusal: Refusal)
-    requires { array_vec_len line.old + 7 + MAX_DIGITS ≤ MAX_REPLY }
-    ensures text { line.new.items ≡ line.old.items ++ refusal_text refusal }
-    ensures len { array_vec_len line.new ≤ array_vec_len line.old + 7 + MAX_DIGITS }
+fn append_refusal<L: Line>(line: &mut L, refusal: Refusal)
+    requires { length (L.text line.old) + 7 + MAX_DIGITS ≤ L.room line.old }
+    ensures text { L.text line.new ≡ L.text line.old ++ refusal_text refusal }
+    ensures len { length (L.text line.new) ≤ length (L.text line.old) + 7 + MAX_DIGITS }
+    ensures room { L.room line.old ≤ L.room line.new }
 {
     match refusal {
-        Refusal::NoTask => append_text(line, b"NoTask"),
-        Refusal::TickLimit => append_text(line, b"TickLimit"),
+        Refusal::NoTask => line.append(b"NoTask"),
+        Refusal::TickLimit => line.append(b"TickLimit"),
         Refusal::TooFar { kept } => {
-            append_text(line, b"TooFar ");
+            line.append(b"TooFar ");
             append_number(line, kept);
         }
-        Refusal::NothingUndone => append_text(line, b"NothingUndone"),
-        Refusal::MovesFull => append_text(line, b"MovesFull"),
+        Refusal::NothingUndone => line.append(b"NothingUndone"),
+        Refusal::MovesFull => line.append(b"MovesFull"),
         Refusal::Held { holder } => {
-            append_text(line, b"Held ");
+            line.append(b"Held ");
             append_number(line, holder as usize);
         }
-        Refusal::NoSuch => append_text(line, b"NoSuch"),
-        Refusal::BadEdit => append_text(line, b"BadEdit"),
-        Refusal::NoIsr => append_text(line, b"NoIsr"),
-        Refusal::HistoryFull => append_text(line, b"HistoryFull"),
-        Refusal::NoMemory => append_text(line, b"NoMemory"),
-        Refusal::Syntax => append_text(line, b"Syntax"),
-        Refusal::LineTooLong => append_text(line, b"LineTooLong"),
-        Refusal::WatchesFull => append_text(line, b"WatchesFull"),
-        Refusal::NoWatch => append_text(line, b"NoWatch"),
-        Refusal::NotHolder => append_text(line, b"NotHolder"),
-        Refusal::Broken => append_text(line, b"Broken"),
-        Refusal::Full => append_text(line, b"Full"),
+        Refusal::NoSuch => line.append(b"NoSuch"),
+        Refusal::BadEdit => line.append(b"BadEdit"),
+        Refusal::NoIsr => line.append(b"NoIsr"),
+        Refusal::HistoryFull => line.append(b"HistoryFull"),
+        Refusal::NoMemory => line.append(b"NoMemory"),
+        Refusal::Syntax => line.append(b"Syntax"),
+        Refusal::LineTooLong => line.append(b"LineTooLong"),
+        Refusal::WatchesFull => line.append(b"WatchesFull"),
+        Refusal::NoWatch => line.append(b"NoWatch"),
+        Refusal::NotHolder => line.append(b"NotHolder"),
+        Refusal::Broken => line.append(b"Broken"),
+        Refusal::Full => line.append(b"Full"),
     }
 }
 
 // How many moves are done now.
-fn append_done(line: &mut ReplyLine, at: usize)
-    requires { array_vec_len line.old + 6 + MAX_DIGITS ≤ MAX_REPLY }
-    ensures text { line.new.items ≡ line.old.items ++ done_text at }
-    ensures len { array_vec_len line.new ≤ array_vec_len line.old + 6 + MAX_DIGITS }
+fn append_done<L: Line>(line: &mut L, at: usize)
+    requires { length (L.text line.old) + 6 + MAX_DIGITS ≤ L.room line.old }
+    ensures text { L.text line.new ≡ L.text line.old ++ done_text at }
+    ensures len { length (L.text line.new) ≤ length (L.text line.old) + 6 + MAX_DIGITS }
+    ensures room { L.room line.old ≤ L.room line.new }
 {
-    append_text(line, b"ok at ");
+    line.append(b"ok at ");
     append_number(line, at);
 }
 
 // How many moves are done now, and the answer that an interrupt had.
-fn append_answered(line: &mut ReplyLine, at: usize, answer: u32)
-    requires { array_vec_len line.old + 11 + 2 * MAX_DIGITS ≤ MAX_REPLY }
-    ensures text { line.new.items ≡ line.old.items ++ answered_text at answer }
-    ensures len { array_vec_len line.new ≤ array_vec_len line.old + 11 + 2 * MAX_DIGITS }
+fn append_answered<L: Line>(line: &mut L, at: usize, answer: u32)
+    requires { length (L.text line.old) + 11 + 2 * MAX_DIGITS ≤ L.room line.old }
+    ensures text { L.text line.new ≡ L.text line.old ++ answered_text at answer }
+    ensures len { length (L.text line.new) ≤ length (L.text line.old) + 11 + 2 * MAX_DIGITS }
+    ensures room { L.room line.old ≤ L.room line.new }
 {
     append_done(line, at);
-    append_text(line, b" isr ");
+    line.append(b" isr ");
     append_number(line, answer as usize);
 }
 
 // How a search ended. No word is longer than `limit`.
-fn append_end(line: &mut ReplyLine, end: SearchEnd)
-    requires { array_vec_len line.old + 5 ≤ MAX_REPLY }
-    ensures text { line.new.items ≡ line.old.items ++ end_text end }
-    ensures len { array_vec_len line.new ≤ array_vec_len line.old + 5 }
+fn append_end<L: Line>(line: &mut L, end: SearchEnd)
+    requires { length (L.text line.old) + 5 ≤ L.room line.old }
+    ensures text { L.text line.new ≡ L.text line.old ++ end_text end }
+    ensures len { length (L.text line.new) ≤ length (L.text line.old) + 5 }
+    ensures room { L.room line.old ≤ L.room line.new }
 {
     match end {
-        SearchEnd::Met => append_text(line, b"met"),
-        SearchEnd::Limit => append_text(line, b"limit"),
-        SearchEnd::Start => append_text(line, b"start"),
+        SearchEnd::Met => line.append(b"met"),
+        SearchEnd::Limit => line.append(b"limit"),
+        SearchEnd::Start => line.append(b"start"),
     }
 }
 
 // How many moves are done, undone, and kept.
-fn append_moves(line: &mut ReplyLine, done: usize, undone: usize, kept: usize)
-    requires { array_vec_len line.old + 20 + 3 * MAX_DIGITS ≤ MAX_REPLY }
-    ensures text { line.new.items ≡ line.old.items ++ moves_text done undone kept }
-    ensures len { array_vec_len line.new ≤ array_vec_len line.old + 20 + 3 * MAX_DIGITS }
+fn append_moves<L: Line>(line: &mut L, done: usize, undone: usize, kept: usize)
+    requires { length (L.text line.old) + 20 + 3 * MAX_DIGITS ≤ L.room line.old }
+    ensures text { L.text line.new ≡ L.text line.old ++ moves_text done undone kept }
+    ensures len { length (L.text line.new) ≤ length (L.text line.old) + 20 + 3 * MAX_DIGITS }
+    ensures room { L.room line.old ≤ L.room line.new }
 {
-    append_text(line, b"moves ");
+    line.append(b"moves ");
     append_number(line, done);
-    append_text(line, b" undone ");
+    line.append(b" undone ");
     append_number(line, undone);
-    append_text(line, b" kept ");
+    line.append(b" kept ");
     append_number(line, kept);
 }
 
 // Which session has the wheel; `-` for nobody.
-fn append_holder(line: &mut ReplyLine, holder: Option<u32>)
-    requires { array_vec_len line.old + 6 + MAX_DIGITS ≤ MAX_REPLY }
-    ensures text { line.new.items ≡ line.old.items ++ holder_text holder }
-    ensures len { array_vec_len line.new ≤ array_vec_len line.old + 6 + MAX_DIGITS }
+fn append_holder<L: Line>(line: &mut L, holder: Option<u32>)
+    requires { length (L.text line.old) + 6 + MAX_DIGITS ≤ L.room line.old }
+    ensures text { L.text line.new ≡ L.text line.old ++ holder_text holder }
+    ensures len { length (L.text line.new) ≤ length (L.text line.old) + 6 + MAX_DIGITS }
+    ensures room { L.room line.old ≤ L.room line.new }
 {
-    append_text(line, b"wheel ");
+    line.append(b"wheel ");
     match holder {
         Some(holder) => append_number(line, holder as usize),
-        None => append_text(line, b"-"),
+        None => line.append(b"-"),
     }
 }
 
 // Which watch it was.
-fn append_watch(line: &mut ReplyLine, number: usize)
-    requires { array_vec_len line.old + 9 + MAX_DIGITS ≤ MAX_REPLY }
-    ensures text { line.new.items ≡ line.old.items ++ watch_text number }
-    ensures len { array_vec_len line.new ≤ array_vec_len line.old + 9 + MAX_DIGITS }
+fn append_watch<L: Line>(line: &mut L, number: usize)
+    requires { length (L.text line.old) + 9 + MAX_DIGITS ≤ L.room line.old }
+    ensures text { L.text line.new ≡ L.text line.old ++ watch_text number }
+    ensures len { length (L.text line.new) ≤ length (L.text line.old) + 9 + MAX_DIGITS }
+    ensures room { L.room line.old ≤ L.room line.new }
 {
-    append_text(line, b"ok watch ");
+    line.append(b"ok watch ");
     append_number(line, number);
 }
 
-// The line of a reply, where nothing stands yet. (It is written where it is wanted, since a line
-// that is handed on is copied.)
-fn write_line(line: &mut ReplyLine, reply: &Reply)
-    requires { line.old.items ≡ [] }
-    ensures { line.new.items ≡ line_of (reply_text reply.now) }
+// (The line is written where it is wanted, since one that is handed on is copied.)
+fn append_line<L: Line>(line: &mut L, reply: &Reply)
+    requires { length (L.text line.old) + MAX_REPLY ≤ L.room line.old }
+    ensures text { L.text line.new ≡ L.text line.old ++ line_of (reply_text reply.now) }
+    ensures room { L.room line.old ≤ L.room line.new }
 {
     match reply {
         Reply::Done { at } => append_done(line, *at),
         Reply::Answered { at, answer } => append_answered(line, *at, *answer),
         Reply::Ended { at, end } => {
             append_done(line, *at);
-            append_text(line, b" ");
+            line.append(b" ");
             append_end(line, *end);
         }
         Reply::Moves { done, undone, kept } => append_moves(line, *done, *undone, *kept),
-        Reply::Wheel => append_text(line, b"ok wheel"),
+        Reply::Wheel => line.append(b"ok wheel"),
         Reply::Holder { holder } => append_holder(line, *holder),
         Reply::Watch { number } => append_watch(line, *number),
         Reply::Refused { refusal } => {
-            append_text(line, b"no ");
+            line.append(b"no ");
             append_refusal(line, *refusal);
         }
     }
-    append_text(line, b"\n");
+    line.append(b"\n");
 }
 
 impl Reply {
@@ -231,7 +269,7 @@ impl Reply {
         ensures { result.items ≡ line_of (reply_text self.now) }
     {
         let mut line = ArrayVec::new();
-        write_line(&mut line, self);
+        append_line(&mut line, self);
         line
     }
 }
@@ -242,7 +280,5 @@ pub fn append_reply(page: &mut Vec<u8>, reply: &Reply)
     ensures text { page.new.items ≡ page.old.items ++ line_of (reply_text reply.now) }
     ensures room { vec_capacity page.old ≤ vec_capacity page.new }
 {
-    let mut line = ArrayVec::new();
-    write_line(&mut line, reply);
-    page.extend_from_slice(line.as_slice()).unwrap();
+    append_line(page, reply);
 }
