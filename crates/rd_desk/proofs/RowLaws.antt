@@ -1,7 +1,7 @@
 -- Rows with one more, and the one at an index.
 use Rattle.std.proofs.Common.{◌≡◌, ◌∙◌, ℕ, zero, suc, ◌+◌, ◌-◌, ◌≤◌, ◌<◌, List, [], ◌∷◌, ◌++◌, length, take, drop, refl, ap, subst, sym, arith, append_assoc, length-append}
 use Rattle.std.specs.Prelude.{Some, get_or, slice_get, slice_range}
-use Rattle.std.proofs.lemmas.List.{append-nil, drop-append-le, length-drop, take-append-le, take_all}
+use Rattle.std.proofs.lemmas.List.{append-nil, drop-append-le, drop-drop, drop-take, length-drop, length-take-le, take-append-le, take-take, take_all}
 use Rattle.std.proofs.lemmas.Option.{slice_get_read}
 use Rattle.rd_desk.specs.declared.entry.Noted.{Noted}
 use Rattle.rd_desk.specs.declared.rows.Deed.{Deed}
@@ -12,7 +12,9 @@ use Rattle.rd_desk.specs.declared.reply.Reply.{Reply}
 use Rattle.rd_desk.specs.HistoryView.{IsLineOf, deed_event, deed_of, reply_bytes}
 use Rattle.rd_desk.specs.Kept.{IsKeptOf, line_end_of, reply_kept}
 use Rattle.rd_desk.specs.Rows.{RowsView}
-use Rattle.rd_desk.specs.RowsInside.{AreRows, IsRowOf, line_end, noted_from, noted_in, row_end, row_kept, rows_of, start_at}
+use Rattle.rd_desk.specs.declared.kept.Kept.{Kept}
+use Rattle.rd_desk.specs.declared.kept.Kept.TheVariants as kept
+use Rattle.rd_desk.specs.RowsInside.{AreRows, IsPlaced, IsRowOf, line_end, line_size, noted_by, noted_from, noted_in, row_end, row_kept, rows_of, start_at}
 
 -- ---- parts of bytes, where others came behind
 
@@ -127,6 +129,80 @@ row_behind bytes number deed line reply row is said =
       starts = omega (arith, middle);
       line = subst (λ (d : Deed). IsLineOf d (slice_range (bytes ++ (line ++ reply_bytes reply)) (length bytes) (line_end (length bytes) row))) (sym is.done)
           (subst (IsLineOf deed) (sym (line_behind bytes number deed line reply row is)) said);
+    }
+
+-- ---- a row and its bytes by themselves
+
+-- where its line ends hangs on how many bytes it has alone
+size_of_line : (kept : Kept) (start end size : ℕ) → end ≡ start + size → line_end_of start end kept ≡ start + line_end_of 0 size kept
+size_of_line kept.Done start end size is = is
+size_of_line (kept.Reached at) start end size is = is
+size_of_line (kept.Answered answer at) start end size is = is
+size_of_line (kept.Ended way at) start end size is = is
+size_of_line (kept.Moves done undone kept) start end size is = is
+size_of_line kept.Wheel start end size is = is
+size_of_line (kept.Holder holder) start end size is = is
+size_of_line (kept.Watch number) start end size is = is
+size_of_line (kept.TooFar kept) start end size is = is
+size_of_line (kept.Held holder) start end size is = is
+size_of_line (kept.Refused cause) start end size is = is
+size_of_line (kept.Shown line) start end size is = omega arith
+
+length_of_range : (bytes : List ℕ) (from to : ℕ) → from ≤ to → to ≤ length bytes → length (slice_range bytes from to) ≡ to - from
+length_of_range bytes from to rising within = length-take-le (to - from) (drop from bytes) (omega (arith, length-drop from bytes, rising, within))
+
+middle_is : (bytes : List ℕ) (start : ℕ) (row : Row) → IsRowOf bytes start row
+    → line_end start row ≡ start + line_size row (slice_range bytes start (row_end row))
+middle_is bytes start row is =
+    let middles = is.middles in
+    let starts = is.starts in
+    let long = length_of_range bytes start (row_end row) (omega (arith, middles, starts)) is.ends in
+    size_of_line (row_kept row) start (row_end row) (length (slice_range bytes start (row_end row))) (omega (arith, long, middles, starts))
+
+line_is : (bytes : List ℕ) (start : ℕ) (row : Row) → IsRowOf bytes start row
+    → let all = slice_range bytes start (row_end row) in slice_range bytes start (line_end start row) ≡ take (line_size row all) all
+line_is bytes start row is =
+    let all = slice_range bytes start (row_end row) in
+    let middle = middle_is bytes start row is in
+    let middles = is.middles in
+    ap (λ (n : ℕ). take n (drop start bytes)) (let n : line_end start row - start ≡ line_size row all = omega (arith, middle) in n)
+    ∙ sym (take-take (line_size row all) (row_end row - start) (drop start bytes) (omega (arith, middle, middles)))
+
+text_is : (bytes : List ℕ) (start : ℕ) (row : Row) → IsRowOf bytes start row
+    → let all = slice_range bytes start (row_end row) in slice_range bytes (line_end start row) (row_end row) ≡ drop (line_size row all) all
+text_is bytes start row is =
+    let all = slice_range bytes start (row_end row) in
+    let size = line_size row all in
+    let middle = middle_is bytes start row is in
+    let middles = is.middles in
+    ap (λ (n : ℕ). take (row_end row - line_end start row) (drop n bytes)) middle
+    ∙ ap (take (row_end row - line_end start row)) (sym (drop-drop size start bytes))
+    ∙ sym (drop-take size (row_end row - line_end start row) (drop start bytes))
+    ∙ ap (λ (n : ℕ). drop size (take n (drop start bytes))) (let n : size + (row_end row - line_end start row) ≡ row_end row - start = omega (arith, middle, middles) in n)
+
+pub noted_placed : (bytes : List ℕ) (start : ℕ) (row : Row) → IsRowOf bytes start row → noted_in bytes start row ≡ noted_by row (slice_range bytes start (row_end row))
+noted_placed bytes start row is =
+    let all = slice_range bytes start (row_end row) in
+    ap (λ (line : List ℕ). record {
+      number = row.number;
+      event = deed_event row.deed line;
+      reply = reply_kept (row_kept row) (slice_range bytes (line_end start row) (row_end row));
+    }) (line_is bytes start row is)
+    ∙ ap (λ (text : List ℕ). record {
+      number = row.number;
+      event = deed_event row.deed (take (line_size row all) all);
+      reply = reply_kept (row_kept row) text;
+    }) (text_is bytes start row is)
+
+pub row_placed : (bytes : List ℕ) (start : ℕ) (row : Row) → IsRowOf bytes start row → IsPlaced row (slice_range bytes start (row_end row))
+row_placed bytes start row is =
+    let middle = middle_is bytes start row is in
+    let middles = is.middles in
+    let starts = is.starts in
+    let long = length_of_range bytes start (row_end row) (omega (arith, middles, starts)) is.ends in
+    record {
+      within = omega (arith, middle, middles, starts, long);
+      line = subst (IsLineOf row.deed) (line_is bytes start row is) is.line;
     }
 
 -- ---- the row at an index

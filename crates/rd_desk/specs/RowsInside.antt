@@ -1,6 +1,6 @@
 -- What the fields of `Rows` stand for.
 use Rattle.std.specs.Prelude.{ℕ, zero, suc, ◌≡◌, ◌-◌, ◌≤◌, min, List, [], ◌∷◌, length}
-use Rattle.std.specs.Prelude.{slice_range, vec_capacity, vec_len}
+use Rattle.std.specs.Prelude.{drop, slice_range, take, vec_capacity, vec_len}
 use Rattle.rd_desk.specs.declared.entry.Noted.{Noted}
 use Rattle.rd_desk.specs.declared.rows.Row.{Row}
 use Rattle.rd_desk.specs.declared.rows.Rows.TheInside.{Inside}
@@ -29,6 +29,27 @@ noted_in bytes start row = record {
   event = deed_event row.deed (slice_range bytes start (line_end start row));
   reply = reply_kept (row_kept row) (slice_range bytes (line_end start row) (row_end row));
 }
+
+-- how many bytes its line has, of all its bytes
+abbrev pub line_size : Row → List ℕ → ℕ
+line_size row bytes = line_end_of 0 (length bytes) (row_kept row)
+
+-- what stands in a row that has these bytes
+abbrev pub noted_by : Row → List ℕ → Noted
+noted_by row bytes = record {
+  number = row.number;
+  event = deed_event row.deed (take (line_size row bytes) bytes);
+  reply = reply_kept (row_kept row) (drop (line_size row bytes) bytes);
+}
+
+-- Its line is there, and is a command's, if one was asked for.
+pub record IsPlaced (row : Row) (bytes : List ℕ) : Type 0 where
+  pub within : line_size row bytes ≤ length bytes
+  pub line : IsLineOf row.deed (take (line_size row bytes) bytes)
+
+-- The same was done and replied.
+abbrev pub SaySame : Noted → Noted → Type 0
+SaySame one other = (one.event ≡ other.event) × (one.reply ≡ other.reply)
 
 -- the same of rows, each of which begins where the one before ends
 abbrev pub noted_from : List ℕ → ℕ → List Row → List Noted

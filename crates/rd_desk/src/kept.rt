@@ -1,6 +1,6 @@
 //! Replies in 14 bytes, but for the text of a view.
 
-ghost use Rattle.std.specs.Prelude.{◌≡◌, ◌↔◌, [], IfOk, IsTrue};
+ghost use Rattle.std.specs.Prelude.{◌≡◌, [], IfOk};
 ghost use Rattle.rd_desk.specs.HistoryView.{reply_bytes};
 ghost use Rattle.rd_desk.specs.Kept.{cause_refusal, packed_kept, reply_kept, wide, IsKeptOf};
 ghost use Rattle.rd_desk.specs.Kept.{IsNarrow, IsNarrowTold};
@@ -189,21 +189,6 @@ impl Packed {
             Reply::Told { told } => pack_told(told),
             Reply::Shown { .. } => wide(Kind::Shown, line, 0),
         }
-    }
-
-    /// Whether the same is kept. (Mostly kind and numbers are the same; then no more is asked.)
-    pub(crate) fn is_same(self, other: Packed) -> bool
-        ensures { IsTrue result ↔ (packed_kept self ≡ packed_kept other) }
-    {
-        self == other || self.means_same(other)
-    }
-
-    // The same, looked at by what each says.
-    #[inline(never)]
-    fn means_same(self, other: Packed) -> bool
-        ensures { IsTrue result ↔ (packed_kept self ≡ packed_kept other) }
-    {
-        self.kept() == other.kept()
     }
 
     /// Its number of 64 bits.

@@ -2,12 +2,13 @@
 //! place.
 
 ghost use Rattle.std.specs.Prelude.{◌≡◌, ◌↔◌, ◌+◌, ◌≤◌, ◌<◌, ◌⊎◌, ◌∷◌, ◌++◌, [], length};
-ghost use Rattle.std.specs.Prelude.{slice_get, slice_range, vec_capacity, vec_len};
-ghost use Rattle.std.specs.Prelude.{IfOk, IsSomeAnd, IsTrue, OnErr, OnOk};
+ghost use Rattle.std.specs.Prelude.{drop, slice_get, slice_range, take, vec_capacity, vec_len};
+ghost use Rattle.std.specs.Prelude.{IfOk, IsSomeAnd, IsTrue, OnErr, OnOk, Some};
 ghost use Rattle.rd_desk.specs.HistoryView.{deed_event, deed_of, reply_bytes, IsLineOf};
 ghost use Rattle.rd_desk.specs.Rows.{AreSame};
-ghost use Rattle.rd_desk.specs.Kept.{kept_of, packed_kept, reply_kept, IsNarrow};
-ghost use Rattle.rd_desk.specs.RowsInside.{line_end, row_end, row_kept, start_at, IsRowOf};
+ghost use Rattle.rd_desk.specs.Kept.{packed_kept, reply_kept, IsNarrow};
+ghost use Rattle.rd_desk.specs.RowsInside.{line_size, noted_by, row_end, row_kept, start_at};
+ghost use Rattle.rd_desk.specs.RowsInside.{IsPlaced, IsRowOf, SaySame};
 
 use crate::asked::{Asked, are_same_command};
 use crate::entry::{Event, Noted};
@@ -22,7 +23,7 @@ use std::marker::Model;
 pub(crate) const MAX_ROW_BYTES: usize = (1 << 40) - 1;
 
 /// What a session did, but for the line of a command.
-#[derive(Clone, Copy)]
+#[derive(Clone, Copy, PartialEq, Eq)]
 pub enum Deed {
     /// It entered.
     Enter,
@@ -48,6 +49,13 @@ struct Row {
 }
 
 // A row with its bytes.
+#[derive(Clone, Copy)]
+struct Placed<'a> {
+    row: &'a Row,
+    bytes: &'a [u8],
+}
+
+// What a row and its bytes say.
 #[derive(Clone, Copy)]
 struct Unpacked<'a> {
     deed: Deed,
@@ -153,36 +161,12 @@ fn start_of(rows: &[Row], index: usize) -> usize
     if index == 0 { 0 } else { rows[index - 1].end() }
 }
 
-// Where the line of a row ends that begins there.
-fn line_end(start: usize, row: &Row) -> usize
-    requires { line_end start row.now ≤ row_end row.now }
-    ensures { result ≡ line_end start row.now }
-{
-    let end = row.end();
-    if let Kind::Shown = row.kind {
-        start + row.packed().number()
-    } else {
-        end
-    }
-}
-
-// The row that begins there, with its bytes.
-fn unpack<'a>(bytes: &'a [u8], start: usize, row: &Row) -> Unpacked<'a>
+// The bytes of a row, which begin there.
+fn bytes_of<'a>(bytes: &'a [u8], start: usize, row: &Row) -> &'a [u8]
     requires { IsRowOf bytes.now start row.now }
-    ensures deed { result.deed ≡ row.now.deed }
-    ensures line { result.line.now ≡ slice_range bytes.now start (line_end start row.now) }
-    ensures kept { packed_kept result.packed ≡ row_kept row.now }
-    ensures text { result.text.now
-        ≡ slice_range bytes.now (line_end start row.now) (row_end row.now) }
-    ensures said { IsLineOf result.deed result.line.now }
+    ensures { result.now ≡ slice_range bytes.now start (row_end row.now) }
 {
-    let middle = line_end(start, row);
-    Unpacked {
-        deed: row.deed,
-        line: &bytes[start..middle],
-        packed: row.packed(),
-        text: &bytes[middle..row.end()],
-    }
+    &bytes[start..row.end()]
 }
 
 // Whether the same was done.
@@ -211,7 +195,65 @@ fn is_same_reply(one: Unpacked<'_>, other: Unpacked<'_>) -> bool
     if let (Kind::Shown, Kind::Shown) = (one.packed.kind, other.packed.kind) {
         one.text == other.text
     } else {
-        one.packed.is_same(other.packed)
+        one.packed.kept() == other.packed.kept()
+    }
+}
+
+impl<'a> Placed<'a> {
+    // How many of the bytes are those of the line.
+    fn line_len(self) -> usize
+        ensures { result ≡ line_size self.entry.row.now self.entry.bytes.now }
+    {
+        if let Kind::Shown = self.row.kind {
+            self.row.packed().number()
+        } else {
+            self.bytes.len()
+        }
+    }
+
+    // Taken apart.
+    fn unpack(self) -> Unpacked<'a>
+        requires { IsPlaced self.row.now self.bytes.now }
+        ensures deed { result.deed ≡ self.entry.row.now.deed }
+        ensures line { result.line.now
+            ≡ take (line_size self.entry.row.now self.entry.bytes.now) self.entry.bytes.now }
+        ensures kept { packed_kept result.packed ≡ row_kept self.entry.row.now }
+        ensures text { result.text.now
+            ≡ drop (line_size self.entry.row.now self.entry.bytes.now) self.entry.bytes.now }
+    {
+        let len = self.line_len();
+        Unpacked {
+            deed: self.row.deed,
+            line: &self.bytes[..len],
+            packed: self.row.packed(),
+            text: &self.bytes[len..],
+        }
+    }
+
+    // Whether another has the same bytes, and all else but the number. (Mostly a receipt and its
+    // entry do; then nothing is taken apart.)
+    fn is_repeated_by(self, other: Placed<'_>) -> bool
+        ensures deed { IsTrue result → self.entry.row.now.deed ≡ other.entry.row.now.deed }
+        ensures kept { IsTrue result
+            → row_kept self.entry.row.now ≡ row_kept other.entry.row.now }
+        ensures bytes { IsTrue result → self.entry.bytes.now ≡ other.entry.bytes.now }
+    {
+        self.row.deed == other.row.deed
+            && self.row.packed() == other.row.packed()
+            && self.bytes == other.bytes
+    }
+
+    // Whether the same was done and replied.
+    #[inline(never)]
+    fn means_same(self, other: Placed<'_>) -> bool
+        requires one { IsPlaced self.row.now self.bytes.now }
+        requires other { IsPlaced other.row.now other.bytes.now }
+        ensures { IsTrue result ↔ SaySame (noted_by self.entry.row.now self.entry.bytes.now)
+            (noted_by other.entry.row.now other.entry.bytes.now) }
+    {
+        let one = self.unpack();
+        let other = other.unpack();
+        is_same_event(one, other) && is_same_reply(one, other)
     }
 }
 
@@ -265,15 +307,19 @@ impl Rows {
     }
 
     // The row at this index, with its bytes.
-    fn unpack(&self, index: usize) -> Unpacked<'_>
+    fn placed(&self, index: usize) -> Placed<'_>
         requires { index < length self.now.noted }
-        ensures noted { IsSomeAnd (slice_get self.now.noted index) (λ noted.
-            (noted.event ≡ deed_event result.deed result.line.now)
-            × (noted.reply ≡ reply_kept (packed_kept result.packed) result.text.now)) }
-        ensures said { IsLineOf result.deed result.line.now }
+        ensures noted { slice_get self.now.noted index
+            ≡ Some (noted_by result.row.now result.bytes.now) }
+        ensures placed { IsPlaced result.row.now result.bytes.now }
     {
         let rows = self.rows.as_slice();
-        unpack(self.bytes.as_slice(), start_of(rows, index), &rows[index])
+        let start = start_of(rows, index);
+        let row = &rows[index];
+        Placed {
+            row,
+            bytes: bytes_of(self.bytes.as_slice(), start, row),
+        }
     }
 
     /// Whether the one at this index is the same as one of others, but for their numbers.
@@ -283,9 +329,9 @@ impl Rows {
         ensures { IsTrue result ↔ AreSame (slice_get self.now.noted index)
             (slice_get others.now.noted other) }
     {
-        let one = self.unpack(index);
-        let other = others.unpack(other);
-        is_same_event(one, other) && is_same_reply(one, other)
+        let one = self.placed(index);
+        let other = others.placed(other);
+        one.is_repeated_by(other) || one.means_same(other)
     }
 
     /// The one at this index, by itself. An `Err` says that there is no memory for its bytes.
@@ -294,7 +340,7 @@ impl Rows {
         ensures { IfOk result (λ noted. slice_get self.now.noted index ≡ Some noted) }
     {
         let number = self.number(index);
-        let one = self.unpack(index);
+        let one = self.placed(index).unpack();
         Ok(Noted {
             number,
             event: event_of(alloc, one.deed, one.line)?,
