@@ -1,4 +1,4 @@
-//! Replies in 14 bytes, but for the text of a view.
+//! Replies as a kind and three numbers, but for the text of a view.
 
 ghost use Rattle.std.specs.Prelude.{◌≡◌, [], IfOk};
 ghost use Rattle.rd_desk.specs.HistoryView.{reply_bytes};
@@ -69,8 +69,8 @@ pub(crate) enum Kind {
     Shown,
 }
 
-/// The same in 14 bytes: three numbers of 32 bits, of which the first two may be the halves of one
-/// of 64, the lower one first. A number that the kind doesn't have is 0.
+/// The same in pieces that fit a row: three numbers of 32 bits, of which the first two may be the
+/// halves of one of 64, the lower one first. A number that the kind doesn't have is 0.
 #[derive(Clone, Copy, PartialEq, Eq)]
 pub(crate) struct Packed {
     pub(crate) first: u32,
