@@ -1,5 +1,5 @@
 -- What a move leaves with its record, from the step in the middle that made it.
-use Rattle.std.proofs.Common.{◌≡◌, ◌∙◌, ℕ, ◌+◌, ◌*◌, ◌<◌, ◌≤◌, true, List, length, Some, Option, refl, ap, subst, sym, arith}
+use Rattle.std.proofs.Common.{Bool, ◌≡◌, ◌∙◌, ℕ, ◌+◌, ◌*◌, ◌<◌, ◌≤◌, true, List, length, Some, Option, refl, ap, subst, sym, arith}
 use Rattle.std.specs.Prelude.{Result, Ok, Err, OnErr, OnOk, nat_lt}
 use Rattle.std.proofs.lemmas.Bool.{lt-ltb}
 use Rattle.std.proofs.Common.{None, inl, inr}
@@ -123,16 +123,16 @@ pub record Leads (app : Application) (s : Snapshot) (move : PlainMove) (target :
   pub valid : (s' : Snapshot) → s' ≡ target → IsSized s' → IsValid app s'
   pub settled : (s' : Snapshot) → s' ≡ target → LeavesSettled app s move s'
 
-goes_on : (app : Application) (s s' : Snapshot) (move : PlainMove) (target : Snapshot) (cost : ℕ) (begun made : Edit) (before changes : List Change) (room : ℕ)
-    → begun ≡ begun_at s before room → Leads app s move target cost → IsSized s' → Reaches begun made target cost → s' ≡ made.now → GoesOn made changes
+goes_on : (app : Application) (s s' : Snapshot) (move : PlainMove) (target : Snapshot) (cost : ℕ) (begun made : Edit) (before changes : List Change) (room : ℕ) (calm : Bool)
+    → begun ≡ begun_at s before room calm → Leads app s move target cost → IsSized s' → Reaches begun made target cost → s' ≡ made.now → GoesOn made changes
     → IsPlayed app s move s' (added before changes)
-goes_on app s s' move target cost begun made before changes room is leads sized comes now goes =
-    let base : made.base ≡ (begun_at s before room).base = comes.base ∙ ap (λ (edit : Edit). edit.base) is in
+goes_on app s s' move target cost begun made before changes room calm is leads sized comes now goes =
+    let base : made.base ≡ (begun_at s before room calm).base = comes.base ∙ ap (λ (edit : Edit). edit.base) is in
     let there : s' ≡ target = now ∙ comes.now in
     let Q : Snapshot → Base → Type 0 = λ t b. (undone t (added b.recorded changes) ≡ b.state) × CanUndo t (added b.recorded changes)
     × (weight_of (added b.recorded changes) ≡ made.weight) in
-    let here : Q s' (begun_at s before room).base =
-    subst (λ (t : Snapshot). Q t (begun_at s before room).base) (sym now)
+    let here : Q s' (begun_at s before room calm).base =
+    subst (λ (t : Snapshot). Q t (begun_at s before room calm).base) (sym now)
     (subst (λ (b : Base). Q made.now b) base (goes.leads_back, goes.can_undo, goes.weight)) in
     record {
       step = leads.step ∙ ap (λ (t : Snapshot). Ok t) (sym there);
@@ -156,13 +156,13 @@ goes_on app s s' move target cost begun made before changes room is leads sized 
 
 -- the same, seen by what the move returns
 pub IsPlayed-from : {T E : Type 0} (r : Result T E) (app : Application) (s s' : Snapshot) (move : PlainMove) (target : Snapshot) (cost : ℕ) (begun made : Edit)
-    (before changes : List Change) (room : ℕ) → begun ≡ begun_at s before room → Leads app s move target cost → IsSized s'
+    (before changes : List Change) (room : ℕ) (calm : Bool) → begun ≡ begun_at s before room calm → Leads app s move target cost → IsSized s'
     → OnOk r (Reaches begun made target cost) → OnOk r (s' ≡ made.now) → OnOk r (GoesOn made changes)
     → OnOk r (IsPlayed app s move s' (added before changes))
-IsPlayed-from r app s s' move target cost begun made before changes room is leads sized =
+IsPlayed-from r app s s' move target cost begun made before changes room calm is leads sized =
     elim r as (λ q. OnOk q (Reaches begun made target cost) → OnOk q (s' ≡ made.now) → OnOk q (GoesOn made changes)
     → OnOk q (IsPlayed app s move s' (added before changes)))
-    [ Ok x ↦ λ f g h. goes_on app s s' move target cost begun made before changes room is leads sized f g h | Err y ↦ λ f g h. tt ]
+    [ Ok x ↦ λ f g h. goes_on app s s' move target cost begun made before changes room calm is leads sized f g h | Err y ↦ λ f g h. tt ]
 
 -- What a call costs is little, but for what a reset drops.
 queue_call_cost_few : (s : Snapshot) (queue : ℕ) (call : QueueCall) → queue_call_cost s queue call ≤ 330 + dropped_by s queue call

@@ -1,7 +1,9 @@
 //! Moves that carry their operands: when each is refused, and what it does.
 
-ghost use Rattle.std.specs.Prelude.{◌≡◌, None, OnErr, OnOk};
+ghost use Rattle.std.specs.Prelude.{◌≡◌, true, None, OnErr, OnOk};
+ghost use Rattle.rd_app.specs.Application.{priorities_of};
 ghost use Rattle.rd_state.specs.Edit.{GivesUp, Reaches};
+ghost use Rattle.rd_state.specs.Settled.{IsSettled};
 ghost use Rattle.rd_state.specs.Valid.{IsValid};
 ghost use Rattle.rd_moves.specs.Carried.{IsCarriedOf};
 ghost use Rattle.rd_moves.specs.Interrupts.{IsInterruptOf};
@@ -38,6 +40,8 @@ pub fn carry_out(carried: &Carried, app: &Program, editing: &mut Editing) -> Res
     requires valid { IsValid app.now editing.old.now }
     requires named { IsCarriedOf app.now carried.now }
     requires good { why_refused app.now editing.old.now carried.now ≡ None }
+    requires calm { editing.old.base.calm ≡ true
+        → IsSettled (priorities_of app.now) editing.old.base.state }
     ensures ok { OnOk result (Reaches editing.old editing.new
         (carried_out app.now editing.old.now carried.now)
         (carried_cost app.now editing.old.now carried.now)) }

@@ -1,9 +1,10 @@
 //! The move of a core in the middle: the instruction, the turn, the scheduler.
 
-ghost use Rattle.std.specs.Prelude.{◌≡◌, ◌+◌, ◌*◌, ◌<◌, length, Some, OnOk, OnErr};
+ghost use Rattle.std.specs.Prelude.{◌≡◌, ◌+◌, ◌*◌, ◌<◌, length, true, Some, OnOk, OnErr};
 ghost use Rattle.rd_app.specs.declared.app.TheConstants.{MAX_CODE};
 ghost use Rattle.rd_app.specs.Application.{priorities_of};
 ghost use Rattle.rd_state.specs.Edit.{Reaches, GivesUp};
+ghost use Rattle.rd_state.specs.Settled.{IsSettled};
 ghost use Rattle.rd_state.specs.Snapshot.{core_at, task_at};
 ghost use Rattle.rd_state.specs.Valid.{IsValid};
 ghost use Rattle.rd_kernel.specs.Outcomes.{IsCalling};
@@ -80,6 +81,8 @@ pub fn move_core(
 ) -> Result<(), NoMemory>
     requires caller { IsCalling app.now editing.old.now task }
     requires core { core < length editing.old.now.cores }
+    requires calm { editing.old.base.calm ≡ true
+        → IsSettled (priorities_of app.now) editing.old.base.state }
     ensures ok { OnOk result
         (Reaches editing.old editing.new (core_step app.now editing.old.now core task)
         (instr_cost editing.old.now (next_instr app.now editing.old.now task)

@@ -1,10 +1,12 @@
 //! Moves, made whole or not at all.
 
 ghost use Rattle.std.specs.Prelude.{◌≡◌, ◌↔◌, ◌+◌, ◌*◌, ◌<◌, ◌≤◌, ◌⊎◌, length, take, Ok, Err};
-ghost use Rattle.std.specs.Prelude.{None, Some, IfErr, IfOk, IfSome};
+ghost use Rattle.std.specs.Prelude.{true, None, Some, IfErr, IfOk, IfSome};
 ghost use Rattle.std.specs.Prelude.{IsErrOf, IsOk, OnErr, OnOk};
+ghost use Rattle.rd_app.specs.Application.{priorities_of};
 ghost use Rattle.rd_state.specs.Edit.{added, capacity_of, room_for, GoesOn};
 ghost use Rattle.rd_state.specs.PackedChanges.{IsPackable};
+ghost use Rattle.rd_state.specs.Settled.{IsSettled};
 ghost use Rattle.rd_state.specs.Sizes.{IsSized};
 ghost use Rattle.rd_state.specs.Snapshot.{core_at};
 ghost use Rattle.rd_state.specs.Undoing.{undone, CanUndo};
@@ -90,6 +92,8 @@ fn play_core(editing: &mut Editing, app: &Program, core: usize, task: usize) -> 
     requires caller { IsCalling app.now editing.old.now task }
     requires core { core < length editing.old.now.cores }
     requires task { core_at editing.old.now core ≡ Some task }
+    requires calm { editing.old.calm ≡ true
+        → IsSettled (priorities_of app.now) editing.old.now }
     ensures { Plays app.now (Move.Core core) editing.old editing.new result }
 {
     app.limits();
@@ -102,6 +106,8 @@ fn play_core(editing: &mut Editing, app: &Program, core: usize, task: usize) -> 
 fn play_tick(editing: &mut Editing, app: &Program) -> Result<(), NoMemory>
     requires valid { IsValid app.now editing.old.now }
     requires later { editing.old.now.tick < last_tick }
+    requires calm { editing.old.calm ≡ true
+        → IsSettled (priorities_of app.now) editing.old.now }
     ensures { Plays app.now Move.Tick editing.old editing.new result }
 {
     app.limits();
@@ -115,6 +121,8 @@ fn play_carried(editing: &mut Editing, app: &Program, carried: &Carried) -> Resu
     requires valid { IsValid app.now editing.old.now }
     requires named { IsCarriedOf app.now carried.now }
     requires good { why_refused app.now editing.old.now carried.now ≡ None }
+    requires calm { editing.old.calm ≡ true
+        → IsSettled (priorities_of app.now) editing.old.now }
     ensures { Plays app.now (Move.Carried carried.now) editing.old editing.new result }
 {
     app.limits();
@@ -158,10 +166,13 @@ pub fn move_answer(app: &Program, state: &State, action: &Move<Lent<'_>>) -> Opt
 /// where the core is idle, `TickLimit` where the tick is 4,294,967,295, `BadEdit` where the edit
 /// can't be made, `NoIsr` where an interrupt comes to an application of profile 1, `NoMemory` where
 /// a growth was refused, as none is where the record has room for the move. There is no other. The
-/// record keeps the memory that it has.
+/// record keeps the memory that it has. Where it says that nothing calls for settling, the state is
+/// settled.
 pub fn play_on(editing: &mut Editing, app: &Program, action: &Move<Lent<'_>>) -> Result<(), Refusal>
     requires valid { IsValid app.now editing.old.now }
     requires named { IsMoveOf app.now action.now }
+    requires calm { editing.old.calm ≡ true
+        → IsSettled (priorities_of app.now) editing.old.now }
     ensures before { OnOk result
         (take (length editing.old.changes) editing.new.changes ≡ editing.old.changes) }
     ensures played { OnOk result (IsPlayed app.now editing.old.now action.now editing.new.now

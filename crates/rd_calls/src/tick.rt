@@ -1,7 +1,8 @@
 //! The move of a tick in the middle.
-ghost use Rattle.std.specs.Prelude.{◌≡◌, ◌+◌, ◌*◌, ◌<◌, length, OnOk, OnErr};
+ghost use Rattle.std.specs.Prelude.{◌≡◌, ◌+◌, ◌*◌, ◌<◌, length, true, OnOk, OnErr};
 ghost use Rattle.rd_app.specs.Application.{priorities_of};
 ghost use Rattle.rd_state.specs.Edit.{Reaches, GivesUp};
+ghost use Rattle.rd_state.specs.Settled.{IsSettled};
 ghost use Rattle.rd_state.specs.Valid.{IsValid};
 ghost use Rattle.rd_calls.specs.Step.{ticked, tick_step, last_tick};
 
@@ -35,6 +36,8 @@ fn begin_tick(app: &Program, editing: &mut Editing, tick: u32) -> Result<(), NoM
 pub fn move_tick(app: &Program, editing: &mut Editing) -> Result<(), NoMemory>
     requires valid { IsValid app.now editing.old.now }
     requires later { editing.old.now.tick < last_tick }
+    requires calm { editing.old.base.calm ≡ true
+        → IsSettled (priorities_of app.now) editing.old.base.state }
     ensures ok { OnOk result (Reaches editing.old editing.new (tick_step app.now editing.old.now)
         (5 + 3 * length editing.old.now.tasks + 3 * length editing.old.now.cores)) }
     ensures err { OnErr result (GivesUp editing.old editing.new

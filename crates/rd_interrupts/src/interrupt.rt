@@ -1,11 +1,12 @@
 //! What an interrupt does, and what it answers.
 
-ghost use Rattle.std.specs.Prelude.{◌≡◌, ◌+◌, ◌*◌, ◌<◌, length, false, OnErr, OnOk};
+ghost use Rattle.std.specs.Prelude.{◌≡◌, ◌+◌, ◌*◌, ◌<◌, length, false, true, OnErr, OnOk};
 ghost use Rattle.rd_app.specs.Application.{priorities_of};
 ghost use Rattle.rd_kernel.specs.Costs.{waking_cost};
 ghost use Rattle.rd_moves.specs.Interrupts.{IsInterruptOf};
 ghost use Rattle.rd_queue_calls.specs.Posts.{membership_of, posted};
 ghost use Rattle.rd_state.specs.Edit.{GivesUp, Reaches};
+ghost use Rattle.rd_state.specs.Settled.{IsSettled};
 ghost use Rattle.rd_state.specs.Valid.{IsValid};
 ghost use Rattle.rd_interrupts.specs.Interrupts.{after_interrupt, has_no_room, interrupt_cost};
 ghost use Rattle.rd_interrupts.specs.Interrupts.{interrupted, isr_answer, with_item_put};
@@ -112,6 +113,8 @@ pub fn interrupt(
 ) -> Result<(), NoMemory>
     requires valid { IsValid app.now editing.old.now }
     requires named { IsInterruptOf app.now interrupt.now }
+    requires calm { editing.old.base.calm ≡ true
+        → IsSettled (priorities_of app.now) editing.old.base.state }
     ensures ok { OnOk result (Reaches editing.old editing.new
         (after_interrupt (priorities_of app.now) editing.old.now interrupt.now)
         (interrupt_cost + 3 * length editing.old.now.cores)) }

@@ -3,13 +3,13 @@ use Rattle.std.proofs.Common.{◌≡◌, ◌∙◌, ℕ, ◌≤◌, List, [], �
 use Rattle.std.proofs.Math.Seq.{drop-length, take-length}
 use Rattle.std.proofs.lemmas.List.{drop-append-le, length-set, length-take-le, length_push, take-append-le}
 use Rattle.std.proofs.lemmas.List.Sums.{sum_by_push}
-use Rattle.std.specs.Prelude.{Result, Ok, Err, OnOk, OnErr}
+use Rattle.std.specs.Prelude.{Result, Ok, Err, OnOk, OnErr, insert}
 use Rattle.rd_state.specs.Change.{Change}
 use Rattle.rd_state.specs.Change.{SetTick, SetTurn, SetCore, InsReady, DelReady, Task, Object}
 use Rattle.rd_state.specs.Snapshot.{Snapshot}
-use Rattle.rd_state.specs.Change.{applied, inverse_of, cost_of, weight_of, Fits}
-use Rattle.rd_state.specs.Edit.{Base, Edit, GoesOn, SameShape, Reaches, begun_at, capacity_of, edit_of}
-use Rattle.std.proofs.Common.{zero, suc, ◌+◌, ◌<◌, ap₂, length-append}
+use Rattle.rd_state.specs.Change.{applied, inverse_of, cost_of, moves_seats, weight_of, Fits}
+use Rattle.rd_state.specs.Edit.{Base, Edit, GoesOn, IsCalmSince, SameShape, SeatsStay, Reaches, begun_at, capacity_of, edit_of}
+use Rattle.std.proofs.Common.{Bool, true, false, zero, suc, ◌+◌, ◌<◌, ap₂, length-append}
 use Rattle.rd_state.specs.Edit.{room_for, room_of}
 use Rattle.rd_state.specs.PackedChanges.{all_packed, packed, ChangeListView}
 use Rattle.rd_state.proofs.PackingLaws.{all_packed-push, packed_short}
@@ -28,11 +28,11 @@ shape-applied s (DelReady index) = record { cores = refl; tasks = refl; objects 
 shape-applied s (Task task change) = record { cores = refl; tasks = length-set s.tasks task _; objects = refl }
 shape-applied s (Object change) = record { cores = refl; tasks = refl; objects = object_numbers s.objects change }
 
-abbrev base_of : Snapshot → List Change → Base
-base_of s changes = record { state = s; recorded = changes }
+abbrev base_of : Snapshot → List Change → Bool → Base
+base_of s changes calm = record { state = s; recorded = changes; calm = calm }
 
-base_same : (s t : Snapshot) (xs ys : List Change) → s ≡ t → xs ≡ ys → base_of s xs ≡ base_of t ys
-base_same s t xs ys e f = rw (e, f) refl
+base_same : (s t : Snapshot) (xs ys : List Change) (calm : Bool) → s ≡ t → xs ≡ ys → base_of s xs calm ≡ base_of t ys calm
+base_same s t xs ys calm e f = rw (e, f) refl
 
 -- The room that a change leaves, once the list has as much memory or more.
 room_after : (list list' : ChangeListView) (change : Change) → list'.changes ≡ list.changes ++ change ∷ [] → list.capacity ≤ list'.capacity
@@ -76,9 +76,9 @@ all_packed-take-le (suc n) (change ∷ later) =
       length-append (packed change) (all_packed (take n later)),
     )
 
-pub room_back : (edit : Edit) (s : Snapshot) (list list' : ChangeListView) (start n : ℕ) → edit_of s list start ≡ edit → list'.changes ≡ take n list.changes
+pub room_back : (edit : Edit) (s : Snapshot) (list list' : ChangeListView) (start n : ℕ) (was calm : Bool) → edit_of s list start was calm ≡ edit → list'.changes ≡ take n list.changes
     → list'.capacity ≡ list.capacity → edit.room ≤ room_of list'
-room_back edit s list list' start n e f same =
+room_back edit s list list' start n was calm e f same =
     omega (
       arith,
       ap (λ (old : Edit). old.room) e,
@@ -87,10 +87,10 @@ room_back edit s list list' start n e f same =
       same,
     )
 
-pub capacity_back : (edit : Edit) (s : Snapshot) (list list' : ChangeListView) (start n : ℕ) → edit_of s list start ≡ edit
+pub capacity_back : (edit : Edit) (s : Snapshot) (list list' : ChangeListView) (start n : ℕ) (was calm : Bool) → edit_of s list start was calm ≡ edit
     → length (all_packed list.changes) ≤ list.capacity → list'.changes ≡ take n list.changes → list'.capacity ≡ list.capacity
     → length (all_packed list'.changes) + room_of list' ≡ capacity_of edit
-capacity_back edit s list list' start n e within f same =
+capacity_back edit s list list' start n was calm e within f same =
     omega (
       arith,
       ap (λ (old : Edit). capacity_of old) e,
@@ -101,10 +101,10 @@ capacity_back edit s list list' start n e within f same =
     )
 
 -- what `act` makes of a state and its record
-pub Reaches-act : (s s' : Snapshot) (list list' : ChangeListView) (start : ℕ) (change : Change) → IsSized s → Fits s change → start ≤ length list.changes
+pub Reaches-act : (s s' : Snapshot) (list list' : ChangeListView) (start : ℕ) (was calm calm' : Bool) (change : Change) → IsSized s → Fits s change → start ≤ length list.changes
     → list.capacity ≤ list'.capacity → s' ≡ applied s change → list'.changes ≡ list.changes ++ inverse_of s change ∷ []
-    → Reaches (edit_of s list start) (edit_of s' list' start) (applied s change) (cost_of (inverse_of s change))
-Reaches-act s s' list list' start change sized fits within grows e f =
+    → Reaches (edit_of s list start was calm) (edit_of s' list' start was calm') (applied s change) (cost_of (inverse_of s change))
+Reaches-act s s' list list' start was calm calm' change sized fits within grows e f =
     let law = each_is_undone s change sized fits in
     let back = inverse_of s change in
     let changes = list.changes in
@@ -115,7 +115,7 @@ Reaches-act s s' list list' start change sized fits within grows e f =
     record {
       now = e;
       base =
-          base_same _ _ _ _ (ap₂ (λ (t : Snapshot) cs. undone t (drop start cs)) e f ∙ leads)
+          base_same _ _ _ _ was (ap₂ (λ (t : Snapshot) cs. undone t (drop start cs)) e f ∙ leads)
           (ap (take start) f ∙ take-append-le start changes (back ∷ []) within);
       weight = omega (arith, ap (λ cs. weight_of (drop start cs)) f, ap weight_of more, sum_by_push cost_of later back);
       room = room_after list list' back f grows;
@@ -138,49 +138,49 @@ CanUndo-act s s' changes changes' start change sized fits within e f can =
     )
 
 -- the same, seen by what `act` returns
-pub Reaches-from_act : {T E : Type 0} (r : Result T E) (old : Edit) (s s' : Snapshot) (list list' : ChangeListView) (start : ℕ) (change : Change)
-    → edit_of s list start ≡ old → IsSized s → Fits old.now change → start ≤ length list.changes → list.capacity ≤ list'.capacity
+pub Reaches-from_act : {T E : Type 0} (r : Result T E) (old : Edit) (s s' : Snapshot) (list list' : ChangeListView) (start : ℕ) (was calm calm' : Bool) (change : Change)
+    → edit_of s list start was calm ≡ old → IsSized s → Fits old.now change → start ≤ length list.changes → list.capacity ≤ list'.capacity
     → OnOk r (s' ≡ applied s change) → OnOk r (list'.changes ≡ list.changes ++ inverse_of s change ∷ [])
-    → OnOk r (Reaches old (edit_of s' list' start) (applied old.now change) (cost_of (inverse_of old.now change)))
-Reaches-from_act r old s s' list list' start change e sized =
+    → OnOk r (Reaches old (edit_of s' list' start was calm') (applied old.now change) (cost_of (inverse_of old.now change)))
+Reaches-from_act r old s s' list list' start was calm calm' change e sized =
     let P : Edit → Type 0 = λ f. Fits f.now change → start ≤ length list.changes → list.capacity ≤ list'.capacity
     → OnOk r (s' ≡ applied s change) → OnOk r (list'.changes ≡ list.changes ++ inverse_of s change ∷ [])
-    → OnOk r (Reaches f (edit_of s' list' start) (applied f.now change) (cost_of (inverse_of f.now change))) in
+    → OnOk r (Reaches f (edit_of s' list' start was calm') (applied f.now change) (cost_of (inverse_of f.now change))) in
     subst P e
     (λ fits within grows.
     elim r as (λ q. OnOk q (s' ≡ applied s change) → OnOk q (list'.changes ≡ list.changes ++ inverse_of s change ∷ [])
-    → OnOk q (Reaches (edit_of s list start) (edit_of s' list' start) (applied s change) (cost_of (inverse_of s change))))
-    [ Ok x ↦ λ f g. Reaches-act s s' list list' start change sized fits within grows f g | Err y ↦ λ f g. tt ])
+    → OnOk q (Reaches (edit_of s list start was calm) (edit_of s' list' start was calm') (applied s change) (cost_of (inverse_of s change))))
+    [ Ok x ↦ λ f g. Reaches-act s s' list list' start was calm calm' change sized fits within grows f g | Err y ↦ λ f g. tt ])
 
 -- the room that was short, where `act` found no memory
-pub short-from_act : {T E : Type 0} (r : Result T E) (old : Edit) (s : Snapshot) (list : ChangeListView) (start : ℕ) (change : Change)
-    → edit_of s list start ≡ old → OnErr r (list.capacity < length (all_packed list.changes ++ packed (inverse_of s change)))
+pub short-from_act : {T E : Type 0} (r : Result T E) (old : Edit) (s : Snapshot) (list : ChangeListView) (start : ℕ) (was calm : Bool) (change : Change)
+    → edit_of s list start was calm ≡ old → OnErr r (list.capacity < length (all_packed list.changes ++ packed (inverse_of s change)))
     → OnErr r (old.room < room_for (cost_of (inverse_of old.now change)))
-short-from_act r old s list start change e =
+short-from_act r old s list start was calm change e =
     subst (λ (f : Edit). OnErr r (list.capacity < length (all_packed list.changes ++ packed (inverse_of s change))) → OnErr r (f.room < room_for (cost_of (inverse_of f.now change)))) e
     (elim r as (λ q. OnErr q (list.capacity < length (all_packed list.changes ++ packed (inverse_of s change)))
     → OnErr q (room_of list < room_for (cost_of (inverse_of s change))))
     [ Ok x ↦ λ f. tt | Err y ↦ λ f. short_of_room list (inverse_of s change) f ])
 
-pub CanUndo-from_act : {T E : Type 0} (r : Result T E) (old : Edit) (s s' : Snapshot) (list list' : ChangeListView) (start : ℕ) (change : Change)
-    → edit_of s list start ≡ old → IsSized s → Fits old.now change → (start ≤ length list.changes) × CanUndo s (drop start list.changes)
+pub CanUndo-from_act : {T E : Type 0} (r : Result T E) (old : Edit) (s s' : Snapshot) (list list' : ChangeListView) (start : ℕ) (was calm : Bool) (change : Change)
+    → edit_of s list start was calm ≡ old → IsSized s → Fits old.now change → (start ≤ length list.changes) × CanUndo s (drop start list.changes)
     → OnOk r (s' ≡ applied s change) → OnOk r (list'.changes ≡ list.changes ++ inverse_of s change ∷ []) → OnErr r (s' ≡ s) → OnErr r (list' ≡ list)
     → (start ≤ length list'.changes) × CanUndo s' (drop start list'.changes)
-CanUndo-from_act r old s s' list list' start change e sized fits can =
+CanUndo-from_act r old s s' list list' start was calm change e sized fits can =
     let fits_here = subst (λ (f : Edit). Fits f.now change) (sym e) fits in
     elim r as (λ q. OnOk q (s' ≡ applied s change) → OnOk q (list'.changes ≡ list.changes ++ inverse_of s change ∷ []) → OnErr q (s' ≡ s) → OnErr q (list' ≡ list)
     → (start ≤ length list'.changes) × CanUndo s' (drop start list'.changes))
     [ Ok x ↦ λ f g h k. CanUndo-act s s' list.changes list'.changes start change sized fits_here can.0 f g can.1 | Err y ↦ λ f g h k. rw (h, k) can ]
 
 -- A move begins where it is, with nothing recorded.
-pub edit_of-begin : (s : Snapshot) (list : ChangeListView) (start : ℕ) → start ≡ length list.changes
-    → edit_of s list start ≡ begun_at s list.changes (room_of list)
-edit_of-begin s list start e = rw (e, drop-length list.changes, take-length list.changes) refl
+pub edit_of-begin : (s : Snapshot) (list : ChangeListView) (start : ℕ) (calm : Bool) → start ≡ length list.changes
+    → edit_of s list start calm calm ≡ begun_at s list.changes (room_of list) calm
+edit_of-begin s list start calm e = rw (e, drop-length list.changes, take-length list.changes) refl
 
 -- What a step recorded goes on from what was there before.
-pub GoesOn-edit_of : (edit : Edit) (s : Snapshot) (list : ChangeListView) (start : ℕ) → edit_of s list start ≡ edit
+pub GoesOn-edit_of : (edit : Edit) (s : Snapshot) (list : ChangeListView) (start : ℕ) (was calm : Bool) → edit_of s list start was calm ≡ edit
     → start ≤ length list.changes → CanUndo s (drop start list.changes) → GoesOn edit edit.changes
-GoesOn-edit_of edit s list start e within can =
+GoesOn-edit_of edit s list start was calm e within can =
     let changes = list.changes in
     let count : length (take start changes) ≡ start = length-take-le start changes within in
     subst (λ (f : Edit). GoesOn f f.changes) e (record {
@@ -189,3 +189,43 @@ GoesOn-edit_of edit s list start e within can =
       can_undo = subst (λ n. CanUndo s (drop n changes)) (sym count) can;
       weight = ap (λ n. weight_of (drop n changes)) count;
     })
+
+-- ---- what calls for settling
+
+-- Where a task joins the ready list behind its first one, that stays.
+first_stays : (ready : List ℕ) (index task : ℕ) → suc index ≤ length ready → take 1 (insert ready (suc index) task) ≡ take 1 ready
+first_stays [] index task within = absurd (omega (arith, within))
+first_stays (first ∷ later) index task within = refl
+
+pub seats_stay : (s : Snapshot) (change : Change) → Fits s change → moves_seats change ≡ false → SeatsStay s (applied s change)
+seats_stay s (SetTick tick) fits still = record { cores = refl; first = refl }
+seats_stay s (SetTurn turn) fits still = record { cores = refl; first = refl }
+seats_stay s (SetCore core task) fits still = absurd cc
+seats_stay s (InsReady zero task) fits still = absurd cc
+seats_stay s (InsReady (suc index) task) fits still = record { cores = refl; first = first_stays s.ready index task fits.0 }
+seats_stay s (DelReady index) fits still = absurd cc
+seats_stay s (Task task change) fits still = record { cores = refl; first = refl }
+seats_stay s (Object change) fits still = record { cores = refl; first = refl }
+
+pub stay_on : (base : Base) (s s' : Snapshot) → IsCalmSince base s → SeatsStay s s' → IsCalmSince base s'
+stay_on base s s' calm stay = record {
+  was = calm.was;
+  stay = record { cores = stay.cores ∙ calm.stay.cores; first = stay.first ∙ calm.stay.first };
+}
+
+-- What `act` makes of a move that was calm: it stays so where the change leaves the seats, or isn't made.
+pub calm-from_act : {T E : Type 0} (r : Result T E) (old : Edit) (s s' : Snapshot) (list list' : ChangeListView) (start : ℕ) (was calm calm' : Bool) (change : Change)
+    → edit_of s list start was calm ≡ old → IsSized s → Fits old.now change → start ≤ length list.changes → list.capacity ≤ list'.capacity
+    → OnOk r (s' ≡ applied s change) → OnOk r (list'.changes ≡ list.changes ++ inverse_of s change ∷ []) → OnErr r (s' ≡ s) → OnErr r (list' ≡ list)
+    → (calm ≡ true → IsCalmSince (edit_of s list start was calm).base s) → (calm' ≡ true → calm ≡ true) → (calm' ≡ true → OnOk r (moves_seats change ≡ false))
+    → calm' ≡ true → IsCalmSince (edit_of s' list' start was calm').base s'
+calm-from_act r old s s' list list' start was calm calm' change e sized fits within grows f g h k since only still here =
+    let fits_here : Fits s change = subst (λ (edit : Edit). Fits edit.now change) (sym e) fits in
+    let before = since (only here) in
+    (elim r as (λ q. OnOk q (s' ≡ applied s change) → OnOk q (list'.changes ≡ list.changes ++ inverse_of s change ∷ []) → OnErr q (s' ≡ s) → OnErr q (list' ≡ list)
+    → OnOk q (moves_seats change ≡ false) → IsCalmSince (edit_of s' list' start was calm').base s') [
+      | Ok x ↦ λ now record_now _ _ same.
+          subst (λ (b : Base). IsCalmSince b s') (sym (Reaches-act s s' list list' start was calm calm' change sized fits_here within grows now record_now).base)
+          (stay_on (edit_of s list start was calm).base s s' before (subst (SeatsStay s) (sym now) (seats_stay s change fits_here same)))
+      | Err y ↦ λ _ _ now record_now _. rw (now, record_now) before
+    ]) f g h k (still here)

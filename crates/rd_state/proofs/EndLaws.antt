@@ -1,6 +1,6 @@
 -- Scheduling ends: each round that changes something leaves one core less that a ready task could take.
 use Rattle.std.proofs.Common.{◌≡◌, ◌∙◌, ℕ, zero, suc, ◌+◌, ◌-◌, ◌<◌, ◌≤◌, Bool, true, false, cond, List, [], ◌∷◌, length}
-use Rattle.std.proofs.Common.{set, drop, Option, Some, None, refl, ap, subst, sym, arith, ◌⊎◌, inl, inr}
+use Rattle.std.proofs.Common.{set, drop, take, Option, Some, None, refl, ap, subst, sym, arith, ◌⊎◌, inl, inr}
 use Rattle.std.specs.Prelude.{All, count_by, slice_index, nat_eq, nat_le, nat_lt, ◌&&◌}
 use Rattle.std.specs.List.{prefix_len, AllByRecursion}
 use Rattle.std.proofs.Math.Dec.{leb}
@@ -12,6 +12,7 @@ use Rattle.rd_wait.specs.Joined.{is_at_least, IsInOrder}
 use Rattle.rd_wait.proofs.Offered.{All-insert, AllByRecursion-insert}
 use Rattle.rd_state.specs.Settled.{Seating, running_on, rank_of, weakest_up_to, weakest_of, head_of, takes_core, with_displaced, with_seats, seated_on}
 use Rattle.rd_state.specs.Settled.{after_one_round, after_rounds, seating_of, settled, rotated, IsSettled, SchedulingSettles}
+use Rattle.rd_state.specs.Edit.{SeatsStay}
 use Rattle.rd_state.specs.Snapshot.{Snapshot}
 use Rattle.rd_state.proofs.ScheduleLaws.{SeatsKept-after_one_round, SeatsKept-after_rounds, one_if, weakest_of-lt}
 use Rattle.rd_state.proofs.SettleLaws.{after_rounds-still, settled_in-still}
@@ -203,6 +204,29 @@ settled-still priorities s some before =
     settled_in-still priorities (length s.cores) s
     (ap (λ b. cond b (seated_on priorities (seating_of s) core) (seating_of s))
     (takes_none priorities s.cores s.ready core (weakest_of-lt priorities s.cores some) before))
+
+-- The first that is ready tells alone whether it takes a core.
+head_alone : (priorities : List ℕ) (cores : List (Option ℕ)) (ready now : List ℕ) (core : ℕ) → take 1 now ≡ take 1 ready
+    → takes_core priorities (record { cores = cores; ready = now }) core ≡ takes_core priorities (record { cores = cores; ready = ready }) core
+head_alone priorities cores [] [] core same = refl
+head_alone priorities cores [] (first ∷ rest) core same = absurd cc
+head_alone priorities cores (first ∷ rest) [] core same = absurd cc
+head_alone priorities cores (first ∷ rest) (head ∷ later) core same =
+    let heads : head ≡ first = cc in
+    let some : nat_lt 0 (length (first ∷ rest)) ≡ true = grind (arith, nat_tests) in
+    let also : nat_lt 0 (length (head ∷ later)) ≡ true = grind (arith, nat_tests) in
+    let takes : ℕ → Bool = λ task. nat_le (rank_of priorities (running_on cores core)) (slice_index priorities task) in
+    ap (λ b. b && takes head) also ∙ ap takes heads ∙ sym (ap (λ b. b && takes first) some)
+
+-- Where the seats stay as they were in a settled state, scheduling changes nothing.
+pub settled-calm : (priorities : List ℕ) (before s : Snapshot) → 0 < length s.cores → IsSettled priorities before → SeatsStay before s → settled priorities s ≡ s
+settled-calm priorities before s some was stay =
+    let core = weakest_of priorities s.cores in
+    let still : takes_core priorities (seating_of s) core ≡ false =
+    head_alone priorities s.cores before.ready s.ready core stay.first
+    ∙ takes_none priorities s.cores before.ready core (weakest_of-lt priorities s.cores some)
+    (subst (λ (cores : List (Option ℕ)). All (λ task. All (λ running. slice_index priorities task < rank_of priorities running) cores) before.ready) (sym stay.cores) was) in
+    settled_in-still priorities (length s.cores) s (ap (λ b. cond b (seated_on priorities (seating_of s) core) (seating_of s)) still)
 
 -- a task that no running one is outranked by, once the head of the ready list runs instead of its equal
 below_all : (priorities : List ℕ) (seats : Seating) (core task : ℕ) → slice_index priorities task ≤ slice_index priorities (head_of seats.ready)

@@ -1,5 +1,6 @@
 -- Transfers: the change that each makes fits.
-use Rattle.std.proofs.Common.{◌≡◌, ◌∙◌, ℕ, ◌<◌, ◌≤◌, List, [], ◌∷◌, ◌++◌, length, drop, get_or, replicate, refl, subst, sym, arith}
+use Rattle.std.specs.Prelude.{Ok, Err}
+use Rattle.std.proofs.Common.{Bool, true, false, ◌≡◌, ◌∙◌, ℕ, ◌<◌, ◌≤◌, List, [], ◌∷◌, ◌++◌, length, drop, get_or, replicate, refl, subst, sym, arith}
 use Rattle.std.proofs.lemmas.List.{length-append, length-replicate, length-take-le}
 use Rattle.std.proofs.lemmas.List.Elements.{All-get_or}
 use Rattle.std.specs.Prelude.{Result, OnOk, OnErr}
@@ -15,14 +16,14 @@ use Rattle.rd_state.specs.declared.transfer.Source.TheVariants.{QueueFront, Stre
 use Rattle.rd_state.specs.declared.transfer.Transfer.{Transfer}
 use Rattle.rd_state.specs.declared.transfer.Transfer.TheVariants.{FromData, ToData}
 use Rattle.rd_state.specs.Objects.{ObjectsSnapshot, queue_in, stream_in, AreSizedObjects, ObjectFits}
-use Rattle.rd_state.specs.Change.{applied, cost_of, inverse_of, Fits}
-use Rattle.rd_state.specs.Edit.{Edit, Reaches, edit_of, room_for}
+use Rattle.rd_state.specs.Change.{applied, cost_of, inverse_of, moves_seats, Fits}
+use Rattle.rd_state.specs.Edit.{Edit, IsCalmSince, Reaches, edit_of, room_for}
 use Rattle.rd_state.specs.PackedChanges.{all_packed, packed, ChangeListView}
 use Rattle.rd_state.specs.Sizes.{IsSized}
 use Rattle.rd_state.specs.Snapshot.{Snapshot, task_at}
 use Rattle.rd_state.specs.Transfers.{bytes_at, change_of, sunk, CanTransfer, HasSink, HasSource}
 use Rattle.rd_state.specs.Undoing.{CanUndo}
-use Rattle.rd_state.proofs.EditLaws.{CanUndo-from_act, Reaches-from_act, short-from_act}
+use Rattle.rd_state.proofs.EditLaws.{calm-from_act, CanUndo-from_act, Reaches-from_act, short-from_act}
 use Rattle.rd_state.proofs.ObjectLaws.{queue_in_sized}
 
 pub length-fitted : (size : ℕ) (bytes : List ℕ) → length (fitted size bytes) ≡ size
@@ -59,31 +60,46 @@ transfer_fits s (FromData task sink) sized can = sink_fits s.objects sink (task_
 transfer_fits s (ToData source task) sized can = (can.1, source_is_short (length s.tasks) s.objects source sized.objects can.0, tt)
 
 -- what `act_transfer` makes of a state and its record
-pub Reaches-from_transfer : {T E : Type 0} (r : Result T E) (old : Edit) (s s' : Snapshot) (list list' : ChangeListView) (start : ℕ) (transfer : Transfer)
-    → edit_of s list start ≡ old → IsSized s → CanTransfer old.now transfer → start ≤ length list.changes → list.capacity ≤ list'.capacity
+pub Reaches-from_transfer : {T E : Type 0} (r : Result T E) (old : Edit) (s s' : Snapshot) (list list' : ChangeListView) (start : ℕ) (was calm calm' : Bool) (transfer : Transfer)
+    → edit_of s list start was calm ≡ old → IsSized s → CanTransfer old.now transfer → start ≤ length list.changes → list.capacity ≤ list'.capacity
     → OnOk r (s' ≡ applied s (change_of s transfer)) → OnOk r (list'.changes ≡ list.changes ++ inverse_of s (change_of s transfer) ∷ [])
-    → OnOk r (Reaches old (edit_of s' list' start) (applied old.now (change_of old.now transfer)) (cost_of (inverse_of old.now (change_of old.now transfer))))
-Reaches-from_transfer r old s s' list list' start transfer e sized =
+    → OnOk r (Reaches old (edit_of s' list' start was calm') (applied old.now (change_of old.now transfer)) (cost_of (inverse_of old.now (change_of old.now transfer))))
+Reaches-from_transfer r old s s' list list' start was calm calm' transfer e sized =
     let P : Edit → Type 0 = λ f. CanTransfer f.now transfer → start ≤ length list.changes → list.capacity ≤ list'.capacity
     → OnOk r (s' ≡ applied s (change_of s transfer)) → OnOk r (list'.changes ≡ list.changes ++ inverse_of s (change_of s transfer) ∷ [])
-    → OnOk r (Reaches f (edit_of s' list' start) (applied f.now (change_of f.now transfer)) (cost_of (inverse_of f.now (change_of f.now transfer)))) in
+    → OnOk r (Reaches f (edit_of s' list' start was calm') (applied f.now (change_of f.now transfer)) (cost_of (inverse_of f.now (change_of f.now transfer)))) in
     subst P e
-    (λ can. Reaches-from_act r (edit_of s list start) s s' list list' start (change_of s transfer) refl sized (transfer_fits s transfer sized can))
+    (λ can. Reaches-from_act r (edit_of s list start was calm) s s' list list' start was calm calm' (change_of s transfer) refl sized (transfer_fits s transfer sized can))
 
-pub short-from_transfer : {T E : Type 0} (r : Result T E) (old : Edit) (s : Snapshot) (list : ChangeListView) (start : ℕ) (transfer : Transfer)
-    → edit_of s list start ≡ old → OnErr r (list.capacity < length (all_packed list.changes ++ packed (inverse_of s (change_of s transfer))))
+pub short-from_transfer : {T E : Type 0} (r : Result T E) (old : Edit) (s : Snapshot) (list : ChangeListView) (start : ℕ) (was calm : Bool) (transfer : Transfer)
+    → edit_of s list start was calm ≡ old → OnErr r (list.capacity < length (all_packed list.changes ++ packed (inverse_of s (change_of s transfer))))
     → OnErr r (old.room < room_for (cost_of (inverse_of old.now (change_of old.now transfer))))
-short-from_transfer r old s list start transfer e =
+short-from_transfer r old s list start was calm transfer e =
     subst
     (λ (f : Edit). OnErr r (list.capacity < length (all_packed list.changes ++ packed (inverse_of s (change_of s transfer))))
     → OnErr r (f.room < room_for (cost_of (inverse_of f.now (change_of f.now transfer))))) e
-    (short-from_act r (edit_of s list start) s list start (change_of s transfer) refl)
+    (short-from_act r (edit_of s list start was calm) s list start was calm (change_of s transfer) refl)
 
-pub CanUndo-from_transfer : {T E : Type 0} (r : Result T E) (old : Edit) (s s' : Snapshot) (list list' : ChangeListView) (start : ℕ) (transfer : Transfer)
-    → edit_of s list start ≡ old → IsSized s → CanTransfer old.now transfer → (start ≤ length list.changes) × CanUndo s (drop start list.changes)
+pub CanUndo-from_transfer : {T E : Type 0} (r : Result T E) (old : Edit) (s s' : Snapshot) (list list' : ChangeListView) (start : ℕ) (was calm : Bool) (transfer : Transfer)
+    → edit_of s list start was calm ≡ old → IsSized s → CanTransfer old.now transfer → (start ≤ length list.changes) × CanUndo s (drop start list.changes)
     → OnOk r (s' ≡ applied s (change_of s transfer)) → OnOk r (list'.changes ≡ list.changes ++ inverse_of s (change_of s transfer) ∷ [])
     → OnErr r (s' ≡ s) → OnErr r (list' ≡ list)
     → (start ≤ length list'.changes) × CanUndo s' (drop start list'.changes)
-CanUndo-from_transfer r old s s' list list' start transfer e sized can =
+CanUndo-from_transfer r old s s' list list' start was calm transfer e sized can =
     let here = subst (λ (f : Edit). CanTransfer f.now transfer) (sym e) can in
-    CanUndo-from_act r (edit_of s list start) s s' list list' start (change_of s transfer) refl sized (transfer_fits s transfer sized here)
+    CanUndo-from_act r (edit_of s list start was calm) s s' list list' start was calm (change_of s transfer) refl sized (transfer_fits s transfer sized here)
+
+-- A transfer leaves the seats.
+transfer_still : (s : Snapshot) (transfer : Transfer) → moves_seats (change_of s transfer) ≡ false
+transfer_still s (FromData task sink) = refl
+transfer_still s (ToData source task) = refl
+
+pub calm-from_transfer : {T E : Type 0} (r : Result T E) (old : Edit) (s s' : Snapshot) (list list' : ChangeListView) (start : ℕ) (was calm : Bool) (transfer : Transfer)
+    → edit_of s list start was calm ≡ old → IsSized s → CanTransfer old.now transfer → start ≤ length list.changes → list.capacity ≤ list'.capacity
+    → OnOk r (s' ≡ applied s (change_of s transfer)) → OnOk r (list'.changes ≡ list.changes ++ inverse_of s (change_of s transfer) ∷ [])
+    → OnErr r (s' ≡ s) → OnErr r (list' ≡ list)
+    → (calm ≡ true → IsCalmSince (edit_of s list start was calm).base s) → calm ≡ true → IsCalmSince (edit_of s' list' start was calm).base s'
+calm-from_transfer r old s s' list list' start was calm transfer e sized can within grows f g h k since =
+    let here = subst (λ (edit : Edit). CanTransfer edit.now transfer) (sym e) can in
+    calm-from_act r (edit_of s list start was calm) s s' list list' start was calm calm (change_of s transfer) refl sized (transfer_fits s transfer sized here) within grows f g h k since (λ c. c)
+    (λ _. (elim r as (λ q. OnOk q (moves_seats (change_of s transfer) ≡ false)) [ Ok x ↦ transfer_still s transfer | Err y ↦ tt ]))

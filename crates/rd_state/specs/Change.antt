@@ -1,6 +1,6 @@
 -- The primitive changes: what each does, at which states it fits, and what undoes it.
 use Rattle.std.specs.Prelude.{ℕ, ◌+◌, ◌^◌, ◌<◌, ◌≤◌, List, length, slice_index, slice_set}
-use Rattle.std.specs.Prelude.{insert, remove, sum_by, Option, IfSome}
+use Rattle.std.specs.Prelude.{insert, remove, sum_by, Bool, false, true, nat_eq, Option, IfSome}
 use Rattle.rd_state.specs.declared.change.Change as declared
 use Rattle.rd_state.specs.declared.change.Change.TheVariants as borrowed
 use Rattle.rd_state.specs.Objects.{Numbers, object_applied, object_inverse_of}
@@ -51,6 +51,16 @@ applied s (InsReady index task) = record s { ready = insert s.ready index task }
 applied s (DelReady index) = record s { ready = remove s.ready index }
 applied s (Task task change) = with_task s task (task_applied (task_at s task) change)
 applied s (Object change) = with_objects s (object_applied s.objects change)
+
+-- Does it change who is on a core, or who is the first that is ready?
+abbrev pub moves_seats : Change → Bool
+moves_seats (SetTick tick) = false
+moves_seats (SetTurn turn) = false
+moves_seats (SetCore core task) = true
+moves_seats (InsReady index task) = nat_eq index 0
+moves_seats (DelReady index) = true
+moves_seats (Task task change) = false
+moves_seats (Object change) = false
 
 -- the change that undoes a change made at this state
 abbrev pub inverse_of : Snapshot → Change → Change

@@ -1,16 +1,19 @@
 -- A move in the middle: the state now, where the move began, the weight of what it recorded since,
--- all that the record has, and for how many bytes more it has room.
-use Rattle.std.specs.Prelude.{ℕ, ◌≡◌, ◌+◌, ◌-◌, ◌*◌, ◌<◌, ◌≤◌, List, length, drop, take}
+-- all that the record has, for how many bytes more it has room, and whether nothing has called for
+-- settling.
+use Rattle.std.specs.Prelude.{ℕ, ◌≡◌, ◌+◌, ◌-◌, ◌*◌, ◌<◌, ◌≤◌, Bool, true, List, length, drop, take}
 use Rattle.rd_state.specs.Change.{Change}
 use Rattle.rd_state.specs.Change.{weight_of}
 use Rattle.rd_state.specs.PackedChanges.{all_packed, ChangeListView}
 use Rattle.rd_state.specs.Snapshot.{Snapshot, numbers_of}
 use Rattle.rd_state.specs.Undoing.{undone, CanUndo}
 
--- where a move began: the state, and what its record had before
+-- where a move began: the state, what its record had before, and whether nothing had called for
+-- settling by then
 pub record Base : Type 0 where
   pub state : Snapshot
   pub recorded : List Change
+  pub calm : Bool
 
 pub record Edit : Type 0 where
   pub now : Snapshot
@@ -18,6 +21,7 @@ pub record Edit : Type 0 where
   pub weight : ℕ
   pub changes : List Change
   pub room : ℕ
+  pub calm : Bool
 
 -- for how many bytes more a list of changes has room
 abbrev pub room_of : ChangeListView → ℕ
@@ -27,25 +31,41 @@ room_of list = list.capacity - length (all_packed list.changes)
 abbrev pub capacity_of : Edit → ℕ
 capacity_of edit = length (all_packed edit.changes) + edit.room
 
--- a move whose record had so many changes before
-abbrev pub edit_of : Snapshot → ChangeListView → ℕ → Edit
-edit_of s list start = record {
+-- a move whose record had so many changes before, when it was calm or not
+abbrev pub edit_of : Snapshot → ChangeListView → ℕ → Bool → Bool → Edit
+edit_of s list start was_calm calm = record {
   now = s;
-  base = record { state = undone s (drop start list.changes); recorded = take start list.changes };
+  base = record {
+    state = undone s (drop start list.changes);
+    recorded = take start list.changes;
+    calm = was_calm;
+  };
   weight = weight_of (drop start list.changes);
   changes = list.changes;
   room = room_of list;
+  calm = calm;
 }
 
 -- a move that begins here
-abbrev pub begun_at : Snapshot → List Change → ℕ → Edit
-begun_at s changes room = record {
+abbrev pub begun_at : Snapshot → List Change → ℕ → Bool → Edit
+begun_at s changes room calm = record {
   now = s;
-  base = record { state = s; recorded = changes };
+  base = record { state = s; recorded = changes; calm = calm };
   weight = 0;
   changes = changes;
   room = room;
+  calm = calm;
 }
+
+-- The same tasks are on the cores, and the same one is the first that is ready, if one is.
+pub record SeatsStay (before now : Snapshot) : Type 0 where
+  pub cores : now.cores ≡ before.cores
+  pub first : take 1 now.ready ≡ take 1 before.ready
+
+-- Where nothing has called for settling, nothing had where the move began, and the seats stay.
+pub record IsCalmSince (base : Base) (now : Snapshot) : Type 0 where
+  pub was : base.calm ≡ true
+  pub stay : SeatsStay base.state now
 
 -- what a record has got since
 abbrev pub added : List Change → List Change → List Change

@@ -12,6 +12,7 @@ pub mod PackedTaskChanges
 pub mod PackedChanges
 pub mod Undoing
 pub mod Edit
+pub mod EditingInside
 pub mod Settled
 pub mod Boot
 pub mod Valid

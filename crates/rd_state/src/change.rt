@@ -1,7 +1,7 @@
 //! The primitive changes of the state.
 
 ghost use Rattle.std.specs.Prelude.{◌≡◌};
-ghost use Rattle.rd_state.specs.Change.{cost_of, the_change};
+ghost use Rattle.rd_state.specs.Change.{cost_of, moves_seats, the_change};
 
 use crate::objects::ObjectChange;
 use crate::task_change::TaskChange;
@@ -40,6 +40,23 @@ impl Change<'_> {
             | Change::DelReady { .. } => 1,
             Change::Task { change, .. } => change.cost(),
             Change::Object { change } => change.cost(),
+        }
+    }
+
+    /// Whether it changes who is on a core, or who is the first that is ready: then settling may be
+    /// called for. (A task that leaves the ready list counts, wherever it stands there, as only the
+    /// scheduler takes tasks out.)
+    #[inline(always)]
+    pub(crate) fn moves_seats(self) -> bool
+        ensures { result ≡ moves_seats (the_change self.entry) }
+    {
+        match self {
+            Change::SetCore { .. } | Change::DelReady { .. } => true,
+            Change::InsReady { index, .. } => index == 0,
+            Change::SetTick { .. }
+            | Change::SetTurn { .. }
+            | Change::Task { .. }
+            | Change::Object { .. } => false,
         }
     }
 }

@@ -1,13 +1,13 @@
 //! A move in the middle: the state and the record of what was changed.
 
-ghost use Rattle.std.specs.Prelude.{◌≡◌, ◌<◌, ◌≤◌, ◌++◌, ◌∷◌, [], true, length, drop, insert};
+ghost use Rattle.std.specs.Prelude.{◌≡◌, ◌<◌, ◌≤◌, ◌++◌, ◌∷◌, [], false, true, length, drop, insert};
 ghost use Rattle.std.specs.Prelude.{remove, take};
-ghost use Rattle.std.specs.Prelude.{IfSome, IsOk, OnOk, OnErr};
+ghost use Rattle.std.specs.Prelude.{IfSome, IsOk, IsTrue, OnOk, OnErr};
 ghost use Rattle.std.specs.Borrow.{sem, Lends};
 ghost use Rattle.rd_state.specs.contracts.editing.Editing.{the_row};
 ghost use Rattle.rd_state.specs.contracts.state.State.{the_row as state_row};
-ghost use Rattle.rd_state.specs.Change.{applied, cost_of, inverse_of, the_change, Fits};
-ghost use Rattle.rd_state.specs.Edit.{begun_at, capacity_of, room_for, GoesOn, Reaches};
+ghost use Rattle.rd_state.specs.Change.{applied, cost_of, inverse_of, moves_seats, the_change, Fits};
+ghost use Rattle.rd_state.specs.Edit.{begun_at, capacity_of, room_for, GoesOn, IsCalmSince, Reaches};
 ghost use Rattle.rd_state.specs.Sizes.{IsSized};
 ghost use Rattle.rd_state.specs.Transfers.{change_of, CanTransfer};
 ghost use Rattle.rd_state.specs.Undoing.{undone, CanUndo};
@@ -42,6 +42,9 @@ pub struct Editing {
     changes: ChangeList,
     // So many changes the record had when the move began.
     start: usize,
+    // Whether nothing has called for settling: by then, and by now.
+    was_calm: bool,
+    calm: bool,
 }
 
 impl Model for Editing {
@@ -49,35 +52,46 @@ impl Model for Editing {
 
     ghost Value = { Edit };
 
-    ghost use Rattle.std.specs.Prelude.{◌≤◌, length, drop};
-    ghost use Rattle.rd_state.specs.Edit.{edit_of};
-    ghost use Rattle.rd_state.specs.Undoing.{CanUndo};
+    ghost use Rattle.rd_state.specs.EditingInside.{IsEditing, edit_in};
 
-    ghost view = { λ e. edit_of e.state e.changes e.start };
+    ghost view = { edit_in };
 
-    ghost invariant = { λ e. (e.start ≤ length e.changes.changes)
-        × CanUndo e.state (drop e.start e.changes.changes) };
+    ghost invariant = { IsEditing };
+}
+
+// Whether nothing calls for settling, once a change was made or refused.
+#[inline(always)]
+fn stays_calm(calm: bool, made: &Result<(), NoMemory>, change: Change<'_>) -> bool
+    ensures before { IsTrue result → IsTrue calm }
+    ensures still { IsTrue result → OnOk made.now (moves_seats (the_change change.entry) ≡ false) }
+    ensures err { OnErr made.now (result ≡ calm) }
+{
+    calm && (made.is_err() || !change.moves_seats())
 }
 
 impl Editing {
     /// A state, with an empty record, to which the changes of moves will be added. The first move
-    /// begins here. It takes no memory.
+    /// begins here. Whether the state is settled isn't known. It takes no memory.
     pub fn new(alloc: Global, state: State) -> Editing
-        ensures { result ≡ begun_at state [] result.room }
+        ensures { result ≡ begun_at state [] result.room false }
     {
         Editing {
             state,
             changes: ChangeList::new(alloc),
             start: 0,
+            was_calm: false,
+            calm: false,
         }
     }
 
     /// A move begins here.
     #[inline(always)]
     pub fn begin(&mut self)
-        ensures { self.new ≡ begun_at self.old.now self.old.changes self.old.room }
+        ensures { self.new
+            ≡ begun_at self.old.now self.old.changes self.old.room self.old.calm }
     {
         self.start = self.changes.len();
+        self.was_calm = self.calm;
     }
 
     /// The changes that the record has.
@@ -89,16 +103,19 @@ impl Editing {
     }
 
     /// Empties the record, which keeps its room: what it had is kept elsewhere. The next move
-    /// begins here. It takes no memory.
+    /// begins here, where nothing calls for settling: whoever makes it has seen to that. It takes no
+    /// memory.
     #[inline(always)]
     pub fn empty(&mut self)
-        ensures begun { self.new ≡ begun_at self.old.now [] self.new.room }
+        ensures begun { self.new ≡ begun_at self.old.now [] self.new.room true }
         ensures capacity { capacity_of self.new ≡ capacity_of self.old }
     {
         // (the record has no more bytes than there is room for)
         self.changes.bytes();
         self.changes.clear();
         self.start = 0;
+        self.was_calm = true;
+        self.calm = true;
     }
 
     /// Makes room for `more` bytes of the record. Where there is no memory for it, nothing has
@@ -123,6 +140,15 @@ impl Editing {
         let _ = &self.start;
     }
 
+    /// Whether nothing has called for settling since that was known of a state. (`false` says
+    /// nothing.)
+    #[inline(always)]
+    pub fn is_calm(&self) -> bool
+        ensures { IsTrue result → IsCalmSince self.now.base self.now.now }
+    {
+        self.calm
+    }
+
     /// The state as it is now.
     #[inline(always)]
     pub fn state(&self) -> &State
@@ -139,8 +165,9 @@ impl Editing {
         requires { self.old.changes ≡ [] }
         ensures state { result.now ≡ self.old.now }
         ensures* lends { sem 𝓛 (Lends the_row state_row self.entry result
-            (λ s. begun_at s [] self.old.room)) }
+            (λ s. begun_at s [] self.old.room self.old.calm)) }
     {
+        self.was_calm = self.calm;
         &mut self.state
     }
 
@@ -157,7 +184,9 @@ impl Editing {
         ensures err { OnErr result (self.new ≡ self.old) }
     {
         self.state.sizes();
-        self.changes.act(&mut self.state, change)
+        let made = self.changes.act(&mut self.state, change);
+        self.calm = stays_calm(self.calm, &made, change);
+        made
     }
 
     /// Makes a transfer and records what undoes it. Where there is no memory for that, nothing has
@@ -291,13 +320,14 @@ impl Editing {
     #[inline(always)]
     pub fn roll_back(&mut self)
         ensures begun { self.new
-            ≡ begun_at self.old.base.state self.old.base.recorded self.new.room }
+            ≡ begun_at self.old.base.state self.old.base.recorded self.new.room self.old.calm }
         ensures room { self.old.room ≤ self.new.room }
         ensures capacity { capacity_of self.new ≡ capacity_of self.old }
     {
         // (the record has no more bytes than there is room for)
         self.changes.bytes();
         self.changes.back_to(&mut self.state, self.start);
+        self.was_calm = self.calm;
     }
 
     /// Goes back by the changes that the record has after its first `len`, the last one first; they
@@ -307,7 +337,8 @@ impl Editing {
         requires fits { CanUndo self.old.now (drop len self.old.changes) }
         ensures state { self.new.now ≡ undone self.old.now (drop len self.old.changes) }
         ensures record { self.new.changes ≡ take len self.old.changes }
-        ensures begun { self.new ≡ begun_at self.new.now self.new.changes self.new.room }
+        ensures begun { self.new
+            ≡ begun_at self.new.now self.new.changes self.new.room self.old.calm }
         ensures room { self.old.room ≤ self.new.room }
         ensures capacity { capacity_of self.new ≡ capacity_of self.old }
     {
@@ -315,6 +346,7 @@ impl Editing {
         self.changes.bytes();
         self.start = len;
         self.changes.back_to(&mut self.state, len);
+        self.was_calm = self.calm;
     }
 
     /// Hands out the state and the record.
@@ -326,6 +358,8 @@ impl Editing {
             state: now,
             changes,
             start: _,
+            was_calm: _,
+            calm: _,
         } = self;
         *state = now;
         Undo { changes }
@@ -337,6 +371,8 @@ impl Editing {
             state: _,
             changes,
             start: _,
+            was_calm: _,
+            calm: _,
         } = self;
         changes.retire();
     }

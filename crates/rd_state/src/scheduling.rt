@@ -1,7 +1,7 @@
 //! The scheduler: who runs, once the ready list or a core has changed.
 
 ghost use Rattle.std.specs.Prelude.{◌≡◌, ◌+◌, ◌*◌, ◌-◌, ◌<◌, ◌≤◌, length, slice_index};
-ghost use Rattle.std.specs.Prelude.{Ok, false, IfOk, IsOk, OnOk, OnErr};
+ghost use Rattle.std.specs.Prelude.{Ok, false, true, IfOk, IsOk, OnOk, OnErr};
 ghost use Rattle.rd_wait.specs.Joined.{joined};
 ghost use Rattle.rd_state.specs.Edit.{room_for, GivesUp, Reaches};
 ghost use Rattle.rd_state.specs.Settled.{settled, settled_in, rotated, weakest_of, rank_of};
@@ -128,15 +128,21 @@ impl Editing {
     }
 
     /// Schedules: ready tasks take idle cores and displace tasks of lower priority, until none can.
-    /// Where none can to begin with, no memory is taken.
+    /// Where none can to begin with, no memory is taken; where nothing has called for it since the
+    /// move began in a settled state, nobody is looked at.
     pub fn settle(&mut self, priorities: &[u8]) -> Result<(), NoMemory>
         requires cores { 0 < length self.old.now.cores }
         requires priorities { length priorities.now ≡ length self.old.now.tasks }
+        requires calm { self.old.base.calm ≡ true
+            → IsSettled priorities.now self.old.base.state }
         ensures ok { OnOk result (Reaches self.old self.new (settled priorities.now self.old.now)
             (3 * length self.old.now.cores)) }
         ensures settled { IsSettled priorities.now self.old.now → IsOk result }
         ensures err { OnErr result (GivesUp self.old self.new (3 * length self.old.now.cores)) }
     {
+        if self.is_calm() {
+            return Ok(());
+        }
         let rounds = self.state().cores().len();
         self.settle_in(priorities, rounds)
     }

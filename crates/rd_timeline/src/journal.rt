@@ -5,6 +5,8 @@ ghost use Rattle.std.specs.Prelude.{◌≡◌, ◌-◌, ◌∷◌, ◌++◌, ◌
 ghost use Rattle.std.specs.Prelude.{◌*◌, if◌then◌else◌, nat_lt, take, IfErr, IfOk, IsErrOf, IsOk};
 ghost use Rattle.std.specs.Prelude.{IsTrue, OnErr, OnOk};
 ghost use Rattle.rd_moves.specs.Moves.{IsMoveOf};
+ghost use Rattle.rd_app.specs.Application.{priorities_of};
+ghost use Rattle.rd_state.specs.Settled.{IsSettled};
 ghost use Rattle.rd_state.specs.Valid.{IsValid};
 ghost use Rattle.rd_timeline.specs.History.{rewound, CanRewind};
 ghost use Rattle.rd_timeline.specs.Decoded.{byte_of, carried_among, carried_at, carried_in};
@@ -218,6 +220,7 @@ impl Journal {
     pub fn play(&mut self, app: &Program, action: &Move<Lent<'_>>) -> Result<(), Refusal>
         requires valid { IsValid app.now self.old.target }
         requires named { IsMoveOf app.now action.now }
+        requires settled { IsSettled (priorities_of app.now) self.old.target }
         requires capacity { length self.old.done < self.old.capacity }
         requires carried_room { HasCarriedRoom self.old action.now }
         ensures lays { OnOk result
@@ -253,6 +256,7 @@ impl Journal {
         requires some { 0 < length self.old.undone }
         requires valid { IsValid app.now self.old.target }
         requires named { IsMoveOf app.now (next_undone self.old) }
+        requires settled { IsSettled (priorities_of app.now) self.old.target }
         requires capacity { length self.old.done < self.old.capacity }
         ensures lays { OnOk result
             (RecordsMove app.now self.old.target (next_undone self.old) self.new.target

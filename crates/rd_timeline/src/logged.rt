@@ -5,6 +5,8 @@ ghost use Rattle.std.specs.Prelude.{◌*◌, if◌then◌else◌, nat_lt, IfErr,
 ghost use Rattle.std.specs.Prelude.{OnOk};
 ghost use Rattle.rd_moves.specs.Moves.{IsMoveOf};
 ghost use Rattle.rd_packed.specs.Records.{last_of_all, record_packed};
+ghost use Rattle.rd_app.specs.Application.{priorities_of};
+ghost use Rattle.rd_state.specs.Settled.{IsSettled};
 ghost use Rattle.rd_state.specs.Undoing.{undone, CanUndo};
 ghost use Rattle.rd_state.specs.Valid.{IsValid};
 ghost use Rattle.rd_timeline.specs.LogView.{bytes_of, RecordsMove};
@@ -104,6 +106,7 @@ impl Logged {
     pub fn play(&mut self, app: &Program, action: &Move<Lent<'_>>) -> Result<(), Refusal>
         requires valid { IsValid app.now self.old.target }
         requires named { IsMoveOf app.now action.now }
+        requires settled { IsSettled (priorities_of app.now) self.old.target }
         ensures lays { OnOk result (RecordsMove app.now self.old.target action.now
             self.new.target self.old.records self.new.records) }
         ensures ahead { OnOk result

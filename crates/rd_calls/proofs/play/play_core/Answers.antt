@@ -9,13 +9,13 @@ returns c =
     let old = c.args.editing.now in
     let app = c.args.app.now in
     let made = c.move_core-made in
-    let begun = begun_at old.now old.changes old.room in
+    let begun = begun_at old.now old.changes old.room old.calm in
     let leads = Leads-core app old.now c.args.core c.args.task c.limits.ensures c.requires.caller.valid c.requires.core c.requires.task in
     rw c.finish.ensures.made
     (record {
       before = search rules;
       played =
-          IsPlayed-from made.result app old.now c.finish.new.editing.now _ _ _ c.begin.new.self _ old.changes c.finish.new.editing.changes old.room
+          IsPlayed-from made.result app old.now c.finish.new.editing.now _ _ _ c.begin.new.self _ old.changes c.finish.new.editing.changes old.room old.calm
           (search rules) leads c.finish.ensures.sized (search rules) c.finish.ensures.state c.finish.ensures.record;
       short = short-from made.result app old.now _ _ _ old.room begun made.new.editing refl leads (rw c.begin.ensures at made.ensures.err);
       state = search rules;

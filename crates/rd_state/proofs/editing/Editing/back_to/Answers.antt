@@ -3,8 +3,8 @@ use Rattle.rd_state.proofs.EditLaws.{capacity_back, room_back}
 use Rattle.rd_state.proofs.editing.Editing.back_to.Goals as goal
 
 pub returns-clause-room : goal.returns-clause-room
-returns-clause-room c = room_back c.args.self.now _ _ c.back_to.new.self _ _ c.self.view_is c.back_to.ensures.changes c.back_to.ensures.capacity
+returns-clause-room c = room_back c.args.self.now _ _ c.back_to.new.self _ _ _ _ c.self.view_is c.back_to.ensures.changes c.back_to.ensures.capacity
 
 pub returns-clause-capacity : goal.returns-clause-capacity
 returns-clause-capacity c =
-    capacity_back c.args.self.now _ _ c.back_to.new.self _ _ c.self.view_is c.bytes.ensures.room c.back_to.ensures.changes c.back_to.ensures.capacity
+    capacity_back c.args.self.now _ _ c.back_to.new.self _ _ _ _ c.self.view_is c.bytes.ensures.room c.back_to.ensures.changes c.back_to.ensures.capacity

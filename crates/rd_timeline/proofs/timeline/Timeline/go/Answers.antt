@@ -29,6 +29,10 @@ pub play-requires-clause-valid : goal.play-requires-clause-valid
 play-requires-clause-valid c =
     subst (λ (s : Snapshot). IsValid c.self.inside.app s) (sym c.reserve_for.ensures.same.target) (state_now c.self.inside c.self.invariant).valid
 
+pub play-requires-clause-settled : goal.play-requires-clause-settled
+play-requires-clause-settled c =
+    subst (IsSettled (priorities_of c.self.inside.app)) (sym c.reserve_for.ensures.same.target) (state_now c.self.inside c.self.invariant).settled
+
 pub invariant_of-self-2 : goal.invariant_of-self-2
 invariant_of-self-2 c =
     let t = c.self.inside in

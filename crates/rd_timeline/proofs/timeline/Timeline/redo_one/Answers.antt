@@ -15,6 +15,9 @@ use Rattle.rd_timeline.proofs.timeline.Timeline.redo_one.Goals as goal
 pub replay-requires-clause-valid : goal.replay-requires-clause-valid
 replay-requires-clause-valid c = (state_now c.self.inside c.self.invariant).valid
 
+pub replay-requires-clause-settled : goal.replay-requires-clause-settled
+replay-requires-clause-settled c = (state_now c.self.inside c.self.invariant).settled
+
 pub replay-requires-clause-named : goal.replay-requires-clause-named
 replay-requires-clause-named c =
     let t = c.self.inside in
