@@ -54,7 +54,8 @@ SaySame one other = (one.event ≡ other.event) × (one.reply ≡ other.reply)
 -- the same of rows, each of which begins where the one before ends
 abbrev pub noted_from : List ℕ → ℕ → List Row → List Noted
 noted_from bytes start [] = []
-noted_from bytes start (row ∷ later) = noted_in bytes start row ∷ noted_from bytes (row_end row) later
+noted_from bytes start (row ∷ later) =
+    noted_in bytes start row ∷ noted_from bytes (row_end row) later
 
 -- where the row at an index begins
 abbrev pub start_at : ℕ → List Row → ℕ → ℕ

@@ -357,8 +357,8 @@ impl Rows {
     }
 
     /// Makes room for so many more, and for so many bytes of theirs. Where there is no memory for
-    /// them, or all would have more than 2^40 - 1 bytes, all stay, there is no less room, and no room
-    /// for one of them.
+    /// them, or all would have more than 2^40 - 1 bytes, all stay, there is no less room, and no
+    /// room for one of them.
     pub fn make_room(&mut self, rows: usize, bytes: usize) -> Result<(), NoMemory>
         ensures noted { self.new.noted ≡ self.old.noted }
         ensures ok_rows { OnOk result (rows ≤ self.new.row_room) }

@@ -6,16 +6,19 @@ ghost use Rattle.rd_bytes.specs.declared.byte_stack.TheConstants.{INLINE_BYTES};
 ghost use Rattle.rd_state.specs.Change.{applied, inverse_of, no_change, the_change, weight_of};
 ghost use Rattle.rd_state.specs.Change.{Fits};
 ghost use Rattle.rd_state.specs.PackedChanges.{all_packed, changes_in, AreChanges, HasBytes};
+ghost use Rattle.rd_state.specs.PackedChanges.{before_last, last_change, EndsInChange};
 ghost use Rattle.rd_state.specs.PackedChanges.{HasNoRoomForChange};
 ghost use Rattle.rd_state.specs.Transfers.{change_of, CanTransfer};
 ghost use Rattle.rd_state.specs.Undoing.{undone, CanUndo};
 
 use crate::change::Change;
-use crate::packing::last_change;
+use crate::packing::{last_change, last_plain_change};
 use crate::state::State;
 use crate::transfer::Transfer;
 use rd_bytes::byte_stack::ByteStack;
+use rd_bytes::ends::end_byte;
 use rd_bytes::no_memory::NoMemory;
+use rd_bytes::tag::DEL_READY;
 use std::alloc::Global;
 use std::marker::Model;
 
@@ -39,6 +42,36 @@ impl Model for ChangeList {
     ghost invariant = { λ l. AreChanges l.count l.bytes.bytes };
 }
 
+// Makes the change of an object that stands at the end of the bytes. Answers the bytes before it.
+// (By a call: it needs room that else would be cleared for each change, whichever it is.)
+#[inline(never)]
+fn apply_of_object<'a>(state: &mut State, bytes: &'a [u8]) -> &'a [u8]
+    requires ends { EndsInChange bytes.now }
+    requires fits { Fits state.old (last_change bytes.now) }
+    ensures state { state.new ≡ applied state.old (last_change bytes.now) }
+    ensures rest { result.now ≡ before_last bytes.now }
+{
+    let last = last_change(bytes);
+    state.apply(last.change);
+    last.rest
+}
+
+// Makes the change that stands at the end of the bytes. Answers the bytes before it.
+#[inline(always)]
+fn apply_last<'a>(state: &mut State, bytes: &'a [u8]) -> &'a [u8]
+    requires ends { EndsInChange bytes.now }
+    requires fits { Fits state.old (last_change bytes.now) }
+    ensures state { state.new ≡ applied state.old (last_change bytes.now) }
+    ensures rest { result.now ≡ before_last bytes.now }
+{
+    if end_byte(bytes, 1) > DEL_READY {
+        return apply_of_object(state, bytes);
+    }
+    let last = last_plain_change(bytes);
+    state.apply(last.change);
+    last.rest
+}
+
 // Goes back by the changes that these bytes have after the first `len`, the last one first. Answers
 // how many bytes those first ones take.
 #[inline(always)]
@@ -53,9 +86,7 @@ pub(crate) fn go_back(state: &mut State, bytes: &[u8], count: usize, len: usize)
     let mut rest = bytes;
     let mut left = count;
     while left > len {
-        let last = last_change(rest);
-        state.apply(last.change);
-        rest = last.rest;
+        rest = apply_last(state, rest);
         left -= 1;
     }
     rest.len()

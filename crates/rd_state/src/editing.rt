@@ -1,13 +1,15 @@
 //! A move in the middle: the state and the record of what was changed.
 
-ghost use Rattle.std.specs.Prelude.{◌≡◌, ◌<◌, ◌≤◌, ◌++◌, ◌∷◌, [], false, true, length, drop, insert};
-ghost use Rattle.std.specs.Prelude.{remove, take};
+ghost use Rattle.std.specs.Prelude.{◌≡◌, ◌<◌, ◌≤◌, ◌++◌, ◌∷◌, [], false, true, length, drop};
+ghost use Rattle.std.specs.Prelude.{insert, remove, take};
 ghost use Rattle.std.specs.Prelude.{IfSome, IsOk, IsTrue, OnOk, OnErr};
 ghost use Rattle.std.specs.Borrow.{sem, Lends};
 ghost use Rattle.rd_state.specs.contracts.editing.Editing.{the_row};
 ghost use Rattle.rd_state.specs.contracts.state.State.{the_row as state_row};
-ghost use Rattle.rd_state.specs.Change.{applied, cost_of, inverse_of, moves_seats, the_change, Fits};
-ghost use Rattle.rd_state.specs.Edit.{begun_at, capacity_of, room_for, GoesOn, IsCalmSince, Reaches};
+ghost use Rattle.rd_state.specs.Change.{applied, cost_of, inverse_of, moves_seats, the_change};
+ghost use Rattle.rd_state.specs.Change.{Fits};
+ghost use Rattle.rd_state.specs.Edit.{begun_at, capacity_of, room_for, GoesOn, IsCalmSince};
+ghost use Rattle.rd_state.specs.Edit.{Reaches};
 ghost use Rattle.rd_state.specs.Sizes.{IsSized};
 ghost use Rattle.rd_state.specs.Transfers.{change_of, CanTransfer};
 ghost use Rattle.rd_state.specs.Undoing.{undone, CanUndo};
@@ -103,8 +105,8 @@ impl Editing {
     }
 
     /// Empties the record, which keeps its room: what it had is kept elsewhere. The next move
-    /// begins here, where nothing calls for settling: whoever makes it has seen to that. It takes no
-    /// memory.
+    /// begins here, where nothing calls for settling: whoever makes it has seen to that. It takes
+    /// no memory.
     #[inline(always)]
     pub fn empty(&mut self)
         ensures begun { self.new ≡ begun_at self.old.now [] self.new.room true }

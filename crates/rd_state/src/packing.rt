@@ -1,7 +1,8 @@
 //! The changes of a state as bytes: those that a change carries, its other fields, and its tag.
 
 ghost use Rattle.std.specs.Prelude.{◌≡◌, ◌+◌, ◌≤◌, ◌++◌, length, IsOk, OnOk, OnErr};
-ghost use Rattle.rd_bytes.specs.Ends.{all_but};
+ghost use Rattle.rd_bytes.specs.Ends.{all_but, end_byte};
+ghost use Rattle.rd_bytes.specs.declared.tag.TheConstants.{DEL_READY};
 ghost use Rattle.rd_state.specs.Change.{the_change};
 ghost use Rattle.rd_state.specs.Objects.{the_object_change};
 ghost use Rattle.rd_state.specs.PackedChanges.{before_last, last_change, last_object_change};
@@ -156,10 +157,11 @@ macro_rules! last {
     };
 }
 
-/// Reads the change that stands at the end of the bytes.
+/// Reads the change that stands at the end of the bytes, where it is none of an object.
 #[inline(always)]
-pub fn last_change(bytes: &[u8]) -> LastChange<'_>
-    requires { EndsInChange bytes.now }
+pub fn last_plain_change(bytes: &[u8]) -> LastChange<'_>
+    requires ends { EndsInChange bytes.now }
+    requires plain { end_byte 1 bytes.now ≤ DEL_READY }
     ensures change { the_change result.change ≡ last_change bytes.now }
     ensures rest { result.rest.now ≡ before_last bytes.now }
 {
@@ -186,16 +188,25 @@ pub fn last_change(bytes: &[u8]) -> LastChange<'_>
             let index = usize::from(end_byte(bytes, 2));
             last!(Change::DelReady { index }, all_but(bytes, 2))
         }
-        tag => {
-            if tag < INS_READY {
-                let LastTaskChange { task, change, rest } = last_task_change(bytes);
-                last!(Change::Task { task, change }, rest)
-            } else {
-                let (change, rest) = last_object_change(bytes);
-                last!(Change::Object { change }, rest)
-            }
+        _ => {
+            let LastTaskChange { task, change, rest } = last_task_change(bytes);
+            last!(Change::Task { task, change }, rest)
         }
     }
+}
+
+/// Reads the change that stands at the end of the bytes.
+#[inline(always)]
+pub fn last_change(bytes: &[u8]) -> LastChange<'_>
+    requires { EndsInChange bytes.now }
+    ensures change { the_change result.change ≡ last_change bytes.now }
+    ensures rest { result.rest.now ≡ before_last bytes.now }
+{
+    if end_byte(bytes, 1) <= DEL_READY {
+        return last_plain_change(bytes);
+    }
+    let (change, rest) = last_object_change(bytes);
+    last!(Change::Object { change }, rest)
 }
 
 /// Each change that was put behind bytes is read at their end, and leaves those before.

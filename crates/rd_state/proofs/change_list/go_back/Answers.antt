@@ -3,24 +3,23 @@ use Rattle.std.proofs.Common.{◌≡◌, ◌∙◌, ◌-◌, ◌<◌, [], length
 use Rattle.std.proofs.Math.ListN.{drop_of_length-le}
 use Rattle.std.proofs.Math.Seq.{take-length}
 use Rattle.std.proofs.lemmas.List.{take-take}
-use Rattle.rd_state.specs.Change.{applied}
 use Rattle.rd_state.specs.PackedChanges.{before_last, changes_in, last_change}
 use Rattle.rd_state.specs.Undoing.{undone}
 use Rattle.rd_state.proofs.PackingLaws.{length-changes_in, peeled}
 use Rattle.rd_state.proofs.UndoLaws.{last_of}
 use Rattle.rd_state.proofs.change_list.go_back.Goals as goal
 
-pub last_change-last-requires : goal.last_change-last-requires
-last_change-last-requires c = (peeled c.loop-left.left c.loop-left.rest.now (omega arith) c.loop-left.invariant.are).ends
+pub apply_last-rest-requires-clause-ends : goal.apply_last-rest-requires-clause-ends
+apply_last-rest-requires-clause-ends c = (peeled c.loop-left.left c.loop-left.rest.now (omega arith) c.loop-left.invariant.are).ends
 
-pub apply-requires : goal.apply-requires
-apply-requires c =
+pub apply_last-rest-requires-clause-fits : goal.apply_last-rest-requires-clause-fits
+apply_last-rest-requires-clause-fits c =
     let n = c.loop-left.left in
     let rest = c.loop-left.rest.now in
     let peel = peeled n rest (omega arith) c.loop-left.invariant.are in
     let more : c.args.len < length (changes_in n rest) = omega (arith, length-changes_in n rest) in
     let last = last_of c.loop-left.state c.args.len (changes_in n rest) (changes_in (n - 1) (before_last rest)) (last_change rest) peel.is more c.loop-left.invariant.fits in
-    rw c.last_change-last.ensures.change last.fits
+    last.fits
 
 pub loop-left-preserved : goal.loop-left-preserved
 loop-left-preserved c =
@@ -29,12 +28,10 @@ loop-left-preserved c =
     let peel = peeled n rest (omega arith) c.loop-left.invariant.are in
     let more : c.args.len < length (changes_in n rest) = omega (arith, length-changes_in n rest) in
     let last = last_of c.loop-left.state c.args.len (changes_in n rest) (changes_in (n - 1) (before_last rest)) (last_change rest) peel.is more c.loop-left.invariant.fits in
-    let state : c.apply.new.self ≡ applied c.loop-left.state (last_change rest) =
-    c.apply.ensures ∙ ap (applied c.loop-left.state) c.last_change-last.ensures.change in
     let shorter : take (length (before_last rest)) c.args.bytes.now ≡ before_last rest =
     sym (take-take (length (before_last rest)) (length rest) c.args.bytes.now peel.within)
     ∙ ap (take (length (before_last rest))) c.loop-left.invariant.first ∙ peel.cut in
-    rw (state, c.last_change-last.ensures.rest) (record {
+    rw (c.apply_last-rest.ensures.state, c.apply_last-rest.ensures.rest) (record {
       are = peel.rest;
       within = omega arith;
       first = shorter;

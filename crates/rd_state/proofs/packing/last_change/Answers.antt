@@ -2,14 +2,8 @@
 use Rattle.std.proofs.Common.{◌∙◌, ap, arith, rules, sym}
 use Rattle.rd_bytes.specs.Ends.{all_but, end_byte}
 use Rattle.rd_state.specs.Change.{Object}
-use Rattle.rd_state.proofs.PackingLaws.{IsObjectTag, change_length-object, change_length-task, last_change-object}
+use Rattle.rd_state.proofs.PackingLaws.{IsObjectTag, change_length-object, last_change-object}
 use Rattle.rd_state.proofs.packing.last_change.Goals as goal
-
-pub returns-then-tag-lt-INS_READY-clause-rest : goal.returns-then-tag-lt-INS_READY-clause-rest
-returns-then-tag-lt-INS_READY-clause-rest c =
-    let bytes = c.args.bytes.now in
-    c.last_task_change-task.ensures.rest
-    ∙ ap (λ n. all_but n bytes) (sym (change_length-task bytes (search rules) (search rules) (search rules) (search rules)))
 
 pub last_object_change-requires-clause-whole : goal.last_object_change-requires-clause-whole
 last_object_change-requires-clause-whole c =
@@ -23,8 +17,8 @@ last_object_change-requires-clause-whole c =
     } in
     omega (arith, change_length-object c.args.bytes.now is, c.requires.whole)
 
-pub returns-else-tag-lt-INS_READY-clause-change : goal.returns-else-tag-lt-INS_READY-clause-change
-returns-else-tag-lt-INS_READY-clause-change c =
+pub returns-clause-change : goal.returns-clause-change
+returns-clause-change c =
     let is : IsObjectTag (end_byte 1 c.args.bytes.now) = record {
       tick = search rules;
       turn = search rules;
@@ -35,8 +29,8 @@ returns-else-tag-lt-INS_READY-clause-change c =
     } in
     ap Object c.last_object_change.ensures.change ∙ sym (last_change-object c.args.bytes.now is)
 
-pub returns-else-tag-lt-INS_READY-clause-rest : goal.returns-else-tag-lt-INS_READY-clause-rest
-returns-else-tag-lt-INS_READY-clause-rest c =
+pub returns-clause-rest : goal.returns-clause-rest
+returns-clause-rest c =
     let is : IsObjectTag (end_byte 1 c.args.bytes.now) = record {
       tick = search rules;
       turn = search rules;
