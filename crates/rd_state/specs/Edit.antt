@@ -1,9 +1,10 @@
 -- A move in the middle: the state now, where the move began, the weight of what it recorded since,
 -- all that the record has, for how many bytes more it has room, and whether nothing has called for
 -- settling.
-use Rattle.std.specs.Prelude.{ℕ, ◌≡◌, ◌+◌, ◌-◌, ◌*◌, ◌<◌, ◌≤◌, Bool, true, List, length, drop, take}
+use Rattle.std.specs.Prelude.{ℕ, ◌≡◌, ◌+◌, ◌-◌, ◌*◌, ◌<◌, ◌≤◌, ◌&&◌, Bool, true, not, List}
+use Rattle.std.specs.Prelude.{length, drop, take}
 use Rattle.rd_state.specs.Change.{Change}
-use Rattle.rd_state.specs.Change.{weight_of}
+use Rattle.rd_state.specs.Change.{moves_seats, weight_of}
 use Rattle.rd_state.specs.PackedChanges.{all_packed, ChangeListView}
 use Rattle.rd_state.specs.Snapshot.{Snapshot, numbers_of}
 use Rattle.rd_state.specs.Undoing.{undone, CanUndo}
@@ -66,6 +67,10 @@ pub record SeatsStay (before now : Snapshot) : Type 0 where
 pub record IsCalmSince (base : Base) (now : Snapshot) : Type 0 where
   pub was : base.calm ≡ true
   pub stay : SeatsStay base.state now
+
+-- whether nothing has called for settling behind a change, by whether nothing had before it
+abbrev pub calm_behind : Bool → Change → Bool
+calm_behind calm change = calm && not (moves_seats change)
 
 -- what a record has got since
 abbrev pub added : List Change → List Change → List Change

@@ -8,8 +8,8 @@ ghost use Rattle.rd_state.specs.contracts.editing.Editing.{the_row};
 ghost use Rattle.rd_state.specs.contracts.state.State.{the_row as state_row};
 ghost use Rattle.rd_state.specs.Change.{applied, cost_of, inverse_of, moves_seats, the_change};
 ghost use Rattle.rd_state.specs.Change.{Fits};
-ghost use Rattle.rd_state.specs.Edit.{begun_at, capacity_of, room_for, GoesOn, IsCalmSince};
-ghost use Rattle.rd_state.specs.Edit.{Reaches};
+ghost use Rattle.rd_state.specs.Edit.{begun_at, calm_behind, capacity_of, room_for, GoesOn};
+ghost use Rattle.rd_state.specs.Edit.{IsCalmSince, Reaches};
 ghost use Rattle.rd_state.specs.Sizes.{IsSized};
 ghost use Rattle.rd_state.specs.Transfers.{change_of, CanTransfer};
 ghost use Rattle.rd_state.specs.Undoing.{undone, CanUndo};
@@ -66,6 +66,7 @@ impl Model for Editing {
 fn stays_calm(calm: bool, made: &Result<(), NoMemory>, change: Change<'_>) -> bool
     ensures before { IsTrue result → IsTrue calm }
     ensures still { IsTrue result → OnOk made.now (moves_seats (the_change change.entry) ≡ false) }
+    ensures ok { OnOk made.now (result ≡ calm_behind calm (the_change change.entry)) }
     ensures err { OnErr made.now (result ≡ calm) }
 {
     calm && (made.is_err() || !change.moves_seats())
@@ -142,11 +143,13 @@ impl Editing {
         let _ = &self.start;
     }
 
-    /// Whether nothing has called for settling since that was known of a state. (`false` says
-    /// nothing.)
+    /// Whether nothing calls for settling: where the move began nothing did, and each change since
+    /// has left the tasks on the cores, and the first that is ready. A state that an editing begins
+    /// with (`new`) calls for it.
     #[inline(always)]
     pub fn is_calm(&self) -> bool
-        ensures { IsTrue result → IsCalmSince self.now.base self.now.now }
+        ensures exact { result ≡ self.now.calm }
+        ensures since { IsTrue result → IsCalmSince self.now.base self.now.now }
     {
         self.calm
     }
@@ -183,6 +186,8 @@ impl Editing {
             (cost_of (inverse_of self.old.now (the_change change.entry)))) }
         ensures short { OnErr result (self.old.room
             < room_for (cost_of (inverse_of self.old.now (the_change change.entry)))) }
+        ensures calm { OnOk result
+            (self.new.calm ≡ calm_behind self.old.calm (the_change change.entry)) }
         ensures err { OnErr result (self.new ≡ self.old) }
     {
         self.state.sizes();
@@ -201,6 +206,7 @@ impl Editing {
             (cost_of (inverse_of self.old.now (change_of self.old.now transfer)))) }
         ensures short { OnErr result (self.old.room
             < room_for (cost_of (inverse_of self.old.now (change_of self.old.now transfer)))) }
+        ensures calm { self.new.calm ≡ self.old.calm }
         ensures err { OnErr result (self.new ≡ self.old) }
     {
         self.state.sizes();

@@ -6,7 +6,7 @@ use Rattle.rd_state.proofs.editing.Editing.settle.Goals as goal
 pub returns-then-is_calm-clause-ok : goal.returns-then-is_calm-clause-ok
 returns-then-is_calm-clause-ok c =
     let edit = c.args.self.now in
-    let since = c.is_calm.ensures c.if-is_calm.true in
+    let since = c.is_calm.ensures.since c.if-is_calm.true in
     record {
       now = sym (settled-calm c.args.priorities.now edit.base.state edit.now c.requires.cores (c.requires.calm since.was) since.stay);
       base = refl;
