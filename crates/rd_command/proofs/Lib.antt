@@ -4,6 +4,8 @@ pub mod CommandLaws
 pub mod EffectLaws
 pub mod FormLaws
 pub mod LengthLaws
+pub mod OrderLaws
+pub mod RecentLaws
 pub mod Steps
 pub mod TableLaws
 pub mod ThereLaws

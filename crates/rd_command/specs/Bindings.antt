@@ -5,7 +5,8 @@ use Rattle.std.specs.Prelude.{Option, Some, None, is_some, option_and_then, opti
 use Rattle.std.specs.Prelude.{Result, Ok, Err}
 use Rattle.std.specs.Option.{option_map_or}
 use Rattle.std.specs.Str.{bytes_eq}
-use Rattle.rd_text.specs.Words.{number_of, bytes_of, name_of}
+use Rattle.std.specs.Result.{result_ok}
+use Rattle.rd_text.specs.Words.{number_of, bytes_of, name_of, words_of}
 use Rattle.rd_text.specs.declared.kind.Kind.{Kind}
 use Rattle.rd_app.specs.declared.instr.TheConstants.{REGISTERS}
 use Rattle.rd_names.specs.Apps.{AppView}
@@ -30,11 +31,12 @@ use Rattle.rd_command.specs.declared.keyword.Parameter.TheVariants.{Number, Data
 use Rattle.rd_command.specs.declared.keyword.Parameter.TheVariants.{Phase, Action, Watch, Name}
 use Rattle.rd_command.specs.declared.view.View.{View}
 use Rattle.rd_command.specs.declared.view.View.TheVariants.{Thing, Cores, Overview}
-use Rattle.rd_command.specs.Commands.{CommandView}
+use Rattle.rd_command.specs.Commands.{CommandView, command_in, command_of}
 use Rattle.rd_command.specs.Forms.{count_of, operator_of, phase_of, watch_of}
 use Rattle.rd_command.specs.Keywords.{Makes, MakesFrom, Value, Written, ConditionRow}
 use Rattle.rd_command.specs.Keywords.{Operands, Plain, WithCondition, Row, Spelled}
-use Rattle.rd_command.specs.Keywords.{condition_keyword_of, condition_row, parameters_of}
+use Rattle.rd_command.specs.Keywords.{condition_keyword_of, condition_row, needs_wheel}
+use Rattle.rd_command.specs.Keywords.{parameters_of}
 use Rattle.rd_command.specs.Keywords.{request_row, search_row, spelling_of, thing_row, unwatch_row}
 use Rattle.rd_command.specs.Keywords.{watch_row, Wheel, Taken, Given, Needed, Free}
 
@@ -83,12 +85,6 @@ made_known names cores entries = record { names = names; cores = cores; entries 
 
 abbrev pub known_of : AppView → Known
 known_of app = made_known app.names app.runs.cores app.runs.entries
-
--- a line, the command that it is, and what is known of the application that this is bound in
-pub record OrderView : Type 0 where
-  pub line : List ℕ
-  pub command : CommandView
-  pub known : Known
 
 -- ---- what a word stands for
 
@@ -243,3 +239,18 @@ has_operands known (WithCondition parameters) words = are_there_with known param
 -- has the application all that the command names?
 abbrev pub has_all : Known → CommandView → Bool
 has_all known command = has_operands known (spelling_of command.keyword).operands command.operands
+
+-- ---- a line that is a command, with what this is bound to
+
+-- the line, its command, and what is known of the application that this is bound in
+pub record OrderView : Type 0 where
+  pub line : List ℕ
+  pub command : CommandView
+  pub known : Known
+
+-- The line is a command, which needs the wheel or not, and is bound so in this application.
+pub record IsOrder (known : Known) (line : List ℕ) (needs : Bool) (bound : Result Bound Unknown)
+    : Type 0 where
+  pub is_command : command_of (words_of line) ≡ Some (command_in line)
+  pub needs_it : needs ≡ needs_wheel (command_in line).keyword
+  pub is_bound : result_ok bound ≡ bound_in known (command_in line)

@@ -1,10 +1,12 @@
 -- The commands of a session, and how each is spelled.
 use Rattle.std.specs.Prelude.{ℕ, ◌≡◌, ◌↔◌, true, List, [], ◌∷◌, ◌++◌, if◌then◌else◌}
-use Rattle.std.specs.Prelude.{Option, Some, None, option_and_then}
+use Rattle.std.specs.Prelude.{Option, Some, None, option_and_then, unwrap_or}
 use Rattle.std.specs.Option.{option_or}
 use Rattle.std.specs.Str.{bytes_eq}
+use Rattle.rd_text.specs.Words.{words_of}
 use Rattle.rd_command.specs.declared.keyword.ConditionKeyword.{ConditionKeyword}
 use Rattle.rd_command.specs.declared.keyword.Keyword.{Keyword}
+use Rattle.rd_command.specs.declared.keyword.Keyword.TheVariants.{TakeWheel}
 use Rattle.rd_command.specs.declared.keyword.Parameter.{Parameter}
 use Rattle.rd_command.specs.Forms.{after_texts, are_operands, is_formed}
 use Rattle.rd_command.specs.Keywords.{Operands, Plain, WithCondition, Spelling, condition_row}
@@ -80,6 +82,11 @@ command_from first words = command_among keywords first words
 abbrev pub command_of : List (List ℕ) → Option CommandView
 command_of [] = None
 command_of (first ∷ words) = command_from first words
+
+-- the command of a line that is one
+unfoldable pub command_in : List ℕ → CommandView
+command_in line =
+    unwrap_or (command_of (words_of line)) (record { keyword = TakeWheel; operands = [] })
 
 -- What is found is spelled, and what is spelled is found.
 abbrev pub FindsWhatIsSpelled : Type 0

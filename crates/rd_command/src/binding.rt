@@ -8,18 +8,20 @@ ghost use Rattle.rd_command.specs.declared.keyword.Parameter.TheVariants as para
 ghost use Rattle.rd_command.specs.declared.keyword.RequestKeyword.TheVariants as asked;
 ghost use Rattle.rd_names.specs.Apps.{AppView, AreAsMany};
 ghost use Rattle.rd_command.specs.Bindings.{IsBoundOf, Takes, bound_by, bound_in, condition_made};
-ghost use Rattle.rd_command.specs.Bindings.{has_all, known_of, made_by, made_known, made_of};
+ghost use Rattle.rd_command.specs.Bindings.{has_all, known_of, made_by, made_of};
 ghost use Rattle.rd_command.specs.Bindings.{next_condition};
 ghost use Rattle.rd_command.specs.Commands.{Spells};
 ghost use Rattle.rd_command.specs.Keywords.{amount_row, edit_row, interrupt_row, poke, raise};
 ghost use Rattle.rd_command.specs.Keywords.{request_row, search_row, watch_row};
 
 use crate::command::Command;
+use crate::demand::Demand;
 use crate::digits::Digits;
 use crate::keyword::{
     AmountKeyword, ConditionKeyword, EditKeyword, InterruptKeyword, Keyword, RequestKeyword,
     SearchKeyword,
 };
+use crate::known::Known;
 use crate::reader::Reader;
 use crate::view::View;
 use rd_condition::condition::{Amount, Condition};
@@ -28,7 +30,6 @@ use rd_moves::edit::Edit;
 use rd_moves::interrupt::Interrupt;
 use rd_moves::moves::Move;
 use rd_moves::request::{Request, Search};
-use rd_names::names::Names;
 use rd_text::kind::Kind;
 use thiserror::Error;
 
@@ -41,30 +42,19 @@ pub const MAX_WATCHES: usize = 16;
 #[derive(Drop)]
 pub enum Bound<'a> {
     /// It asks the timeline: moves are made, taken back or made again.
-    Asks {
-        request: Request<Carried<Digits<'a>>>,
-    },
+    Asks { request: Demand<'a> },
     /// It asks the timeline to search for the condition of the session's watch with that number.
-    AsksByWatch {
-        watch: usize,
-        search: Search,
-    },
+    AsksByWatch { watch: usize, search: Search },
     /// Nobody but the session makes moves from now on.
     TakesWheel,
     /// Everybody may make moves again.
     GivesWheel,
     /// The session keeps the condition.
-    Keeps {
-        condition: Condition,
-    },
+    Keeps { condition: Condition },
     /// The session drops its watch with this number.
-    Drops {
-        number: usize,
-    },
+    Drops { number: usize },
     /// It is shown something.
-    Looks {
-        view: View,
-    },
+    Looks { view: View },
 }
 
 /// The application has no core, register, notification entry or name like this.
@@ -206,58 +196,52 @@ fn read_interrupt<'a>(
 }
 
 // The request `until`, of the words after that.
-fn read_until<'a>(reader: &mut Reader<'_, 'a>) -> Result<Request<Carried<Digits<'a>>>, Unknown>
+fn read_until<'a>(reader: &mut Reader<'_, 'a>) -> Result<Demand<'a>, Unknown>
     ensures { result_ok result ≡ made_by (request_row asked.Until) reader.old }
 {
     let condition = read_condition(reader)?;
     let count = reader.count()?;
-    Ok(Request::Until { condition, count })
+    Ok(Demand::bare(Request::Until { condition, count }))
 }
 
 // The request of such a keyword, of the words after it.
 fn read_request<'a>(
     keyword: RequestKeyword,
     reader: &mut Reader<'_, 'a>,
-) -> Result<Request<Carried<Digits<'a>>>, Unknown>
+) -> Result<Demand<'a>, Unknown>
     ensures { result_ok result ≡ made_by (request_row keyword) reader.old }
 {
     match keyword {
         RequestKeyword::Step => {
             let core = reader.core()?;
-            Ok(Request::Go {
+            Ok(Demand::bare(Request::Go {
                 action: Move::Core { core },
-            })
+            }))
         }
-        RequestKeyword::Tick => Ok(Request::Go { action: Move::Tick }),
-        RequestKeyword::Back => Ok(Request::Back {
+        RequestKeyword::Tick => Ok(Demand::bare(Request::Go { action: Move::Tick })),
+        RequestKeyword::Back => Ok(Demand::bare(Request::Back {
             count: reader.count()?,
-        }),
-        RequestKeyword::Forward => Ok(Request::Forward {
+        })),
+        RequestKeyword::Forward => Ok(Demand::bare(Request::Forward {
             count: reader.count()?,
-        }),
-        RequestKeyword::Redo => Ok(Request::Redo {
+        })),
+        RequestKeyword::Redo => Ok(Demand::bare(Request::Redo {
             count: reader.count()?,
-        }),
+        })),
         RequestKeyword::Until => read_until(reader),
-        RequestKeyword::BackUntil => Ok(Request::BackUntil {
+        RequestKeyword::BackUntil => Ok(Demand::bare(Request::BackUntil {
             condition: read_condition(reader)?,
-        }),
-        RequestKeyword::Trim => Ok(Request::Trim {
+        })),
+        RequestKeyword::Trim => Ok(Demand::bare(Request::Trim {
             keep: reader.number()? as usize,
-        }),
+        })),
         RequestKeyword::Poke(keyword) => {
             let edit = read_edit(keyword, reader)?;
-            let carried = Carried::Edit { edit };
-            Ok(Request::Go {
-                action: Move::Carried { carried },
-            })
+            Ok(Demand::carrying(Carried::Edit { edit }))
         }
         RequestKeyword::Interrupt(keyword) => {
             let interrupt = read_interrupt(keyword, reader)?;
-            let carried = Carried::Interrupt { interrupt };
-            Ok(Request::Go {
-                action: Move::Carried { carried },
-            })
+            Ok(Demand::carrying(Carried::Interrupt { interrupt }))
         }
     }
 }
@@ -322,20 +306,15 @@ fn read_bound<'a>(keyword: Keyword, reader: &mut Reader<'_, 'a>) -> Result<Bound
 /// Looks up what a command names: cores below the number of them, registers below 8, notification
 /// entries below the number that each task has, and names of each kind, also inside a condition.
 /// `Unknown` exactly where one of these isn't there.
-pub fn bind<'a>(
-    command: &Command<'_, 'a>,
-    names: &Names,
-    cores: usize,
-    entries: usize,
-) -> Result<Bound<'a>, Unknown>
-    ensures bound { result_ok result ≡ bound_in (made_known names.now cores entries) command.now }
+pub fn bind<'a>(command: &Command<'_, 'a>, known: &Known) -> Result<Bound<'a>, Unknown>
+    ensures bound { result_ok result ≡ bound_in known.now command.now }
     // What is bound is there, in every application with these names, cores and entries.
     ensures named { (app : AppView) → AreAsMany app.runs app.names
-        → known_of app ≡ made_known names.now cores entries → IfOk result (IsBoundOf app) }
+        → known_of app ≡ known.now → IfOk result (IsBoundOf app) }
     // A command that is spelled is bound exactly where all that it names is there.
     ensures exact { (words : List (List ℕ)) → Spells words command.now
-        → is_some (result_ok result) ≡ has_all (made_known names.now cores entries) command.now }
+        → is_some (result_ok result) ≡ has_all known.now command.now }
 {
-    let mut reader = Reader::new(names, cores, entries, command.operands());
+    let mut reader = Reader::new(known, command.operands());
     read_bound(command.keyword(), &mut reader)
 }

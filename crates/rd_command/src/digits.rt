@@ -1,16 +1,13 @@
-//! Bytes as they stand in a line, and what carries them: edits, interrupts, moves and requests.
+//! Bytes as they stand in a line, and what carries them: edits and interrupts.
 
-ghost use Rattle.std.specs.Prelude.{◌≡◌, IfErr, IfOk};
+ghost use Rattle.std.specs.Prelude.{◌≡◌};
 ghost use Rattle.rd_text.specs.Words.{bytes_of};
 ghost use Rattle.rd_command.specs.Digits.{is_data};
-ghost use Rattle.rd_command.specs.Keywords.{carrying};
 
 use rd_bytes::bytes::Bytes;
-use rd_moves::carried::{Carried, Lent};
+use rd_moves::carried::Carried;
 use rd_moves::edit::Edit;
 use rd_moves::interrupt::Interrupt;
-use rd_moves::moves::Move;
-use rd_moves::request::Request;
 use rd_text::words::bytes;
 use std::marker::Model;
 
@@ -135,34 +132,4 @@ pub fn own(carried: &Carried<Digits<'_>>) -> Carried
             interrupt: own_interrupt(interrupt),
         },
     }
-}
-
-/// The request as a timeline is asked it, where its move carries nothing; else what it carries,
-/// whose bytes are still to be read (`own`). (Room for 256 bytes is only where bytes are.)
-pub fn bare<'r, 'a>(
-    request: &'r Request<Carried<Digits<'a>>>,
-) -> Result<Request<Lent<'static>>, &'r Carried<Digits<'a>>>
-    ensures bare { IfOk result (λ bare. bare ≡ request.now) }
-    ensures carried { IfErr result (λ carried. carrying carried.now ≡ request.now) }
-{
-    Ok(match request {
-        Request::Go { action } => Request::Go {
-            action: match action {
-                Move::Core { core } => Move::Core { core: *core },
-                Move::Tick => Move::Tick,
-                Move::Carried { carried } => return Err(carried),
-            },
-        },
-        Request::Back { count } => Request::Back { count: *count },
-        Request::Forward { count } => Request::Forward { count: *count },
-        Request::Redo { count } => Request::Redo { count: *count },
-        Request::Until { condition, count } => Request::Until {
-            condition: *condition,
-            count: *count,
-        },
-        Request::BackUntil { condition } => Request::BackUntil {
-            condition: *condition,
-        },
-        Request::Trim { keep } => Request::Trim { keep: *keep },
-    })
 }

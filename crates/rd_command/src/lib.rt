@@ -3,11 +3,14 @@
 
 pub mod binding;
 pub mod command;
+pub mod demand;
 pub mod digits;
 mod form;
 pub mod keyword;
+pub mod known;
 pub mod laws;
 pub mod order;
 mod reader;
+pub mod recent;
 pub mod view;
 pub mod word;

@@ -1,83 +1,93 @@
 //! Commands together with what they are bound to.
 
 ghost use Rattle.std.specs.Prelude.{◌≡◌, IfSome, None, Some};
+ghost use Rattle.std.specs.Result.{result_ok};
 ghost use Rattle.rd_text.specs.Words.{words_of};
-ghost use Rattle.rd_command.specs.Bindings.{bound_in, made_known};
+ghost use Rattle.rd_command.specs.Bindings.{IsOrder, bound_in};
 ghost use Rattle.rd_command.specs.Commands.{command_of};
+ghost use Rattle.rd_command.specs.Keywords.{needs_wheel};
 
-use crate::binding::{Bound, Unknown, bind};
+use crate::binding::{Bound, Unknown};
 use crate::command::Command;
-use rd_names::names::Names;
+use crate::known::Known;
 use std::marker::Model;
 
-/// A command with what it is bound to in an application, or that this lacks something it names.
+/// A line that is a command, with what this is bound to in an application, or that this lacks
+/// something it names.
 #[derive(Drop)]
 pub struct Order<'r, 'a> {
-    command: &'r Command<'r, 'a>,
     line: &'a [u8],
-    names: &'r Names,
-    cores: usize,
-    entries: usize,
-    bound: Result<Bound<'a>, Unknown>,
+    known: &'r Known,
+    needs_wheel: bool,
+    bound: &'r Result<Bound<'a>, Unknown>,
 }
 
 impl<'r, 'a> Model for Order<'r, 'a> {
-    ghost use Rattle.std.specs.Prelude.{◌≡◌, Some};
-    ghost use Rattle.std.specs.Result.{result_ok};
-    ghost use Rattle.rd_text.specs.Words.{words_of};
-    ghost use Rattle.rd_command.specs.Bindings.{OrderView, bound_in, made_known};
-    ghost use Rattle.rd_command.specs.Commands.{command_of};
+    ghost use Rattle.rd_command.specs.Bindings.{IsOrder, OrderView};
+    ghost use Rattle.rd_command.specs.Commands.{command_in};
 
     ghost Value = { OrderView };
 
     ghost view = { λ o. record {
       line = o.line.now;
-      command = o.command.now;
-      known = made_known o.names.now o.cores o.entries;
+      command = command_in o.line.now;
+      known = o.known.now;
     } };
 
-    ghost invariant = { λ o.
-        (command_of (words_of o.line.now) ≡ Some o.command.now)
-        × (result_ok o.bound
-        ≡ bound_in (made_known o.names.now o.cores o.entries) o.command.now) };
+    ghost invariant = { λ o. IsOrder o.known.now o.line.now o.needs_wheel o.bound.now };
 }
 
 impl<'r, 'a> Order<'r, 'a> {
-    /// Looks up what a command names, in an application with these names and so many cores, of
-    /// whose tasks each has so many notification entries.
+    /// A command with what it is bound to in this application.
     pub fn new(
-        command: &'r Command<'r, 'a>,
-        names: &'r Names,
-        cores: usize,
-        entries: usize,
+        command: &Command<'_, 'a>,
+        known: &'r Known,
+        bound: &'r Result<Bound<'a>, Unknown>,
     ) -> Order<'r, 'a>
+        requires bound { result_ok bound.now ≡ bound_in known.now command.now }
         ensures command { result.command ≡ command.now }
-        ensures known { result.known ≡ made_known names.now cores entries }
+        ensures known { result.known ≡ known.now }
     {
-        let bound = bind(command, names, cores, entries);
         Order {
-            command,
             line: command.line(),
-            names,
-            cores,
-            entries,
+            known,
+            needs_wheel: command.needs_wheel(),
             bound,
         }
     }
 
-    /// The command.
-    pub fn command(&self) -> &Command<'r, 'a>
-        ensures { result.now ≡ self.now.command }
+    /// A line with what it was found to be bound to in this application.
+    pub(crate) fn again(
+        line: &'a [u8],
+        known: &'r Known,
+        needs_wheel: bool,
+        bound: &'r Result<Bound<'a>, Unknown>,
+    ) -> Order<'r, 'a>
+        requires { IsOrder known.now line.now needs_wheel bound.now }
+        ensures line { result.line ≡ line.now }
+        ensures known { result.known ≡ known.now }
     {
-        self.command
+        Order {
+            line,
+            known,
+            needs_wheel,
+            bound,
+        }
     }
 
-    /// The line that the command was read from. It alone says which command it is.
+    /// The line of the command. It alone says which command it is.
     pub fn line(&self) -> &'a [u8]
         ensures line { result.now ≡ self.now.line }
         ensures says { command_of (words_of self.now.line) ≡ Some self.now.command }
     {
         self.line
+    }
+
+    /// Whether the command is refused while another session has the wheel.
+    pub fn needs_wheel(&self) -> bool
+        ensures { result ≡ needs_wheel self.now.command.keyword }
+    {
+        self.needs_wheel
     }
 
     /// What it is bound to, if the application has all that it names.

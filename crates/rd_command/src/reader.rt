@@ -5,12 +5,13 @@ ghost use Rattle.std.specs.Option.{option_copied};
 ghost use Rattle.std.specs.Result.{result_ok};
 ghost use Rattle.rd_command.specs.declared.keyword.Parameter.TheVariants as parameter;
 ghost use Rattle.rd_command.specs.Bindings.{Takes, after_word, next_keyword, next_value};
-ghost use Rattle.rd_command.specs.Bindings.{made_known, number_below, number_named};
+ghost use Rattle.rd_command.specs.Bindings.{number_below, number_named};
 
 use crate::binding::Unknown;
 use crate::digits::Digits;
 use crate::form::{count_of, operator_of, phase_of, watch_of};
 use crate::keyword::{ConditionKeyword, condition_keyword_of};
+use crate::known::Known;
 use crate::word::Word;
 use rd_app::instr::REGISTERS;
 use rd_condition::condition::{Comparison, PhaseName};
@@ -43,9 +44,7 @@ fn number_named(word: &[u8], kind: Kind, names: &Names) -> Result<usize, Unknown
 /// application doesn't have.
 #[derive(Drop)]
 pub(crate) struct Reader<'r, 'a> {
-    names: &'r Names,
-    cores: usize,
-    entries: usize,
+    known: &'r Known,
     words: &'r [Word<'a>],
     // how many of the words are read
     read: usize,
@@ -53,12 +52,12 @@ pub(crate) struct Reader<'r, 'a> {
 
 impl<'r, 'a> Model for Reader<'r, 'a> {
     ghost use Rattle.std.specs.Prelude.{◌≤◌, drop, length};
-    ghost use Rattle.rd_command.specs.Bindings.{Reading, made_known};
+    ghost use Rattle.rd_command.specs.Bindings.{Reading};
 
     ghost Value = { Reading };
 
     ghost view = { λ r. record {
-      known = made_known r.names.now r.cores r.entries;
+      known = r.known.now;
       words = drop r.read r.words.now;
     } };
 
@@ -66,20 +65,12 @@ impl<'r, 'a> Model for Reader<'r, 'a> {
 }
 
 impl<'r, 'a> Reader<'r, 'a> {
-    /// Reads these words over such names, so many cores and so many notification entries.
-    pub(crate) fn new(
-        names: &'r Names,
-        cores: usize,
-        entries: usize,
-        words: &'r [Word<'a>],
-    ) -> Reader<'r, 'a>
-        ensures { result
-            ≡ record { known = made_known names.now cores entries; words = words.now } }
+    /// Reads these words in this application.
+    pub(crate) fn new(known: &'r Known, words: &'r [Word<'a>]) -> Reader<'r, 'a>
+        ensures { result ≡ record { known = known.now; words = words.now } }
     {
         Reader {
-            names,
-            cores,
-            entries,
+            known,
             words,
             read: 0,
         }
@@ -111,7 +102,7 @@ impl<'r, 'a> Reader<'r, 'a> {
     pub(crate) fn core(&mut self) -> Result<usize, Unknown>
         ensures { Takes (next_value parameter.Core self.old) result self.new }
     {
-        number_below(self.next().ok_or(Unknown)?, self.cores)
+        number_below(self.next().ok_or(Unknown)?, self.known.cores())
     }
 
     /// The next word, as a number of moves.
@@ -135,7 +126,7 @@ impl<'r, 'a> Reader<'r, 'a> {
     pub(crate) fn index(&mut self) -> Result<usize, Unknown>
         ensures { Takes (next_value parameter.Index self.old) result self.new }
     {
-        number_below(self.next().ok_or(Unknown)?, self.entries)
+        number_below(self.next().ok_or(Unknown)?, self.known.entries())
     }
 
     /// The next word, as a number.
@@ -191,6 +182,6 @@ impl<'r, 'a> Reader<'r, 'a> {
     pub(crate) fn named(&mut self, kind: Kind) -> Result<usize, Unknown>
         ensures { Takes (next_value (parameter.Name kind) self.old) result self.new }
     {
-        number_named(self.next().ok_or(Unknown)?.text(), kind, self.names)
+        number_named(self.next().ok_or(Unknown)?.text(), kind, self.known.names())
     }
 }

@@ -27,8 +27,7 @@ use crate::text::Text;
 use rd_app::app::Program;
 use rd_bytes::no_memory::NoMemory;
 use rd_command::binding::Bound;
-use rd_command::command::Command;
-use rd_command::digits::{Digits, bare, own};
+use rd_command::digits::{Digits, own};
 use rd_command::order::Order;
 use rd_command::view::{Overview, View};
 use rd_condition::condition::Condition;
@@ -404,8 +403,8 @@ impl Machine {
         ensures err { OnErr result (self.new ≡ self.old) }
     {
         match bound {
-            Bound::Asks { request } => match bare(request) {
-                Ok(request) => self.ask(&request),
+            Bound::Asks { request } => match request.split() {
+                Ok(request) => self.ask(request),
                 Err(carried) => self.carry(carried),
             },
             Bound::AsksByWatch { watch, search } => self.ask_by_watch(who, *watch, *search),
@@ -418,10 +417,10 @@ impl Machine {
     }
 
     // The other session that a command is refused for, if it is.
-    fn held_by(&self, who: u32, command: &Command<'_, '_>) -> Option<u32>
-        ensures { result ≡ held_by self.now who command.now }
+    fn held_by(&self, who: u32, order: &Order<'_, '_>) -> Option<u32>
+        ensures { result ≡ held_by self.now who order.now.command }
     {
-        if command.needs_wheel() {
+        if order.needs_wheel() {
             other_holder(self.wheel, who)
         } else {
             None
@@ -444,7 +443,7 @@ impl Machine {
         ensures err { OnErr result (self.new ≡ self.old) }
     {
         self.keeps();
-        if let Some(holder) = self.held_by(who, order.command()) {
+        if let Some(holder) = self.held_by(who, order) {
             return Ok(refused(Refusal::Held { holder }));
         }
         let _ = &self.names;

@@ -1,6 +1,7 @@
 //! One debugger behind one lock.
 
 ghost use Rattle.std.specs.Prelude.{◌≡◌, ◌+◌, ◌<◌, ◌⊎◌, IfOk, IfErr, OnOk, OnErr, vec_len};
+ghost use Rattle.rd_command.specs.Bindings.{known_of};
 ghost use Rattle.rd_desk.specs.Debugger.{Debugger, opening};
 ghost use Rattle.rd_desk.specs.Legal.{Leads};
 ghost use Rattle.rd_desk.specs.Refusals.{IfEnterFull, IfServeFull};
@@ -16,28 +17,23 @@ use crate::room::Room;
 use crate::seat::{Gone, Pass, Seat, put_receipt};
 use crate::setup::Setup;
 use rd_bytes::no_memory::NoMemory;
-use rd_command::command::Command;
+use rd_command::known::Known;
 use rd_command::order::Order;
 use rd_desk::desk::{EnterError, NotServed};
 use rd_desk::limits::Limits;
 use rd_names::app::App;
-use rd_names::names::Names;
 use rd_state::state::State;
 use std::alloc::Global;
 use std::sync::ledger::Blank;
 use std::sync::{Mutex, Wait};
 
-/// A room behind one lock, and outside of it what a command is bound by: a copy of the names, and
-/// how many cores and notification entries there are. It can't be dropped: it ends in `finish`.
+/// A room behind one lock, and outside of it what commands are bound by. It can't be dropped: it
+/// ends in `finish`.
 pub struct Hall<L: Setup> {
     room: Mutex<Room<L>>,
-    names: Names,
-    cores: usize,
-    entries: usize,
+    known: Known,
     limit: usize,
-    ghost named: { names ≡ L.app.names },
-    ghost core_count: { cores ≡ L.app.runs.cores },
-    ghost entry_count: { entries ≡ L.app.runs.entries },
+    ghost application: { known ≡ known_of L.app },
     ghost limited: { limit ≡ L.most_entries },
 }
 
@@ -58,15 +54,11 @@ impl<L: Setup> Hall<L> {
         requires entries { limits.history ≡ L.most_entries }
         ensures { IfOk result (λ opened. vec_len opened.1 ≡ MAX_JOINS) }
     {
-        let names = app.names().copy(alloc)?;
-        let cores = app.program().cores();
-        let entries = app.program().entries();
+        let known = Known::of(alloc, &app)?;
         let (room, passes) = Room::open(alloc, blank, app, limits)?;
         let hall = Hall {
             room: Mutex::new(room),
-            names,
-            cores,
-            entries,
+            known,
             limit: limits.history as usize,
         };
         Ok((hall, passes))
@@ -79,11 +71,11 @@ impl<L: Setup> Hall<L> {
         self.limit
     }
 
-    /// What the application's things are called.
-    pub fn names(&self) -> &Names
-        ensures { result.now ≡ L.app.names }
+    /// What commands are bound by: what is known of the application.
+    pub fn known(&self) -> &Known
+        ensures { result.now ≡ known_of L.app }
     {
-        &self.names
+        &self.known
     }
 
     /// What stands behind the lock now, beside the target itself. It takes no memory.
@@ -123,7 +115,7 @@ impl<L: Setup> Hall<L> {
         room.join(pass)
     }
 
-    /// Serves a command, under the lock; what it names is looked up before. The seat has one
+    /// Serves a command, under the lock; what it names was looked up before. The seat has one
     /// receipt more, which is its last. `HistoryFull` where no place of the history is free,
     /// `NoMemory` where a growth was refused, `Broken` where the history isn't the seat's own. A
     /// refusal leaves the seat as it was.
@@ -131,21 +123,21 @@ impl<L: Setup> Hall<L> {
         &self,
         rt: &impl Wait,
         seat: &mut Seat<L>,
-        command: &Command<'_, '_>,
+        order: &Order<'_, '_>,
     ) -> Result<(), NotServed>
-        ensures ok { OnOk result (Gained seat.old.session (Ask command.now) seat.new.session) }
+        requires application { order.now.known ≡ known_of L.app }
+        ensures ok { OnOk result (Gained seat.old.session (Ask order.now.command) seat.new.session) }
         ensures tally { IfErr result (λ error. IfServeFull error (λ tally.
             (tally.limit ≡ L.most_entries)
             × (tally.limit ≡ tally.entries + tally.present))) }
         ensures err { OnErr result (seat.new.session ≡ seat.old.session) }
         ensures served { OnOk result
             (Finds L.app L.most_moves L.most_entries seat.old.session.share (λ d.
-            Serves d seat.old.session (Ask command.now) seat.new.session)) }
+            Serves d seat.old.session (Ask order.now.command) seat.new.session)) }
         ensures refused { IfErr result (λ error.
             Finds L.app L.most_moves L.most_entries seat.old.session.share (λ d.
             TurnsAway d seat.old.session error)) }
     {
-        let order = Order::new(command, &self.names, self.cores, self.entries);
         // The seat grows before the lock. Whether it has the room then is seen under it, where it
         // is known whether the history is the seat's own.
         let _ = seat.make_room(order.line().len());
@@ -154,7 +146,7 @@ impl<L: Setup> Hall<L> {
             let mut room = self.room.lock(rt);
             room.keeps();
             room.backs(&mut seat.share);
-            room.serve(who, next, &mut seat.share, &mut seat.receipts, &order)?
+            room.serve(who, next, &mut seat.share, &mut seat.receipts, order)?
         };
         // Nobody else sees what a seat keeps, so its receipt is put there behind the lock.
         put_receipt(
@@ -162,7 +154,7 @@ impl<L: Setup> Hall<L> {
             &mut seat.last,
             &mut seat.next,
             receipt,
-            &order,
+            order,
         );
         Ok(())
     }
@@ -172,23 +164,24 @@ impl<L: Setup> Hall<L> {
         &self,
         rt: &impl Wait,
         seat: Seat<L>,
-        command: &Command<'_, '_>,
+        order: &Order<'_, '_>,
     ) -> (Seat<L>, Result<(), NotServed>)
+        requires application { order.now.known ≡ known_of L.app }
         ensures ok { OnOk result.1
-            (Gained seat.session (Ask command.now) result.0.session) }
+            (Gained seat.session (Ask order.now.command) result.0.session) }
         ensures tally { IfErr result.1 (λ error. IfServeFull error (λ tally.
             (tally.limit ≡ L.most_entries)
             × (tally.limit ≡ tally.entries + tally.present))) }
         ensures err { OnErr result.1 (result.0.session ≡ seat.session) }
         ensures served { OnOk result.1
             (Finds L.app L.most_moves L.most_entries seat.session.share (λ d.
-            Serves d seat.session (Ask command.now) result.0.session)) }
+            Serves d seat.session (Ask order.now.command) result.0.session)) }
         ensures refused { IfErr result.1 (λ error.
             Finds L.app L.most_moves L.most_entries seat.session.share (λ d.
             TurnsAway d seat.session error)) }
     {
         let mut seat = seat;
-        let served = self.serve(rt, &mut seat, command);
+        let served = self.serve(rt, &mut seat, order);
         (seat, served)
     }
 
@@ -217,9 +210,7 @@ impl<L: Setup> Hall<L> {
     {
         let Hall {
             room,
-            names: _names,
-            cores: _,
-            entries: _,
+            known: _known,
             limit: _,
         } = self;
         let room = room.into_inner();

@@ -5,7 +5,9 @@ ghost use Rattle.rd_desk.specs.Kept.{IsNarrow};
 ghost use Rattle.rd_desk.specs.Sessions.{IsPresent};
 
 use crate::asserts::assert_same;
+use rd_command::binding::bind;
 use rd_command::command::parse_line;
+use rd_command::known::Known;
 use rd_command::order::Order;
 use rd_command::word::Behind;
 use rd_desk::desk::{Desk, EnterError, NotServed};
@@ -116,9 +118,10 @@ fn ask<H: AllocGlobal + Abort>(
     let Ok(names) = desk.names().copy(rt.alloc()) else {
         panic!(rt; "no memory");
     };
-    let cores = desk.program().cores();
-    let entries = desk.program().entries();
-    let order = Order::new(&command, &names, cores, entries);
+    let program = desk.program();
+    let known = Known::new(names, program.cores(), program.entries());
+    let bound = bind(&command, &known);
+    let order = Order::new(&command, &known, &bound);
     let mut receipts = Rows::new(rt.alloc());
     let Ok(()) = receipts.make_room(0, order.line().len()) else {
         panic!(rt; "no memory");

@@ -5,7 +5,9 @@ ghost use Rattle.rd_desk.specs.declared.sessions.TheConstants.{MAX_JOINS};
 
 use crate::asserts::assert_same;
 use crate::desk::line_of;
+use rd_command::binding::bind;
 use rd_command::command::parse_line;
+use rd_command::order::Order;
 use rd_command::word::Behind;
 use rd_desk::limits::Limits;
 use rd_desk::sessions::MAX_JOINS;
@@ -60,7 +62,9 @@ fn ask<L: Setup, H: Wait + Abort + AllocGlobal>(
     let Ok(command) = parse_line(line.as_bytes(), &mut behind) else {
         panic!(rt; "{line} is no command");
     };
-    let (seat, served) = hall.ask(rt, seat, &command);
+    let bound = bind(&command, hall.known());
+    let order = Order::new(&command, hall.known(), &bound);
+    let (seat, served) = hall.ask(rt, seat, &order);
     assert!(rt; served.is_ok(), "{line} isn't served");
     let Ok(told) = line_of(rt, &seat.last().entry.reply) else {
         panic!(rt; "no memory");

@@ -64,6 +64,8 @@ mod read_faults;
 #[cfg(test)]
 mod receipts;
 #[cfg(test)]
+mod recent;
+#[cfg(test)]
 mod refused_buffers;
 #[cfg(test)]
 mod refused_files;

@@ -1,11 +1,14 @@
 //! What the room lends to whoever has the lock.
 
-ghost use Rattle.std.specs.Prelude.{◌≡◌, ◌+◌, IfOk};
+ghost use Rattle.std.specs.Prelude.{◌≡◌, ◌+◌};
+ghost use Rattle.rd_command.specs.Bindings.{known_of};
 ghost use Rattle.rd_desk.specs.declared.sessions.TheConstants.{MAX_JOINS};
 
 use crate::asserts::assert_same;
 use crate::hall::next_pass;
+use rd_command::binding::bind;
 use rd_command::command::parse_line;
+use rd_command::known::Known;
 use rd_command::order::Order;
 use rd_command::word::Behind;
 use rd_desk::limits::Limits;
@@ -14,53 +17,29 @@ use rd_hall::room::Room;
 use rd_hall::seat::{Gone, Pass, Seat};
 use rd_hall::setup::Setup;
 use rd_names::app::App;
-use rd_names::names::Names;
 use rd_state::state::State;
-use std::alloc::{AllocGlobal, Global};
+use std::alloc::AllocGlobal;
 use std::marker::Brand;
 use std::process::Abort;
 use std::sync::ledger::Blank;
 use std::test::Fail;
 
-// What a command is bound by, outside of the room.
-#[derive(Drop)]
-struct Outside {
-    names: Names,
-    cores: usize,
-    entries: usize,
-}
-
-impl Outside {
-    fn of(alloc: Global, app: &App) -> Result<Outside, Fail>
-        ensures names { IfOk result (λ outside. outside.names ≡ app.now.names) }
-        ensures cores { IfOk result (λ outside. outside.cores ≡ app.now.runs.cores) }
-        ensures entries { IfOk result (λ outside. outside.entries ≡ app.now.runs.entries) }
-    {
-        Ok(Outside {
-            names: app.names().copy(alloc)?,
-            cores: app.program().cores(),
-            entries: app.program().entries(),
-        })
-    }
-}
-
 // A session asks, and is served.
 fn ask<L: Setup>(
     rt: &impl Abort,
     room: &mut Room<L>,
-    outside: &Outside,
+    known: &Known,
     seat: Seat<L>,
     line: &str,
 ) -> Seat<L>
-    requires names { outside.now.names ≡ L.app.names }
-    requires cores { outside.now.cores ≡ L.app.runs.cores }
-    requires entries { outside.now.entries ≡ L.app.runs.entries }
+    requires application { known.now ≡ known_of L.app }
 {
     let mut behind = Behind::new();
     let Ok(command) = parse_line(line.as_bytes(), &mut behind) else {
         panic!(rt; "{line} is no command");
     };
-    let order = Order::new(&command, &outside.names, outside.cores, outside.entries);
+    let bound = bind(&command, known);
+    let order = Order::new(&command, known, &bound);
     let mut seat = seat;
     assert!(rt;
         seat.make_room(line.len()).is_ok(),
@@ -76,22 +55,20 @@ fn ask<L: Setup>(
 fn step_and_go_back<L: Setup>(
     rt: &impl Abort,
     room: &mut Room<L>,
-    outside: &Outside,
+    known: &Known,
     passes: &mut Vec<Pass<L>>,
     boot: &State,
 ) -> Gone<L>
-    requires names { outside.now.names ≡ L.app.names }
-    requires cores { outside.now.cores ≡ L.app.runs.cores }
-    requires entries { outside.now.entries ≡ L.app.runs.entries }
+    requires application { known.now ≡ known_of L.app }
 {
     assert!(rt; room.target().same(boot));
     let Ok(seat) = room.join(next_pass(rt, passes)) else {
         panic!(rt; "a session isn't let in");
     };
     assert!(rt; room.target().same(boot));
-    let seat = ask(rt, room, outside, seat, "step 0");
+    let seat = ask(rt, room, known, seat, "step 0");
     assert!(rt; !room.target().same(boot));
-    let seat = ask(rt, room, outside, seat, "back 1");
+    let seat = ask(rt, room, known, seat, "back 1");
     assert!(rt; room.target().same(boot));
     let gone = room.leave(seat);
     assert!(rt; room.target().same(boot));
@@ -111,14 +88,14 @@ fn entries_of_one<L: Setup, H: Abort + AllocGlobal>(
     requires entries { L.most_entries ≡ 10 }
 {
     let boot = State::boot(rt.alloc(), app.program())?;
-    let outside = Outside::of(rt.alloc(), &app)?;
+    let known = Known::of(rt.alloc(), &app)?;
     let mut gones = Vec::with_capacity(rt.alloc(), 1)?;
     let limits = Limits {
         moves: 10,
         history: 10,
     };
     let (mut room, mut passes) = Room::<L>::open(rt.alloc(), blank, app, limits)?;
-    gones.push_reserved(step_and_go_back(rt, &mut room, &outside, &mut passes, &boot));
+    gones.push_reserved(step_and_go_back(rt, &mut room, &known, &mut passes, &boot));
     match room.finish(gones) {
         Ok(closed) => Ok(Some(closed.entries())),
         Err(_) => Ok(None),

@@ -5,7 +5,9 @@ use crate::refused::{At, Refused, TRIES};
 use crate::rows::{Row, Who};
 use crate::told::is_told;
 use crate::wrong::Wrong;
-use rd_command::command::{Command, parse_line};
+use rd_command::binding::bind;
+use rd_command::command::parse_line;
+use rd_command::order::Order;
 use rd_command::word::Behind;
 use rd_desk::desk::{EnterError, NotServed};
 use rd_hall::seat::{Pass, Seat};
@@ -68,13 +70,13 @@ fn note_refusal<R: Wait, L: Setup>(
 fn ask_command<R: Wait, L: Setup>(
     host: Host<'_, R, L>,
     seat: Seat<L>,
-    command: &Command<'_, '_>,
+    order: &Order<'_, '_>,
     before: &Before,
     refused: &mut Refused,
 ) -> (Seat<L>, Result<(), Wrong>) {
     let mut seat = seat;
     for _ in 0..TRIES {
-        let (next, served) = host.hall.ask(host.rt, seat, command);
+        let (next, served) = host.hall.ask(host.rt, seat, order);
         seat = next;
         let Err(error) = served else {
             return (seat, Ok(()));
@@ -99,11 +101,14 @@ pub fn ask<R: Wait, L: Setup>(
     let Ok(command) = parse_line(row.line.as_bytes(), &mut behind) else {
         return (seat, Err(Wrong::Line { line: row.line }));
     };
+    let known = host.hall.known();
+    let bound = bind(&command, known);
+    let order = Order::new(&command, known, &bound);
     let before = match Before::of(host, refused) {
         Ok(before) => before,
         Err(wrong) => return (seat, Err(wrong)),
     };
-    let (seat, asked) = ask_command(host, seat, &command, &before, refused);
+    let (seat, asked) = ask_command(host, seat, &order, &before, refused);
     if asked.is_err() {
         return (seat, asked);
     }

@@ -3,8 +3,7 @@
 ghost use Rattle.std.specs.Prelude.{◌≡◌, ◌+◌, ◌^◌, ◌<◌, ◌≤◌, ◌⊎◌, ◌∷◌, [], Some, length};
 ghost use Rattle.std.specs.Prelude.{IfErr, OnErr, OnOk};
 ghost use Rattle.rd_ends.specs.Ends.{IsUnread, faults_after};
-ghost use Rattle.rd_text.specs.Words.{words_of};
-ghost use Rattle.rd_command.specs.Commands.{command_of};
+ghost use Rattle.rd_command.specs.Bindings.{known_of};
 ghost use Rattle.rd_desk.specs.declared.entry.Event.TheVariants.{Leave};
 ghost use Rattle.rd_hall.specs.SeatView.{SeatView};
 ghost use Rattle.rd_hall.specs.Seats.{Finds, Gained, LetsGo};
@@ -21,7 +20,10 @@ use crate::gate::Gate;
 use crate::lines::{Front, Lines};
 use crate::pending::Pending;
 use crate::telling::{flush, tell};
-use rd_command::command::{Command, parse_line};
+use rd_command::binding::bind;
+use rd_command::command::parse_line;
+use rd_command::order::Order;
+use rd_command::recent::Recent;
 use rd_command::word::Behind;
 use rd_desk::desk::NotServed;
 use rd_ends::ends::{Sink, Source, WriteFault};
@@ -54,11 +56,13 @@ impl From<WriteFault> for Ended {
     }
 }
 
-// Whom a session asks.
-#[derive_where(Clone, Copy)]
+// Whom a session asks, and what the lines that it said lately are bound to there.
+#[derive(Drop)]
 struct Host<'a, R: Wait, L: Setup> {
     rt: &'a R,
     hall: &'a Hall<L>,
+    recent: Recent<'a>,
+    ghost application: { recent.known ≡ known_of L.app },
 }
 
 // The refusal that says why a command wasn't served.
@@ -147,24 +151,25 @@ fn ask<R: Wait, L: Setup, G: Gate, W: Sink>(
     host: &Host<'_, R, L>,
     gate: &mut G,
     seat: &mut Seat<L>,
-    line: &[u8],
-    command: &Command<'_, '_>,
+    order: &Order<'_, '_>,
     pending: &mut Pending,
     sink: &mut W,
 ) -> Result<(), WriteFault>
-    requires command { command_of (words_of line.now) ≡ Some command.now }
+    requires application { order.now.known ≡ known_of L.app }
     requires room { length pending.old.bytes + MAX_REPLY ≤ pending.old.capacity }
     requires out { pending.old.out < pending.old.begun }
     requires counts { (W.seen sink.old).faults ≡ 0 }
-    ensures answered { Answered seat.old.session.who (Whole line.now) seat.old.session
+    ensures answered { Answered seat.old.session.who (Whole order.now.line) seat.old.session
         seat.new.session (W.seen sink.old) (G.calls gate.old) pending.old (W.seen sink.new)
         (G.calls gate.new) pending.new result }
     ensures begun { OnOk result (pending.new.begun ≡ pending.old.begun) }
     ensures out { OnOk result (pending.new.out ≤ pending.new.begun) }
     ensures faults { (W.seen sink.new).faults ≡ faults_after (W.seen sink.old).faults result }
 {
+    // (its line says which command it is)
+    order.line();
     let who = seat.who();
-    match host.hall.serve(host.rt, seat, command) {
+    match host.hall.serve(host.rt, seat, order) {
         Ok(()) => tell(gate, who, pending, sink, &seat.last().entry.reply),
         Err(error) => {
             let refusal = refusal_of(&error);
@@ -174,9 +179,11 @@ fn ask<R: Wait, L: Setup, G: Gate, W: Sink>(
     }
 }
 
-// Answers a line that was begun.
-fn answer<R: Wait, L: Setup, G: Gate, W: Sink>(
-    host: &Host<'_, R, L>,
+// Answers a line that was begun, and isn't among those that were bound lately. (By itself, since
+// room for its words is cleared.)
+#[inline(never)]
+fn answer_anew<R: Wait, L: Setup, G: Gate, W: Sink>(
+    host: &mut Host<'_, R, L>,
     gate: &mut G,
     seat: &mut Seat<L>,
     line: &[u8],
@@ -196,7 +203,13 @@ fn answer<R: Wait, L: Setup, G: Gate, W: Sink>(
     let mut behind = Behind::new();
     // (looked at where it is, since what is taken out of a result is copied)
     match &parse_line(line, &mut behind) {
-        Ok(command) => ask(host, gate, seat, line, command, pending, sink),
+        Ok(command) => {
+            let known = host.hall.known();
+            let bound = bind(command, known);
+            let order = Order::new(command, known, &bound);
+            host.recent.keep(&order);
+            ask(host, gate, seat, &order, pending, sink)
+        }
         Err(_) => {
             let refusal = Refusal::Syntax;
             pending.put_short(&Short::Refused { refusal });
@@ -205,9 +218,34 @@ fn answer<R: Wait, L: Setup, G: Gate, W: Sink>(
     }
 }
 
+// Answers a line that was begun.
+fn answer<R: Wait, L: Setup, G: Gate, W: Sink>(
+    host: &mut Host<'_, R, L>,
+    gate: &mut G,
+    seat: &mut Seat<L>,
+    line: &[u8],
+    pending: &mut Pending,
+    sink: &mut W,
+) -> Result<(), WriteFault>
+    requires room { length pending.old.bytes + MAX_REPLY ≤ pending.old.capacity }
+    requires out { pending.old.out < pending.old.begun }
+    requires counts { (W.seen sink.old).faults ≡ 0 }
+    ensures answered { Answered seat.old.session.who (Whole line.now) seat.old.session
+        seat.new.session (W.seen sink.old) (G.calls gate.old) pending.old (W.seen sink.new)
+        (G.calls gate.new) pending.new result }
+    ensures begun { OnOk result (pending.new.begun ≡ pending.old.begun) }
+    ensures out { OnOk result (pending.new.out ≤ pending.new.begun) }
+    ensures faults { (W.seen sink.new).faults ≡ faults_after (W.seen sink.old).faults result }
+{
+    match host.recent.find(line) {
+        Some(order) => ask(host, gate, seat, &order, pending, sink),
+        None => answer_anew(host, gate, seat, line, pending, sink),
+    }
+}
+
 // Begins a line, and answers it.
 fn answer_line<R: Wait, L: Setup, G: Gate, W: Sink>(
-    host: &Host<'_, R, L>,
+    host: &mut Host<'_, R, L>,
     gate: &mut G,
     seat: &mut Seat<L>,
     line: &[u8],
@@ -259,7 +297,7 @@ fn answer_long<L: Setup, G: Gate, W: Sink>(
 
 // Answers all whole lines that were read, and writes the answers.
 fn answer_lines<R: Wait, L: Setup, G: Gate, W: Sink>(
-    host: &Host<'_, R, L>,
+    host: &mut Host<'_, R, L>,
     gate: &mut G,
     seat: &mut Seat<L>,
     lines: &mut Lines,
@@ -303,7 +341,7 @@ fn answer_lines<R: Wait, L: Setup, G: Gate, W: Sink>(
 // At the end of the input, answers what stands behind the last LF, if there is something, and
 // writes the answer.
 fn answer_rest<R: Wait, L: Setup, G: Gate, W: Sink>(
-    host: &Host<'_, R, L>,
+    host: &mut Host<'_, R, L>,
     gate: &mut G,
     seat: &mut Seat<L>,
     rest: &[u8],
@@ -329,7 +367,7 @@ fn answer_rest<R: Wait, L: Setup, G: Gate, W: Sink>(
 
 // Reads and answers until an end.
 fn listen<R: Wait, L: Setup, G: Gate, S: Source, W: Sink>(
-    host: &Host<'_, R, L>,
+    host: &mut Host<'_, R, L>,
     gate: &mut G,
     source: &mut S,
     sink: &mut W,
@@ -395,10 +433,14 @@ pub fn session<L: Setup, S: Source, W: Sink, G: Gate>(
 {
     buffers.lines.clear();
     buffers.pending.clear();
-    let host = Host { rt, hall };
+    let mut host = Host {
+        rt,
+        hall,
+        recent: Recent::new(hall.known()),
+    };
     let mut seat = seat;
     listen(
-        &host,
+        &mut host,
         gate,
         source,
         sink,

@@ -1,6 +1,5 @@
 -- The goals of bind that the check left open.
 use Rattle.std.specs.Result.{result_ok}
-use Rattle.rd_command.specs.Bindings.{made_known}
 use Rattle.rd_command.proofs.BindingLaws.{bound_there}
 use Rattle.rd_command.proofs.ThereLaws.{bound_exactly}
 use Rattle.rd_command.proofs.binding.bind.Goals as goal
@@ -12,5 +11,5 @@ returns-clause-named c = λ app. λ limits. λ same.
 
 pub returns-clause-exact : goal.returns-clause-exact
 returns-clause-exact c =
-    bound_exactly (made_known c.args.names.now c.args.cores c.args.entries) c.args.command.now (result_ok c.read_bound.result)
+    bound_exactly c.args.known.now c.args.command.now (result_ok c.read_bound.result)
     (rw (← c.keyword.ensures, ← c.operands.ensures, ← c.new-reader.ensures) c.read_bound.ensures)

@@ -1,8 +1,8 @@
--- The goals of answer that the check left open.
+-- The goals of answer_anew that the check left open.
 use Rattle.std.proofs.Common.{sym}
 use Rattle.rd_session.proofs.AnsweringLaws.{Answered-gathered}
 use Rattle.rd_session.proofs.GatheringLaws.{answer_syntax}
-use Rattle.rd_session.proofs.session.answer.Goals as goal
+use Rattle.rd_session.proofs.session.answer_anew.Goals as goal
 
 pub returns-in-Err-clause-answered : goal.returns-in-Err-clause-answered
 returns-in-Err-clause-answered g c =
