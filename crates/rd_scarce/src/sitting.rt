@@ -1,5 +1,8 @@
 //! Seats: joining and asking, again where memory was refused.
 
+ghost use Rattle.std.specs.Prelude.{◌≡◌};
+ghost use Rattle.rd_command.specs.Bindings.{known_of};
+
 use crate::before::{Before, Host};
 use crate::refused::{At, Refused, TRIES};
 use crate::rows::{Row, Who};
@@ -73,7 +76,9 @@ fn ask_command<R: Wait, L: Setup>(
     order: &Order<'_, '_>,
     before: &Before,
     refused: &mut Refused,
-) -> (Seat<L>, Result<(), Wrong>) {
+) -> (Seat<L>, Result<(), Wrong>)
+    requires application { order.now.known ≡ known_of L.app }
+{
     let mut seat = seat;
     for _ in 0..TRIES {
         let (next, served) = host.hall.ask(host.rt, seat, order);
