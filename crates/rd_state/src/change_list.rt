@@ -16,9 +16,7 @@ use crate::packing::{last_change, last_plain_change};
 use crate::state::State;
 use crate::transfer::Transfer;
 use rd_bytes::byte_stack::ByteStack;
-use rd_bytes::ends::end_byte;
 use rd_bytes::no_memory::NoMemory;
-use rd_bytes::tag::DEL_READY;
 use std::alloc::Global;
 use std::marker::Model;
 
@@ -64,10 +62,9 @@ fn apply_last<'a>(state: &mut State, bytes: &'a [u8]) -> &'a [u8]
     ensures state { state.new ≡ applied state.old (last_change bytes.now) }
     ensures rest { result.now ≡ before_last bytes.now }
 {
-    if end_byte(bytes, 1) > DEL_READY {
+    let Some(last) = last_plain_change(bytes) else {
         return apply_of_object(state, bytes);
-    }
-    let last = last_plain_change(bytes);
+    };
     state.apply(last.change);
     last.rest
 }

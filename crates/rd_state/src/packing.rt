@@ -1,6 +1,7 @@
 //! The changes of a state as bytes: those that a change carries, its other fields, and its tag.
 
-ghost use Rattle.std.specs.Prelude.{◌≡◌, ◌+◌, ◌≤◌, ◌++◌, length, IsOk, OnOk, OnErr};
+ghost use Rattle.std.specs.Prelude.{◌≡◌, ◌↔◌, ◌+◌, ◌<◌, ◌≤◌, ◌++◌, length, IfSome, IsNone, IsOk};
+ghost use Rattle.std.specs.Prelude.{OnOk, OnErr};
 ghost use Rattle.rd_bytes.specs.Ends.{all_but, end_byte};
 ghost use Rattle.rd_bytes.specs.declared.tag.TheConstants.{DEL_READY};
 ghost use Rattle.rd_state.specs.Change.{the_change};
@@ -17,8 +18,8 @@ use rd_bytes::byte_stack::ByteStack;
 use rd_bytes::ends::{all_but, byte_of_number, end_byte, end_word, number_of_byte};
 use rd_bytes::no_memory::NoMemory;
 use rd_bytes::tag::{
-    DEL_READY, INS_READY, OF_MESSAGE, OF_QUEUE, OF_QUEUE_SET, OF_STREAM, SET_CORE, SET_TICK,
-    SET_TURN, last_kind,
+    DEL_READY, INS_READY, OF_MESSAGE, OF_QUEUE, OF_QUEUE_SET, OF_STREAM, SET_CORE, SET_DATA,
+    SET_TICK, SET_TURN, last_kind,
 };
 use rd_group::group_packing::{LastGroupChange, last_group_change};
 use rd_queue::packing::{LastQueueChange, last_queue_change};
@@ -157,41 +158,43 @@ macro_rules! last {
     };
 }
 
-/// Reads the change that stands at the end of the bytes, where it is none of an object.
+/// Reads the change that stands at the end of the bytes, or nothing where it is one of an object.
 #[inline(always)]
-pub fn last_plain_change(bytes: &[u8]) -> LastChange<'_>
-    requires ends { EndsInChange bytes.now }
-    requires plain { end_byte 1 bytes.now ≤ DEL_READY }
-    ensures change { the_change result.change ≡ last_change bytes.now }
-    ensures rest { result.rest.now ≡ before_last bytes.now }
+pub fn last_plain_change(bytes: &[u8]) -> Option<LastChange<'_>>
+    requires { EndsInChange bytes.now }
+    ensures none { IsNone result ↔ (DEL_READY < end_byte 1 bytes.now) }
+    ensures change { IfSome result (λ last. the_change last.change ≡ last_change bytes.now) }
+    ensures rest { IfSome result (λ last. last.rest.now ≡ before_last bytes.now) }
 {
     match end_byte(bytes, 1) {
         SET_TICK => {
             let tick = end_word(bytes, 2);
-            last!(Change::SetTick { tick }, all_but(bytes, 5))
+            Some(last!(Change::SetTick { tick }, all_but(bytes, 5)))
         }
         SET_TURN => {
             let turn = usize::from(end_byte(bytes, 2));
-            last!(Change::SetTurn { turn }, all_but(bytes, 2))
+            Some(last!(Change::SetTurn { turn }, all_but(bytes, 2)))
         }
         SET_CORE => {
             let core = usize::from(end_byte(bytes, 3));
             let task = number_of_byte(end_byte(bytes, 2));
-            last!(Change::SetCore { core, task }, all_but(bytes, 3))
+            Some(last!(Change::SetCore { core, task }, all_but(bytes, 3)))
+        }
+        // (the tags of a task's changes are those below that of the ready list)
+        ..=SET_DATA => {
+            let LastTaskChange { task, change, rest } = last_task_change(bytes);
+            Some(last!(Change::Task { task, change }, rest))
         }
         INS_READY => {
             let index = usize::from(end_byte(bytes, 3));
             let task = usize::from(end_byte(bytes, 2));
-            last!(Change::InsReady { index, task }, all_but(bytes, 3))
+            Some(last!(Change::InsReady { index, task }, all_but(bytes, 3)))
         }
         DEL_READY => {
             let index = usize::from(end_byte(bytes, 2));
-            last!(Change::DelReady { index }, all_but(bytes, 2))
+            Some(last!(Change::DelReady { index }, all_but(bytes, 2)))
         }
-        _ => {
-            let LastTaskChange { task, change, rest } = last_task_change(bytes);
-            last!(Change::Task { task, change }, rest)
-        }
+        _ => None,
     }
 }
 
@@ -202,8 +205,8 @@ pub fn last_change(bytes: &[u8]) -> LastChange<'_>
     ensures change { the_change result.change ≡ last_change bytes.now }
     ensures rest { result.rest.now ≡ before_last bytes.now }
 {
-    if end_byte(bytes, 1) <= DEL_READY {
-        return last_plain_change(bytes);
+    if let Some(last) = last_plain_change(bytes) {
+        return last;
     }
     let (change, rest) = last_object_change(bytes);
     last!(Change::Object { change }, rest)
