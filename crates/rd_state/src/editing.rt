@@ -230,6 +230,7 @@ impl Editing {
             (with_waiting_at self.old.now place
             (insert (waiting_at self.old.now place) index task) []) 1) }
         ensures short { OnErr result (self.old.room < room_for 1) }
+        ensures calm { self.new.calm ≡ self.old.calm }
         ensures err { OnErr result (self.new ≡ self.old) }
     {
         self.state.sizes();
@@ -260,6 +261,7 @@ impl Editing {
             ((group_at self.old.now group).waiting ++ task ∷ [])
             ((group_at self.old.now group).wishes ++ wish ∷ [])) 1) }
         ensures short { OnErr result (self.old.room < room_for 1) }
+        ensures calm { self.new.calm ≡ self.old.calm }
         ensures err { OnErr result (self.new ≡ self.old) }
     {
         self.state.sizes();
@@ -278,6 +280,7 @@ impl Editing {
             (with_waiting_at self.old.now place (remove (waiting_at self.old.now place) index)
             (remove (wishes_at self.old.now place) index)) 1) }
         ensures short { OnErr result (self.old.room < room_for 1) }
+        ensures calm { self.new.calm ≡ self.old.calm }
         ensures err { OnErr result (self.new ≡ self.old) }
     {
         match place {
@@ -307,6 +310,7 @@ impl Editing {
         ensures ok { OnOk result
             (Reaches self.old self.new (with_holder self.old.now held task) 1) }
         ensures short { OnErr result (self.old.room < room_for 1) }
+        ensures calm { self.new.calm ≡ self.old.calm }
         ensures err { OnErr result (self.new ≡ self.old) }
     {
         self.state.sizes();
