@@ -25,7 +25,22 @@ use rd_names::app::App;
 use rd_state::state::State;
 use std::alloc::Global;
 use std::sync::ledger::Blank;
-use std::sync::{Mutex, Wait};
+use std::sync::{Mutex, MutexGuard, Wait};
+use std::thread::yield_now;
+
+// How often a session looks whether the lock is free before it sleeps, and how often it lets others
+// run between two looks.
+const LOOKS: u32 = 5;
+
+const TURNS: u32 = 32;
+
+// Lets others run for some ten microseconds, in which a line takes less than one.
+#[inline(never)]
+fn step_aside() {
+    for _turn in 0..TURNS {
+        yield_now();
+    }
+}
 
 /// A room behind one lock, and outside of it what commands are bound by. It can't be dropped: it
 /// ends in `finish`.
@@ -64,6 +79,19 @@ impl<L: Setup> Hall<L> {
         Ok((hall, passes))
     }
 
+    // Gets the lock. Whoever finds it taken steps aside for some lines of another, and sleeps only
+    // after some such turns. (Where it changes hands at each line, all that stands behind it goes
+    // from processor to processor, and to be woken takes as long as a hundred lines.)
+    fn enter(&self, rt: &impl Wait) -> MutexGuard<'_, Room<L>> {
+        for _look in 0..LOOKS {
+            if let Some(room) = self.room.try_lock() {
+                return room;
+            }
+            step_aside();
+        }
+        self.room.lock(rt)
+    }
+
     /// How many entries the history may have.
     pub fn limit(&self) -> usize
         ensures { result ≡ L.most_entries }
@@ -80,19 +108,19 @@ impl<L: Setup> Hall<L> {
 
     /// What stands behind the lock now, beside the target itself. It takes no memory.
     pub fn look(&self, rt: &impl Wait) -> Look {
-        let room = self.room.lock(rt);
+        let room = self.enter(rt);
         room.look()
     }
 
     /// A copy of the target behind the lock. `NoMemory` where a growth was refused.
     pub fn copy_target(&self, rt: &impl Wait, alloc: Global) -> Result<State, NoMemory> {
-        let room = self.room.lock(rt);
+        let room = self.enter(rt);
         room.target().copy(alloc)
     }
 
     /// Whether the target behind the lock is this state, to the last field. It takes no memory.
     pub fn is_target(&self, rt: &impl Wait, state: &State) -> bool {
-        let room = self.room.lock(rt);
+        let room = self.enter(rt);
         room.target().same(state)
     }
 
@@ -110,15 +138,15 @@ impl<L: Setup> Hall<L> {
         ensures refused { IfErr result (λ error.
             Finds L.app L.most_moves L.most_entries 0 (λ d. KeepsOut d error.1)) }
     {
-        let mut room = self.room.lock(rt);
+        let mut room = self.enter(rt);
         room.keeps();
         room.join(pass)
     }
 
-    /// Serves a command, under the lock; what it names was looked up before. The seat has one
-    /// receipt more, which is its last. `HistoryFull` where no place of the history is free,
-    /// `NoMemory` where a growth was refused, `Broken` where the history isn't the seat's own. A
-    /// refusal leaves the seat as it was.
+    /// Serves a command, under the lock; what it names was looked up before, in the application of
+    /// this hall. The seat has one receipt more, which is its last. `HistoryFull` where no place of
+    /// the history is free, `NoMemory` where a growth was refused, `Broken` where the history isn't
+    /// the seat's own. A refusal leaves the seat as it was.
     pub fn serve(
         &self,
         rt: &impl Wait,
@@ -126,7 +154,8 @@ impl<L: Setup> Hall<L> {
         order: &Order<'_, '_>,
     ) -> Result<(), NotServed>
         requires application { order.now.known ≡ known_of L.app }
-        ensures ok { OnOk result (Gained seat.old.session (Ask order.now.command) seat.new.session) }
+        ensures ok { OnOk result
+            (Gained seat.old.session (Ask order.now.command) seat.new.session) }
         ensures tally { IfErr result (λ error. IfServeFull error (λ tally.
             (tally.limit ≡ L.most_entries)
             × (tally.limit ≡ tally.entries + tally.present))) }
@@ -143,7 +172,7 @@ impl<L: Setup> Hall<L> {
         let _ = seat.make_room(order.line().len());
         let (who, next) = (seat.who, seat.next);
         let receipt = {
-            let mut room = self.room.lock(rt);
+            let mut room = self.enter(rt);
             room.keeps();
             room.backs(&mut seat.share);
             room.serve(who, next, &mut seat.share, &mut seat.receipts, order)?
@@ -193,7 +222,7 @@ impl<L: Setup> Hall<L> {
             LetsGo d seat.session result) }
     {
         let mut seat = seat;
-        let mut room = self.room.lock(rt);
+        let mut room = self.enter(rt);
         room.keeps();
         room.backs(&mut seat.share);
         room.leave(seat)

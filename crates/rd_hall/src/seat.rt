@@ -153,8 +153,8 @@ impl<L: Setup> Seat<L> {
 
 impl<L: Setup> Seat<L> {
     /// Makes room for two more receipts, that of a command whose line has so many bytes, and that
-    /// of the leave. An `Err` says that there is no memory for them; the receipts stay, and there is
-    /// no less room.
+    /// of the leave. An `Err` says that there is no memory for them; the receipts stay, and there
+    /// is no less room.
     pub fn make_room(&mut self, bytes: usize) -> Result<(), NoMemory>
         ensures session { self.new.session ≡ self.old.session }
         ensures room { OnOk result (2 ≤ self.new.room) }
