@@ -20,8 +20,8 @@ use rd_refusal::refusal::Refusal;
 use rd_state::editing::Editing;
 use rd_state::state::State;
 
-/// Why the rules refuse it, if they do: `BadEdit` where an edit can't be made, `NoIsr` where it is an
-/// interrupt and the application has profile 1.
+/// Why the rules refuse it, if they do: `BadEdit` where an edit can't be made, `NoIsr` where it is
+/// an interrupt and the application has profile 1.
 pub fn why_refused(carried: &Carried, app: &Program, state: &State) -> Option<Refusal>
     requires valid { IsValid app.now state.now }
     requires named { IsCarriedOf app.now carried.now }

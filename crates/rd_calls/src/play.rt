@@ -132,8 +132,8 @@ fn play_carried(editing: &mut Editing, app: &Program, carried: &Carried) -> Resu
 }
 
 /// Why the rules refuse a move, if they do: `NoTask` where the core is idle, `TickLimit` where the
-/// tick is 4,294,967,295, `BadEdit` where the edit can't be made, `NoIsr` where an interrupt comes to
-/// an application of profile 1.
+/// tick is 4,294,967,295, `BadEdit` where the edit can't be made, `NoIsr` where an interrupt comes
+/// to an application of profile 1.
 pub fn why_not(app: &Program, state: &State, action: &Move<Lent<'_>>) -> Option<Refusal>
     requires valid { IsValid app.now state.now }
     requires named { IsMoveOf app.now action.now }

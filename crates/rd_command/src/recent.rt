@@ -82,7 +82,8 @@ fn lasting(bound: &Bound<'_>) -> Option<Bound<'static>>
     })
 }
 
-// Puts an item in the place of another.
+// Puts an item in the place of another. (Of any type: the borrow checker has no rule for writing an
+// element whose type holds references.)
 fn put<T: Drop>(items: &mut [T; ROWS], place: usize, item: T)
     requires { place < ROWS }
     ensures { items.new ≡ slice_set items.old place item }

@@ -125,8 +125,8 @@ impl Machine {
     }
 
     /// The moves done, and not undone, give the target from the start, and the records of the last
-    /// ones, from the base on, lead back from it. There are as many names as things in it, and fewer
-    /// than 4,294,967,296 moves, done and undone.
+    /// ones, from the base on, lead back from it. There are as many names as things in it, and
+    /// fewer than 4,294,967,296 moves, done and undone.
     pub fn keeps(&self)
         ensures leads { state_after self.now.app.runs self.now.moves.done
             ≡ Ok (target_of self.now) }

@@ -34,7 +34,8 @@ fn has_no_room(state: &State, queue: usize) -> bool
 }
 
 /// What the interrupt will answer, if it is made now: 1 (`pdPASS`), or 0 where its item finds no
-/// room (`errQUEUE_FULL`) or its notification leaves the entry alone (`pdFAIL`). It takes no memory.
+/// room (`errQUEUE_FULL`) or its notification leaves the entry alone (`pdFAIL`). It takes no
+/// memory.
 pub fn isr_answer(state: &State, interrupt: &Interrupt) -> u32
     requires { IsInterruptAt state.now interrupt.now }
     ensures { result ≡ isr_answer state.now interrupt.now }

@@ -120,8 +120,8 @@ impl Edit {
         }
     }
 
-    /// What every edit keeps: a value has 32 bits, and bytes are no more than a task's data. It does
-    /// nothing at run time.
+    /// What every edit keeps: a value has 32 bits, and bytes are no more than a task's data. It
+    /// does nothing at run time.
     pub fn sizes(&self)
         ensures { IsSizedEdit self.now }
     {

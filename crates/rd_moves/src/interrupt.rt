@@ -5,8 +5,8 @@ ghost use Rattle.std.specs.Prelude.{◌≡◌};
 use rd_bytes::bytes::Bytes;
 use rd_notify::action::Action;
 
-/// What an interrupt does. It has no task, so it never waits and never fails; tasks and queues go by
-/// number, from 0. Its bytes are its own, or stand where they were read.
+/// What an interrupt does. It has no task, so it never waits and never fails; tasks and queues go
+/// by number, from 0. Its bytes are its own, or stand where they were read.
 #[derive(Drop)]
 pub enum Interrupt<B: Drop = Bytes> {
     /// `isr send Q HEX`: an item goes to the back of the queue (`xQueueSendFromISR`): these bytes,
@@ -15,8 +15,8 @@ pub enum Interrupt<B: Drop = Bytes> {
         queue: usize,
         bytes: B,
     },
-    /// `isr notify K N N ACTION`: a notification with this value comes to an entry of the task, 0 to
-    /// 3 (`xTaskNotifyIndexedFromISR`).
+    /// `isr notify K N N ACTION`: a notification with this value comes to an entry of the task, 0
+    /// to 3 (`xTaskNotifyIndexedFromISR`).
     Notify {
         task: usize,
         index: usize,

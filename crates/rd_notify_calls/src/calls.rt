@@ -39,8 +39,8 @@ fn entry_of(editing: &Editing, task: usize, index: usize) -> Entry
 }
 
 /// A notification comes to an entry of a task: the entry takes it, and whoever waits for it is
-/// woken, or it is left alone. Answers 1, or 0. It needs no caller, only room in the ready list where
-/// the task waits. `NoMemory` where a growth was refused; then the move goes no further.
+/// woken, or it is left alone. Answers 1, or 0. It needs no caller, only room in the ready list
+/// where the task waits. `NoMemory` where a growth was refused; then the move goes no further.
 pub fn notify(
     app: &Program,
     editing: &mut Editing,

@@ -58,8 +58,8 @@ line_of text = text ++ 10 ∷ []
 
 -- ---- answers to moves, and refusals
 
--- the cause of a refusal, by its name; behind TooFar stands how many moves have a record, and behind
--- Held which session has the wheel
+-- the cause of a refusal, by its name; behind TooFar stands how many moves have a record, and
+-- behind Held which session has the wheel
 abbrev pub refusal_text : Refusal → List ℕ
 refusal_text NoTask = codes "NoTask"
 refusal_text TickLimit = codes "TickLimit"
