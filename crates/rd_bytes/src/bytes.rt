@@ -68,8 +68,23 @@ impl Bytes {
         requires { length bytes.now ≤ MAX_BYTES }
         ensures { self.new ≡ bytes.now }
     {
+        if bytes.len() == self.bytes.len() {
+            self.bytes.as_mut_slice().copy_from_slice(bytes);
+        } else {
+            self.refill(bytes, &[]);
+        }
+    }
+
+    // Empties them, and fills them with these, which are in two pieces. (Called: bytes that leave
+    // are cleared, which takes longer than to write others over them.)
+    #[inline(never)]
+    fn refill(&mut self, front: &[u8], back: &[u8])
+        requires { length (front.now ++ back.now) ≤ MAX_BYTES }
+        ensures { self.new ≡ front.now ++ back.now }
+    {
         self.bytes.clear();
-        self.bytes.try_extend_from_slice(bytes).unwrap();
+        self.bytes.try_extend_from_slice(front).unwrap();
+        self.bytes.try_extend_from_slice(back).unwrap();
     }
 
     /// Makes them these bytes, which are in two pieces that follow one another.
@@ -77,9 +92,11 @@ impl Bytes {
         requires { length (front.now ++ back.now) ≤ MAX_BYTES }
         ensures { self.new ≡ front.now ++ back.now }
     {
-        self.bytes.clear();
-        self.bytes.try_extend_from_slice(front).unwrap();
-        self.bytes.try_extend_from_slice(back).unwrap();
+        if back.is_empty() {
+            self.replace(front);
+        } else {
+            self.refill(front, back);
+        }
     }
 }
 
