@@ -69,7 +69,9 @@ pub fn write_from(memory: &mut [u8], offset: usize, bytes: &[u8])
 {
     let first = bytes.len().min(memory.len() - offset);
     memory[offset..offset + first].copy_from_slice(&bytes[..first]);
-    memory[..bytes.len() - first].copy_from_slice(&bytes[first..]);
+    if first < bytes.len() {
+        memory[..bytes.len() - first].copy_from_slice(&bytes[first..]);
+    }
 }
 
 // Whether `whole` is `front` and then `back`.
