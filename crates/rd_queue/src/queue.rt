@@ -305,11 +305,36 @@ impl Queue {
         ensures { self.new
             ≡ queue_applied self.old (put_at end (fitted self.old.item_size bytes.now)) }
     {
-        let item = Item::fitted(bytes, self.item_size);
-        match end {
-            End::Back => self.push_back(item.as_slice()),
-            End::Front => self.push_front(item.as_slice()),
+        if bytes.len() == self.item_size {
+            self.put_item(end, bytes);
+        } else {
+            self.put_made(end, bytes);
         }
+    }
+
+    // Puts an item at an end of a queue that isn't full.
+    #[inline(always)]
+    fn put_item(&mut self, end: End, item: &[u8])
+        requires room { length self.old.items < self.old.capacity }
+        requires size { length item.now ≡ self.old.item_size }
+        ensures { self.new ≡ queue_applied self.old (put_at end item.now) }
+    {
+        match end {
+            End::Back => self.push_back(item),
+            End::Front => self.push_front(item),
+        }
+    }
+
+    // Puts the item that these bytes make at an end, likewise. (Called: it needs room for an item,
+    // which else would be cleared for each.)
+    #[inline(never)]
+    fn put_made(&mut self, end: End, bytes: &[u8])
+        requires { length self.old.items < self.old.capacity }
+        ensures { self.new
+            ≡ queue_applied self.old (put_at end (fitted self.old.item_size bytes.now)) }
+    {
+        let item = Item::fitted(bytes, self.item_size);
+        self.put_item(end, item.as_slice());
     }
 
     /// Puts the item that these bytes make, cut or filled up with zero bytes to the item size, in
