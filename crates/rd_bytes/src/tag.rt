@@ -232,7 +232,12 @@ pub fn last_kind(bytes: &[u8]) -> u8
     requires writer { end_byte 1 bytes.now ≡ SET_WRITER → 4 ≤ length bytes.now }
     ensures { result ≡ last_kind bytes.now }
 {
-    match end_byte(bytes, 1) {
+    let tag = end_byte(bytes, 1);
+    // (most are of a queue, and but for two tags those stand together)
+    if PUT_BACK <= tag && tag <= SET_MEMBER {
+        return OF_QUEUE;
+    }
+    match tag {
         INS_WAIT => kind_of_list(end_byte(bytes, 5)),
         DEL_WAIT => kind_of_list(end_byte(bytes, 4)),
         SET_READER | SET_WRITER => kind_of_holder(end_byte(bytes, 4)),

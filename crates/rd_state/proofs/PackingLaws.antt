@@ -50,9 +50,9 @@ use Rattle.rd_state.proofs.UndoLaws.{phase_sized, task_sized}
 -- ---- one change
 
 -- What is read at the end is as long as what was put there.
-plain_read : (b x : List ℕ) (change : Change) → 1 ≤ length x → last_change (b ++ x) ≡ change → change_length (b ++ x) ≡ length x → IsAtEnd (b ++ x) b change
-plain_read b x change some same long = record {
-  ends = record { some = omega (arith, some, length-append b x); whole = omega (arith, long, length-append b x) };
+plain_read : (b x : List ℕ) (change : Change) → 1 ≤ length x → SET_TICK ≤ end_byte 1 (b ++ x) → last_change (b ++ x) ≡ change → change_length (b ++ x) ≡ length x → IsAtEnd (b ++ x) b change
+plain_read b x change some tagged same long = record {
+  ends = record { some = omega (arith, some, length-append b x); tagged = tagged; whole = omega (arith, long, length-append b x) };
   same = same;
   before = all_but_end b x (change_length (b ++ x)) long;
 }
@@ -62,14 +62,14 @@ set_tick_read b tick fits =
     let x : List ℕ = packed (SetTick tick) in
     let tag : end_byte 1 (b ++ x) ≡ SET_TICK = end_byte_of b x 1 (omega arith) (omega arith) in
     let number : end_word 2 (b ++ x) ≡ tick = end_word_of b x 2 (omega arith) (omega arith) ∙ from_le_bytes-to_le_bytes_4 tick fits in
-    plain_read b x _ (omega arith) (rw (tag, number) refl) (rw tag refl)
+    plain_read b x _ (omega arith) (omega (arith, tag)) (rw (tag, number) refl) (rw tag refl)
 
 set_turn_read : (b : List ℕ) (turn : ℕ) → IsAtEnd (b ++ packed (SetTurn turn)) b (SetTurn turn)
 set_turn_read b turn =
     let x : List ℕ = packed (SetTurn turn) in
     let tag : end_byte 1 (b ++ x) ≡ SET_TURN = end_byte_of b x 1 (omega arith) (omega arith) in
     let e2 : end_byte 2 (b ++ x) ≡ turn = end_byte_of b x 2 (omega arith) (omega arith) in
-    plain_read b x _ (omega arith) (rw (tag, e2) refl) (rw tag refl)
+    plain_read b x _ (omega arith) (omega (arith, tag)) (rw (tag, e2) refl) (rw tag refl)
 
 set_core_read : (b : List ℕ) (core : ℕ) (task : Option ℕ) → IfSome task (λ t. t < 255) → IsAtEnd (b ++ packed (SetCore core task)) b (SetCore core task)
 set_core_read b core task fits =
@@ -77,7 +77,7 @@ set_core_read b core task fits =
     let tag : end_byte 1 (b ++ x) ≡ SET_CORE = end_byte_of b x 1 (omega arith) (omega arith) in
     let e3 : end_byte 3 (b ++ x) ≡ core = end_byte_of b x 3 (omega arith) (omega arith) in
     let e2 : end_byte 2 (b ++ x) ≡ byte_of_number task = end_byte_of b x 2 (omega arith) (omega arith) in
-    plain_read b x _ (omega arith) (rw (tag, e3, e2) (ap (SetCore core) (number_again task fits))) (rw tag refl)
+    plain_read b x _ (omega arith) (omega (arith, tag)) (rw (tag, e3, e2) (ap (SetCore core) (number_again task fits))) (rw tag refl)
 
 ins_ready_read : (b : List ℕ) (index task : ℕ) → IsAtEnd (b ++ packed (InsReady index task)) b (InsReady index task)
 ins_ready_read b index task =
@@ -85,14 +85,14 @@ ins_ready_read b index task =
     let tag : end_byte 1 (b ++ x) ≡ INS_READY = end_byte_of b x 1 (omega arith) (omega arith) in
     let e3 : end_byte 3 (b ++ x) ≡ index = end_byte_of b x 3 (omega arith) (omega arith) in
     let e2 : end_byte 2 (b ++ x) ≡ task = end_byte_of b x 2 (omega arith) (omega arith) in
-    plain_read b x _ (omega arith) (rw (tag, e3, e2) refl) (rw tag refl)
+    plain_read b x _ (omega arith) (omega (arith, tag)) (rw (tag, e3, e2) refl) (rw tag refl)
 
 del_ready_read : (b : List ℕ) (index : ℕ) → IsAtEnd (b ++ packed (DelReady index)) b (DelReady index)
 del_ready_read b index =
     let x : List ℕ = packed (DelReady index) in
     let tag : end_byte 1 (b ++ x) ≡ DEL_READY = end_byte_of b x 1 (omega arith) (omega arith) in
     let e2 : end_byte 2 (b ++ x) ≡ index = end_byte_of b x 2 (omega arith) (omega arith) in
-    plain_read b x _ (omega arith) (rw (tag, e2) refl) (rw tag refl)
+    plain_read b x _ (omega arith) (omega (arith, tag)) (rw (tag, e2) refl) (rw tag refl)
 
 -- What is read hangs on the tag alone, where that is the tag of a task's or of an object's change.
 record IsByTag (bytes : List ℕ) (change : Change) (long : ℕ) : Type 0 where
@@ -105,10 +105,10 @@ by_task_tag bytes first last = record { same = grind (arith, nat_tests); length 
 by_object_tag : (bytes : List ℕ) → INS_WAIT ≤ end_byte 1 bytes → IsByTag bytes (Object (last_object_change bytes)) (object_change_length bytes)
 by_object_tag bytes first = record { same = grind (arith, nat_tests); length = grind (arith, nat_tests) }
 
-at_end : (bytes rest : List ℕ) (change : Change) (long : ℕ) → 1 ≤ length bytes → IsByTag bytes change long → long ≤ length bytes → all_but long bytes ≡ rest
+at_end : (bytes rest : List ℕ) (change : Change) (long : ℕ) → 1 ≤ length bytes → SET_TICK ≤ end_byte 1 bytes → IsByTag bytes change long → long ≤ length bytes → all_but long bytes ≡ rest
     → IsAtEnd bytes rest change
-at_end bytes rest change long some by whole before = record {
-  ends = record { some = some; whole = omega (arith, by.length, whole) };
+at_end bytes rest change long some tagged by whole before = record {
+  ends = record { some = some; tagged = tagged; whole = omega (arith, by.length, whole) };
   same = by.same;
   before = ap (λ n. all_but n bytes) by.length ∙ before;
 }
@@ -116,14 +116,14 @@ at_end bytes rest change long some by whole before = record {
 task_read : (bytes rest : List ℕ) (task : ℕ) (change : TaskChange) → TaskChangeIsAtEnd bytes rest task change → IsAtEnd bytes rest (Task task change)
 task_read bytes rest task change there =
     let by = by_task_tag bytes there.first_tag there.last_tag in
-    at_end bytes rest (Task task change) (task_change_length bytes) there.ends.some
+    at_end bytes rest (Task task change) (task_change_length bytes) there.ends.some (omega (arith, there.first_tag))
     (record { same = by.same ∙ ap (λ n. Task n (last_task_change bytes)) there.task ∙ ap (Task task) there.same; length = by.length })
     there.ends.whole there.before
 
 queue_read : (bytes rest : List ℕ) (queue : ℕ) (change : QueueChange) → QueueChangeIsAtEnd bytes rest queue change → IsAtEnd bytes rest (Object (Queue queue change))
 queue_read bytes rest queue change there =
     let by = by_object_tag bytes there.tag in
-    at_end bytes rest (Object (Queue queue change)) (queue_change_length bytes) there.ends.some
+    at_end bytes rest (Object (Queue queue change)) (queue_change_length bytes) there.ends.some (omega (arith, there.tag))
     (record {
       same = by.same ∙ ap Object (rw there.kind (ap (λ n. Queue n (last_queue_change bytes)) there.queue ∙ ap (Queue queue) there.same));
       length = by.length ∙ rw there.kind refl;
@@ -133,7 +133,7 @@ queue_read bytes rest queue change there =
 queue_set_read : (bytes rest : List ℕ) (n : ℕ) (change : QueueSetChange) → QueueSetChangeIsAtEnd bytes rest n change → IsAtEnd bytes rest (Object (QueueSet n change))
 queue_set_read bytes rest n change there =
     let by = by_object_tag bytes there.tag in
-    at_end bytes rest (Object (QueueSet n change)) (queue_set_change_length bytes) there.ends.some
+    at_end bytes rest (Object (QueueSet n change)) (queue_set_change_length bytes) there.ends.some (omega (arith, there.tag))
     (record {
       same = by.same ∙ ap Object (rw there.kind (ap (λ k. QueueSet k (last_queue_set_change bytes)) there.queue_set ∙ ap (QueueSet n) there.same));
       length = by.length ∙ rw there.kind refl;
@@ -143,7 +143,7 @@ queue_set_read bytes rest n change there =
 stream_read : (bytes rest : List ℕ) (n : ℕ) (change : StreamChange) → StreamChangeIsAtEnd bytes rest n change → IsAtEnd bytes rest (Object (Stream n change))
 stream_read bytes rest n change there =
     let by = by_object_tag bytes (omega (arith, there.tag)) in
-    at_end bytes rest (Object (Stream n change)) (stream_change_length bytes) there.ends.some
+    at_end bytes rest (Object (Stream n change)) (stream_change_length bytes) there.ends.some (omega (arith, there.tag))
     (record {
       same = by.same ∙ ap Object (rw there.kind (ap (λ k. Stream k (last_stream_change bytes)) there.stream ∙ ap (Stream n) there.same));
       length = by.length ∙ rw there.kind refl;
@@ -153,7 +153,7 @@ stream_read bytes rest n change there =
 message_read : (bytes rest : List ℕ) (n : ℕ) (change : MessageChange) → MessageChangeIsAtEnd bytes rest n change → IsAtEnd bytes rest (Object (Message n change))
 message_read bytes rest n change there =
     let by = by_object_tag bytes (omega (arith, there.tag)) in
-    at_end bytes rest (Object (Message n change)) (message_change_length bytes) there.ends.some
+    at_end bytes rest (Object (Message n change)) (message_change_length bytes) there.ends.some (omega (arith, there.tag))
     (record {
       same = by.same ∙ ap Object (rw there.kind (ap (λ k. Message k (last_message_change bytes)) there.buffer ∙ ap (Message n) there.same));
       length = by.length ∙ rw there.kind refl;
@@ -163,7 +163,7 @@ message_read bytes rest n change there =
 group_read : (bytes rest : List ℕ) (n : ℕ) (change : GroupChange) → GroupChangeIsAtEnd bytes rest n change → IsAtEnd bytes rest (Object (Group n change))
 group_read bytes rest n change there =
     let by = by_object_tag bytes (omega (arith, there.tag)) in
-    at_end bytes rest (Object (Group n change)) (group_change_length bytes) there.ends.some
+    at_end bytes rest (Object (Group n change)) (group_change_length bytes) there.ends.some (omega (arith, there.tag))
     (record {
       same = by.same ∙ ap Object (rw there.kind (ap (λ k. Group k (last_group_change bytes)) there.group ∙ ap (Group n) there.same));
       length = by.length ∙ rw there.kind refl;
@@ -450,19 +450,7 @@ pub length-weight-le : (changes : List Change) → length changes ≤ weight_of 
 length-weight-le [] = omega arith
 length-weight-le (change ∷ later) = omega (arith, sum_by-cons cost_of change later, length-weight-le later)
 
--- A change of a task takes as many bytes as it says.
-pub change_length-task : (bytes : List ℕ) → end_byte 1 bytes ≢ SET_TICK → end_byte 1 bytes ≢ SET_TURN → end_byte 1 bytes ≢ SET_CORE
-    → end_byte 1 bytes < INS_READY → change_length bytes ≡ task_change_length bytes
-change_length-task bytes tick turn core below =
-    let no_tick : (end_byte 1 bytes == SET_TICK) ≡ false = grind (arith, nat_tests, tick) in
-    let no_turn : (end_byte 1 bytes == SET_TURN) ≡ false = grind (arith, nat_tests, turn) in
-    let no_core : (end_byte 1 bytes == SET_CORE) ≡ false = grind (arith, nat_tests, core) in
-    let no_ready : (end_byte 1 bytes == INS_READY) ≡ false = grind (arith, nat_tests, below) in
-    let no_left : (end_byte 1 bytes == DEL_READY) ≡ false = grind (arith, nat_tests, below) in
-    let task : nat_lt (end_byte 1 bytes) INS_READY ≡ true = grind (arith, nat_tests, below) in
-    rw (no_tick, no_turn, no_core, no_ready, no_left, task) refl
-
--- So does a change of an object.
+-- A change of an object takes as many bytes as it says.
 pub record IsObjectTag (tag : ℕ) : Type 0 where
   pub tick : tag ≢ SET_TICK
   pub turn : tag ≢ SET_TURN
@@ -470,6 +458,16 @@ pub record IsObjectTag (tag : ℕ) : Type 0 where
   pub ready : tag ≢ INS_READY
   pub left : tag ≢ DEL_READY
   pub above : INS_READY ≤ tag
+
+pub IsObjectTag-above : (tag : ℕ) → DEL_READY < tag → IsObjectTag tag
+IsObjectTag-above tag above = record {
+  tick = grind (arith, above);
+  turn = grind (arith, above);
+  core = grind (arith, above);
+  ready = grind (arith, above);
+  left = grind (arith, above);
+  above = omega (arith, above);
+}
 
 by_other_tag : (bytes : List ℕ) → IsObjectTag (end_byte 1 bytes) → IsByTag bytes (Object (last_object_change bytes)) (object_change_length bytes)
 by_other_tag bytes is =

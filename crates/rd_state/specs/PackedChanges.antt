@@ -110,9 +110,10 @@ change_length bytes =
 abbrev pub before_last : List ℕ → List ℕ
 before_last bytes = all_but (change_length bytes) bytes
 
--- A change is there, whole.
+-- A change is there, with its tag, whole.
 pub record EndsInChange (bytes : List ℕ) : Type 0 where
   pub some : 1 ≤ length bytes
+  pub tagged : SET_TICK ≤ end_byte 1 bytes
   pub whole : change_length bytes ≤ length bytes
 
 -- This change is at the end of bytes, behind the rest of them.

@@ -2,6 +2,8 @@
 
 ghost use Rattle.std.specs.Prelude.{◌≡◌, ◌<◌, ◌≤◌, ◌∷◌, ◌++◌, [], length, take, drop};
 ghost use Rattle.std.specs.Prelude.{◌+◌, slice_index_or, IsOk, OnOk, OnErr};
+ghost use Rattle.rd_bytes.specs.Ends.{end_byte};
+ghost use Rattle.rd_bytes.specs.declared.tag.TheConstants.{DEL_READY};
 ghost use Rattle.rd_bytes.specs.declared.byte_stack.TheConstants.{INLINE_BYTES};
 ghost use Rattle.rd_state.specs.Change.{applied, inverse_of, no_change, the_change, weight_of};
 ghost use Rattle.rd_state.specs.Change.{Fits};
@@ -12,7 +14,7 @@ ghost use Rattle.rd_state.specs.Transfers.{change_of, CanTransfer};
 ghost use Rattle.rd_state.specs.Undoing.{undone, CanUndo};
 
 use crate::change::Change;
-use crate::packing::{last_change, last_plain_change};
+use crate::packing::{last_change, last_object_change, last_plain_change};
 use crate::state::State;
 use crate::transfer::Transfer;
 use rd_bytes::byte_stack::ByteStack;
@@ -45,13 +47,14 @@ impl Model for ChangeList {
 #[inline(never)]
 fn apply_of_object<'a>(state: &mut State, bytes: &'a [u8]) -> &'a [u8]
     requires ends { EndsInChange bytes.now }
+    requires object { DEL_READY < end_byte 1 bytes.now }
     requires fits { Fits state.old (last_change bytes.now) }
     ensures state { state.new ≡ applied state.old (last_change bytes.now) }
     ensures rest { result.now ≡ before_last bytes.now }
 {
-    let last = last_change(bytes);
-    state.apply(last.change);
-    last.rest
+    let (change, rest) = last_object_change(bytes);
+    state.change_object(change);
+    rest
 }
 
 // Makes the change that stands at the end of the bytes. Answers the bytes before it.

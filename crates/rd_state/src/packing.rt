@@ -13,13 +13,15 @@ ghost use Rattle.rd_state.specs.PackedChanges.{HasBytes, ObjectHasBytes};
 
 use crate::change::Change;
 use crate::objects::ObjectChange;
-use crate::task_packing::{LastTaskChange, last_task_change};
+use crate::task_packing::{
+    LastTaskChange, last_data, last_entry, last_pc, last_phase, last_register,
+};
 use rd_bytes::byte_stack::ByteStack;
 use rd_bytes::ends::{all_but, byte_of_number, end_byte, end_word, number_of_byte};
 use rd_bytes::no_memory::NoMemory;
 use rd_bytes::tag::{
     DEL_READY, INS_READY, OF_MESSAGE, OF_QUEUE, OF_QUEUE_SET, OF_STREAM, SET_CORE, SET_DATA,
-    SET_TICK, SET_TURN, last_kind,
+    SET_ENTRY, SET_PC, SET_PHASE, SET_REG, SET_TICK, SET_TURN, last_kind,
 };
 use rd_group::group_packing::{LastGroupChange, last_group_change};
 use rd_queue::packing::{LastQueueChange, last_queue_change};
@@ -93,7 +95,7 @@ pub struct LastChange<'a> {
 
 // Reads the change of an object that stands at the end of the bytes.
 #[inline(always)]
-fn last_object_change(bytes: &[u8]) -> (ObjectChange<'_>, &[u8])
+pub(crate) fn last_object_change(bytes: &[u8]) -> (ObjectChange<'_>, &[u8])
     requires some { 1 ≤ length bytes.now }
     requires whole { object_change_length bytes.now ≤ length bytes.now }
     ensures change { the_object_change result.0 ≡ last_object_change bytes.now }
@@ -158,6 +160,14 @@ macro_rules! last {
     };
 }
 
+// So is the change of a task, as one of the state.
+macro_rules! last_of_task {
+    ($last:expr) => {{
+        let LastTaskChange { task, change, rest } = $last;
+        Some(last!(Change::Task { task, change }, rest))
+    }};
+}
+
 /// Reads the change that stands at the end of the bytes, or nothing where it is one of an object.
 #[inline(always)]
 pub fn last_plain_change(bytes: &[u8]) -> Option<LastChange<'_>>
@@ -180,11 +190,11 @@ pub fn last_plain_change(bytes: &[u8]) -> Option<LastChange<'_>>
             let task = number_of_byte(end_byte(bytes, 2));
             Some(last!(Change::SetCore { core, task }, all_but(bytes, 3)))
         }
-        // (the tags of a task's changes are those below that of the ready list)
-        ..=SET_DATA => {
-            let LastTaskChange { task, change, rest } = last_task_change(bytes);
-            Some(last!(Change::Task { task, change }, rest))
-        }
+        SET_PC => last_of_task!(last_pc(bytes)),
+        SET_REG => last_of_task!(last_register(bytes)),
+        SET_PHASE => last_of_task!(last_phase(bytes)),
+        SET_ENTRY => last_of_task!(last_entry(bytes)),
+        SET_DATA => last_of_task!(last_data(bytes)),
         INS_READY => {
             let index = usize::from(end_byte(bytes, 3));
             let task = usize::from(end_byte(bytes, 2));

@@ -375,7 +375,7 @@ impl State {
     }
 
     #[inline(always)]
-    fn change_object(&mut self, change: ObjectChange<'_>)
+    pub(crate) fn change_object(&mut self, change: ObjectChange<'_>)
         requires { Fits self.old (changes.Object (the_object_change change)) }
         ensures { self.new ≡ applied self.old (changes.Object (the_object_change change.entry)) }
     {
