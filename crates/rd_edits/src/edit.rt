@@ -25,7 +25,6 @@ use rd_kernel::changes::{set_bytes, set_entry, set_pc, set_register};
 use rd_moves::edit::Edit;
 use rd_notify::entries::Entry;
 use rd_queue::change::QueueChange;
-use rd_state::change::Change;
 use rd_state::editing::Editing;
 use rd_state::objects::ObjectChange;
 use rd_state::state::State;
@@ -123,7 +122,7 @@ fn set_bits(editing: &mut Editing, group: usize, bits: u32) -> Result<(), NoMemo
     }
     let change = GroupChange::SetBits { bits };
     let change = ObjectChange::Group { group, change };
-    editing.change(Change::Object { change })
+    editing.change_object(change)
 }
 
 // Puts an item in the place of one of a queue. If they are equal, nothing changes, and no memory is
@@ -143,7 +142,7 @@ fn set_item(editing: &mut Editing, queue: usize, index: usize, item: &[u8]) -> R
     }
     let change = QueueChange::SetItem { index, item };
     let change = ObjectChange::Queue { queue, change };
-    editing.change(Change::Object { change })
+    editing.change_object(change)
 }
 
 // Puts a byte in the place of one of a stream buffer. If they are equal, nothing changes, and no
@@ -162,7 +161,7 @@ fn set_byte(editing: &mut Editing, stream: usize, index: usize, value: u8) -> Re
     }
     let change = StreamChange::SetByte { index, value };
     let change = ObjectChange::Stream { stream, change };
-    editing.change(Change::Object { change })
+    editing.change_object(change)
 }
 
 // What an edit names of the application is there in its state.

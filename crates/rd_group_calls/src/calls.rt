@@ -31,7 +31,6 @@ use rd_group::wish::{MAX_BITS, OnMet, WaitFor, Wish};
 use rd_kernel::outcome::Outcome;
 use rd_kernel::telling::waits_once;
 use rd_kernel::waking::{Waking, deadline_of, operand_value, wake_all};
-use rd_state::change::Change;
 use rd_state::editing::Editing;
 use rd_state::objects::ObjectChange;
 use rd_state::phase::{Cause, Listed, Place};
@@ -65,7 +64,7 @@ fn set_bits(editing: &mut Editing, group: usize, bits: u32) -> Result<(), NoMemo
     }
     let change = GroupChange::SetBits { bits };
     let change = ObjectChange::Group { group, change };
-    editing.change(Change::Object { change })
+    editing.change_object(change)
 }
 
 // The bits of a group together with those that are set.

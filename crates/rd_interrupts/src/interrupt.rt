@@ -19,7 +19,6 @@ use rd_notify_calls::calls::notify;
 use rd_queue::change::QueueChange;
 use rd_queue::item::Item;
 use rd_queue_calls::posts::{is_in_full_queue_set, post};
-use rd_state::change::Change;
 use rd_state::editing::Editing;
 use rd_state::objects::ObjectChange;
 use rd_state::state::State;
@@ -76,7 +75,7 @@ fn put(app: &Program, editing: &mut Editing, queue: usize, bytes: &[u8]) -> Resu
         item: item.as_slice(),
     };
     let change = ObjectChange::Queue { queue, change };
-    editing.change(Change::Object { change })?;
+    editing.change_object(change)?;
     post(app, editing, queue, queue_set)?;
     Ok(())
 }

@@ -38,7 +38,7 @@ pub fn set_register(
         return Ok(());
     }
     let change = TaskChange::SetReg { register, value };
-    editing.change(Change::Task { task, change })
+    editing.change_task(task, change)
 }
 
 /// Puts an entry in the place of a task's notification entry at `index`. If they are equal, nothing
@@ -67,7 +67,7 @@ pub fn set_entry(
         return Ok(());
     }
     let change = TaskChange::SetEntry { index, entry };
-    editing.change(Change::Task { task, change })
+    editing.change_task(task, change)
 }
 
 /// Makes these bytes a task's data.
@@ -81,7 +81,7 @@ pub fn set_bytes(editing: &mut Editing, task: usize, bytes: &[u8]) -> Result<(),
 {
     editing.state().sizes();
     let change = TaskChange::SetData { bytes };
-    editing.change(Change::Task { task, change })
+    editing.change_task(task, change)
 }
 
 /// Moves a task to another instruction of its script.
@@ -93,7 +93,7 @@ pub fn set_pc(editing: &mut Editing, task: usize, pc: usize) -> Result<(), NoMem
     ensures err { OnErr result (GivesUp editing.old editing.new 1) }
 {
     let change = TaskChange::SetPc { pc };
-    editing.change(Change::Task { task, change })
+    editing.change_task(task, change)
 }
 
 /// Moves a task to its next instruction.
@@ -123,7 +123,7 @@ pub fn set_phase(editing: &mut Editing, task: usize, phase: Phase) -> Result<(),
         return Ok(());
     }
     let change = TaskChange::SetPhase { phase };
-    editing.change(Change::Task { task, change })
+    editing.change_task(task, change)
 }
 
 /// Ends a task's call: the value that it returns stands in r0, and its script goes on.

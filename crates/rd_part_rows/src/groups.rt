@@ -11,7 +11,6 @@ use rd_bytes::no_memory::NoMemory;
 use rd_group::group_change::GroupChange;
 use rd_group::wish::{OnMet, WaitFor, Wish};
 use rd_moves::moves::Move;
-use rd_state::change::Change;
 use rd_state::editing::Editing;
 use rd_state::objects::ObjectChange;
 use rd_state::phase::Listed;
@@ -37,7 +36,7 @@ fn sets_bits(editing: &mut Editing, bits: u32) -> Result<(), NoMemory>
 {
     let change = GroupChange::SetBits { bits };
     let change = ObjectChange::Group { group: 0, change };
-    editing.change(Change::Object { change })
+    editing.change_object(change)
 }
 
 // Task 1 waits for bits of the group, which gets some, and others, and then the task leaves it.

@@ -18,8 +18,9 @@ use rd_bytes::tag::{
 
 impl QueueSetChange {
     /// Puts the bytes of this change of a queue set behind the others. It takes no memory where
-    /// there is room for them. Where there is no memory for them, nothing has changed.
-    #[inline(always)]
+    /// there is room for them. Where there is no memory for them, nothing has changed. (Called:
+    /// what packs changes of all kinds would be larger than what the compiler inlines.)
+    #[inline(never)]
     pub fn pack(self, queue_set: usize, bytes: &mut ByteStack) -> Result<(), NoMemory>
         requires { QueueSetHasBytes queue_set self }
         ensures ok { OnOk result (bytes.new.bytes

@@ -34,7 +34,6 @@ use rd_kernel::waking::{block, pass};
 use rd_queue::change::QueueChange;
 use rd_queue::end::End;
 use rd_queue::waiting_list::WaitingList;
-use rd_state::change::Change;
 use rd_state::editing::Editing;
 use rd_state::objects::ObjectChange;
 use rd_state::phase::{Cause, Listed};
@@ -55,7 +54,7 @@ fn dequeue(editing: &mut Editing, task: usize, queue: usize) -> Result<(), NoMem
     editing.transfer(Transfer::ToData { source, task })?;
     let change = QueueChange::TakeFront;
     let change = ObjectChange::Queue { queue, change };
-    editing.change(Change::Object { change })
+    editing.change_object(change)
 }
 
 // Where tasks wait for an item of the queue, and for a free slot.
@@ -227,7 +226,7 @@ fn reset(
     let _ = task;
     let change = QueueChange::Clear;
     let change = ObjectChange::Queue { queue, change };
-    editing.change(Change::Object { change })?;
+    editing.change_object(change)?;
     pass(editing, app.priorities(), sending(queue))
 }
 
@@ -251,7 +250,7 @@ fn add_to_set(editing: &mut Editing, queue: usize, queue_set: usize) -> Result<O
         queue_set: Some(queue_set),
     };
     let change = ObjectChange::Queue { queue, change };
-    editing.change(Change::Object { change })?;
+    editing.change_object(change)?;
     Ok(Outcome::Returns(1))
 }
 
@@ -277,7 +276,7 @@ fn remove_from_set(
     }
     let change = QueueChange::SetMember { queue_set: None };
     let change = ObjectChange::Queue { queue, change };
-    editing.change(Change::Object { change })?;
+    editing.change_object(change)?;
     Ok(Outcome::Returns(1))
 }
 

@@ -15,7 +15,6 @@ use rd_kernel::outcome::Outcome;
 use rd_kernel::waking::pass;
 use rd_queue::queue_set_change::QueueSetChange;
 use rd_queue::waiting_list::WaitingList;
-use rd_state::change::Change;
 use rd_state::editing::Editing;
 use rd_state::objects::ObjectChange;
 use rd_state::phase::Listed;
@@ -59,6 +58,6 @@ pub fn post(
     let _ = editing.state().queue_set(queue_set);
     let change = QueueSetChange::PushHandle { queue };
     let change = ObjectChange::QueueSet { queue_set, change };
-    editing.change(Change::Object { change })?;
+    editing.change_object(change)?;
     pass(editing, app.priorities(), Listed::QueueSet { queue_set })
 }

@@ -17,7 +17,6 @@ use rd_bytes::no_memory::NoMemory;
 use rd_kernel::outcome::Outcome;
 use rd_kernel::waking::block;
 use rd_queue::queue_set_change::QueueSetChange;
-use rd_state::change::Change;
 use rd_state::editing::Editing;
 use rd_state::objects::ObjectChange;
 use rd_state::phase::Listed;
@@ -48,7 +47,7 @@ fn select(
     let queue = editing.state().queue_set(queue_set).first_handle();
     let change = QueueSetChange::TakeHandle;
     let change = ObjectChange::QueueSet { queue_set, change };
-    editing.change(Change::Object { change })?;
+    editing.change_object(change)?;
     Ok(Outcome::Returns(queue as u32 + 1))
 }
 

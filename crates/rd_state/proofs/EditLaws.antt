@@ -229,3 +229,13 @@ calm-from_act r old s s' list list' start was calm calm' change e sized fits wit
           (stay_on (edit_of s list start was calm).base s s' before (subst (SeatsStay s) (sym now) (seats_stay s change fits_here same)))
       | Err y ↦ λ _ _ now record_now _. rw (now, record_now) before
     ]) f g h k (still here)
+
+-- A change that leaves the seats, whichever it is, leaves a move as calm as it was.
+pub calm-from_still_act : {T E : Type 0} (r : Result T E) (old : Edit) (s s' : Snapshot) (list list' : ChangeListView) (start : ℕ) (was calm : Bool) (change : Change)
+    → edit_of s list start was calm ≡ old → IsSized s → Fits old.now change → start ≤ length list.changes → list.capacity ≤ list'.capacity
+    → OnOk r (s' ≡ applied s change) → OnOk r (list'.changes ≡ list.changes ++ inverse_of s change ∷ []) → OnErr r (s' ≡ s) → OnErr r (list' ≡ list)
+    → (calm ≡ true → IsCalmSince (edit_of s list start was calm).base s) → moves_seats change ≡ false
+    → calm ≡ true → IsCalmSince (edit_of s' list' start was calm).base s'
+calm-from_still_act r old s s' list list' start was calm change e sized fits within grows f g h k since still =
+    calm-from_act r old s s' list list' start was calm calm change e sized fits within grows f g h k since (λ c. c)
+    (λ _. (elim r as (λ q. OnOk q (moves_seats change ≡ false)) [ Ok x ↦ still | Err y ↦ tt ]))

@@ -41,6 +41,10 @@ use Rattle.rd_state.specs.TaskChanges.{TaskChange}
 use Rattle.rd_state.specs.PackedTaskChanges.{last_task, last_task_change, task_change_length, TaskChangeIsAtEnd}
 use Rattle.rd_state.specs.PackedChanges.{packed, last_object_change, object_change_length, last_change, change_length, before_last}
 use Rattle.rd_state.specs.PackedChanges.{all_packed, changes_in, AreChanges, EndsInChange, HasBytes, IsAtEnd, ObjectHasBytes, EachIsReadBack}
+use Rattle.rd_state.specs.PackedChanges.{ChangeListView, HasNoRoomForChange}
+use Rattle.std.specs.Prelude.{Result, Ok, Err, OnErr}
+use Rattle.std.proofs.lemmas.Bool.{cases_lt, false≢true}
+use Rattle.std.proofs.Common.{inl, inr}
 use Rattle.rd_state.specs.Sizes.{IsSized, IsTaskOrIdle}
 use Rattle.rd_state.specs.Snapshot.{Snapshot, core_at, numbers_of, task_at}
 use Rattle.rd_state.proofs.ObjectLaws.{group_in_sized, message_in_sized, queue_in_sized, queue_set_in_sized, stream_in_sized}
@@ -318,6 +322,19 @@ all_packed-changes_in zero bytes are = sym are
 all_packed-changes_in (suc n) bytes are =
     all_packed-push (changes_in n (before_last bytes)) (last_change bytes)
     ∙ ap (λ before. before ++ packed (last_change bytes)) (all_packed-changes_in n (before_last bytes) are.2) ∙ are.1
+
+-- There is no room for a change, where there is none for its bytes behind those of the others.
+pub no_room_for : {T E : Type 0} (r : Result T E) (list : ChangeListView) (count capacity : ℕ) (bytes : List ℕ) (change : Change)
+    → changes_in count bytes ≡ list.changes → capacity ≡ list.capacity → AreChanges count bytes
+    → (length bytes + length (packed change) ≤ capacity → false ≡ true) → OnErr r (HasNoRoomForChange list change)
+no_room_for r list count capacity bytes change same room are enough =
+    let all : all_packed list.changes ≡ bytes = ap all_packed (sym same) ∙ all_packed-changes_in count bytes are in
+    let short : HasNoRoomForChange list change =
+    elim (cases_lt list.capacity (length (all_packed list.changes ++ packed change))) [
+      | inl short ↦ short
+      | inr fits ↦ absurd (false≢true (enough (omega (arith, fits, length-append (all_packed list.changes) (packed change), ap length all, room))))
+    ] in
+    elim r as (λ q. OnErr q (HasNoRoomForChange list change)) [ Ok x ↦ tt | Err y ↦ short ]
 
 -- what is read at the end of one change more
 pub record Peeled (n : ℕ) (bytes : List ℕ) : Type 0 where

@@ -1,5 +1,4 @@
 -- Transfers: the change that each makes fits.
-use Rattle.std.specs.Prelude.{Ok, Err}
 use Rattle.std.proofs.Common.{Bool, true, false, ◌≡◌, ◌∙◌, ℕ, ◌<◌, ◌≤◌, List, [], ◌∷◌, ◌++◌, length, drop, get_or, replicate, refl, subst, sym, arith}
 use Rattle.std.proofs.lemmas.List.{length-append, length-replicate, length-take-le}
 use Rattle.std.proofs.lemmas.List.Elements.{All-get_or}
@@ -23,7 +22,7 @@ use Rattle.rd_state.specs.Sizes.{IsSized}
 use Rattle.rd_state.specs.Snapshot.{Snapshot, task_at}
 use Rattle.rd_state.specs.Transfers.{bytes_at, change_of, sunk, CanTransfer, HasSink, HasSource}
 use Rattle.rd_state.specs.Undoing.{CanUndo}
-use Rattle.rd_state.proofs.EditLaws.{calm-from_act, CanUndo-from_act, Reaches-from_act, short-from_act}
+use Rattle.rd_state.proofs.EditLaws.{calm-from_still_act, CanUndo-from_act, Reaches-from_act, short-from_act}
 use Rattle.rd_state.proofs.ObjectLaws.{queue_in_sized}
 
 pub length-fitted : (size : ℕ) (bytes : List ℕ) → length (fitted size bytes) ≡ size
@@ -101,5 +100,5 @@ pub calm-from_transfer : {T E : Type 0} (r : Result T E) (old : Edit) (s s' : Sn
     → (calm ≡ true → IsCalmSince (edit_of s list start was calm).base s) → calm ≡ true → IsCalmSince (edit_of s' list' start was calm).base s'
 calm-from_transfer r old s s' list list' start was calm transfer e sized can within grows f g h k since =
     let here = subst (λ (edit : Edit). CanTransfer edit.now transfer) (sym e) can in
-    calm-from_act r (edit_of s list start was calm) s s' list list' start was calm calm (change_of s transfer) refl sized (transfer_fits s transfer sized here) within grows f g h k since (λ c. c)
-    (λ _. (elim r as (λ q. OnOk q (moves_seats (change_of s transfer) ≡ false)) [ Ok x ↦ transfer_still s transfer | Err y ↦ tt ]))
+    calm-from_still_act r (edit_of s list start was calm) s s' list list' start was calm (change_of s transfer) refl sized (transfer_fits s transfer sized here) within grows f g h k since
+    (transfer_still s transfer)

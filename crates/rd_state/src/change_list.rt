@@ -6,16 +6,20 @@ ghost use Rattle.rd_bytes.specs.Ends.{end_byte};
 ghost use Rattle.rd_bytes.specs.declared.tag.TheConstants.{DEL_READY};
 ghost use Rattle.rd_bytes.specs.declared.byte_stack.TheConstants.{INLINE_BYTES};
 ghost use Rattle.rd_state.specs.Change.{applied, inverse_of, no_change, the_change, weight_of};
-ghost use Rattle.rd_state.specs.Change.{Fits};
+ghost use Rattle.rd_state.specs.Change.{Fits, Object, Task};
+ghost use Rattle.rd_state.specs.Objects.{the_object_change};
 ghost use Rattle.rd_state.specs.PackedChanges.{all_packed, changes_in, AreChanges, HasBytes};
 ghost use Rattle.rd_state.specs.PackedChanges.{before_last, last_change, EndsInChange};
 ghost use Rattle.rd_state.specs.PackedChanges.{HasNoRoomForChange};
+ghost use Rattle.rd_state.specs.TaskChanges.{the_task_change};
 ghost use Rattle.rd_state.specs.Transfers.{change_of, CanTransfer};
 ghost use Rattle.rd_state.specs.Undoing.{undone, CanUndo};
 
 use crate::change::Change;
+use crate::objects::ObjectChange;
 use crate::packing::{last_change, last_object_change, last_plain_change};
 use crate::state::State;
+use crate::task_change::TaskChange;
 use crate::transfer::Transfer;
 use rd_bytes::byte_stack::ByteStack;
 use rd_bytes::no_memory::NoMemory;
@@ -175,6 +179,40 @@ impl ChangeList {
         Ok(())
     }
 
+    // Puts a change of a task at the end, likewise.
+    #[inline(always)]
+    fn push_of_task(&mut self, task: usize, change: TaskChange<'_>) -> Result<(), NoMemory>
+        requires { HasBytes (Task task (the_task_change change)) }
+        ensures ok { OnOk result (self.new.changes
+            ≡ self.old.changes ++ Task task (the_task_change change.entry) ∷ []) }
+        ensures short { OnErr result
+            (HasNoRoomForChange self.old (Task task (the_task_change change.entry))) }
+        ensures grows { self.old.capacity ≤ self.new.capacity }
+        ensures err { OnErr result (self.new ≡ self.old) }
+    {
+        change.pack(task, &mut self.bytes)?;
+        let _len = self.bytes.len();
+        self.count += 1;
+        Ok(())
+    }
+
+    // Puts a change of an object at the end, likewise.
+    #[inline(always)]
+    fn push_of_object(&mut self, change: ObjectChange<'_>) -> Result<(), NoMemory>
+        requires { HasBytes (Object (the_object_change change)) }
+        ensures ok { OnOk result (self.new.changes
+            ≡ self.old.changes ++ Object (the_object_change change.entry) ∷ []) }
+        ensures short { OnErr result
+            (HasNoRoomForChange self.old (Object (the_object_change change.entry))) }
+        ensures grows { self.old.capacity ≤ self.new.capacity }
+        ensures err { OnErr result (self.new ≡ self.old) }
+    {
+        change.pack(&mut self.bytes)?;
+        let _len = self.bytes.len();
+        self.count += 1;
+        Ok(())
+    }
+
     /// Makes room for `more` bytes of changes. Where there is no memory for it, nothing has
     /// changed.
     #[inline(always)]
@@ -210,6 +248,57 @@ impl ChangeList {
         Ok(())
     }
 
+    /// Makes a change of a task, as `act` does. It takes no memory where there is room for the
+    /// bytes of what undoes it. Where there is no memory for them, nothing has changed.
+    #[inline(always)]
+    pub fn act_of_task(
+        &mut self,
+        state: &mut State,
+        task: usize,
+        change: TaskChange<'_>,
+    ) -> Result<(), NoMemory>
+        requires { Fits state.old (Task task (the_task_change change)) }
+        ensures state { OnOk result
+            (state.new ≡ applied state.old (Task task (the_task_change change.entry))) }
+        ensures record { OnOk result (self.new.changes ≡ self.old.changes
+            ++ inverse_of state.old (Task task (the_task_change change.entry)) ∷ []) }
+        ensures short { OnErr result (HasNoRoomForChange self.old
+            (inverse_of state.old (Task task (the_task_change change.entry)))) }
+        ensures grows { self.old.capacity ≤ self.new.capacity }
+        ensures err { OnErr result (state.new ≡ state.old) }
+        ensures err_record { OnErr result (self.new ≡ self.old) }
+    {
+        state.sizes();
+        self.push_of_task(task, state.task(task).inverse_of(change))?;
+        state.change_task(task, change);
+        Ok(())
+    }
+
+    /// Makes a change of an object, as `act` does. It takes no memory where there is room for the
+    /// bytes of what undoes it. Where there is no memory for them, nothing has changed.
+    #[inline(always)]
+    pub fn act_of_object(
+        &mut self,
+        state: &mut State,
+        change: ObjectChange<'_>,
+    ) -> Result<(), NoMemory>
+        requires { Fits state.old (Object (the_object_change change)) }
+        ensures state { OnOk result
+            (state.new ≡ applied state.old (Object (the_object_change change.entry))) }
+        ensures record { OnOk result (self.new.changes ≡ self.old.changes
+            ++ inverse_of state.old (Object (the_object_change change.entry)) ∷ []) }
+        ensures short { OnErr result (HasNoRoomForChange self.old
+            (inverse_of state.old (Object (the_object_change change.entry)))) }
+        ensures grows { self.old.capacity ≤ self.new.capacity }
+        ensures err { OnErr result (state.new ≡ state.old) }
+        ensures err_record { OnErr result (self.new ≡ self.old) }
+    {
+        state.sizes();
+        self.push_of_object(state.objects().inverse_of(change))?;
+        state.change_object(change);
+        Ok(())
+    }
+
     /// Makes a transfer, and puts the change that undoes it at the end. It takes no memory where
     /// there is room for its bytes. Where there is no memory for them, nothing has changed.
     #[inline(always)]
@@ -226,7 +315,15 @@ impl ChangeList {
         ensures err_record { OnErr result (self.new ≡ self.old) }
     {
         state.sizes();
-        self.push(state.inverse_of_transfer(transfer))?;
+        match transfer {
+            Transfer::FromData { task, sink } => {
+                self.push_of_object(state.inverse_of_sink(task, sink))?;
+            }
+            Transfer::ToData { task, .. } => {
+                let bytes = state.task(task).bytes();
+                self.push_of_task(task, TaskChange::SetData { bytes })?;
+            }
+        }
         state.transfer(transfer);
         Ok(())
     }

@@ -7,10 +7,12 @@ ghost use Rattle.std.specs.Borrow.{sem, Lends};
 ghost use Rattle.rd_state.specs.contracts.editing.Editing.{the_row};
 ghost use Rattle.rd_state.specs.contracts.state.State.{the_row as state_row};
 ghost use Rattle.rd_state.specs.Change.{applied, cost_of, inverse_of, moves_seats, the_change};
-ghost use Rattle.rd_state.specs.Change.{Fits};
+ghost use Rattle.rd_state.specs.Change.{Fits, Object, Task};
+ghost use Rattle.rd_state.specs.Objects.{the_object_change};
 ghost use Rattle.rd_state.specs.Edit.{begun_at, calm_behind, capacity_of, room_for, GoesOn};
 ghost use Rattle.rd_state.specs.Edit.{IsCalmSince, Reaches};
 ghost use Rattle.rd_state.specs.Sizes.{IsSized};
+ghost use Rattle.rd_state.specs.TaskChanges.{the_task_change};
 ghost use Rattle.rd_state.specs.Transfers.{change_of, CanTransfer};
 ghost use Rattle.rd_state.specs.Undoing.{undone, CanUndo};
 ghost use Rattle.rd_group.specs.declared.wish.TheConstants.{MAX_BITS};
@@ -24,6 +26,7 @@ use crate::change_list::ChangeList;
 use crate::objects::ObjectChange;
 use crate::phase::{Held, Listed};
 use crate::state::State;
+use crate::task_change::TaskChange;
 use crate::transfer::Transfer;
 use crate::undo::Undo;
 use rd_bytes::no_memory::NoMemory;
@@ -196,6 +199,40 @@ impl Editing {
         made
     }
 
+    /// Makes a change of a task and records what undoes it: it calls for no settling. Where there
+    /// is no memory for that, nothing has changed.
+    #[inline(always)]
+    pub fn change_task(&mut self, task: usize, change: TaskChange<'_>) -> Result<(), NoMemory>
+        requires { Fits self.old.now (Task task (the_task_change change)) }
+        ensures ok { OnOk result (Reaches self.old self.new
+            (applied self.old.now (Task task (the_task_change change.entry)))
+            (cost_of (inverse_of self.old.now (Task task (the_task_change change.entry))))) }
+        ensures short { OnErr result (self.old.room < room_for
+            (cost_of (inverse_of self.old.now (Task task (the_task_change change.entry))))) }
+        ensures calm { self.new.calm ≡ self.old.calm }
+        ensures err { OnErr result (self.new ≡ self.old) }
+    {
+        self.state.sizes();
+        self.changes.act_of_task(&mut self.state, task, change)
+    }
+
+    /// Makes a change of an object and records what undoes it: it calls for no settling. Where
+    /// there is no memory for that, nothing has changed.
+    #[inline(always)]
+    pub fn change_object(&mut self, change: ObjectChange<'_>) -> Result<(), NoMemory>
+        requires { Fits self.old.now (Object (the_object_change change)) }
+        ensures ok { OnOk result (Reaches self.old self.new
+            (applied self.old.now (Object (the_object_change change.entry)))
+            (cost_of (inverse_of self.old.now (Object (the_object_change change.entry))))) }
+        ensures short { OnErr result (self.old.room < room_for
+            (cost_of (inverse_of self.old.now (Object (the_object_change change.entry))))) }
+        ensures calm { self.new.calm ≡ self.old.calm }
+        ensures err { OnErr result (self.new ≡ self.old) }
+    {
+        self.state.sizes();
+        self.changes.act_of_object(&mut self.state, change)
+    }
+
     /// Makes a transfer and records what undoes it. Where there is no memory for that, nothing has
     /// changed.
     #[inline(always)]
@@ -238,12 +275,12 @@ impl Editing {
             Listed::Queue { queue, list } => {
                 let change = QueueChange::InsWait { list, index, task };
                 let change = ObjectChange::Queue { queue, change };
-                self.change(Change::Object { change })
+                self.change_object(change)
             }
             Listed::QueueSet { queue_set } => {
                 let change = QueueSetChange::InsWait { index, task };
                 let change = ObjectChange::QueueSet { queue_set, change };
-                self.change(Change::Object { change })
+                self.change_object(change)
             }
             // (that list is in the order of arrival)
             Listed::Group { .. } => Ok(()),
@@ -268,7 +305,7 @@ impl Editing {
         let index = self.state.group(group).waiting().as_slice().len();
         let change = GroupChange::InsWait { index, task, wish };
         let change = ObjectChange::Group { group, change };
-        self.change(Change::Object { change })
+        self.change_object(change)
     }
 
     /// Takes the task at the index out of a list.
@@ -287,17 +324,17 @@ impl Editing {
             Listed::Queue { queue, list } => {
                 let change = QueueChange::DelWait { list, index };
                 let change = ObjectChange::Queue { queue, change };
-                self.change(Change::Object { change })
+                self.change_object(change)
             }
             Listed::QueueSet { queue_set } => {
                 let change = QueueSetChange::DelWait { index };
                 let change = ObjectChange::QueueSet { queue_set, change };
-                self.change(Change::Object { change })
+                self.change_object(change)
             }
             Listed::Group { group } => {
                 let change = GroupChange::DelWait { index };
                 let change = ObjectChange::Group { group, change };
-                self.change(Change::Object { change })
+                self.change_object(change)
             }
         }
     }
@@ -318,12 +355,12 @@ impl Editing {
             Held::Stream { stream, side } => {
                 let change = StreamChange::SetHolder { side, task };
                 let change = ObjectChange::Stream { stream, change };
-                self.change(Change::Object { change })
+                self.change_object(change)
             }
             Held::Message { message, side } => {
                 let change = MessageChange::SetHolder { side, task };
                 let change = ObjectChange::Message { message, change };
-                self.change(Change::Object { change })
+                self.change_object(change)
             }
         }
     }

@@ -30,9 +30,9 @@ use rd_stream::message_packing::{LastMessageChange, last_message_change};
 use rd_stream::stream_packing::{LastStreamChange, last_stream_change};
 
 impl ObjectChange<'_> {
-    // Puts the bytes of this change behind the others. (Called: a function that is inlined together
-    // with it would be larger than what the compiler still inlines.)
-    fn pack(self, bytes: &mut ByteStack) -> Result<(), NoMemory>
+    // Puts the bytes of this change behind the others.
+    #[inline(always)]
+    pub(crate) fn pack(self, bytes: &mut ByteStack) -> Result<(), NoMemory>
         requires { ObjectHasBytes (the_object_change self) }
         ensures ok { OnOk result (bytes.new.bytes
             ≡ bytes.old.bytes ++ object_packed (the_object_change self.entry)) }
@@ -50,6 +50,22 @@ impl ObjectChange<'_> {
             ObjectChange::Group { group, change } => change.pack(group, bytes),
         }
     }
+}
+
+// Puts the bytes of a change of an object behind the others, by a call: a function that packs
+// changes of all kinds would be larger than what the compiler inlines.
+#[inline(never)]
+fn pack_by_call(change: ObjectChange<'_>, bytes: &mut ByteStack) -> Result<(), NoMemory>
+    requires { ObjectHasBytes (the_object_change change) }
+    ensures ok { OnOk result (bytes.new.bytes
+        ≡ bytes.old.bytes ++ object_packed (the_object_change change.entry)) }
+    ensures enough { length bytes.old.bytes
+        + length (object_packed (the_object_change change.entry)) ≤ bytes.old.capacity
+        → IsOk result }
+    ensures grows { bytes.old.capacity ≤ bytes.new.capacity }
+    ensures err { OnErr result (bytes.new ≡ bytes.old) }
+{
+    change.pack(bytes)
 }
 
 impl Change<'_> {
@@ -79,7 +95,7 @@ impl Change<'_> {
             }
             Change::DelReady { index } => bytes.push(&[index as u8, DEL_READY]),
             Change::Task { task, change } => change.pack(task, bytes),
-            Change::Object { change } => change.pack(bytes),
+            Change::Object { change } => pack_by_call(change, bytes),
         }
     }
 }

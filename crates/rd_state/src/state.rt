@@ -365,7 +365,7 @@ impl State {
     }
 
     #[inline(always)]
-    fn change_task(&mut self, task: usize, change: TaskChange<'_>)
+    pub(crate) fn change_task(&mut self, task: usize, change: TaskChange<'_>)
         requires { Fits self.old (changes.Task task (the_task_change change)) }
         ensures { self.new
             ≡ applied self.old (changes.Task task (the_task_change change.entry)) }
@@ -431,25 +431,16 @@ impl State {
         }
     }
 
-    /// The change that undoes a transfer, made at this state, which lends it its bytes. It takes no
-    /// memory.
+    /// The change that undoes what comes of a task's data to a sink, made at this state, which
+    /// lends it its bytes. It takes no memory.
     #[inline(always)]
-    pub fn inverse_of_transfer(&self, transfer: Transfer) -> Change<'_>
-        requires { CanTransfer self.now transfer }
-        ensures { the_change result ≡ inverse_of self.now (change_of self.now transfer) }
+    pub(crate) fn inverse_of_sink(&self, task: usize, sink: Sink) -> ObjectChange<'_>
+        requires { CanTransfer self.now (transfer.FromData task sink) }
+        ensures { changes.Object (the_object_change result)
+            ≡ inverse_of self.now (change_of self.now (transfer.FromData task sink)) }
     {
-        match transfer {
-            Transfer::FromData { task, sink } => {
-                let bytes = self.task(task).bytes();
-                let change = self.objects.inverse_of_sink(sink, bytes);
-                Change::Object { change }
-            }
-            Transfer::ToData { task, .. } => {
-                let bytes = self.task(task).bytes();
-                let change = TaskChange::SetData { bytes };
-                Change::Task { task, change }
-            }
-        }
+        let bytes = self.task(task).bytes();
+        self.objects.inverse_of_sink(sink, bytes)
     }
 
     /// The change that undoes `change`, made at this state, which lends it its bytes. It takes no

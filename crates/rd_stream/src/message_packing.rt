@@ -25,7 +25,8 @@ use rd_bytes::tag::{
 impl MessageChange<'_> {
     /// Puts the bytes of this change of a message buffer behind the others. It takes no memory
     /// where there is room for them. Where there is no memory for them, nothing has changed.
-    #[inline(always)]
+    /// (Called: what packs changes of all kinds would be larger than what the compiler inlines.)
+    #[inline(never)]
     pub fn pack(self, buffer: usize, bytes: &mut ByteStack) -> Result<(), NoMemory>
         requires { MessageHasBytes buffer (the_message_change self) }
         ensures ok { OnOk result (bytes.new.bytes

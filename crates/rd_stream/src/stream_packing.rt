@@ -24,8 +24,9 @@ use rd_bytes::tag::{
 
 impl StreamChange<'_> {
     /// Puts the bytes of this change of a stream buffer behind the others. It takes no memory where
-    /// there is room for them. Where there is no memory for them, nothing has changed.
-    #[inline(always)]
+    /// there is room for them. Where there is no memory for them, nothing has changed. (Called:
+    /// what packs changes of all kinds would be larger than what the compiler inlines.)
+    #[inline(never)]
     pub fn pack(self, stream: usize, bytes: &mut ByteStack) -> Result<(), NoMemory>
         requires { StreamHasBytes stream (the_stream_change self) }
         ensures ok { OnOk result (bytes.new.bytes

@@ -29,7 +29,6 @@ use rd_kernel::holding::{come_back, complete, wait_held};
 use rd_kernel::outcome::Outcome;
 use rd_kernel::telling::waits_once;
 use rd_kernel::waking::may_wait;
-use rd_state::change::Change;
 use rd_state::editing::Editing;
 use rd_state::objects::ObjectChange;
 use rd_state::phase::{Cause, Held};
@@ -78,7 +77,7 @@ fn take_message(editing: &mut Editing, task: usize, message: usize) -> Result<()
     editing.transfer(Transfer::ToData { source, task })?;
     let change = MessageChange::Take;
     let change = ObjectChange::Message { message, change };
-    editing.change(Change::Object { change })
+    editing.change_object(change)
 }
 
 // Takes the first message, if it is no longer than the task's room, and completes the writer's
@@ -289,7 +288,7 @@ fn reset(editing: &mut Editing, message: usize) -> Result<Outcome, NoMemory>
     }
     let change = MessageChange::Clear;
     let change = ObjectChange::Message { message, change };
-    editing.change(Change::Object { change })?;
+    editing.change_object(change)?;
     Ok(Outcome::Returns(1))
 }
 

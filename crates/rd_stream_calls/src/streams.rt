@@ -28,7 +28,6 @@ use rd_kernel::holding::{come_back, complete, wait_held};
 use rd_kernel::outcome::Outcome;
 use rd_kernel::telling::waits_once;
 use rd_kernel::waking::{may_wait, operand_value};
-use rd_state::change::Change;
 use rd_state::editing::Editing;
 use rd_state::objects::ObjectChange;
 use rd_state::phase::{Cause, Held};
@@ -79,7 +78,7 @@ fn take_bytes(
     editing.transfer(Transfer::ToData { source, task })?;
     let change = StreamChange::TakeBytes { count };
     let change = ObjectChange::Stream { stream, change };
-    editing.change(Change::Object { change })
+    editing.change_object(change)
 }
 
 // Reads so many bytes of a buffer, and completes the writer's wait if it reads any.
@@ -301,7 +300,7 @@ fn reset(editing: &mut Editing, stream: usize) -> Result<Outcome, NoMemory>
     }
     let change = StreamChange::Clear;
     let change = ObjectChange::Stream { stream, change };
-    editing.change(Change::Object { change })?;
+    editing.change_object(change)?;
     Ok(Outcome::Returns(1))
 }
 
@@ -321,7 +320,7 @@ fn set_trigger(editing: &mut Editing, stream: usize, trigger: u32) -> Result<Out
     }
     let change = StreamChange::SetTrigger { trigger };
     let change = ObjectChange::Stream { stream, change };
-    editing.change(Change::Object { change })?;
+    editing.change_object(change)?;
     Ok(Outcome::Returns(1))
 }
 

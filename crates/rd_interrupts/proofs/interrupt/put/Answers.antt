@@ -13,7 +13,7 @@ post-requires-clause-ready c =
     let queue = c.args.queue in
     let member = c.set_of-queue_set.result in
     let put = with_item_put s queue c.args.bytes.now in
-    let same : c.change.new.self.now ≡ put = search rules in
+    let same : c.change_object.new.self.now ≡ put = search rules in
     let its : member ≡ membership_of s queue = search rules in
     λ some. subst (λ (t : Snapshot). length t.ready < length t.tasks) (sym same)
     (room_to_post c.args.app.now s queue c.args.bytes.now c.requires.valid c.requires.queue
