@@ -126,8 +126,24 @@ pub fn set_phase(editing: &mut Editing, task: usize, phase: Phase) -> Result<(),
     editing.change_task(task, change)
 }
 
-/// Ends a task's call: the value that it returns stands in r0, and its script goes on.
+// Has a task run. If it does already, nothing changes.
 #[inline(always)]
+fn set_running(editing: &mut Editing, task: usize) -> Result<(), NoMemory>
+    requires task { task < length editing.old.now.tasks }
+    ensures ok { OnOk result
+        (Reaches editing.old editing.new (with_phase editing.old.now task Run) 1) }
+    ensures err { OnErr result (GivesUp editing.old editing.new 1) }
+{
+    if let Phase::Run = editing.state().phase(task) {
+        return Ok(());
+    }
+    let change = TaskChange::SetPhase { phase: Phase::Run };
+    editing.change_task(task, change)
+}
+
+/// Ends a task's call: the value that it returns stands in r0, and its script goes on.
+/// (Called: what concludes a call would else be larger than what the compiler inlines.)
+#[inline(never)]
 pub fn return_from(editing: &mut Editing, task: usize, value: u32) -> Result<(), NoMemory>
     requires task { task < length editing.old.now.tasks }
     requires pc { (task_at editing.old.now task).pc < MAX_CODE }
@@ -137,7 +153,7 @@ pub fn return_from(editing: &mut Editing, task: usize, value: u32) -> Result<(),
 {
     let pc = editing.state().task(task).pc();
     set_register(editing, task, 0, value)?;
-    set_phase(editing, task, Phase::Run)?;
+    set_running(editing, task)?;
     set_pc(editing, task, pc + 1)
 }
 

@@ -73,6 +73,7 @@ fn sending(queue: usize) -> Listed
 }
 
 // Puts the task's data at an end of a queue with room for it, unless its set is full.
+#[inline(always)]
 fn deliver(
     app: &Program,
     editing: &mut Editing,
