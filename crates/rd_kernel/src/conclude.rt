@@ -15,8 +15,9 @@ use rd_state::change::Change;
 use rd_state::editing::Editing;
 use rd_state::phase::Phase;
 
-// Takes a task off its core, into a phase in which it can't run.
-#[inline(always)]
+// Takes a task off its core, into a phase in which it can't run. (Called: `conclude` would else be
+// larger than what the compiler inlines.)
+#[inline(never)]
 fn stop(editing: &mut Editing, core: usize, task: usize, phase: Phase) -> Result<(), NoMemory>
     requires task { task < length editing.old.now.tasks }
     requires core { core < length editing.old.now.cores }
