@@ -71,6 +71,13 @@ class Serve(unittest.TestCase):
                 self.assertEqual(three.tell("show moves"), "moves 1 undone 0 kept 1")
             self.assertEqual(process.communicate(timeout=30)[0], "closed 8\n")
 
+    def test_a_port_that_is_taken(self) -> None:
+        with served(1) as (port, _):
+            words = ["serve", "--app", LOST, "--port", str(port), "--sessions", "1"]
+            ran = subprocess.run([program(), *words], stderr=subprocess.PIPE, text=True)
+            self.assertEqual(ran.returncode, 1)
+            self.assertEqual(ran.stderr, f"rdbg: cannot listen at port {port}: address in use\n")
+
     def test_a_history_that_is_full(self) -> None:
         with served(4, "--history", "9") as (port, process):
             one, two = attached(port), attached(port)

@@ -1,5 +1,5 @@
 -- What the one session of a hall was, and why the program fails once it has begun.
-use Rattle.std.specs.Prelude.{◌≡◌, List, [], ◌∷◌, None}
+use Rattle.std.specs.Prelude.{◌≡◌, ℕ, List, [], ◌∷◌, None}
 use Rattle.rd_ends.specs.Ends.{SinkView, SourceView}
 use Rattle.rd_hall.specs.SeatView.{SeatView}
 use Rattle.rd_session.specs.Hearing.{Attended}
@@ -18,12 +18,18 @@ pub record AttendedAlone (had has : SourceView) (old new : SinkView) (gones : Li
 -- answered.
 abbrev pub FailsAlone : Failure → Type 0
 FailsAlone (Start fault) = fault ≡ NoMemory
-FailsAlone CannotListen = ⊥
+FailsAlone (CannotListen _ _) = ⊥
 FailsAlone Broken = Unit {0}
+
+-- A port can't be had, whatever the system says why.
+abbrev pub LacksPort : ℕ → Failure → Type 0
+LacksPort port (CannotListen at _) = at ≡ port
+LacksPort port (Start _) = ⊥
+LacksPort port Broken = ⊥
 
 -- Sessions over connections fail for this: there is no memory for them, their port can't be had, or
 -- the history isn't what they were answered.
-abbrev pub FailsTogether : Failure → Type 0
-FailsTogether (Start fault) = fault ≡ NoMemory
-FailsTogether CannotListen = Unit {0}
-FailsTogether Broken = Unit {0}
+abbrev pub FailsTogether : ℕ → Failure → Type 0
+FailsTogether port (Start fault) = fault ≡ NoMemory
+FailsTogether port (CannotListen at _) = at ≡ port
+FailsTogether port Broken = Unit {0}

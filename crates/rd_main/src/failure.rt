@@ -1,12 +1,15 @@
 //! Why the program ends with another status than 0.
 
 ghost use Rattle.std.specs.Prelude.{◌≡◌, ◌≢◌};
+ghost use Rattle.std.specs.IoError.{error_kind};
 ghost use Rattle.rd_start.specs.declared.fault.Fault.TheVariants.{BadCommandLine, NoMemory};
-ghost use Rattle.rd_main.specs.declared.failure.Failure.TheVariants.{Start};
+ghost use Rattle.rd_main.specs.declared.failure.Failure.TheVariants.{CannotListen, Start};
 
 use rd_bytes::no_memory;
 use rd_start::fault::Fault;
 use std::alloc::AllocError;
+use std::io;
+use std::io::ErrorKind;
 use thiserror::Error;
 
 /// Why the program ends with another status than 0.
@@ -15,9 +18,9 @@ pub enum Failure {
     /// It couldn't begin.
     #[error("{fault}")]
     Start { fault: Fault },
-    /// The port can't be had.
-    #[error("cannot listen")]
-    CannotListen,
+    /// The port can't be had, for a cause of that kind: `AddrInUse` where another program has it.
+    #[error("cannot listen at port {port}: {kind}")]
+    CannotListen { port: u16, kind: ErrorKind },
     /// The history isn't what the sessions were answered.
     #[error("history broken")]
     Broken,
@@ -52,6 +55,16 @@ impl From<no_memory::NoMemory> for Failure {
 }
 
 impl Failure {
+    /// That a port can't be had, and why.
+    pub fn cannot_listen(port: u16, error: &io::Error) -> Failure
+        ensures { result ≡ CannotListen port (error_kind error.now) }
+    {
+        Failure::CannotListen {
+            port,
+            kind: error.kind(),
+        }
+    }
+
     /// The exit status: 2 for a bad command line, else 1.
     pub fn status(&self) -> u8
         ensures bad_command_line { self.now ≡ Start BadCommandLine → result ≡ 2 }
@@ -59,7 +72,7 @@ impl Failure {
     {
         match self {
             Failure::Start { fault } => fault.status(),
-            Failure::CannotListen | Failure::Broken => 1,
+            Failure::CannotListen { .. } | Failure::Broken => 1,
         }
     }
 }

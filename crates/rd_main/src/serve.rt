@@ -2,8 +2,8 @@
 
 ghost use Rattle.std.specs.Prelude.{◌≡◌, ◌+◌, IfErr};
 ghost use Rattle.rd_desk.specs.declared.sessions.TheConstants.{MAX_JOINS};
-ghost use Rattle.rd_main.specs.Running.{FailsTogether};
-ghost use Rattle.rd_main.specs.declared.failure.Failure.TheVariants.{Broken, CannotListen};
+ghost use Rattle.rd_main.specs.Running.{FailsTogether, LacksPort};
+ghost use Rattle.rd_main.specs.declared.failure.Failure.TheVariants.{Broken};
 
 use crate::failure::Failure;
 use rd_desk::limits::Limits;
@@ -24,7 +24,7 @@ use std::thread::Threads;
 
 /// So many sessions over an application, each over a connection to that port of 127.0.0.1. Says
 /// where it listens, and at the end how many entries the history has and, on `errors`, how many
-/// connections have failed, if some have. `CannotListen` where the port can't be had, `NoMemory`
+/// connections have failed, if some have. `CannotListen` where that port can't be had, `NoMemory`
 /// where there is none to begin, `Broken` where the history isn't what the sessions were answered.
 pub fn listen<H, W: Write, E: Write>(
     rt: &H,
@@ -38,7 +38,7 @@ pub fn listen<H, W: Write, E: Write>(
 ) -> Result<(), Failure>
 where
     H: Wait + Sync + Threads + Net<Listener = TcpListener, Stream = TcpStream>,
-    ensures { IfErr result FailsTogether }
+    ensures { IfErr result (FailsTogether port) }
 {
     let blank = Blank::new(MAX_JOINS as u64 + 1);
     host::<Brand, H, W, E>(
@@ -65,7 +65,7 @@ where
     requires app { app ≡ L.app }
     requires moves { limits.moves ≡ L.most_moves }
     requires entries { limits.history ≡ L.most_entries }
-    ensures { IfErr result FailsTogether }
+    ensures { IfErr result (FailsTogether port) }
 {
     let (hall, mut passes) = Hall::<L>::open(alloc, blank, app, limits)?;
     passes.truncate(sessions);
@@ -118,11 +118,12 @@ fn serve<L: Setup + Send + Sync, H, W: Write>(
 ) -> Result<Served<L>, Failure>
 where
     H: Wait + Sync + Threads + Net<Listener = TcpListener, Stream = TcpStream>,
-    ensures { IfErr result (λ failure. failure ≡ CannotListen) }
+    ensures { IfErr result (LacksPort port) }
 {
     let here = SocketAddr::new(IpAddr::V4(Ipv4Addr::LOCALHOST), port);
-    let Ok(listener) = TcpListener::bind(rt, here) else {
-        return Err(Failure::CannotListen);
+    let listener = match TcpListener::bind(rt, here) {
+        Ok(listener) => listener,
+        Err(error) => return Err(Failure::cannot_listen(port, &error)),
     };
     let _ = writeln!(writer, "listening {port}");
     let _ = writer.flush();
