@@ -1,9 +1,14 @@
-"""What the scripts of this folder share: the repository's crates, and what the machine has free."""
+"""What the scripts of this folder share: the repository's crates, what the machine has free, and
+processes that end with who started them."""
+import contextlib
+import ctypes
 import os
 import pathlib
 import re
 import shutil
+import signal
 import subprocess
+import sys
 
 TOP = pathlib.Path(__file__).resolve().parent.parent
 
@@ -41,6 +46,27 @@ def free_memory():
     """In bytes."""
     text = pathlib.Path("/proc/meminfo").read_text()
     return int(re.search(r"MemAvailable:\s+(\d+)", text)[1]) << 10
+
+
+def end_with_parent():
+    """Has SIGTERM, SIGHUP and SIGINT end this process by way of what it has to clear up, and
+    SIGTERM come where the process that started it ends first, in whichever way."""
+    for number in (signal.SIGTERM, signal.SIGHUP, signal.SIGINT):
+        signal.signal(number, lambda number, _: sys.exit(128 + number))
+    parent_dies = 1
+    ctypes.CDLL(None).prctl(parent_dies, signal.SIGTERM)
+
+
+@contextlib.contextmanager
+def running(words, **how):
+    """A process, which is ended where it still runs at the end. Ctrl-C doesn't reach it."""
+    process = subprocess.Popen(words, start_new_session=True, **how)
+    try:
+        yield process
+    finally:
+        with contextlib.suppress(ProcessLookupError):
+            process.terminate()
+        process.wait()
 
 
 def copy_sources(scratch):

@@ -6,7 +6,7 @@ import sys
 from types import ModuleType
 from typing import List, Sequence
 
-from rdbg import command_line, manual
+from rdbg import command_line, manual, program_help
 from rdbg.failure import Failure
 
 FOLDER = pathlib.Path(__file__).resolve().parent / "companions"
@@ -45,6 +45,8 @@ def run(words: Sequence[str]) -> int:
         print(manual.help_text(entries()))
     elif word == "--why" and words[1:]:
         return hint(words[1:])
+    elif word == "--help-of" and words[1:]:
+        print(program_help.OF[words[1]])
     elif word == "--manual":
         print(manual.page(entries()))
     elif word in names():

@@ -109,7 +109,7 @@ class Wrapper(unittest.TestCase):
         with tempfile.TemporaryDirectory() as folder:
             prefix = pathlib.Path(folder) / "a prefix"
             installed = run(WRAPPER, "install", str(prefix))
-            self.assertEqual(installed.stdout, f"rdbg is in {prefix}/bin\n", installed.stderr)
+            self.assertIn(f"rdbg is in {prefix}/bin, ", installed.stdout, installed.stderr)
             page = (prefix / "share" / "man" / "man1" / "rdbg.1").read_text()
             self.assertTrue(page.startswith(".TH RDBG 1 "))
             self.assertFalse((prefix / "lib" / "rdbg" / "tools" / "tests").exists())

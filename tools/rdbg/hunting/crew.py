@@ -14,6 +14,7 @@ from types import TracebackType
 from typing import Any, Callable, Deque, Dict, Iterable, Iterator, List, Optional, Tuple, Type
 from typing import TypeVar
 
+from rdbg.client import program
 from rdbg.failure import Failure
 from rdbg.hunting.worker import Hunted, Worker
 
@@ -95,6 +96,7 @@ class Crew:
 
     def _begin(self) -> None:
         """Starts the processes."""
+        program()  # (found once, and not by each process)
         context = multiprocessing.get_context("fork")
         for _ in range(self._count):
             here, there = context.Pipe()

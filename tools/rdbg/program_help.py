@@ -1,0 +1,34 @@
+"""What `rdbg help` says of the words that are no companion's, with no program at hand."""
+from typing import Dict
+
+RUN = """\
+Answers commands from standard input
+
+Usage: rdbg run [OPTIONS]
+
+Options:
+      --app <FILE>       The application file [default: the built-in application]
+      --moves <COUNT>    How many moves may be done at a time, 1 to 1000000 [default: 100000]
+      --history <COUNT>  How many entries the history may have, 2 to 1000000 [default: 100000]
+  -h, --help             Print help"""
+SERVE = """\
+Answers the commands of several sessions on a TCP port
+
+Usage: rdbg serve [OPTIONS] --app <FILE> --port <PORT> --sessions <COUNT>
+
+Options:
+      --app <FILE>        The application file
+      --port <PORT>       The TCP port, 1 to 65535
+      --sessions <COUNT>  How many sessions are served, 1 to 64
+      --moves <COUNT>     How many moves may be done at a time, 1 to 1000000 [default: 100000]
+      --history <COUNT>   How many entries the history may have, 2 to 1000000 [default: 100000]
+  -h, --help              Print help"""
+INSTALL = """\
+Puts the program, its companions, the pages of docs/ and rdbg(1) below a folder
+
+Usage: ./rdbg [--unproved] install PREFIX
+
+From a checkout. The program is the proved one where that is built of the sources as they are
+(./rdbg --build builds it), else the one without proof, which is built where it isn't there; it
+says which. With --unproved it is that one."""
+OF: Dict[str, str] = {"run": RUN, "serve": SERVE, "install": INSTALL}

@@ -1,0 +1,251 @@
+"""What `./rdbg` builds and what it doesn't, in a checkout of a few files whose `rt` builds nothing."""
+import os
+import pathlib
+import re
+import signal
+import subprocess
+import tempfile
+import time
+import unittest
+from typing import List
+
+from rdbg.client import program
+from tests.paths import EXAMPLES, TOP
+
+LOST = str(EXAMPLES / "lost_item.json")
+SOURCE = "fn main() {}\n"
+# Writes down how it was called, and of a build nothing comes but the wait for it.
+RT = """#!/bin/sh
+echo "$@" >> "$RT_CALLS"
+case $1 in version) echo a kit ;; *) echo $$ >> "$RT_PIDS"; exec sleep 600 ;; esac
+"""
+
+
+def write_script(file: pathlib.Path, text: str) -> None:
+    """Writes a file that can be run."""
+    file.write_text(text)
+    file.chmod(0o755)
+
+
+def make_checkout(top: pathlib.Path) -> None:
+    """Makes a checkout of one source, with what `./rdbg` is made of."""
+    (top / "crates/rdbg/src").mkdir(parents=True)
+    (top / "crates/rdbg/src/main.rt").write_text(SOURCE)
+    (top / "crates.txt").write_text("rdbg:\n")
+    for name in ("tools", "docs", "examples", "README.md"):
+        (top / name).symlink_to(TOP / name)
+    # (a script looks for the others where a link to it leads, so these are none)
+    (top / "ci").mkdir()
+    scripts = [TOP / "rdbg", *(it for it in (TOP / "ci").iterdir() if it.is_file())]
+    for script in scripts:
+        write_script(top / script.relative_to(TOP), script.read_text())
+
+
+class Checkout(unittest.TestCase):
+    """A checkout, with an `rt` of its own."""
+
+    def setUp(self) -> None:
+        folder = tempfile.TemporaryDirectory()
+        self.addCleanup(folder.cleanup)
+        self.top = pathlib.Path(folder.name) / "checkout"
+        make_checkout(self.top)
+        self.source = self.top / "crates/rdbg/src/main.rt"
+        kit = pathlib.Path(folder.name) / "kit"
+        kit.mkdir()
+        write_script(kit / "rt", RT)
+        self.calls, self.pids = kit / "calls", kit / "pids"
+        self.environment = {
+            **os.environ,
+            "PATH": f"{kit}:{os.environ['PATH']}",
+            "RT_CALLS": str(self.calls),
+            "RT_PIDS": str(self.pids),
+        }
+        self.environment.pop("RDBG_PROGRAM", None)
+        self.program = program()
+
+    def start(self, *words: str) -> "subprocess.Popen[str]":
+        """Starts `./rdbg` on these words."""
+        return subprocess.Popen(
+            [str(self.top / "rdbg"), *words],
+            env=self.environment,
+            stdin=subprocess.DEVNULL,
+            stdout=subprocess.PIPE,
+            stderr=subprocess.PIPE,
+            universal_newlines=True,
+            start_new_session=True,
+        )
+
+    def run_it(self, *words: str) -> "subprocess.CompletedProcess[str]":
+        """What it says on these words, for which nothing may be built."""
+        process = self.start(*words)
+        try:
+            out, err = process.communicate(timeout=20)
+        except subprocess.TimeoutExpired:
+            process.terminate()
+            process.communicate()
+            raise
+        return subprocess.CompletedProcess(words, process.returncode, out, err)
+
+    def called(self) -> List[str]:
+        """How `rt` was called."""
+        return self.calls.read_text().splitlines() if self.calls.exists() else []
+
+    def keep(self, kind: str) -> pathlib.Path:
+        """A program that was built of the sources as they are."""
+        summed = subprocess.run(
+            [str(self.top / "ci/sum"), kind], check=True, stdout=subprocess.PIPE
+        ).stdout.decode()
+        kept = self.top / "out/programs" / f"{kind}-{summed.strip()}"
+        kept.parent.mkdir(parents=True, exist_ok=True)
+        write_script(kept, f'#!/bin/sh\nexec {self.program} "$@"\n')
+        return kept
+
+    def builds(self, *words: str) -> bool:
+        """Whether these words begin a build, which is ended."""
+        process = self.start(*words)
+        end = time.monotonic() + 20
+        while process.poll() is None and time.monotonic() < end and not self.pids.exists():
+            time.sleep(0.02)
+        began = self.pids.exists()
+        process.terminate()
+        process.communicate()
+        if began:
+            self.pids.unlink()
+        return began
+
+
+class Sums(Checkout):
+    """What is built is current by what the sources say."""
+
+    def test_dates_build_nothing(self) -> None:
+        for words in (["--build"], ["--unproved", "--build"]):
+            with self.subTest(words):
+                kept = self.keep("proved" if len(words) == 1 else "unproved")
+                os.utime(kept, (0, 0))
+                os.utime(self.source)
+                ran = self.run_it(*words)
+                self.assertEqual((ran.returncode, ran.stdout), (0, f"{kept}\n"), ran.stderr)
+        self.assertEqual(self.called(), [])
+
+    def test_there_and_back(self) -> None:
+        first = self.keep("unproved")
+        self.assertFalse(self.builds("--unproved", "--build"))
+        self.source.write_text("fn main() { other() }\n")
+        self.assertTrue(self.builds("--unproved", "--build"))
+        second = self.keep("unproved")
+        self.assertEqual(self.run_it("--unproved", "--build").stdout, f"{second}\n")
+        self.source.write_text(SOURCE)
+        self.assertEqual(self.run_it("--unproved", "--build").stdout, f"{first}\n")
+
+    def test_proofs_are_sources_of_the_proved_one(self) -> None:
+        self.keep("proved")
+        self.keep("unproved")
+        (self.top / "crates/rdbg/proof.antt").write_text("-- a proof\n")
+        self.assertTrue(self.builds("--build"))
+        self.assertFalse(self.builds("--unproved", "--build"))
+
+
+class Nothing(Checkout):
+    """Words for which nothing is built."""
+
+    def test_help_and_version(self) -> None:
+        for words in (
+            ["help"],
+            ["--help"],
+            ["help", "run"],
+            ["help", "serve"],
+            ["help", "install"],
+            ["help", "trace"],
+            ["run", "--help"],
+            ["serve", "-h"],
+            ["install", "--help"],
+            ["check", "--help"],
+            ["--version"],
+        ):
+            for given in (words, ["--unproved", *words]):
+                with self.subTest(given):
+                    ran = self.run_it(*given)
+                    self.assertEqual(ran.returncode, 0, ran.stderr)
+                    self.assertTrue(ran.stdout)
+        self.assertEqual(set(self.called()), {"version"})
+
+    def test_help_is_the_programs(self) -> None:
+        for word in ("run", "serve"):
+            own = subprocess.run([self.program, "help", word], stdout=subprocess.PIPE, check=True)
+            self.assertEqual(self.run_it("help", word).stdout, own.stdout.decode())
+
+
+class Install(Checkout):
+    """What `./rdbg install` installs."""
+
+    def install(self, *words: str) -> str:
+        """What it says of what it has installed."""
+        prefix = self.top.parent / "prefix"
+        ran = self.run_it(*words, "install", str(prefix))
+        self.assertEqual(ran.returncode, 0, ran.stderr)
+        version = (prefix / "lib/rdbg/version").read_text()
+        said = ran.stdout.replace(str(prefix), "PREFIX")
+        self.assertTrue(version.strip().endswith(said.strip().rpartition("is ")[2]), version)
+        self.assertEqual({it for it in self.called() if it != "version"}, set())
+        return said
+
+    def test_the_proved_one_where_it_is_current(self) -> None:
+        self.keep("unproved")
+        self.assertEqual(
+            self.install(), "rdbg is in PREFIX/bin, with a program that is not proved\n"
+        )
+        self.keep("proved")
+        self.assertEqual(self.install(), "rdbg is in PREFIX/bin, with a program that is proved\n")
+        self.assertEqual(
+            self.install("--unproved"),
+            "rdbg is in PREFIX/bin, with a program that is not proved\n",
+        )
+
+
+class Ended(Checkout):
+    """A build that is ended."""
+
+    def test_no_process_is_left(self) -> None:
+        for words in (["--build"], ["--unproved", "--build"]):
+            for number, status in (
+                (signal.SIGTERM, 143),
+                (signal.SIGINT, 130),
+                (signal.SIGHUP, 129),
+                (signal.SIGKILL, -9),
+            ):
+                with self.subTest(words=words, signal=number):
+                    process = self.start(*words)
+                    end = time.monotonic() + 20
+                    while not self.pids.exists() and time.monotonic() < end:
+                        time.sleep(0.02)
+                    process.send_signal(number)
+                    process.communicate()
+                    self.assertEqual(process.returncode, status)
+                    self.check_gone(self.pids.read_text().split())
+                    self.pids.unlink()
+
+    def check_gone(self, pids: List[str]) -> None:
+        """That these processes end, and what called them has tidied up."""
+        end = time.monotonic() + 10
+        while time.monotonic() < end:
+            states = [pathlib.Path(f"/proc/{pid}/stat") for pid in pids]
+            left = [it for it in states if it.exists() and ") Z " not in it.read_text()]
+            rest = list((self.top / "out/programs").glob("building-*"))
+            if not left and not rest:
+                return
+            time.sleep(0.05)
+        self.fail(f"still there: {left} {rest}")
+
+
+class Said(Checkout):
+    """That nothing is proved is said once a start."""
+
+    def test_not_by_each_worker(self) -> None:
+        self.keep("unproved")
+        words = ["hunt", LOST, "stuck", "--workers", "3", "--surprises", "1", "--moves", "10"]
+        ran = self.run_it("--unproved", *words)
+        self.assertEqual(len(re.findall("nothing is proved", ran.stderr)), 1, ran.stderr)
+
+
+if __name__ == "__main__":
+    unittest.main()
