@@ -1,4 +1,5 @@
 """The sessions of the documents are as they stand there."""
+import pathlib
 import unittest
 
 from tests import sessions
@@ -8,12 +9,25 @@ from tests.paths import DOCS, TOP
 class Sessions(unittest.TestCase):
     """Each document whose sessions call `./rdbg` from a shell."""
 
-    def test_documents(self) -> None:
-        names = ("COMPANIONS.md", "EDITORS.md", "HUNTING.md", "LOST_WAKEUP.md")
-        for document in (TOP / "README.md", *(DOCS / name for name in names)):
-            with self.subTest(document.name):
-                self.assertEqual(list(sessions.wrong(document)), [])
-                self.assertTrue(list(sessions.commands(document.read_text())))
+    def check(self, document: pathlib.Path) -> None:
+        """That a document has sessions, all of which are as they stand there."""
+        self.assertEqual(list(sessions.wrong(document)), [])
+        self.assertTrue(list(sessions.commands(document.read_text())))
+
+    def test_readme(self) -> None:
+        self.check(TOP / "README.md")
+
+    def test_companions(self) -> None:
+        self.check(DOCS / "COMPANIONS.md")
+
+    def test_editors(self) -> None:
+        self.check(DOCS / "EDITORS.md")
+
+    def test_hunting(self) -> None:
+        self.check(DOCS / "HUNTING.md")
+
+    def test_lost_wakeup(self) -> None:
+        self.check(DOCS / "LOST_WAKEUP.md")
 
     def test_commands_and_what_they_print(self) -> None:
         text = "```\n$ echo \\\n  one\ntwo\n$ cat <<'END'\nthree\nEND\nthree\n```\n"
