@@ -1,6 +1,8 @@
 """What is wrong with a command line that the program has refused, in a sentence."""
 from typing import Dict, List, Optional, Sequence, Tuple
 
+from rdbg.checking.wording import shown
+from rdbg.digits import natural
 from rdbg.near import nearest
 
 MILLION = 1_000_000
@@ -28,7 +30,7 @@ def unknown(word: str, words: Sequence[str]) -> str:
 def is_within(text: str, limits: Tuple[int, int]) -> bool:
     """Whether a text is a number within limits, as the program reads one."""
     digits = text[1:] if text[:1] == "+" else text
-    return digits.isdigit() and limits[0] <= int(digits) <= limits[1]
+    return natural(digits, limits[1], limits[0]) is not None
 
 
 def wrong_value(option: str, value: Optional[str]) -> Optional[str]:
@@ -37,7 +39,7 @@ def wrong_value(option: str, value: Optional[str]) -> Optional[str]:
     if value is None:
         return f"{option} lacks its {name}"
     if limits is not None and not is_within(value, limits):
-        return f"{option} takes {limits[0]} to {limits[1]}, and not '{value}'"
+        return f"{option} takes {limits[0]} to {limits[1]}, and not '{shown(value)}'"
     return None
 
 

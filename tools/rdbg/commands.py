@@ -8,6 +8,7 @@ import re
 from typing import Callable, Dict, FrozenSet, Iterator, List, Optional, Sequence, Tuple, Type
 
 from rdbg import replies
+from rdbg.digits import number
 
 MOST_NUMBER = 4_294_967_295
 MOST_COUNT = 1_000_000
@@ -25,12 +26,12 @@ ALL: FrozenSet[str] = frozenset((TARGET, WHEEL, WATCHES))
 
 def is_number(word: str, most: int = MOST_NUMBER) -> bool:
     """Whether a word is a number of 1 to 10 digits, and not too large."""
-    return re.fullmatch(r"[0-9]{1,10}", word) is not None and int(word) <= most
+    return number(word, most) is not None
 
 
 def is_count(word: str) -> bool:
     """Whether a word is a COUNT."""
-    return is_number(word, MOST_COUNT) and int(word) > 0
+    return number(word, MOST_COUNT, 1) is not None
 
 
 def is_name(word: str) -> bool:

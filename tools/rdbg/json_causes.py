@@ -3,6 +3,7 @@ import re
 from typing import Optional, Tuple
 
 from rdbg.checking import wording
+from rdbg.digits import is_digits
 
 CLOSES = {"[": "]", "{": "}"}
 COMMA = "a comma too many: none stands before a closing bracket or another comma"
@@ -81,7 +82,7 @@ def number(text: str, at: int) -> str:
     if re.match(r"-?0[0-9]", word):
         plain = word.lstrip("-0") or "0"
         return f"{word}: a number has no zero in front" + (
-            f": {plain}" if plain.isdigit() and word[0] != "-" else ""
+            f": {plain}" if is_digits(plain) and word[0] != "-" else ""
         )
     if re.match(r"-?\.", word) or re.fullmatch(r"-?[0-9]+\.", word):
         return f"{word}: digits stand before a point and behind it"

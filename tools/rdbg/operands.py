@@ -3,6 +3,8 @@ import dataclasses
 import re
 from typing import Dict, Mapping, Optional, Sequence, Tuple
 
+from rdbg.digits import is_digits
+
 MOST_NUMBER = 4_294_967_295
 NAME = r"[a-z][a-z0-9_]{0,15}"
 DIGITS = r"[0-9]{1,10}"
@@ -93,7 +95,7 @@ class Scope:
         if not PATTERN_OF[symbol].fullmatch(word):
             return False
         limits = self.limits(symbol)
-        if limits is None or not word.isdigit():
+        if limits is None or not is_digits(word):
             return True
         return limits[0] <= int(word) <= limits[1]
 

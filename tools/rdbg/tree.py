@@ -6,6 +6,8 @@ with the places of its own lines, so that whoever looks for faults needs to know
 import dataclasses
 from typing import Any, Iterator, List, Optional, Sequence, Tuple, Union
 
+from rdbg.digits import natural
+
 
 @dataclasses.dataclass(frozen=True, order=True)
 class Place:
@@ -48,8 +50,7 @@ class Number:
 
     def natural(self) -> Optional[int]:
         """Its value where it is written with digits alone, and is below 2^64: what rdbg takes."""
-        value = int(self.text) if self.text.isdigit() else -1
-        return value if 0 <= value < 1 << 64 else None
+        return natural(self.text, (1 << 64) - 1)
 
 
 @dataclasses.dataclass(frozen=True)

@@ -13,6 +13,10 @@ WRONG = (
     ("run --port 7000", "run takes no --port"),
     ("run --moves 0", "--moves takes 1 to 1000000, and not '0'"),
     ("run --moves=many", "--moves takes 1 to 1000000, and not 'many'"),
+    ("run --moves \u00b2", "--moves takes 1 to 1000000, and not '\u00b2'"),
+    ("run --moves \u0665", "--moves takes 1 to 1000000, and not '\u0665'"),
+    ("run --moves " + "5" * 5_000, f"--moves takes 1 to 1000000, and not '{'5' * 58}..'"),
+    ("serve --app x.json --port \u00b9", "--port takes 1 to 65535, and not '\u00b9'"),
     ("run --history 1", "--history takes 2 to 1000000, and not '1'"),
     ("run --moves 5 --moves 6", "--moves stands twice"),
     ("run --app", "--app lacks its FILE"),
@@ -21,7 +25,13 @@ WRONG = (
     ("serve --app x.json --port 80000 --sessions 2", "--port takes 1 to 65535, and not '80000'"),
     ("serve --app x.json --port 1 --sessions 65", "--sessions takes 1 to 64, and not '65'"),
 )
-RIGHT = ("run", "run --moves 5", "run --moves=+5 --history 05", "run --app=no_such_file.json")
+RIGHT = (
+    "run",
+    "run --moves 5",
+    "run --moves=+5 --history 05",
+    f"run --moves {'0' * 5_000}5",
+    "run --app=no_such_file.json",
+)
 
 
 def is_refused(words: List[str]) -> bool:

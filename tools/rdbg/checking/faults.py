@@ -8,6 +8,7 @@ import dataclasses
 import re
 from typing import Dict, List, Optional, Set, Tuple
 
+from rdbg.digits import is_digits
 from rdbg.instructions import form_of, is_final
 from rdbg.near import nearest
 from rdbg.operands import NAMED, Scope, is_name, to_text
@@ -206,7 +207,7 @@ class Finder:
         subject, limits = f"{label}{key.name}", to_text(key.least, most)
         if not isinstance(node.value, Number):
             message = f"{subject} is {called(node.value)}, and is to be a number, {limits}"
-            digits = isinstance(node.value, str) and node.value.isdigit()
+            digits = isinstance(node.value, str) and is_digits(node.value)
             self.fault(SHAPE, node.place, message + ("; a number has no quotes" if digits else ""))
             return None
         value = node.value.natural()

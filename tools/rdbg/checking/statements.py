@@ -3,6 +3,7 @@ import re
 from typing import Dict, Match, Optional, Sequence, Tuple
 
 from rdbg.checking.slips import as_number
+from rdbg.digits import is_digits
 
 A, B = "(?P<a>[rR][0-7])", "(?P<b>[rR][0-7])"
 N, L = r"(?P<n>-?[^\s=!<>&*]+)", "(?P<l>[A-Za-z0-9_]+)"
@@ -52,7 +53,7 @@ def written_as(found: Match[str], instruction: str, in_lines: bool) -> Optional[
         word = parts.get(symbol) or (parts.get("b") if symbol == "a" else symbol)
         is_number = symbol in "n1"
         text = number(word or "", in_lines, first == "take") if is_number else word
-        if text is None or symbol == "l" and not (in_lines or text.isdigit()):
+        if text is None or symbol == "l" and not (in_lines or is_digits(text)):
             return None
         operands.append(text.lower() if symbol in "ab" else text)
     return " ".join(["add" if first == "take" else first, *operands])

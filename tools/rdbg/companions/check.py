@@ -6,14 +6,17 @@ import sys
 from typing import List, Sequence
 
 from rdbg.application import Application
-from rdbg.failure import Failure
 from rdbg.checking.faults import MOST_FAULTS
 from rdbg.checking.remarks import remarks_of
+from rdbg.checking.wording import shown
+from rdbg.digits import number
+from rdbg.failure import Failure
 from rdbg.source import Source, load, source
 
 SUMMARY = "says of application files where they are wrong, and what would be right"
 STANDARD_INPUT = "-"
 MOST = 100
+LARGEST = 999_999_999
 # How rdbg names a fault, as in "L3 Limit".
 KIND = re.compile(r"L[1-7] ")
 EPILOG = (
@@ -25,9 +28,10 @@ EPILOG = (
 
 def natural(word: str) -> int:
     """A number of faults."""
-    if not (word.isascii() and word.isdigit() and len(word) < 10):
-        raise argparse.ArgumentTypeError(f"{word} is no number")
-    return int(word)
+    found = number(word, LARGEST)
+    if found is None:
+        raise argparse.ArgumentTypeError(f"{shown(word)} is no number")
+    return found
 
 
 def parser() -> argparse.ArgumentParser:

@@ -3,16 +3,15 @@ import argparse
 import io
 import os
 import sys
-from typing import Callable, Optional, Sequence
+from typing import Sequence
 
-from rdbg import commands
 from rdbg.failure import Failure
+from rdbg.options import bounded as bounded, port as port, read as read
 from rdbg.shell import prompt
 from rdbg.shell.interrupt import HardInterrupt, Interrupt
 from rdbg.shell.opening import attach, begin, close
 from rdbg.shell.shell import Shell
 from rdbg.shell.target import Limits
-from rdbg.source import Source, load
 
 SUMMARY = "a prompt: rdbg's lines with history, Tab and help, and what each move did"
 EPILOG = (
@@ -20,24 +19,6 @@ EPILOG = (
     " '# '; hints go to standard error. The status is 0, 1 where the application is refused or rdbg"
     " has ended, 2 where a file or a port can't be had."
 )
-
-
-def bounded(least: int) -> Callable[[str], int]:
-    """Reads a number of at least so much and at most a million."""
-
-    def read(text: str) -> int:
-        if not commands.is_number(text, commands.MOST_COUNT) or int(text) < least:
-            raise argparse.ArgumentTypeError(f"{least} to {commands.MOST_COUNT}, not '{text}'")
-        return int(text)
-
-    return read
-
-
-def port(text: str) -> int:
-    """Reads a port."""
-    if not commands.is_number(text, 65_535) or int(text) == 0:
-        raise argparse.ArgumentTypeError(f"1 to 65535, not '{text}'")
-    return int(text)
 
 
 def parser() -> argparse.ArgumentParser:
@@ -54,18 +35,6 @@ def parser() -> argparse.ArgumentParser:
     made.add_argument("--moves", type=bounded(1), metavar="N", help="how many moves may be done")
     made.add_argument("--history", type=bounded(2), metavar="N", help="entries of the history")
     return made
-
-
-def read(path: Optional[str]) -> Optional[Source]:
-    """The application's file; its faults end it with a line each."""
-    if path is None:
-        return None
-    source = load(path)
-    if source.application is None:
-        for fault in source.faults:
-            print(f"{source.path}:{fault}", file=sys.stderr)
-        raise Failure(f"{path} is refused as {source.faults[0].kind}")
-    return source
 
 
 def main(words: Sequence[str]) -> int:

@@ -1,6 +1,7 @@
 """The lines of a text in lines that aren't instructions: what each says of the application."""
 from typing import Dict, List, Sequence
 
+from rdbg.digits import is_digits
 from rdbg.firmware.numbers import NAME, Constants, Numbers
 from rdbg.firmware.tokens import Refusal, Token, shown
 from rdbg.shapes import FILE, Key, Shape
@@ -77,7 +78,7 @@ class ObjectLine:
         if token is None or not token.is_word():
             raise Refusal(token.place if token else self._word.place, lacks)
         behind = self._reader.tokens[2:3]
-        if token.text in self._shape.names() and behind and behind[0].text[0].isdigit():
+        if token.text in self._shape.names() and behind and is_digits(behind[0].text[0]):
             self._refusals.append(Refusal(token.place, lacks))
             return
         self._reader.at += 1

@@ -2,6 +2,7 @@
 from typing import Any, Callable, Dict, List, Sequence, Set
 
 from rdbg.application import Application, Instruction, Task
+from rdbg.digits import is_digits
 from rdbg.json_layout import pairs, settings
 from rdbg.firmware.numbers import FOREVER, LARGEST
 from rdbg.firmware.objects import OBJECTS
@@ -20,12 +21,12 @@ def label(number: str) -> str:
 
 def decimal(word: str) -> str:
     """A number in as few digits as it has; a register as it is."""
-    return str(int(word)) if word.isdigit() else word
+    return str(int(word)) if is_digits(word) else word
 
 
 def hexadecimal(word: str) -> str:
     """A number that stands for bits; a register as it is."""
-    return hex(int(word)) if word.isdigit() and int(word) else decimal(word)
+    return hex(int(word)) if is_digits(word) and int(word) else decimal(word)
 
 
 def summand(word: str) -> str:

@@ -3,6 +3,7 @@ import dataclasses
 from typing import FrozenSet, Iterable, Iterator, Sequence, Tuple
 
 from rdbg.application import Application
+from rdbg.digits import is_digits
 from rdbg.effects import Move
 from rdbg.tracing.run import Trim
 
@@ -69,7 +70,7 @@ class Table:
 def about(move: Move) -> FrozenSet[str]:
     """Whom a move is of, and of what its instruction or line and its effects speak."""
     words = (move.instruction or move.line).split()[1:]
-    named = [word for word in words if not word.isdigit()]
+    named = [word for word in words if not is_digits(word)]
     spoken = [it.name for it in move.effects] + [
         it.how for it in move.effects if it.kind == "turns"
     ]
