@@ -15,6 +15,7 @@ from types import TracebackType
 from typing import IO, Callable, Deque, Iterable, Iterator, List, Optional, Sequence, Type, Union
 
 from rdbg import replies
+from rdbg.ending import ENDING, STARTED
 from rdbg.failure import Failure
 
 WRAPPER = pathlib.Path(__file__).resolve().parents[2] / "rdbg"
@@ -125,9 +126,11 @@ class Session:
         errors = tempfile.TemporaryFile()
         pipe = subprocess.PIPE
         try:
-            process = subprocess.Popen(
-                words, stdin=pipe, stdout=pipe, stderr=errors, start_new_session=True
-            )
+            with ENDING.held():
+                process = subprocess.Popen(
+                    words, stdin=pipe, stdout=pipe, stderr=errors, start_new_session=True
+                )
+                STARTED.add(process)
         except OSError as error:
             errors.close()
             raise Failure(f"cannot start {words[0]}: {error.strerror}", 2) from None
@@ -324,7 +327,10 @@ class Session:
         for stream in (self._lines, self._answers):
             with contextlib.suppress(OSError):
                 stream.close()
-        status = 0 if self._process is None else self._process.wait()
+        status = 0
+        if self._process is not None:
+            status = self._process.wait()
+            STARTED.discard(self._process)
         if self._errors is not None:
             self._errors.close()
             self._errors = None

@@ -1,20 +1,25 @@
 """Finds the companion that the first word names, and runs it."""
 import importlib
 import os
-import pathlib
 import sys
 from types import ModuleType
-from typing import List, Sequence
+from typing import TYPE_CHECKING, List, Sequence
 
-from rdbg import command_line, manual, program_help
+from rdbg.ending import ENDING
 from rdbg.failure import Failure
 
-FOLDER = pathlib.Path(__file__).resolve().parent / "companions"
+if TYPE_CHECKING:
+    from rdbg.manual import Entry
+
+FOLDER = os.path.join(os.path.dirname(os.path.abspath(__file__)), "companions")
+# How the line begins on which a companion says what it is for.
+SUMMARY = 'SUMMARY = "'
 
 
 def names() -> List[str]:
     """The companions that there are."""
-    return sorted(file.stem for file in FOLDER.glob("*.py") if file.stem != "__init__")
+    stems = [os.path.splitext(file) for file in os.listdir(FOLDER)]
+    return sorted(stem for stem, end in stems if end == ".py" and stem != "__init__")
 
 
 def companion(name: str) -> ModuleType:
@@ -22,13 +27,32 @@ def companion(name: str) -> ModuleType:
     return importlib.import_module(f"rdbg.companions.{name}")
 
 
-def entries() -> List[manual.Entry]:
+def summary(name: str) -> str:
+    """What a companion is for, as the text of its module has it: all of them would take long to
+    import."""
+    with open(os.path.join(FOLDER, f"{name}.py"), encoding="utf-8") as file:
+        line = next(line for line in file if line.startswith(SUMMARY))
+    return line[len(SUMMARY) :].rstrip().rstrip('"')
+
+
+def entries() -> "List[Entry]":
     """Each companion, with a line on what it is for."""
-    return [manual.Entry(name, companion(name).SUMMARY) for name in names()]
+    from rdbg.manual import Entry
+
+    return [Entry(name, summary(name)) for name in names()]
+
+
+def manual(is_page: bool) -> str:
+    """The help, or the page rdbg(1)."""
+    from rdbg.manual import help_text, page
+
+    return page(entries()) if is_page else help_text(entries())
 
 
 def hint(words: Sequence[str]) -> int:
     """Says what is wrong with words that the program has refused, or that are none."""
+    from rdbg import command_line
+
     if words[:1] and words[0] in command_line.OF_COMMAND:
         found = command_line.why(words)
     else:
@@ -41,14 +65,14 @@ def hint(words: Sequence[str]) -> int:
 def run(words: Sequence[str]) -> int:
     """Does what the words ask for, and answers the exit status."""
     word = words[0] if words else ""
-    if word in ("--help", "-h"):
-        print(manual.help_text(entries()))
+    if word in ("--help", "-h", "--manual"):
+        print(manual(word == "--manual"))
     elif word == "--why" and words[1:]:
         return hint(words[1:])
     elif word == "--help-of" and words[1:]:
+        from rdbg import program_help
+
         print(program_help.OF[words[1]])
-    elif word == "--manual":
-        print(manual.page(entries()))
     elif word in names():
         return int(companion(word).main(words[1:]))
     else:
@@ -63,11 +87,11 @@ def main(words: Sequence[str]) -> int:
         sys.stdout.flush()
         return status
     except Failure as failure:
+        ENDING.check()
         print(" ".join(["rdbg", *words[:1]]) + f": {failure}", file=sys.stderr)
         return failure.status
-    except KeyboardInterrupt:
-        return 130
     except OSError as error:
+        ENDING.check()
         # (the output can't be written, or who read it has gone; Python would say so once more)
         os.dup2(os.open(os.devnull, os.O_WRONLY), sys.stdout.fileno())
         if not isinstance(error, BrokenPipeError):

@@ -2,9 +2,9 @@
 import contextlib
 import dataclasses
 import pathlib
-import tempfile
 from typing import Iterator, List, Optional, Tuple
 
+from rdbg import scratch
 from rdbg.application import Application, application
 from rdbg.failure import Failure
 from rdbg.checking.faults import Fault, faults_of
@@ -37,8 +37,8 @@ class Source:
             yield self.path
             return
         assert self.application is not None
-        with tempfile.TemporaryDirectory() as folder:
-            made = pathlib.Path(folder) / "application.json"
+        with scratch.folder() as folder:
+            made = folder / "application.json"
             made.write_text(json_of(self.application))
             yield str(made)
 

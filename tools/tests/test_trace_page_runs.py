@@ -11,6 +11,7 @@ from unittest import mock
 from rdbg.client import Session
 from rdbg.companions import trace
 from rdbg.main import main
+from rdbg.tracing import command
 from rdbg.tracing.page import document
 from rdbg.tracing.page.ways import settled
 from rdbg.tracing.run import Told
@@ -99,7 +100,7 @@ class Runs(Shown):
         commands.write_text("forward 3\n")
         given = trace.parser().parse_args(["--page", str(made)])
         given.commands = str(commands)
-        trace.trace_run(given, None)
+        command.trace_run(given, None)
         self.browser.open(made, "#3")
         self.assertIn("t0 1 send q0 0 -> 1, q0 1/2", self.browser.text("#readout"))
         self.assertIn("./rdbg sh", self.browser.text("#way-where"))
@@ -169,7 +170,7 @@ class Words(unittest.TestCase):
         """The status, and what is said on standard error."""
         with contextlib.redirect_stderr(io.StringIO()) as errors:
             # (on a busy machine it would say how far it is)
-            quiet = mock.patch.object(trace, "PATIENCE", 600)
+            quiet = mock.patch.object(command, "PATIENCE", 600)
             with contextlib.redirect_stdout(io.StringIO()), quiet:
                 status = main(["trace", str(LOST), str(self.commands), *words])
         return [status, *errors.getvalue().splitlines()]

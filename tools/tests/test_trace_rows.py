@@ -10,8 +10,8 @@ from typing import List, Tuple
 from unittest import mock
 
 from rdbg.client import Session
-from rdbg.companions import trace
 from rdbg.main import main
+from rdbg.tracing import command
 from tests.paths import EXAMPLES
 from tests.test_shell_port import server
 
@@ -54,7 +54,9 @@ class Rows(unittest.TestCase):
         taken = io.TextIOWrapper(io.BytesIO(given.encode()))
         with contextlib.redirect_stdout(output), contextlib.redirect_stderr(errors):
             # (on a busy machine it would say how far it is)
-            with mock.patch.object(sys, "stdin", taken), mock.patch.object(trace, "PATIENCE", 600):
+            with mock.patch.object(sys, "stdin", taken), mock.patch.object(
+                command, "PATIENCE", 600
+            ):
                 status = main(["trace", *words])
         return status, output.getvalue().splitlines(), errors.getvalue().splitlines()
 
@@ -134,8 +136,25 @@ class Rows(unittest.TestCase):
                 self.assertEqual(0, main(["trace", LOST]))
         self.assertEqual([HEAD, ROWS[0]], output.getvalue().splitlines())
 
-    def test_names_are_no_words_of_effects(self) -> None:
-        self.assertEqual([HEAD], self.traced(RUN, "--only", "left,core,waits")[1])
+    def test_names_that_nothing_has(self) -> None:
+        nobody = "rdbg trace: --only: '{}' names no task, object or core; {}"
+        there = "there are worker, producer, poller, jobs, 0, 1, tick, edit, .."
+        for names, name, meant in (
+            ("workr", "workr", "worker?"),
+            ("jobs, prodcuer", "prodcuer", "producer?"),
+            ("left,core", "left", there),  # (which are words of effects)
+            ("2", "2", there),
+            ("", "", there),
+        ):
+            with self.subTest(names):
+                said = self.traced(RUN, "--only", names)
+                self.assertEqual((2, [], [nobody.format(name, meant)]), said)
+
+    def test_places_without_a_move_between(self) -> None:
+        behind = "rdbg trace: --from 5 lies behind --to 2: no move is between"
+        self.assertEqual((2, [], [behind]), self.traced(RUN, "--from", "5", "--to", "2"))
+        self.assertEqual(2, self.said("--port", "5000", "--from", "5", "--to", "4")[0])
+        self.assertEqual([HEAD, ROWS[4]], self.traced(RUN, "--from", "5", "--to", "5")[1])
 
     def test_no_moves(self) -> None:
         self.assertEqual((0, [HEAD], []), self.traced(["show cores"]))

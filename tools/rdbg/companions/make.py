@@ -1,7 +1,6 @@
 """Makes the JSON of an application from its text in lines, or the text from the JSON."""
 import argparse
 import os
-import pathlib
 import sys
 from typing import Optional, Sequence
 
@@ -11,6 +10,7 @@ from rdbg.json_layout import MOST_BYTES, json_of
 from rdbg.firmware.writer import text_of
 from rdbg.shapes import FILE
 from rdbg.source import load
+from rdbg.whole_file import STANDARD_OUTPUT, written
 
 SUMMARY = "makes an application's JSON from a text in lines (.fw), or the text from the JSON"
 EPILOG = (
@@ -18,7 +18,7 @@ EPILOG = (
     " faults they are printed on standard error, each as FILE:LINE:COLUMN: and what would be right,"
     " and nothing is written. The status is 0, 1 for faults, or 2 for a file that can't be had."
 )
-TEXT, JSON, STANDARD_OUTPUT = ".fw", ".json", "-"
+TEXT, JSON = ".fw", ".json"
 MOST_FAULTS = 100
 
 
@@ -60,7 +60,8 @@ def make(path: str, output: Optional[str]) -> int:
     text = json_of(application)
     if len(text) > MOST_BYTES:
         raise Failure(f"the JSON of {path} has {len(text):,} bytes; rdbg reads {MOST_BYTES:,}")
-    write(text, chosen)
+    with written(chosen) as file:
+        file.write(text)
     if chosen != STANDARD_OUTPUT:
         print(f"{chosen}: {counts(application)}")
     return 0
@@ -75,7 +76,9 @@ def back(path: str, output: Optional[str]) -> int:
         raise Failure(f"{chosen} doesn't end in {TEXT}; it isn't written", 2)
     if os.path.lexists(chosen) and chosen != STANDARD_OUTPUT:
         raise Failure(f"{chosen} is there already, and its comments would be lost", 2)
-    write(text_of(accepted(path, 1)), chosen)
+    text = text_of(accepted(path, 1))
+    with written(chosen) as file:
+        file.write(text)
     return 0
 
 
@@ -97,17 +100,6 @@ def accepted(path: str, most: int) -> Application:
     count = len(found.faults)
     faults = "1 fault" if count == 1 else f"{count} faults"
     raise Failure(f"{path} has {faults}; nothing is written")
-
-
-def write(text: str, path: str) -> None:
-    """Writes a text to a file, or to standard output. Raises `Failure` where it can't."""
-    if path == STANDARD_OUTPUT:
-        sys.stdout.write(text)
-        return
-    try:
-        pathlib.Path(path).write_text(text, encoding="ascii")
-    except OSError as error:
-        raise Failure(f"cannot write {path}: {error.strerror}", 2) from None
 
 
 def counts(application: Application) -> str:

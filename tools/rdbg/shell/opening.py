@@ -1,11 +1,10 @@
 """The beginning and the end of a session: a program of one's own, or a port that is attached to."""
 import contextlib
-import pathlib
 import sys
-import tempfile
 import threading
 from typing import Iterator, Optional
 
+from rdbg import scratch
 from rdbg import source as sources
 from rdbg.application import Application
 from rdbg.client import Session
@@ -50,8 +49,8 @@ def as_read(source: Source) -> Iterator[str]:
         with source.as_json() as path:
             yield path
         return
-    with tempfile.TemporaryDirectory() as folder:
-        made = pathlib.Path(folder) / "application.json"
+    with scratch.folder() as folder:
+        made = folder / "application.json"
         made.write_bytes(source.text.encode("utf-8", "replace"))
         yield str(made)
 

@@ -3,11 +3,9 @@
 A look takes a place of the history, of which there are a million at most, so a long run is looked
 at in pieces, by programs side by side.
 """
-import collections
-import concurrent.futures
 import dataclasses
-import signal
-from typing import Deque, Iterator, List, Optional, Sequence, Tuple
+import functools
+from typing import Iterator, List, Optional, Sequence, Tuple
 
 from rdbg.effects import Move
 from rdbg.failure import Failure
@@ -18,6 +16,7 @@ from rdbg.shell.opening import begin
 from rdbg.shell.target import RESERVE, Limits, Target
 from rdbg.shell.walk import LEAST_PIECE, Walk
 from rdbg.source import Source
+from rdbg.tracing.workers import side_by_side
 
 # So many moves are looked at by one program at the most.
 MOST_MOVES = 4_096
@@ -191,29 +190,13 @@ def part_of(run: Run, piece: Piece) -> Part:
         return look_through(target, piece.first, piece.last)
 
 
-def ignore_interrupt() -> None:
-    """Leaves Ctrl-C to the process that started this one."""
-    signal.signal(signal.SIGINT, signal.SIG_IGN)
-
-
 def parts(run: Run, pieces: Sequence[Piece], workers: int) -> Iterator[Part]:
     """Looks at the pieces, so many at a time, and yields each in its order. Of those that are
     looked at no more are kept than there are workers."""
     if workers < 2 or len(pieces) < 2:
         yield from (part_of(run, piece) for piece in pieces)
-        return
-    waiting: Deque["concurrent.futures.Future[Part]"] = collections.deque()
-    with concurrent.futures.ProcessPoolExecutor(workers, initializer=ignore_interrupt) as pool:
-        try:
-            for piece in pieces:
-                if len(waiting) > workers:
-                    yield waiting.popleft().result()
-                waiting.append(pool.submit(part_of, run, piece))
-            while waiting:
-                yield waiting.popleft().result()
-        finally:
-            for it in waiting:
-                it.cancel()
+    else:
+        yield from side_by_side(functools.partial(part_of, run), pieces, workers)
 
 
 def part_at(target: Target, first: Optional[int], last: Optional[int]) -> Tuple[Part, int]:

@@ -1,0 +1,95 @@
+"""Files that are written whole, or stay as they were.
+
+What is written stands beside the file until all of it is there, and then takes its place: who reads
+the file finds the old text or the new one, also where the writing fails or is ended.
+"""
+import contextlib
+import os
+import stat
+import sys
+from typing import IO, Iterator, Optional, Tuple
+
+from rdbg.ending import ENDING, MADE
+from rdbg.failure import Failure
+
+STANDARD_OUTPUT = "-"
+# Here files are other names of what is open already.
+OPEN_ALREADY = ("/dev/", "/proc/")
+NEW_MODE = 0o666  # (of which the user's own mask takes its part)
+
+
+def cannot(path: str, error: OSError) -> Failure:
+    """Why a file isn't written."""
+    return Failure(f"cannot write {path}: {error.strerror}", 2)
+
+
+def found(path: str) -> Optional[os.stat_result]:
+    """What there is at a path, behind links; none where there is nothing."""
+    try:
+        return os.stat(path)
+    except FileNotFoundError:
+        return None
+
+
+def replaced(path: str, there: Optional[os.stat_result]) -> str:
+    """The path of the file whose place another one can take: that behind links. Empty where it is
+    written itself: a pipe or a device, a file of several names or of a folder where no other can be
+    made, or one that this process has open, as its output."""
+    if os.path.abspath(path).startswith(OPEN_ALREADY) or not os.path.basename(path):
+        return ""
+    real = os.path.realpath(path)
+    if there is None:
+        return real
+    is_plain = stat.S_ISREG(there.st_mode) and there.st_nlink == 1 and os.access(real, os.W_OK)
+    return real if is_plain and os.access(os.path.dirname(real), os.W_OK) else ""
+
+
+def beside(path: str) -> Tuple[int, str]:
+    """A new file in the folder of another, open, and its path."""
+    number = 0
+    while True:
+        made = os.path.join(os.path.dirname(path), f".rdbg-{os.getpid()}-{number}")
+        with contextlib.suppress(FileExistsError):
+            return os.open(made, os.O_WRONLY | os.O_CREAT | os.O_EXCL, NEW_MODE), made
+        number += 1
+
+
+def keep_owner(made: int, there: os.stat_result) -> None:
+    """Gives a new file the owner and the mode of the one whose place it takes, as far as it may."""
+    with contextlib.suppress(OSError):
+        os.fchown(made, there.st_uid, there.st_gid)
+    os.fchmod(made, stat.S_IMODE(there.st_mode))
+
+
+@contextlib.contextmanager
+def written(path: str) -> Iterator[IO[str]]:
+    """What is written to a file, in UTF-8, or to standard output where the path is `-`. It is there
+    when the block has ended well. Raises `Failure` where it can't be."""
+    if path == STANDARD_OUTPUT:
+        yield sys.stdout
+        return
+    try:
+        there = found(path)
+        real = replaced(path, there)
+        with ENDING.held():
+            number, made = beside(real) if real else (-1, "")
+            MADE.add(made)
+        file = open(number if real else path, "w", encoding="utf-8")
+    except OSError as error:
+        raise cannot(path, error) from None
+    try:
+        yield file
+        try:
+            if real and there is not None:
+                keep_owner(number, there)
+            file.close()
+            if real:
+                os.replace(made, real)
+        except OSError as error:
+            raise cannot(path, error) from None
+    finally:
+        with contextlib.suppress(OSError):
+            file.close()
+        with contextlib.suppress(FileNotFoundError):
+            os.unlink(made)
+        MADE.discard(made)

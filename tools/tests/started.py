@@ -1,0 +1,116 @@
+"""Companions as processes of their own: what they leave behind, and what becomes of them where a
+module is missing or a signal comes while one is imported."""
+import os
+import pathlib
+import subprocess
+import sys
+import time
+from typing import Dict, List, Optional
+
+from tests.paths import COMPANION
+
+PATIENCE = 30.0
+MARK = "RDBG_TEST_MARK"
+# Runs the companion so that something is done before a module is imported.
+RUNNER = """
+import os, runpy, sys
+companion, at, action, *words = sys.argv[1:]
+class Finder:
+    def find_spec(self, name, path=None, target=None):
+        if name in at.split(","):
+            if action == "hide":
+                raise ModuleNotFoundError(f"No module named {name!r}", name=name)
+            os.kill(os.getpid(), int(action))
+sys.meta_path.insert(0, Finder())
+sys.argv = [companion, *words]
+sys.path[0] = os.path.dirname(companion)
+runpy.run_path(companion, run_name="__main__")
+"""
+# A program that never answers, nor ends by itself.
+SLEEPER = """#!/bin/sh
+exec sleep 1000
+"""
+
+
+def at_import(module: str, action: str, *words: str) -> "subprocess.CompletedProcess[str]":
+    """A companion of which, before a module is imported, this signal comes, or that is hidden."""
+    told = [sys.executable, "-B", "-c", RUNNER, str(COMPANION), module, action, *words]
+    return subprocess.run(
+        told, stdin=subprocess.DEVNULL, stdout=subprocess.PIPE, stderr=subprocess.PIPE, text=True
+    )
+
+
+def sleeper(folder: str) -> str:
+    """The path of a program that never answers, in a folder."""
+    made = pathlib.Path(folder) / "sleeper"
+    made.write_text(SLEEPER)
+    made.chmod(0o700)
+    return str(made)
+
+
+class Started:
+    """A companion that runs, with all processes that it has started, and theirs."""
+
+    def __init__(
+        self, *words: str, program: Optional[str] = None, ignored: Optional[int] = None
+    ) -> None:
+        self.mark = f"{os.getpid()}-{time.monotonic_ns()}"
+        more: Dict[str, str] = {} if program is None else {"RDBG_PROGRAM": program}
+        begin = [sys.executable, str(COMPANION)]
+        if ignored is not None:
+            begin = ["sh", "-c", f"trap '' {ignored}; exec \"$@\"", "sh", *begin]
+        self.process = subprocess.Popen(
+            [*begin, *words],
+            env={**os.environ, MARK: self.mark, **more},
+            stdin=subprocess.PIPE,
+            stdout=subprocess.PIPE,
+            stderr=subprocess.PIPE,
+        )
+
+    def family(self) -> List[str]:
+        """The processes that there are, the companion's own among them."""
+        found = []
+        for folder in pathlib.Path("/proc").iterdir():
+            try:
+                if f"{MARK}={self.mark}".encode() in (folder / "environ").read_bytes().split(b"\0"):
+                    found.append(folder.name)
+            except OSError:
+                pass
+        return found
+
+    def wait_for(self, count: int) -> None:
+        """Waits until there are so many processes."""
+        end = time.monotonic() + PATIENCE
+        while len(self.family()) != count:
+            assert time.monotonic() < end, (self.family(), self.process.poll())
+            time.sleep(0.01)
+
+    def give(self, lines: str) -> None:
+        """Gives lines to its standard input, which ends there."""
+        assert self.process.stdin is not None
+        self.process.stdin.write(lines.encode())
+        self.process.stdin.close()
+
+    def ask(self, line: str) -> str:
+        """What it answers to a line."""
+        assert self.process.stdin is not None and self.process.stdout is not None
+        self.process.stdin.write(line.encode())
+        self.process.stdin.flush()
+        return self.process.stdout.readline().decode()
+
+    def end(self, number: int) -> List[object]:
+        """What it says on standard error and its status, once a signal has come, or where that is 0
+        its input has ended; nothing that it has started is there any more."""
+        streams = (self.process.stdin, self.process.stdout, self.process.stderr)
+        assert streams[0] is not None and streams[2] is not None
+        if number:
+            self.process.send_signal(number)
+        else:
+            streams[0].close()
+        status = self.process.wait(PATIENCE)
+        self.wait_for(0)
+        errors = streams[2].read().decode()
+        for stream in streams:
+            assert stream is not None
+            stream.close()
+        return [errors, status]
