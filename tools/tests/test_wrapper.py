@@ -113,6 +113,7 @@ class Wrapper(unittest.TestCase):
             page = (prefix / "share" / "man" / "man1" / "rdbg.1").read_text()
             self.assertTrue(page.startswith(".TH RDBG 1 "))
             self.assertFalse((prefix / "lib" / "rdbg" / "tools" / "tests").exists())
+            self.assertTrue(list((prefix / "lib/rdbg/tools/rdbg/__pycache__").glob("main.*.pyc")))
             # (with a program of its own)
             self.check_example(prefix / "bin" / "rdbg", {"RDBG_PROGRAM": ""})
             again = run(WRAPPER, "install", str(prefix))
