@@ -17,6 +17,7 @@ from typing import IO, Callable, Deque, Iterable, Iterator, List, Optional, Sequ
 from rdbg import replies
 from rdbg.ending import ENDING, STARTED
 from rdbg.failure import Failure
+from rdbg.shown import shown
 
 WRAPPER = pathlib.Path(__file__).resolve().parents[2] / "rdbg"
 # So many bytes of lines fit into an empty pipe, so that writing them waits for nobody.
@@ -25,8 +26,13 @@ LOCAL = "127.0.0.1"
 # Notices that nobody hears yet are kept, so many of them.
 UNHEARD = 100
 NOTICE, REFUSED = b"#", "# no: "
-YOU = re.compile(r"# you are (\w+), session (\d+)")
+YOU = re.compile(r"# you are ([a-z][a-z0-9_]{0,15}), session ([0-9]{1,10})\b")
 READ = 65_536
+
+
+def text_of(line: bytes) -> str:
+    """A line that has come, without its end, as a terminal can show it, whoever wrote it."""
+    return shown(line[:-1].decode("utf-8", "replace"))
 
 
 @functools.lru_cache(maxsize=None)
@@ -239,7 +245,7 @@ class Session:
             self._hear(reply)
             reply = self._line()
         self._owed -= 1
-        return reply[:-1].decode("ascii", "replace")
+        return text_of(reply)
 
     def _line(self) -> bytes:
         """The next line that comes. Raises `Failure` where none does."""
@@ -254,7 +260,7 @@ class Session:
 
     def _hear(self, line: bytes) -> None:
         """Hears a notice."""
-        notice = line.decode("utf-8", "replace").rstrip("\n")
+        notice = text_of(line)
         found = YOU.match(notice)
         if found:
             self.name, self.number = found[1], int(found[2])
@@ -274,10 +280,10 @@ class Session:
         while not is_answered:
             heard = self._line()
             if not heard.startswith(NOTICE):
-                raise replies.Unreadable(heard.decode("ascii", "replace").rstrip("\n"))
+                raise replies.Unreadable(text_of(heard))
             self._hear(heard)
             heads = (REFUSED, "# you are ", "# here: ", "# at ", f"# {self.name} ")
-            is_answered = heard.decode("utf-8", "replace").startswith(heads)
+            is_answered = text_of(heard).startswith(heads)
 
     def waited_for(self) -> Optional[int]:
         """What becomes readable once a notice comes, at a port."""

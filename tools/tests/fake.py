@@ -2,10 +2,12 @@
 import contextlib
 import os
 import pathlib
+import socket
 import stat
 import sys
 import tempfile
-from typing import Iterator, Sequence
+import threading
+from typing import Callable, Iterator, Sequence
 from unittest import mock
 
 TEXT = """#!{python} -B
@@ -32,3 +34,26 @@ def program(answers: Sequence[str], error: str = "", status: int = 0) -> Iterato
         file.chmod(file.stat().st_mode | stat.S_IXUSR)
         with mock.patch.dict(os.environ, {"RDBG_PROGRAM": str(file)}):
             yield str(file)
+
+
+@contextlib.contextmanager
+def port(answer: Callable[[str], bytes]) -> Iterator[int]:
+    """A port at which one connection is answered: to each line it is sent what `answer` says of
+    it, and closed where that is nothing."""
+
+    def serve() -> None:
+        with contextlib.suppress(OSError), listener.accept()[0] as connection:
+            with connection.makefile("rb") as lines:
+                for line in lines:
+                    said = answer(line.decode().rstrip("\n"))
+                    if not said:
+                        return
+                    connection.sendall(said)
+
+    with socket.socket() as listener:
+        listener.bind(("127.0.0.1", 0))
+        listener.listen()
+        thread = threading.Thread(target=serve, daemon=True)
+        thread.start()
+        yield int(listener.getsockname()[1])
+    thread.join(10)

@@ -248,8 +248,10 @@ class Told(unittest.TestCase):
     def test_what_a_terminal_would_take_for_its_own(self) -> None:
         with room() as here:
             left, heard = come(here, "left")
-            left.remark("# say \x1b[2J\u202eh\xe4 \x07")
-            self.assertEqual(heard[-1], "# left says: ?[2J?h\xe4 ?")
+            left.remark("# say \x1b[2J\u202eh\xe4 \x07\x9b\x7f")
+            self.assertEqual(heard[-1], "# left says: \\x1b[2J\\u202eh\xe4 \\x07\\x9b\\x7f")
+            left.remark("# name a\x1b[2J")
+            self.assertTrue(heard[-1].startswith("# no: 'a\\x1b[2J' can't be a name: "))
             self.assertEqual(field("a\tb\\\x1b\n"), "a\\tb\\\\\\x1b\\n")
 
     def test_lines_that_are_none(self) -> None:

@@ -13,6 +13,7 @@ from rdbg.rooms.sight import is_single
 from rdbg.rooms.talk import Talk
 from rdbg.rooms.turns import Turns
 from rdbg.shell.target import Limits, read_line
+from rdbg.shown import shown
 from rdbg.source import Source
 
 __all__ = ["Ended", "Member", "Refusal", "Room"]
@@ -294,7 +295,7 @@ class Room:
 
     def tell(self, text: str, but: Optional[Member] = None) -> None:
         """Tells all who are here, but for one."""
-        notice = f"# {printed(text)}"
+        notice = f"# {shown(text)}"
         for member in self._members.values():
             if member is not but:
                 member.hear(notice)
@@ -412,8 +413,3 @@ class Room:
     def kill(self) -> None:
         """Ends the program at once, without its audit."""
         self._program.kill()
-
-
-def printed(text: str) -> str:
-    """A text without what a terminal would take for its own."""
-    return text if text.isprintable() else "".join(it if it.isprintable() else "?" for it in text)

@@ -4,6 +4,7 @@ import time
 from typing import IO, Optional
 
 from rdbg.failure import Failure
+from rdbg.shown import shown
 
 HEAD = "when\twho\tline\treply\n"
 
@@ -11,12 +12,7 @@ HEAD = "when\twho\tline\treply\n"
 def field(text: str) -> str:
     """A text as one field: what isn't printed stands there as its number, so that tabs and line
     ends are those of the rows alone."""
-    if text.isprintable() and "\\" not in text:
-        return text
-    return "".join(
-        it if it.isprintable() and it != "\\" else it.encode("unicode_escape").decode()
-        for it in text
-    )
+    return shown(text.replace("\\", "\\\\"))
 
 
 class Talk:

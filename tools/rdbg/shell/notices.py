@@ -10,10 +10,10 @@ from typing import Callable, Iterator, List, Optional, Tuple
 from rdbg.client import Session
 
 # A move of a run, told in a line of its own behind the line of the run.
-ROW = re.compile(r"# (\d+(\.\.\d+)?  |\.\. \d+ moves )")
+ROW = re.compile(r"# ([0-9]+(\.\.[0-9]+)?  |\.\. [0-9]+ moves )")
 # What others did, and the place behind it.
-MOVED = re.compile(r"# \w+: .* -> ok at (\d+)")
-REMARK = re.compile(r"# *(who|wheel|name +\S+|say +\S.*|moves( +\d+)?)$")
+MOVED = re.compile(r"# \w+: .* -> ok at ([0-9]{1,10})\b")
+REMARK = re.compile(r"# *(who|wheel|name +\S+|say +\S.*|moves( +[0-9]+)?)$")
 # So many moves a room tells at the most.
 MOST_MOVES = 20
 

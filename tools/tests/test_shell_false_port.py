@@ -1,0 +1,77 @@
+"""`rdbg sh --port P` where what comes from the port is none of rdbg's: a terminal takes none of it
+for its own."""
+import subprocess
+import sys
+import unittest
+from typing import Tuple
+
+from tests import fake
+from tests.paths import COMPANION
+
+# What a terminal would clear its screen by, ring, call itself, or go back over; a letter stays.
+WILD = "\x1b[2J\x07\x1b]0;mine\x07\x9b2J\x7f\x85\rh\xe4 \u4e2d"
+PLAIN = "\\x1b[2J\\x07\\x1b]0;mine\\x07\\x9b2J\\x7f\\x85\\rh\xe4 \u4e2d"
+KNOWN = {
+    "# name ada": f"# you are ada, session 1; here: {WILD}\n",
+    "show moves": "moves 0 undone 0 kept 0\n",
+    "show cores": "cores - ready - tick 0 turn 0\n",
+    "show wheel": f"# bo says: {WILD}\nwheel -\n",
+    "wheel take": f"no {WILD}\n",
+    "show watches": f"{WILD}\n",
+    "tick": f"# bo: {WILD} -> ok at {'9' * 5_000}\nok at {'9' * 5_000}\n",
+    "# who": f"{WILD}\n",
+}
+
+
+def ran(lines: str) -> Tuple[int, str, str]:
+    """The status of a filter that is given these lines, and what it prints."""
+    with fake.port(lambda line: KNOWN.get(line, "").encode()) as port:
+        words = [sys.executable, "-B", str(COMPANION), "sh", "--port", str(port), "--name", "ada"]
+        done = subprocess.run(
+            words,
+            input=lines.encode(),
+            stdout=subprocess.PIPE,
+            stderr=subprocess.PIPE,
+            env={"PYTHONIOENCODING": "utf-8"},
+        )
+    return done.returncode, done.stdout.decode(), done.stderr.decode()
+
+
+class FalsePort(unittest.TestCase):
+    """Each line, and what is seen of its reply."""
+
+    def test_notices_and_names(self) -> None:
+        status, output, _ = ran("show wheel\n")
+        self.assertEqual(status, 0)
+        self.assertEqual(
+            output.splitlines(),
+            [
+                f"# you are ada, session 1; here: {PLAIN}",
+                f"# bo says: {PLAIN}",
+                "wheel -",
+            ],
+        )
+
+    def test_replies(self) -> None:
+        for line, reply in (
+            ("wheel take", f"no {PLAIN}"),
+            ("show watches", PLAIN),
+            ("# who", PLAIN),
+        ):
+            with self.subTest(line):
+                status, output, errors = ran(f"{line}\n")
+                self.assertEqual(status, 1)
+                why = "rdbg answered what no reply looks like"
+                self.assertEqual(errors, f"rdbg sh: {why}: '{reply}'\n")
+                self.assertTrue(output.replace("\n", "").isprintable(), repr(output))
+
+    def test_a_number_of_five_thousand_digits(self) -> None:
+        status, _, errors = ran("tick\n")
+        self.assertEqual(status, 1)
+        self.assertRegex(
+            errors, r"^rdbg sh: rdbg answered what no reply looks like: 'ok at 9{194}'$"
+        )
+
+
+if __name__ == "__main__":
+    unittest.main()
