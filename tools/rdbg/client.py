@@ -26,6 +26,8 @@ LOCAL = "127.0.0.1"
 # Notices that nobody hears yet are kept, so many of them.
 UNHEARD = 100
 NOTICE, REFUSED = b"#", "# no: "
+# What a room says last.
+ROOM_ENDED = "# the room has ended"
 YOU = re.compile(r"# you are ([a-z][a-z0-9_]{0,15}), session ([0-9]{1,10})\b")
 READ = 65_536
 
@@ -59,17 +61,17 @@ def program() -> str:
     return built_by(wrapper, os.environ.get("RDBG_WRAPPER_WORDS", ""))
 
 
-class PortLines:
-    """The lines that come by a connection."""
+class Incoming:
+    """The lines that come by a connection or a pipe, whose next bytes `receive` has."""
 
-    def __init__(self, connection: socket.socket) -> None:
-        self._connection = connection
+    def __init__(self, number: int, receive: Callable[[int], bytes]) -> None:
+        self._number, self._receive = number, receive
         self._whole: Deque[bytes] = collections.deque()
         self._tail = b""
 
     def fileno(self) -> int:
         """What can be waited for."""
-        return self._connection.fileno()
+        return self._number
 
     def has_line(self) -> bool:
         """Whether a whole line has come."""
@@ -77,7 +79,7 @@ class PortLines:
 
     def fill(self) -> bool:
         """Waits until something comes; false at the end."""
-        content = self._connection.recv(READ)
+        content = self._receive(READ)
         *whole, self._tail = (self._tail + content).split(b"\n")
         self._whole.extend(line + b"\n" for line in whole)
         return bool(content)
@@ -86,8 +88,21 @@ class PortLines:
         """The next line with its end; without one at the end of all."""
         while not self._whole:
             if not self.fill():
-                return b""
+                last, self._tail = self._tail, b""
+                return last
         return self._whole.popleft()
+
+
+class PortLines(Incoming):
+    """The lines that come by a connection."""
+
+    def __init__(self, connection: socket.socket) -> None:
+        super().__init__(connection.fileno(), connection.recv)
+        self._connection = connection
+
+    def fileno(self) -> int:
+        """What can be waited for; -1 once it is closed."""
+        return self._connection.fileno()
 
     def close(self) -> None:
         """Closes the connection."""
@@ -111,6 +126,7 @@ class Session:
         self.on_line: Optional[Callable[[str, str], None]] = None
         self.name: Optional[str] = None
         self.number: Optional[int] = None
+        self._goodbye = ""
         self._on_notice: Optional[Callable[[str], None]] = None
         self._unheard: Deque[str] = collections.deque(maxlen=UNHEARD)
 
@@ -255,7 +271,7 @@ class Session:
             line = b""
         if not line.endswith(b"\n"):
             self._owed = 0
-            raise Failure(self._end())
+            raise Failure(self.why_ended())
         return line
 
     def _hear(self, line: bytes) -> None:
@@ -264,6 +280,8 @@ class Session:
         found = YOU.match(notice)
         if found:
             self.name, self.number = found[1], int(found[2])
+        if notice.startswith(ROOM_ENDED):
+            self._goodbye = notice[len("# ") :]
         if self._on_notice is None:
             self._unheard.append(notice)
         else:
@@ -303,13 +321,16 @@ class Session:
                 self._hear(line)
         return is_there
 
-    def _end(self) -> str:
+    def why_ended(self) -> str:
         """Why there are no more replies."""
         if self._process is None:
             last = self._unheard[-1] if self._unheard else ""
             if last.startswith(REFUSED):
                 return f"{self._name}: {last[len(REFUSED) :]}"
-            return f"{self._name} has closed the connection"
+            of_room = f"the room has ended: {self._name} has closed the connection"
+            return self._goodbye or (
+                of_room if self.name else f"{self._name} has closed the connection"
+            )
         status = self._process.wait()
         said = self.errors().strip().splitlines()
         return said[-1] if said else f"rdbg has ended, with status {status}"

@@ -16,8 +16,8 @@ from rdbg.shell.target import Limits
 SUMMARY = "a prompt: rdbg's lines with history, Tab and help, and what each move did"
 EPILOG = (
     "Not at a terminal it is a filter: it prints what rdbg answers, and lines of its own begin with"
-    " '# '; hints go to standard error. The status is 0, 1 where the application is refused or rdbg"
-    " has ended, 2 where a file or a port can't be had."
+    " '# '; hints go to standard error. The status is 0, 1 where the application is refused, or where"
+    " rdbg, or a room, has ended, 2 where a file or a port can't be had."
 )
 
 

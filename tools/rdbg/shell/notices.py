@@ -7,7 +7,8 @@ import select
 import threading
 from typing import Callable, Iterator, List, Optional, Tuple
 
-from rdbg.client import Session
+from rdbg.client import ROOM_ENDED, Session
+from rdbg.failure import Failure
 
 # A move of a run, told in a line of its own behind the line of the run.
 ROW = re.compile(r"# ([0-9]+(\.\.[0-9]+)?  |\.\. [0-9]+ moves )")
@@ -16,6 +17,8 @@ MOVED = re.compile(r"# \w+: .* -> ok at ([0-9]{1,10})\b")
 REMARK = re.compile(r"# *(who|wheel|name +\S+|say +\S.*|moves( +[0-9]+)?)$")
 # So many moves a room tells at the most.
 MOST_MOVES = 20
+# So many seconds pass until who wasn't woken is woken again.
+AGAIN = 0.05
 
 
 def is_remark(line: str) -> bool:
@@ -52,7 +55,8 @@ class Notices:
             found = MOVED.match(notice)
             if found:
                 self._moved(int(found[1]))
-            self._show(notice)
+            if not notice.startswith(ROOM_ENDED):  # (which is said at the end of all)
+                self._show(notice)
 
     def told(self, reply: str) -> Tuple[str, List[str]]:
         """What the line that was answered so last did: in a few words, or a row each for the moves
@@ -68,13 +72,14 @@ class Notices:
         self._own, self._is_own = [], False
 
     @contextlib.contextmanager
-    def listening(self) -> Iterator[None]:
-        """As long as a line is typed: notices are heard as they come."""
-        if not self.is_room:
+    def listening(self, wake: Callable[[], None]) -> Iterator[None]:
+        """As long as a line is typed: `wake` is called, in another thread, once something comes."""
+        there = self._session.waited_for()
+        if there is None:
             yield
             return
         ended, end = os.pipe()
-        thread = threading.Thread(target=self._listen, args=(ended,), daemon=True)
+        thread = threading.Thread(target=listen, args=(there, ended, wake), daemon=True)
         thread.start()
         try:
             yield
@@ -84,9 +89,16 @@ class Notices:
             os.close(ended)
             os.close(end)
 
-    def _listen(self, ended: int) -> None:
-        there: Optional[int] = self._session.waited_for()
-        while there is not None:
-            ready, _, _ = select.select([there, ended], [], [])
-            if ended in ready or not self._session.hear_now():
-                return
+    def hear_now(self) -> None:
+        """Hears what has come. Raises `Failure` where nothing will come any more."""
+        if not self._session.hear_now():
+            raise Failure(self._session.why_ended())
+
+
+def listen(there: int, ended: int, wake: Callable[[], None]) -> None:
+    """Wakes somebody once something is there, until that is seen. (A signal that comes before what
+    it has to interrupt has begun is lost.)"""
+    ready, _, _ = select.select([there, ended], [], [])
+    while ended not in ready:
+        wake()
+        ready, _, _ = select.select([ended], [], [], AGAIN)

@@ -1,14 +1,21 @@
 """Lines from a terminal, with a history and Tab, and lines from anywhere else."""
+import functools
 import os
 import pathlib
+import select
 import sys
 from types import ModuleType
 from typing import TYPE_CHECKING, Optional
+
+from rdbg.client import Incoming
+from rdbg.shell.interrupt import Woken
 
 if TYPE_CHECKING:
     from rdbg.shell.shell import Shell
 
 MOST_LINES = 2_000
+# Wipes the line of a terminal.
+WIPE = "\r\x1b[K"
 # Lines with these words aren't repeated by Enter.
 ONCE = (
     "watch", "unwatch", "break", "b", "delete", "d", "save", "reload", "set", "help", "h", "?",
@@ -86,24 +93,34 @@ class Lines:
             self.file = None
 
     def next(self) -> Optional[str]:
-        """The line that is typed next, none at Ctrl-D. Raises `KeyboardInterrupt` at Ctrl-C."""
-        prompt = f"(rdbg {self.shell.target.place}) "
-        sys.stdout.flush()
-        self.shell.typed = lambda: prompt + self._typed()
-        try:
-            with self.shell.notices.listening(), self.shell.interrupt.at_prompt():
-                return input(prompt)
-        except EOFError:
-            print()
-            return None
-        except UnicodeDecodeError:
-            return "# no text"
-        finally:
-            self.shell.typed = None
+        """The line that is typed next, none at Ctrl-D; what is told meanwhile stands above it.
+        Raises `KeyboardInterrupt` at Ctrl-C, `Failure` where a port has ended."""
+        begun = ""
+        while True:
+            sys.stdout.flush()
+            try:
+                return self._line(f"(rdbg {self.shell.target.place}) ", begun)
+            except Woken:
+                begun = "" if self.readline is None else str(self.readline.get_line_buffer())
+                print(WIPE, end="", flush=True)
+                self.shell.notices.hear_now()
+            except EOFError:
+                print()
+                return None
+            except UnicodeDecodeError:
+                return "# no text"
 
-    def _typed(self) -> str:
-        """What is typed of the line so far."""
-        return "" if self.readline is None else str(self.readline.get_line_buffer())
+    def _line(self, prompt: str, begun: str) -> str:
+        """The line that is typed, of which so much is there already. Raises `Woken` where something
+        comes before it is whole."""
+        if self.readline is not None:
+            # (no function of Python's own: a signal that came in it would be lost, and what was typed)
+            self.readline.set_startup_hook(functools.partial(self.readline.insert_text, begun))
+        interrupt = self.shell.interrupt
+        with self.shell.notices.listening(interrupt.wake), interrupt.at_prompt() as typed:
+            # (by one call, so that no signal comes in between: a line that is there isn't lost)
+            typed.extend(map(input, [prompt]))
+            return typed[0]
 
 
 def greet(shell: "Shell") -> None:
@@ -143,8 +160,25 @@ def talk(shell: "Shell") -> None:
 
 
 def filter_lines(shell: "Shell") -> None:
-    """Does each line of standard input."""
-    for line in iter(sys.stdin.buffer.readline, b""):
+    """Does each line of standard input; a room is heard between them."""
+    read = sys.stdin.buffer.readline
+    if shell.notices.is_room:
+        number = sys.stdin.fileno()
+        lines = Incoming(number, functools.partial(os.read, number))
+        read = functools.partial(next_line, shell, lines)
+    for line in iter(read, b""):
         shell.line(line.decode("utf-8", "replace"))
         if shell.is_done:
             return
+
+
+def next_line(shell: "Shell", lines: Incoming) -> bytes:
+    """The next line; while none is there the room is heard. Raises `Failure` where it has ended."""
+    room = shell.target.session.waited_for()
+    while not lines.has_line():
+        ready, _, _ = select.select([lines.fileno(), room], [], [])
+        if room in ready:
+            shell.notices.hear_now()
+        if lines.fileno() in ready and not lines.fill():
+            break
+    return lines.readline()

@@ -4,7 +4,7 @@ import re
 import shutil
 import sys
 import time
-from typing import Callable, Iterator, Optional
+from typing import Iterator, Optional
 
 from rdbg import commands
 from rdbg.looks import Look, Names
@@ -32,8 +32,6 @@ class Shell:
         # The line of rdbg's that a word of sh's own stands for, for hints.
         self.asked = ""
         self.shows_moves = self.shows_lines = False
-        # What stands at the terminal while a line is typed.
-        self.typed: Optional[Callable[[], str]] = None
         self.is_terminal = self.told_of_breaks = self.is_done = False
         self.take(target, source)
 
@@ -60,12 +58,9 @@ class Shell:
             print(f"# {line}".rstrip())
 
     def _notice(self, notice: str) -> None:
-        """Prints a notice of a room; what is typed stands below it."""
+        """Prints a notice of a room."""
         self._wipe()
-        if self.typed is None:
-            print(notice, flush=True)
-        else:
-            print(f"\r\x1b[K{notice}\n{self.typed()}", end="", flush=True)
+        print(notice, flush=True)
 
     def progress(self, made: int, of: int, done: str) -> None:
         """Shows at a terminal how far something long is: it stands in one line, and goes away."""
