@@ -141,6 +141,30 @@ class Names(unittest.TestCase):
             back.leave()
             self.assertEqual(come(here)[0].ask("show watches"), "watches -")
 
+    def test_guests_where_names_have_all_sessions(self) -> None:
+        with room(2) as here:
+            left, _ = come(here, "left")
+            right, _ = come(here, "right")
+            with self.assertRaisesRegex(Refusal, "^all 2 sessions are taken by who is here$"):
+                come(here)
+            right.leave()
+            kept = "^all 2 sessions are taken, or kept for a name that is away$"
+            with self.assertRaisesRegex(Refusal, kept):
+                come(here)
+            self.assertEqual(come(here, "third")[0].session, right.session)
+            left.leave()
+            with self.assertRaisesRegex(Refusal, kept):
+                come(here)
+        with room(1) as here:
+            come(here, "left")
+            with self.assertRaisesRegex(Refusal, "^the one session is taken by who is here$"):
+                come(here)
+        with room(4) as here:
+            for name in ("one", "two", "three", "guest1"):
+                come(here, name)
+            with self.assertRaisesRegex(Refusal, "^all 4 sessions are taken by who is here$"):
+                come(here)
+
     def test_one_that_says_nothing_is_forgotten(self) -> None:
         with room(2) as here:
             _, heard = come(here, "left")

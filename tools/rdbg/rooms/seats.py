@@ -18,6 +18,11 @@ class Refusal(Exception):
     """Why a room doesn't do what somebody asks for, in a sentence."""
 
 
+def all_of(count: int, what: str = "") -> str:
+    """That all sessions of a kind are, whatever they are."""
+    return f"the one session{what} is" if count == 1 else f"all {count} sessions{what} are"
+
+
 class Seat:
     """A session of the program, and the name that has it; an empty one while none does."""
 
@@ -78,11 +83,15 @@ class Seats:
         return names[name] if name in names else self._free(self.all)
 
     def _for_guest(self) -> Seat:
-        """The session of a guest who hasn't one yet."""
+        """The session of a guest who hasn't one yet. Raises `Refusal` where there is none."""
         most = max(1, len(self.all) // 2)
         if sum(it.is_guest for it in self.here()) >= most:
-            raise Refusal(f"all {most} sessions for guests are taken")
-        return self._free([it for it in self.all if it.is_guest or not it.name])
+            raise Refusal(f"{all_of(most, ' for guests')} taken")
+        away = [it for it in self.all if not it.is_here]
+        seats = [it for it in away if it.is_guest or not it.name]
+        if away and not seats:
+            raise Refusal(f"{all_of(len(self.all))} taken, or kept for a name that is away")
+        return self._free(seats)
 
     def guest_name(self) -> str:
         """The name of the next guest."""
@@ -94,7 +103,7 @@ class Seats:
         `Refusal` where all who have one are here."""
         away = [it for it in seats if not it.is_here]
         if not away:
-            raise Refusal(f"all {len(seats)} sessions are taken by who is here")
+            raise Refusal(f"{all_of(len(self.all))} taken by who is here")
         return min(away, key=lambda it: (bool(it.name), not it.is_guest, it.left, it.number))
 
     def sit(self, seat: Seat, name: str) -> None:
