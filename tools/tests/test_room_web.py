@@ -251,10 +251,19 @@ class LetIn(unittest.TestCase):
             (["Content-Type: application/json"], 411),
             (["Content-Type: application/json", "Content-Length: -1"], 411),
             (["Content-Type: application/json", "Content-Length: 9999999999999999999"], 413),
+            (["Content-Type: application/json", f"Content-Length: {'9' * 5_000}"], 413),
             (["Content-Type: application/json", "Transfer-Encoding: chunked"], 411),
         ):
             answer = asked(here, "POST", path, None, host(here), own, *heads)
             self.assertEqual(wanted, status(answer), heads)
+
+    def test_digits_that_are_none(self) -> None:
+        own = f"Origin: http://{LOCAL}:{self.here.port}\r\nContent-Type: application/json"
+        head = f"POST /{self.here.token}/line HTTP/1.1\r\n{host(self.here)}\r\n{own}"
+        for digit in ("\u00b2", "1\u00b9"):
+            with Raw(self.here) as raw:
+                raw.send(f"{head}\r\nContent-Length: {digit}\r\n\r\n{{}}".encode("latin-1"))
+                self.assertEqual(411, status(raw.rest()))
 
 
 class Lines(unittest.TestCase):
@@ -337,6 +346,22 @@ class Lines(unittest.TestCase):
         with served(4) as here, self.assertRaises(Failure) as failed:
             web.serve(here.room, here.port)
         self.assertIn(f"cannot listen at port {here.port}: ", str(failed.exception))
+
+    def test_a_port_is_free_again_once_the_room_has_ended(self) -> None:
+        with served(4) as here, page(here) as (raw, _):
+            port = here.port
+            here.close()
+            raw.expect("end")
+            self.assertEqual(b"", raw.rest())
+        again = Room.open(load(LOST), sessions=4)
+        try:
+            pages = web.serve(again, port)
+            self.assertEqual(200, status(got(pages, f"/{pages.token}/")))
+            with self.assertRaises(Failure):
+                web.serve(again, port)
+            pages.close()
+        finally:
+            again.close()
 
     def test_the_words_of_a_port(self) -> None:
         with socket.socket() as taken:

@@ -188,7 +188,9 @@ class Served(ThreadingMixIn, HTTPServer):
         return f"http://{LOCAL}:{self.port}/{self.token}/"
 
     def server_bind(self) -> None:
-        """Takes the port. (The name of the machine, which others look for here, isn't asked.)"""
+        """Takes the port, also where pages of a room that has ended were there a moment ago. (The
+        name of the machine, which others look for here, isn't asked.)"""
+        self.socket.setsockopt(socket.SOL_SOCKET, socket.SO_REUSEADDR, 1)
         self.socket.bind(self.server_address)
         self.server_address = self.socket.getsockname()
         self.server_name, self.server_port = LOCAL, self.server_address[1]

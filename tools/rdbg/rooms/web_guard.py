@@ -135,12 +135,17 @@ def name_in(query: str) -> Optional[str]:
     return names["name"][0] if "name" in names else None
 
 
+def is_digits(text: str) -> bool:
+    """Whether a text is digits from 0 to 9 alone. (Other scripts have digits, too.)"""
+    return text.isascii() and text.isdigit()
+
+
 def body_of(headers: Message, stream: BinaryIO) -> Dict[str, str]:
     """The texts that a request says. Raises `Denied`."""
     if (one(headers, "Content-Type") or "").split(";")[0].strip() != JSON:
         raise Denied(415, "it isn't JSON")
     length = one(headers, "Content-Length") or ""
-    if one(headers, "Transfer-Encoding") is not None or not length.isdigit():
+    if one(headers, "Transfer-Encoding") is not None or not is_digits(length):
         raise Denied(411, "its length isn't said")
     if len(length) > 8 or int(length) > MOST_BODY:
         raise Denied(413, f"it has over {MOST_BODY} bytes")
