@@ -9,12 +9,13 @@ from unittest import mock
 
 from rdbg.looks import Look
 from rdbg.page.recorder import CORES, TASK, cores_of, object_of, task_of
-from rdbg.rooms import web_follower, web_known, web_mirror
+from rdbg.rooms import web_follower, web_known, web_mirror, web_past
 from rdbg.rooms.web_follower import Follower, Values
 from rdbg.shell.opening import begin
 from rdbg.shell.target import Limits
 from rdbg.source import load
 from tests.paths import EXAMPLES
+from tests.web_rooms import slow
 
 LOST, INTERRUPT = EXAMPLES / "lost_item.json", EXAMPLES / "interrupt.json"
 PATIENCE = 60.0
@@ -56,16 +57,24 @@ class Followed:
     def _hear(self, kind: str, values: Values) -> None:
         self.events.append(kind)
 
-    def settle(self) -> Dict[str, Any]:
+    def wait(self) -> None:
+        """Waits until it is where the target is."""
+        end = time.monotonic() + PATIENCE
+        while self.follower.count_done != self.follower.count_told:
+            if time.monotonic() > end:
+                raise AssertionError("it doesn't come")
+            time.sleep(0.01)
+
+    def settle(self) -> "Shown":
         """All that a page shows, once nothing more is to come."""
         end = time.monotonic() + PATIENCE
         while True:
             with self.follower.guard:
-                values: Dict[str, Any] = self.follower.values()
+                values: Values = self.follower.values()
                 if values["lost"] is not None:
                     raise AssertionError(values["lost"])
                 if self.follower.count_done == self.follower.count_told and not values["toCome"]:
-                    return values
+                    return Shown(self.follower)
             if time.monotonic() > end:
                 raise AssertionError(f"it doesn't come to an end: {values['toCome']} to come")
             time.sleep(0.01)
@@ -96,7 +105,9 @@ def small() -> Iterator[None]:
             (web_known, "BLOCK_MOVES", 7),
             (web_follower, "SHORT", 6),
             (web_follower, "HEAP", 4),
-            (web_follower, "PIECE", 30),
+            (web_follower, "LAST", 3),
+            (web_past, "LEAST", 2),
+            (web_past, "MOST", 9),
         ):
             stack.enter_context(mock.patch.object(module, name, value))
         yield
@@ -113,19 +124,56 @@ def value_at(block: Dict[str, Any], flat: List[int], place: int) -> object:
     return block["values"][number]
 
 
-def block_at(values: Dict[str, Any], place: int) -> Dict[str, Any]:
-    """The last block that has a place."""
-    found: Dict[str, Any] = next(
-        it for it in reversed(values["blocks"]) if it["first"] <= place <= it["last"]
-    )
-    return found
+class Shown:
+    """What a page has once it has asked for all that there is: what it shows at each place."""
 
+    def __init__(self, follower: Follower) -> None:
+        self.values: Any = follower.values()
+        self.at: Dict[int, List[Dict[str, object]]] = {}
+        for block in self.values["blocks"]:
+            self._take(block)
+        self.begun = min(self.at)
+        while True:
+            before: Any = follower.before(min(self.at))
+            if not before:
+                break
+            assert before["last"] == min(self.at), before
+            self._take(before)
+        while True:
+            behind: Any = follower.behind(max(self.at))
+            if not behind:
+                break
+            assert behind["cut"] == max(self.at), behind
+            self._grow(behind)
 
-def shown_at(values: Dict[str, Any], place: int) -> List[object]:
-    """What a page shows at a place."""
-    block = block_at(values, place)
-    of = [block["cores"], *(it["tracks"] for it in (*block["tasks"], *block["objects"]))]
-    return [{name: value_at(block, flat, place) for name, flat in it.items()} for it in of]
+    @property
+    def first(self) -> int:
+        """The first place."""
+        return min(self.at)
+
+    @property
+    def last(self) -> int:
+        """The last place."""
+        return max(self.at)
+
+    def _take(self, block: Dict[str, Any]) -> None:
+        """Takes a block."""
+        assert len(block["moves"]) == block["last"] - block["first"], block
+        of = [block["cores"], *(it["tracks"] for it in (*block["tasks"], *block["objects"]))]
+        for at in range(block["first"], block["last"] + 1):
+            shown = [{name: value_at(block, flat, at) for name, flat in it.items()} for it in of]
+            assert self.at.get(at, shown) == shown, at
+            self.at[at] = shown
+
+    def _grow(self, more: Dict[str, Any]) -> None:
+        """Takes moves behind the last one."""
+        assert len(more["moves"]) == more["last"] - more["cut"], more
+        for at in range(more["cut"] + 1, more["last"] + 1):
+            shown = [dict(it) for it in self.at[at - 1]]
+            for now, tracks in zip(shown, (more["cores"], *more["tasks"], *more["objects"])):
+                for name, pairs in tracks.items():
+                    now.update({name: value for place, value in pairs if place == at})
+            self.at[at] = shown
 
 
 def wanted(look: Look) -> List[object]:
@@ -138,29 +186,27 @@ def wanted(look: Look) -> List[object]:
 class Follows(unittest.TestCase):
     """What is known after lines of all sorts."""
 
-    def check(self, here: Followed) -> Dict[str, Any]:
+    def check(self, here: Followed) -> Shown:
         """Whether each place is as rdbg says it. The target is at its end then."""
-        values = here.settle()
+        shown = here.settle()
         target = here.room.target
-        self.assertEqual((target.place, target.undone), (values["done"], values["undone"]))
-        blocks = values["blocks"]
-        for one, other in zip(blocks, blocks[1:]):
-            self.assertEqual(one["last"], other["first"])
-        for block in blocks:
-            self.assertEqual(block["last"] - block["first"], len(block["moves"]))
-        last = min(blocks[-1]["last"], target.place + target.undone)
+        self.assertEqual(
+            (target.place, target.undone), (shown.values["done"], shown.values["undone"])
+        )
+        self.assertEqual([shown.first, shown.last], shown.values["known"])
+        last = min(shown.last, target.place + target.undone)
         place = target.place
         if last > place:
             target.tell(f"redo {last - place}")
-        first = max(blocks[0]["first"], target.base)
+        first = max(shown.first, target.base)
         for at in range(last, first - 1, -1):
-            self.assertEqual(wanted(target.look()), shown_at(values, at), f"at {at} of {place}")
+            self.assertEqual(wanted(target.look()), shown.at[at], f"at {at} of {place}")
             if at > first:
                 target.tell("back 1")
         away = place - target.place
         if away:
             target.tell(f"redo {away}" if away > 0 else f"back {-away}")
-        return values
+        return shown
 
     def test_each_sort_of_line(self) -> None:
         with followed(str(LOST)) as here:
@@ -179,8 +225,8 @@ class Follows(unittest.TestCase):
                 self.check(here)
             self.assertNotIn("run", here.events)
             here.room.tell("trim 2")
-            values = here.settle()
-            self.assertEqual([[here.room.target.place, "trim 2"]], values["trims"])
+            shown = here.settle()
+            self.assertEqual([[here.room.target.place, "trim 2"]], shown.values["trims"])
 
     def test_interrupts(self) -> None:
         with followed(str(INTERRUPT)) as here:
@@ -190,28 +236,56 @@ class Follows(unittest.TestCase):
 
     def test_begun_where_moves_are_done(self) -> None:
         with followed(str(LOST), "forward 9", "poke reg poller 3 7", "forward 3", "back 2") as here:
-            values = self.check(here)
-            self.assertEqual((0, 11), (values["blocks"][0]["first"], values["done"]))
+            shown = self.check(here)
+            self.assertEqual((0, 11), (shown.first, shown.values["done"]))
             here.room.tell("redo 2", "step 1")
             self.check(here)
 
     def test_a_long_run_is_shown_from_its_end_on(self) -> None:
         with small(), followed(str(LOST)) as here:
             here.room.tell("forward 30")
-            values = self.check(here)
-            self.assertEqual(0, values["blocks"][0]["first"])
+            self.assertEqual(0, self.check(here).first)
             self.assertIn("run", here.events)
             here.room.tell("forward 300")
-            values = self.check(here)
-            self.assertEqual(330 - 60, values["blocks"][0]["first"])
+            self.assertEqual(330 - 60, self.check(here).first)
+
+    def test_a_move_doesnt_wait_for_earlier_ones(self) -> None:
+        with slow(0.001), followed(str(LOST)) as here:
+            here.room.tell("forward 2000")
+            here.wait()
+            for line in ("step 0", "tick", "back 2", "redo 1", "forward 1500", "tick"):
+                time.sleep(0.3)  # (so that earlier moves are being looked at)
+                began = time.monotonic()
+                here.room.tell(line)
+                here.wait()
+                self.assertLess(time.monotonic() - began, 0.5, line)
+                values: Any = here.follower.values()
+                self.assertEqual(here.room.target.place, values["done"])
+                self.assertGreater(values["toCome"], 1_000)
+                last, undone = values["blocks"][-1]["last"], values["undone"]
+                self.assertIn(last - values["done"], (0, undone), line)
+                if not undone:
+                    self.assertGreaterEqual(last - values["blocks"][0]["first"], 20, line)
+
+    def test_earlier_moves_are_put_before_those_that_are_shown(self) -> None:
+        with followed(str(LOST)) as here:
+            here.room.tell("forward 5000")
+            here.settle()
+            # (the place where it begins is told anew, and nothing else)
+            self.assertEqual(1, here.events.count("run"))
+            here.room.tell("tick")
+            shown = self.check(here)
+            self.assertEqual((0, 5_001), (shown.first, shown.last))
+            # (of which a page that comes now has the last ones first)
+            self.assertGreaterEqual(shown.begun, 5_001 - web_known.BLOCK_MOVES - web_past.MOST)
+            self.assertEqual(1, here.events.count("run"))
 
     def test_the_oldest_are_forgotten(self) -> None:
         with small(), followed(str(LOST)) as here:
             for _ in range(40):
                 here.room.tell("forward 5")
                 here.settle()
-            values = self.check(here)
-            self.assertGreaterEqual(values["blocks"][0]["first"], 200 - 60 - 10 - 7)
+            self.assertGreaterEqual(self.check(here).first, 200 - 60 - 10 - 7)
             here.room.tell("back 150", "step 0")
             self.check(here)
 

@@ -1,8 +1,15 @@
 """The page of a room that is shown much, and one whose room ends."""
 import signal
+import time
 import unittest
+from unittest import mock
 
-from tests.web_rooms import OnPage, session, web_room
+from rdbg.rooms import web_follower
+from tests.paths import EXAMPLES, TOP
+from tests.rooms import LOST
+from tests.web_rooms import OnPage, in_process, session, slow, web_room
+
+SIXTEEN, TURNS = TOP / "bench" / "sixteen.json", EXAMPLES / "turns.json"
 
 
 class Long(OnPage):
@@ -34,6 +41,78 @@ class Long(OnPage):
             self.assertIn("State at place 0:", self.browser.text("#state-title"))
             self.spares_errors = True
 
+    def test_the_last_of_many_moves_come_at_once(self) -> None:
+        for path in (SIXTEEN, TURNS):
+            with self.subTest(path.name), web_room(str(path)) as room:
+                with session(room, "left") as left:
+                    self.visit(room)
+                    self.at(0)
+                    began = time.monotonic()
+                    self.assertEqual("ok at 20000", left.tell("forward 20000"))
+                    replied = time.monotonic()
+                    self.lanes(20_000)
+                    # (a program without proof takes long to make the moves, and there they are
+                    # made once more)
+                    bound = 2.0 + 2 * (replied - began)
+                    self.assertLess(time.monotonic() - replied, bound)
+
+    def test_a_move_is_there_while_earlier_ones_come(self) -> None:
+        with slow(0.0005), in_process(str(SIXTEEN)) as (room, address):
+            left = room.join("left", lambda notice: None)
+            self.visit_address(address)
+            self.at(0)
+            left.ask("forward 3000")
+            self.lanes(3_000)
+            for place in range(3_001, 3_006):
+                time.sleep(0.5)
+                began = time.monotonic()
+                self.assertEqual(f"ok at {place}", left.ask("tick"))
+                self.at(place)
+                self.assertLess(time.monotonic() - began, 0.8, place)
+                self.assertIn("earlier moves still to come", self.browser.text("#about"))
+            self.assertIn(f"{place}: tick", self.browser.text("#readout"))
+
+    def test_what_is_put_before_is_drawn_as_what_came_behind(self) -> None:
+        pictures = []
+        for most in (64, 0):
+            # (of a line that made more moves than so many, the last ones come first)
+            with mock.patch.object(web_follower, "SHORT", most), in_process(LOST) as (
+                room,
+                address,
+            ):
+                left = room.join("left", lambda notice: None)
+                self.visit_address(address)
+                for line in ("forward 40", "poke reg poller 3 7", "trim 3", "forward 50", "tick"):
+                    left.ask(line)
+                self.at(92)
+                self.browser.until("document.querySelector('#slider').min === '0'")
+                self.browser.key("0")
+                pictures.append(self.value("document.querySelector('#canvas').toDataURL()"))
+        self.assertEqual(pictures[0], pictures[1])
+
+    def test_a_place_that_isnt_there_yet(self) -> None:
+        with web_room() as room, session(room, "left") as left:
+            left.tell("forward 3000")
+            self.visit(room)
+            self.at(3_000)
+            for line, place in (("back 2500", 500), ("redo 700", 1_200), ("back 900", 300)):
+                left.tell(line)
+                self.at(place)
+            self.browser.until("document.querySelector('#slider').max !== '300'")
+            left.tell("tick")
+            self.at(301)
+            left.tell("forward 200")
+            self.at(501)
+            self.browser.until("document.querySelector('#slider').min === '0'")
+            left.tell("back 198")
+            self.at(303)
+            self.check_places(room, 295, 303)
+
+    def lanes(self, place: int) -> None:
+        """Waits until the page shows a place, where the target is, and lanes of 20 moves."""
+        self.browser.until(f"Number(document.querySelector('#slider').min) <= {place - 20}")
+        self.at(place)
+
     def test_a_long_run(self) -> None:
         with web_room() as room, session(room, "left") as left:
             self.visit(room)
@@ -45,7 +124,7 @@ class Long(OnPage):
                 left.tell(line)
                 self.at(place)
                 self.assertLess(self.browser.busy() - before, 2.0)
-            self.check_places(room, 1198, 1202)
+            self.check_places(room, 1170, 1202)
 
 
 if __name__ == "__main__":

@@ -1,8 +1,15 @@
 """A room with a page for browsers, as its users have it, and sessions beside the page."""
 import contextlib
-from typing import Any, Iterator, List
+import time
+from typing import Any, Iterable, Iterator, List, Tuple
+from unittest import mock
 
 from rdbg.client import Session
+from rdbg.rooms import web, web_mirror
+from rdbg.rooms.room import Room
+from rdbg.shell.opening import begin
+from rdbg.shell.target import Target
+from rdbg.source import load
 from tests.browsing import Browsing
 from tests.pages import Asked, Reader
 from tests.paths import EXAMPLES
@@ -56,6 +63,41 @@ def session(room: WebRoom, name: str) -> Iterator[Session]:
         yield found
 
 
+@contextlib.contextmanager
+def in_process(path: str) -> Iterator[Tuple[Room, str]]:
+    """A room with a page in this process, and the address of its page; its audit is good at the
+    end."""
+    room = Room.open(load(path), sessions=6)
+    pages = web.serve(room, 0)
+    try:
+        yield room, pages.address
+    finally:
+        audits = room.close()
+        pages.close()
+    assert all(it.is_good for it in audits)
+
+
+@contextlib.contextmanager
+def slow(seconds: float) -> Iterator[None]:
+    """As long as the programs that are looked at for pages of this process take so many seconds
+    more for each line."""
+
+    def begin_slowly(*given: Any) -> Target:
+        target = begin(*given)
+        tell_all = target.session.tell_all
+
+        def slowly(lines: Iterable[str]) -> Iterator[str]:
+            for reply in tell_all(lines):
+                time.sleep(seconds)
+                yield reply
+
+        target.session.tell_all = slowly  # type: ignore[assignment]
+        return target
+
+    with mock.patch.object(web_mirror, "begin", begin_slowly):
+        yield
+
+
 class OnPage(Browsing):
     """Tests of a room's page."""
 
@@ -70,7 +112,11 @@ class OnPage(Browsing):
 
     def visit(self, room: WebRoom) -> None:
         """Opens the page, and waits until it shows the target."""
-        self.browser.visit(room.address)
+        self.visit_address(room.address)
+
+    def visit_address(self, address: str) -> None:
+        """The same at an address."""
+        self.browser.visit(address)
         self.browser.until("document.documentElement.dataset.connected === 'yes'")
         self.browser.until("document.querySelector('#about').textContent !== ''")
 

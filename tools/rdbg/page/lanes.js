@@ -50,23 +50,37 @@ function laidOut(lanes) {
   return shown;
 }
 
-// What was done by hand behind a place, by place, in order: an edit or an interrupt with its sign,
-// then the trims behind it.
-function byHand(run, behind) {
+// What was done by hand behind a place, up to another one, by place, in order: an edit or an
+// interrupt with its sign, then the trims behind it.
+function byHand(run, behind, last) {
   const texts = new Map();
   const add = (place, text) => texts.set(place, [...(texts.get(place) || []), text]);
-  for (const move of movesBehind(run, behind)) {
+  for (const move of movesBehind(run, behind, last)) {
     if (move.kind === EDIT) add(move.place, `*${move.line || "edit"}`);
     if (move.kind === INTERRUPT) add(move.place, `!${doesWords(run, move)}`);
   }
-  for (const [place, line] of run.trims) if (place > behind) add(place, `|${line}`);
+  for (const [place, line] of run.trims) if (place > behind && place <= last) add(place, `|${line}`);
   const places = [...texts.keys()].sort((one, other) => one - other);
   return places.map((place) => ({ place, text: texts.get(place).join(" ") }));
 }
 
-// The moves to the places behind one.
-function* movesBehind(run, place) {
-  for (let at = Math.max(run.first, place) + 1; at <= run.last; at++) yield run.move(at);
+// The moves to the places behind one, up to another.
+function* movesBehind(run, place, last = run.last) {
+  for (let at = Math.max(run.first, place) + 1; at <= last; at++) yield run.move(at);
+}
+
+// What there is to mark at places behind one, up to another: ticks, arrows with their places, and
+// what was done by hand.
+function marksOf(run, behind, last) {
+  const ticks = [];
+  const wakings = [];
+  for (const move of movesBehind(run, behind, last)) {
+    if (move.kind === TICK) ticks.push(move.place);
+    const waking = wakingOf(move);
+    if (waking) wakings.push(waking);
+  }
+  const wakingPlaces = wakings.map(({ place }) => place);
+  return { ticks, wakings, wakingPlaces, hands: byHand(run, behind, last) };
 }
 
 // The arrow of waking of a move that wakes: from where and whom; none of another.

@@ -5,7 +5,8 @@ const TICK = 1;
 const EDIT = 2;
 const INTERRUPT = 3;
 
-// What becomes of one thing: numbers of values, each from a place on. It can grow and be cut.
+// What becomes of one thing: numbers of values, each from a place on. It can grow at both ends, and
+// be cut.
 class Track {
   constructor(flat, first) {
     this.places = [];
@@ -26,6 +27,12 @@ class Track {
   put(place, value) {
     this.places.push(place);
     this.values.push(value);
+  }
+
+  // Puts another track before this one, which ends where this one begins, with what is there.
+  prepend({ places, values }) {
+    this.places = places.concat(this.places.slice(1));
+    this.values = values.concat(this.values.slice(1));
   }
 
   // Forgets what comes behind a place.

@@ -16,10 +16,26 @@ class Segments {
   renew(place) {
     const count = countUpTo(this.places, place);
     this.places.length = this.shown.length = this.keys.length = count;
+    this.putAll(place, this.run.last);
+  }
+
+  // Takes what there is before a place, at which these began.
+  prepend(place) {
+    const { places, shown, keys } = this;
+    Object.assign(this, { places: [], shown: [], keys: [] });
+    this.putAll(this.run.first - 1, place - 1);
+    const known = keys[0] === this.keys[this.keys.length - 1] ? 1 : 0;
+    this.places = this.places.concat(places.slice(known));
+    this.shown = this.shown.concat(shown.slice(known));
+    this.keys = this.keys.concat(keys.slice(known));
+  }
+
+  // Puts what there is behind a place, up to another one.
+  putAll(behind, last) {
     const all = new Set();
     for (const name in this.tracks) {
       const { places } = this.tracks[name];
-      for (let at = countUpTo(places, place); at < places.length; at++) all.add(places[at]);
+      for (let at = countUpTo(places, behind); places[at] <= last; at++) all.add(places[at]);
     }
     for (const at of [...all].sort((one, other) => one - other)) {
       this.put(at, this.shownOf(this.run.values(this.tracks, at)));

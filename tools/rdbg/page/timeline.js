@@ -36,34 +36,42 @@ class Timeline {
   take() {
     this.allLanes = lanesOf(this.run);
     this.hand = this.allLanes.find(({ kind }) => kind === "hand");
-    this.wakings = [];
-    this.wakingPlaces = [];
-    this.ticks = [];
-    this.collect(this.run.first - 1);
+    this.mark(marksOf(this.run, this.run.first - 1, this.run.last));
     this.layOut();
   }
 
   // Takes what there is of the run behind a place anew.
   renew(place) {
     for (const { segments } of this.allLanes) if (segments) segments.renew(place);
-    this.collect(place);
+    const { ticks, wakings, wakingPlaces, hand, run } = this;
+    const count = countUpTo(wakingPlaces, place);
+    const kept = {
+      ticks: ticks.slice(0, countUpTo(ticks, place)),
+      wakings: wakings.slice(0, count),
+      wakingPlaces: wakingPlaces.slice(0, count),
+      hands: hand.marks.filter((it) => it.place <= place),
+    };
+    this.mark(kept, marksOf(run, place, run.last));
     this.layOut();
   }
 
-  // Takes note of ticks, arrows and what was done by hand behind a place.
-  collect(place) {
-    const { run, hand } = this;
-    this.wakings.length = this.wakingPlaces.length = countUpTo(this.wakingPlaces, place);
-    this.ticks.length = countUpTo(this.ticks, place);
-    for (const move of movesBehind(run, place)) {
-      if (move.kind === TICK) this.ticks.push(move.place);
-      const waking = wakingOf(move);
-      if (!waking) continue;
-      this.wakings.push(waking);
-      this.wakingPlaces.push(move.place);
-    }
-    const marks = hand.marks.filter((it) => it.place <= place);
-    hand.marks = [...marks, ...byHand(run, place)];
+  // Takes what there is of the run before a place, at which it began.
+  prepend(place) {
+    for (const { segments } of this.allLanes) if (segments) segments.prepend(place);
+    const { ticks, wakings, wakingPlaces, hand, run } = this;
+    // (what was done by hand at that place was left out, as the move to it wasn't known)
+    const hands = hand.marks.filter((it) => it.place > place);
+    this.mark(marksOf(run, run.first - 1, place), { ticks, wakings, wakingPlaces, hands });
+    this.layOut();
+  }
+
+  // Takes these ticks, arrows and marks of what was done by hand, one part behind the other.
+  mark(...parts) {
+    const all = (name) => [].concat(...parts.map((it) => it[name]));
+    this.ticks = all("ticks");
+    this.wakings = all("wakings");
+    this.wakingPlaces = all("wakingPlaces");
+    this.hand.marks = all("hands");
   }
 
   // Lays the lanes out, to be drawn anew.

@@ -10,10 +10,11 @@ from socketserver import ThreadingMixIn
 from typing import Any, Callable, Dict, Optional
 
 from rdbg.client import LOCAL
+from rdbg.commands import is_number
 from rdbg.failure import Failure
 from rdbg.rooms import web_document
 from rdbg.rooms.room import Refusal, Room
-from rdbg.rooms.web_follower import Follower
+from rdbg.rooms.web_follower import Follower, Values
 from rdbg.rooms.web_guard import (
     HEADERS,
     JSON,
@@ -41,6 +42,12 @@ HTML, TEXT, EVENTS = "text/html; charset=utf-8", "text/plain; charset=utf-8", "t
 SAID: Dict[str, Callable[[Page, str], Dict[str, str]]] = {
     "line": lambda page, line: {"reply": page.ask(line)},
     "name": lambda page, name: page.rename(name),
+    "run": lambda page, _: page.begin_anew(),
+}
+# For which moves it can ask, by the place at which those begin or end that it has.
+MOVES: Dict[str, Callable[[Follower, int], Values]] = {
+    "before": Follower.before,
+    "behind": Follower.behind,
 }
 
 
@@ -78,7 +85,7 @@ class Handler(BaseHTTPRequestHandler):
         check_origin(self.headers, self.server.port, method)
         name, query = check_token(self.path, self.server.token)
         if method == "POST":
-            if name not in SAID:
+            if name not in SAID and name not in MOVES:
                 raise Denied(404, "there is nothing")
             said = body_of(self.headers, self.rfile)
             self.server.unread.remove(self.connection)
@@ -94,12 +101,22 @@ class Handler(BaseHTTPRequestHandler):
         """Does what a page says."""
         try:
             page = self.server.pages.of(said.get("page", ""))
+            if name in MOVES:
+                return self._answer(200, JSON, self._moves(name, said.get(name, "")))
             found = SAID[name](page, said.get(name, ""))
         except Refusal as refusal:
             found = {"refused": str(refusal)}
         except Failure as failure:
             found = {"ended": str(failure)}
         self._answer(200, JSON, as_json(found))
+
+    def _moves(self, name: str, place: str) -> str:
+        """The moves for which a page asks. Raises `Refusal`."""
+        if not is_number(place):
+            raise Refusal(f"'{place[:16]}' is no place")
+        follower = self.server.follower
+        with follower.guard:
+            return as_json(MOVES[name](follower, int(place)))
 
     def _events(self, query: str) -> None:
         """Tells a page what comes, until it goes."""

@@ -1,27 +1,24 @@
 """Follows the moves of a room, so that pages show each of them as it comes."""
 import queue
 import threading
-from typing import Callable, Dict, List, Optional, Tuple
+from typing import Callable, Dict, List, Optional
 
 from rdbg import replies
-from rdbg.failure import Failure
-from rdbg.replies import Refused
 from rdbg.rooms.room import Room
-from rdbg.rooms.web_known import MOST_MOVES, Known
-from rdbg.rooms.web_mirror import Differs, Mirror
-from rdbg.shell.target import Unable, read
-from rdbg.tracing.run import Told, Trim
+from rdbg.rooms.web_known import Known, Piece
+from rdbg.rooms.web_mirror import BACK, REDO, TRIM, Differs, Mirror
+from rdbg.rooms.web_past import WRONG, Past
+from rdbg.shell.target import read
+from rdbg.tracing.run import Part, Told, Trim
 
-# A line that made so many moves is looked at as a whole; so are so many lines that have come in a
-# heap. Of more, the end is looked at first.
-SHORT, HEAP = 64, 32
+# A line that made at most so many moves is looked at as a whole, where that takes so few seconds.
+# Of more, and where so many lines have come in a heap, the last moves are looked at, so many, and
+# those before behind them.
+SHORT, SECONDS, HEAP, LAST = 64, 0.1, 32, 24
 # So many lines are done before pages are told where the target is.
 MOST_HEAP = 1_000
-# So many lines are asked at a time where earlier moves are looked at.
-PIECE = 4_000
 # Of moves that were taken back so many are looked at.
 MOST_AHEAD = 1_000
-BACK, REDO, TRIM = "back", "redo", "trim"
 Values = Dict[str, object]
 # Is told what pages have to show, by a word on what it is; `run` means all anew.
 Tell = Callable[[str, Values], None]
@@ -40,11 +37,10 @@ class Follower:
         self._heap: "queue.SimpleQueue[Optional[Told]]" = queue.SimpleQueue()
         # How many lines were told, and were done.
         self.count_told = self.count_done = 0
-        self._mirror = Mirror(source, room.follow(self.told))
-        self._known = Known(source.application, self._mirror.look())
-        self._shown = 0
-        # Where the target is. (The program is elsewhere while it looks at earlier moves.)
-        self._arrive()
+        lines = room.follow(self.told)
+        self._mirror = Mirror(source, lines)
+        self._known = Known(source.application, self._mirror.newest(LAST))
+        self._past = Past(source, lines, self.guard, self._wanted, self._found, self._lose)
         self._thread = threading.Thread(target=self._follow, daemon=True)
         self._thread.start()
 
@@ -59,69 +55,65 @@ class Follower:
         """Ends it."""
         self._heap.put(None)
         self._thread.join()
+        self._past.close()
+
+    @property
+    def _done(self) -> int:
+        """How many moves are done."""
+        return self._mirror.place
+
+    @property
+    def _end(self) -> int:
+        """Up to which place moves that were taken back are looked at."""
+        return self._done + min(self._mirror.undone, MOST_AHEAD)
 
     def values(self) -> Values:
-        """All that a page shows, for who holds the guard."""
-        return {**self._known.values(), **self._now()}
+        """What a page begins with, for who holds the guard: what is around the target."""
+        place = max(self._known.first, min(self._done, self._known.last))
+        return {**self._known.around(place), **self._now()}
+
+    def before(self, place: int) -> Values:
+        """What a page that begins at a place has to add there, for who holds the guard: some of the
+        moves before it, if they are known."""
+        return self._known.before(place) or {}
+
+    def behind(self, place: int) -> Values:
+        """The same of a page that ends at a place, and moves behind it."""
+        return self._known.behind(place) or {}
 
     def _now(self) -> Values:
-        pieces = () if self.lost else (self._ahead(MOST_AHEAD), self._known.missing(MOST_MOVES))
-        to_come = sum(last - first + 1 for first, last in filter(None, pieces))
-        return {"done": self._done, "undone": self._undone, "toCome": to_come, "lost": self.lost}
+        """Where the target is, what is known by now, and how much more is to come."""
+        return {
+            "done": self._done,
+            "undone": self._mirror.undone,
+            "known": [self._known.first, self._known.last],
+            "toCome": 0 if self.lost else self._known.missing(self._end),
+            "lost": self.lost,
+        }
 
-    def _arrive(self) -> None:
-        """Takes note of where the target is."""
-        self._done, self._undone = self._mirror.place, self._mirror.undone
+    def _wanted(self, count: int) -> Optional[Piece]:
+        """The moves that are to be looked at next, so many at the most."""
+        return None if self.lost else self._known.wanted(count, self._end)
+
+    def _found(self, piece: Piece, part: Part) -> None:
+        """What earlier moves did, or moves that were taken back."""
+        behind = self._known.put(piece, part)
+        self._tell("more" if behind else "now", {**(behind or {}), **self._now()})
+
+    def _lose(self, why: Exception) -> None:
+        """It can't go on."""
+        self.lost = self.lost or f"the lanes don't follow any more: {why}"
+        self._tell("now", self._now())
 
     def _follow(self) -> None:
         try:
-            while self._take(self._next()):
+            while self._take(self._heap.get()):
                 pass
-        except (Failure, Refused, Unable) as failure:
+        except WRONG as wrong:
             with self.guard:
-                self.lost = f"the lanes don't follow any more: {failure}"
-                self._tell("now", self._now())
+                self._lose(wrong)
         finally:
             self._mirror.close()
-
-    def _next(self) -> Optional[Told]:
-        """The next line; while there is none, earlier moves are looked at."""
-        while True:
-            try:
-                return self._heap.get_nowait()
-            except queue.Empty:
-                count = self._mirror.piece(PIECE)
-                ahead, piece = self._ahead(count), self._known.missing(count)
-                if ahead is not None:
-                    self._look_ahead(*ahead)
-                elif piece is not None:
-                    self._look_back(*piece)
-                else:
-                    self._mirror.look()  # (so that it is where the next line begins)
-                    return self._heap.get()
-
-    def _ahead(self, count: int) -> Optional[Tuple[int, int]]:
-        """The places of at most so many moves that were taken back, and weren't looked at."""
-        end = self._done + min(self._undone, MOST_AHEAD)
-        return self._known.ahead(count, end)
-
-    def _look_ahead(self, first: int, last: int) -> None:
-        """Looks at moves that were taken back."""
-        part = self._mirror.part(first, last)
-        with self.guard:
-            self._tell("more", {**self._known.add(part), **self._now()})
-
-    def _look_back(self, first: int, last: int) -> None:
-        """Looks at moves before those that are known."""
-        part = self._mirror.part(first, last)
-        with self.guard:
-            self._known.put_before(part)
-            count = self._known.last - self._known.first
-            if count < 2 * self._shown and self._known.missing(1):
-                self._tell("now", self._now())
-                return
-            self._shown = count
-            self._tell("run", {})
 
     def _take(self, told: Optional[Told]) -> bool:
         """Does a line, and those that have come since; false where the last has come."""
@@ -133,36 +125,38 @@ class Follower:
             for it in lines:
                 self._do(it, len(lines) > HEAP)
             if not self._known.has(self._done):
-                self._known.jump(self._mirror.look())
-                self._shown = 0
+                if not self._known.find(self._done):
+                    count = self._known.near(self._done, LAST)
+                    self._known.jump(self._mirror.newest(count))
                 self._tell("run", {})
             elif self._known.forget():
                 self._tell("run", {})
             else:
                 self._tell("now", self._now())
             self.count_done += len(lines)
+        self._past.wake()
         return len(lines) == len(heap)
 
     def _do(self, told: Told, is_heap: bool) -> None:
         """Does what a line did."""
-        word, here = told.text.split(" ")[0], self._done
+        self._past.told(told)
+        word = told.text.split(" ")[0]
         if word == TRIM:
             self._known.trim(Trim(told.place, told.text))
             self._tell("trims", {"trims": self._known.trims(), **self._now()})
         elif word in (BACK, REDO):
-            self._mirror.goto(told.place)
-            self._arrive()
+            self._mirror.do(told)
         else:
-            self._make(told, told.place - here, is_heap)
+            self._make(told, is_heap)
 
-    def _make(self, told: Told, count: int, is_heap: bool) -> None:
+    def _make(self, told: Told, is_heap: bool) -> None:
         """Makes new moves."""
+        count = told.place - self._done
         if count < 1:
             raise Differs(f"{told.text} led to {told.place}")
-        if not self._known.cut(self._done) or is_heap or count > SHORT:
-            self._mirror.make(told.text, told.place)
-            self._arrive()
+        is_known = self._known.cut(self._done)
+        if not is_known or is_heap or count > max(1, min(self._mirror.count(SECONDS), SHORT)):
+            self._mirror.do(told)
             return
-        part = self._mirror.make_and_look(told.text, told.place)
-        self._arrive()
+        part = self._mirror.do_and_look(told)
         self._tell("more", {**self._known.add(part), **self._now()})

@@ -1,8 +1,7 @@
 """What is known of a room's moves: blocks, one behind the other, of which a page shows a chain."""
-from typing import Dict, List, Optional, Tuple
+from typing import Dict, List, NamedTuple, Optional
 
 from rdbg.application import Application
-from rdbg.looks import Look
 from rdbg.page.recorder import Recorder
 from rdbg.tracing.run import Part, Trim
 
@@ -10,7 +9,17 @@ from rdbg.tracing.run import Part, Trim
 MOST_MOVES, SLACK = 20_000, 4_096
 # A block has so many moves, and so many values, until the next one is begun.
 BLOCK_MOVES, BLOCK_VALUES = 1_024, 20_000
+# A page begins with so many moves before a place, where they are known.
+NEAR = 24
 Values = Dict[str, object]
+
+
+class Piece(NamedTuple):
+    """Moves that should be looked at: the first and the last place, and since when that is so."""
+
+    first: int
+    last: int
+    version: int
 
 
 def block(application: Application, part: Part) -> Recorder:
@@ -31,13 +40,16 @@ class Known:
     many moves were made at once it begins anew at their end, and what was known before is kept
     until the moves between have been looked at, from the end on."""
 
-    def __init__(self, application: Application, look: Look) -> None:
+    def __init__(self, application: Application, part: Part) -> None:
         self._application = application
-        self._chain: List[Recorder] = [block(application, Part(look, (), ()))]
+        self._chain: List[Recorder] = [block(application, part)]
         self._older: List[Recorder] = []
         self._trims: List[Trim] = []
         # Whether other moves than those of the chain have been made since.
         self._is_void = False
+        # Counts how often moves were dropped, or others are shown. (What was looked at meanwhile
+        # may be of moves that are gone.)
+        self.version = 0
 
     @property
     def first(self) -> int:
@@ -53,22 +65,43 @@ class Known:
         """Whether a place is among those that are shown."""
         return not self._is_void and self.first <= place <= self.last
 
-    def jump(self, look: Look) -> None:
-        """Begins anew at a place that isn't in the chain, or where it can be found in what was
-        known before, goes there."""
+    def find(self, place: int) -> bool:
+        """Goes to a place in what was known before; false where it isn't there. What is shown by
+        now is kept then in its stead."""
         older, self._older = self._older, [] if self._is_void else self._chain
         self._is_void = False
-        if older and first_of(older[0]) <= look.place <= older[-1].last:
-            self._chain, self._older = older, []
-            return
-        if look.place < self.last:
+        self.version += 1
+        if not older or not first_of(older[0]) <= place <= older[-1].last:
+            return False
+        self._chain, self._older = older, []
+        return True
+
+    def near(self, place: int, most: int) -> int:
+        """How many moves up to a place to look at before it is shown: so many at the most, and none
+        that are known."""
+        least = self._older[-1].last if self._older else 0
+        return min(most, place - least if least < place else place)
+
+    def jump(self, part: Part) -> None:
+        """Begins anew with moves that aren't in the chain, nor in what was known before."""
+        begun = block(self._application, part)
+        if begun.last < self.last:
             self._older = []
-        self._chain = [block(self._application, Part(look, (), ()))]
+        self._chain = [begun]
+        self._join()
+
+    def _join(self) -> None:
+        """Shows what was known before as well, once the moves between are known."""
+        if self._older and self._older[-1].last >= self.first:
+            self._chain = self._older + self._chain
+            self._older = []
 
     def cut(self, place: int) -> bool:
         """Forgets the moves behind a place, since others are made there. Answers whether those up
         to there are known: then the chain ends there."""
         self._trims = [it for it in self._trims if it.place <= place]
+        if place != self.last:
+            self.version += 1
         if place < self.first and self._older:
             self._chain, self._older = self._older, []
         self._is_void = self._is_void or place < self.first
@@ -91,25 +124,39 @@ class Known:
             end.add(part)
         return {"cut": place, "last": self.last, **end.behind(place)}
 
-    def put_before(self, part: Part) -> None:
-        """Takes note of the moves before the first one."""
-        self._chain.insert(0, block(self._application, part))
-        if self._older and self._older[-1].last >= self.first:
-            self._chain = self._older + self._chain
-            self._older = []
-
-    def missing(self, count: int) -> Optional[Tuple[int, int]]:
-        """The places of at most so many moves before the first one that should be looked at."""
-        least = max(0, self.last - MOST_MOVES)
-        if self._older:
-            least = max(least, self._older[-1].last)
-        return (max(least, self.first - count) + 1, self.first) if least < self.first else None
-
-    def ahead(self, count: int, end: int) -> Optional[Tuple[int, int]]:
-        """The same of moves behind the last one, which were taken back: those up to an end."""
-        if self.last >= end or self.last - self.first >= MOST_MOVES:
+    def wanted(self, count: int, end: int) -> Optional[Piece]:
+        """At most so many moves that should be looked at next: those behind the last one, which
+        were taken back, up to an end; then those before the first one."""
+        if self._is_void:
             return None
-        return (self.last + 1, min(self.last + count, end))
+        if self.last < end and self.last - self.first < MOST_MOVES:
+            return Piece(self.last + 1, min(self.last + count, end), self.version)
+        least = self._least()
+        if least < self.first:
+            return Piece(max(least, self.first - count) + 1, self.first, self.version)
+        return None
+
+    def missing(self, end: int) -> int:
+        """How many moves there are that should be looked at."""
+        ahead = max(0, min(end, self.first + MOST_MOVES) - self.last)
+        return ahead + max(0, self.first - self._least())
+
+    def _least(self) -> int:
+        """Up to which place the moves before the first one should be looked at."""
+        least = max(0, self.last - MOST_MOVES)
+        return max(least, self._older[-1].last) if self._older else least
+
+    def put(self, piece: Piece, part: Part) -> Optional[Values]:
+        """Takes note of a piece that was looked at, unless it isn't wanted any more, and answers
+        what a page has to add behind, if that is so."""
+        if piece.version != self.version:
+            return None
+        if piece.first == self.last + 1:
+            return self.add(part)
+        if piece.last == self.first:
+            self._chain.insert(0, block(self._application, part))
+            self._join()
+        return None
 
     def forget(self) -> bool:
         """Forgets the oldest moves where there are too many, and answers whether it did."""
@@ -118,6 +165,7 @@ class Known:
         while len(self._chain) > 1 and self.last - self._chain[0].last >= MOST_MOVES:
             self._chain.pop(0)
         self._trims = [it for it in self._trims if it.place >= self.first]
+        self.version += 1
         return True
 
     def trim(self, trim: Trim) -> None:
@@ -125,10 +173,34 @@ class Known:
         self._trims.append(trim)
 
     def trims(self) -> List[List[object]]:
-        """The trims that are shown, each with its place and line."""
-        return [[it.place, it.line] for it in self._trims if self.has(it.place)]
+        """The trims, each with its place and line, also those whose places aren't known yet."""
+        return [[it.place, it.line] for it in self._trims]
 
-    def values(self) -> Values:
-        """What a page has of all that is shown. Scripts stand in the first block alone."""
-        blocks = [it.values(has_code=not at) for at, it in enumerate(self._chain)]
+    def around(self, place: int) -> Values:
+        """What a page begins with: the blocks at a place that is shown. Scripts stand in the first
+        of them alone."""
+        at = self._block_at(place)
+        begin = at
+        while begin and place - first_of(self._chain[begin]) < NEAR:
+            begin -= 1
+        shown = self._chain[begin : at + 1]
+        blocks = [it.values(has_code=not index) for index, it in enumerate(shown)]
         return {"blocks": blocks, "trims": self.trims()}
+
+    def before(self, place: int) -> Optional[Values]:
+        """The block that ends at a place, which a page has as its first; none where none does."""
+        found = [it for it in self._chain if it.last == place and first_of(it) < place]
+        return found[0].values(has_code=False) if found else None
+
+    def behind(self, place: int) -> Optional[Values]:
+        """What a page has to add that ends at a place: the moves of one block; none where there are
+        none."""
+        if not self.first <= place < self.last:
+            return None
+        found = next(it for it in self._chain if it.last > place)
+        return {"cut": place, "last": found.last, **found.behind(place)}
+
+    def _block_at(self, place: int) -> int:
+        """The last block that has a place."""
+        firsts = [first_of(it) for it in self._chain]
+        return max(at for at, first in enumerate(firsts) if first <= place)

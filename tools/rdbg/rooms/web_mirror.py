@@ -1,6 +1,7 @@
 """A program of its own that does what a room's program does, to be looked at: so looks take no
 place of the history that all share, and nobody waits for them."""
 import contextlib
+import time
 from typing import Optional, Sequence
 
 from rdbg.commands import MOST_COUNT
@@ -14,10 +15,13 @@ from rdbg.shell.opening import begin
 from rdbg.shell.target import RESERVE, SINGLE, Limits, Target, read, read_line
 from rdbg.shell.walk import LEAST_PIECE, Walk
 from rdbg.source import Source
-from rdbg.tracing.run import Part, walk_through
+from rdbg.tracing.run import Part, Told, walk_through
 
 # The history of such a program: a new one is begun where it is full.
 HISTORY = 100_000
+# So many seconds a move takes to be looked at, until that was measured.
+GUESS = 0.005
+BACK, REDO, TRIM = "back", "redo", "trim"
 
 
 class Differs(Failure):
@@ -33,6 +37,7 @@ class Mirror:
         self._target = self._begin()
         # What there is at the place, where that is known.
         self._look: Optional[Look] = None
+        self._seconds = GUESS
         for line in lines:
             self.tell(line)
 
@@ -55,7 +60,7 @@ class Mirror:
 
     def tell(self, line: str) -> None:
         """Does what a line does that changes the target. One that trims does nothing here."""
-        if line.startswith("trim "):
+        if line.split(" ")[0] == TRIM:
             return
         self._return(1)
         self._look = None
@@ -66,19 +71,16 @@ class Mirror:
             raise Differs(f"{line} was answered {reply}")
         self._journal.moved(command, value)
 
-    def goto(self, place: int) -> None:
-        """Takes moves back, or makes them again."""
-        if place < self.place:
-            self.tell(f"back {self.place - place}")
-        elif place > self.place:
-            self.tell(f"redo {place - self.place}")
-
-    def make(self, line: str, place: int) -> None:
-        """Does what a line did that made new moves, up to a place."""
-        is_single = line.split(" ")[0] in SINGLE
-        self.tell(line if is_single else f"forward {place - self.place}")
-        if self.place != place:
-            raise Differs(f"{line} led to {place}, and here to {self.place}")
+    def do(self, told: Told) -> None:
+        """Does what a line did, which leads to a place."""
+        word, count = told.text.split(" ")[0], told.place - self.place
+        if word in (BACK, REDO):
+            if count:
+                self.tell(f"{BACK if count < 0 else REDO} {abs(count)}")
+        elif word != TRIM:
+            self.tell(told.text if word in SINGLE else f"forward {count}")
+        if self.place != told.place:
+            raise Differs(f"{told.text} led to {told.place}, and here to {self.place}")
 
     def look(self) -> Look:
         """What there is at the place."""
@@ -87,14 +89,14 @@ class Mirror:
             self._look = self._target.look()
         return self._look
 
-    def make_and_look(self, line: str, place: int) -> Part:
+    def do_and_look(self, told: Told) -> Part:
         """Does what a line did that made new moves, and looks at each of them."""
         here = self.place
-        if place != here + 1:
-            self.make(line, place)
-            return self.part(here + 1, place)
+        if told.place != here + 1:
+            self.do(told)
+            return self.part(here + 1, told.place)
         before = self.look()
-        self.make(line, place)
+        self.do(told)
         after = self.look()
         return Part(before, (trail.between(self._target, before, after),), (after,))
 
@@ -104,11 +106,20 @@ class Mirror:
         again."""
         lines = trail.lines_for(last - first + 1, self._target.names) + last - first
         self._room(lines + abs(self._target.place - first) // LEAST_PIECE)
-        return walk_through(Walk(self._target, Interrupt()), first, last)
+        walk = Walk(self._target, Interrupt())
+        walk.goto(first - 1)
+        began = time.monotonic()
+        found = walk_through(walk, first, last)
+        self._seconds = (time.monotonic() - began) / (last - first + 2)
+        return found
 
-    def piece(self, lines: int) -> int:
-        """How many moves can be looked at with so many lines."""
-        return max(8, lines // (2 + len(self._target.names.lines())))
+    def newest(self, most: int) -> Part:
+        """The last moves up to the place, so many or as many as there are, with looks."""
+        return self.part(self.place - min(most, self.place) + 1, self.place)
+
+    def count(self, seconds: float) -> int:
+        """How many moves can be looked at in so many seconds, as it was seen last."""
+        return int(seconds / self._seconds)
 
     def _return(self, lines: int) -> None:
         """Comes back from where it has looked, with room for so many lines."""

@@ -135,6 +135,11 @@ class Page:
         finally:
             self._lines.release()
 
+    def begin_anew(self) -> Dict[str, str]:
+        """Is told all anew: it isn't shown where the target is."""
+        self.tell("run", "")
+        return {}
+
     def rename(self, name: str) -> Dict[str, str]:
         """Goes on by another name. Raises `Refusal`."""
         assert self.member is not None

@@ -1,21 +1,36 @@
 // How much of what was taken back the paper covers.
 const PALE = 0.6;
 
-// A run that grows: its blocks come one behind the other, then each move, and what others are made
-// in place of is cut.
+// A run that grows: it begins as the moves around the target, and each move comes behind them; what
+// others are made in place of is cut. Earlier moves are put before them.
 
 class LiveRun extends Run {
-  // Takes all that is known: blocks of moves, each with values of its own.
+  // Takes what is around the target: blocks of moves, each with values of its own.
   take({ blocks, trims, ...now }) {
     super.take({ ...blocks[0], trims });
     this.numberOf = new Map(this.listed.map((value, at) => [JSON.stringify(value), at]));
     for (const block of blocks.slice(1)) this.addBlock(block);
+    this.isOld = false;
+    // Counts what makes an answer to an earlier question worthless.
+    this.changes = (this.changes ?? 0) + 1;
     this.setNow(now);
   }
 
-  // How many moves are done and undone, and of how many more will be told.
-  setNow({ done, undone, toCome, lost }) {
-    Object.assign(this, { done, undone, toCome, lost });
+  // How many moves are done and undone, which are known to the room, how many more it will know,
+  // and why it follows no more.
+  setNow({ done, undone, known, toCome, lost }) {
+    Object.assign(this, { done, undone, known, toCome, lost });
+  }
+
+  // Whether it is known here what there is where the target is.
+  get hasDone() {
+    return !this.isOld && this.done >= this.first && this.done <= this.last;
+  }
+
+  // How many moves aren't here yet.
+  get missing() {
+    const [first, last] = this.known;
+    return this.toCome + Math.max(0, this.first - first) + Math.max(0, last - this.last);
   }
 
   // The number of a value, which may be a new one.
@@ -33,23 +48,45 @@ class LiveRun extends Run {
   }
 
   // The moves of a block, behind the last one.
-  addBlock({ first, last, cores, tasks, objects, moves, values }) {
-    const addTracks = (tracks, flats) => {
-      for (const name in flats) {
-        const track = new Track(flats[name], first);
-        const valueAt = (at) => values[track.values[at]];
-        track.places.forEach((place, at) => this.put(tracks[name], place, valueAt(at)));
-      }
-    };
-    addTracks(this.cores, cores);
-    tasks.forEach((task, at) => addTracks(this.tasks[at].tracks, task.tracks));
-    objects.forEach((object, at) => addTracks(this.objects[at].tracks, object.tracks));
-    for (const number of moves) this.numbers.push(this.number(values[number]));
-    this.last = last;
+  addBlock(block) {
+    this.eachTrack(block, (track, others) => {
+      others.places.forEach((place, at) => this.put(track, place, block.values[others.values[at]]));
+    });
+    this.numbers.push(...this.movesOf(block));
+    this.last = block.last;
   }
 
-  // New moves behind a place; those that were there are gone.
+  // The moves of a block, before the first one.
+  prepend(block) {
+    this.eachTrack(block, (track, others) => {
+      const values = others.values.map((it) => this.number(block.values[it]));
+      track.prepend({ places: others.places, values });
+    });
+    this.numbers = this.movesOf(block).concat(this.numbers);
+    this.first = block.first;
+  }
+
+  movesOf({ moves, values }) {
+    return moves.map((it) => this.number(values[it]));
+  }
+
+  // Each track with that of a block, whose numbers are those of the block's values.
+  eachTrack({ first, cores, tasks, objects }, act) {
+    const each = (tracks, flats) => {
+      for (const name in flats) act(tracks[name], new Track(flats[name], first));
+    };
+    each(this.cores, cores);
+    tasks.forEach((it, at) => each(this.tasks[at].tracks, it.tracks));
+    objects.forEach((it, at) => each(this.objects[at].tracks, it.tracks));
+  }
+
+  // New moves behind a place; those that were there are gone. Behind a place that isn't here yet
+  // they come later; where it was before all that is here, that is old.
   more({ cut, last, cores, tasks, objects, moves, ...now }) {
+    if (now.known) this.setNow(now);
+    this.isOld = this.isOld || cut < this.first;
+    if (this.isOld || cut > this.last) return;
+    if (cut < this.last) this.changes += 1;
     this.cut(cut);
     const addTracks = (tracks, pairs) => {
       for (const name in pairs) {
@@ -61,7 +98,6 @@ class LiveRun extends Run {
     objects.forEach((pairs, at) => addTracks(this.objects[at].tracks, pairs));
     for (const move of moves) this.numbers.push(this.number(move));
     this.last = last;
-    this.setNow(now);
   }
 
   setTrims({ trims, ...now }) {

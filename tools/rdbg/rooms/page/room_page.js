@@ -103,6 +103,7 @@ class RoomPage extends Viewer {
     this.timeline.zoomTo(SCALE);
     this.begin();
     this.go(run.done);
+    this.fill();
   }
 
   get moreKeys() {
@@ -145,15 +146,17 @@ class RoomPage extends Viewer {
     this.go(this.run.done);
   }
 
+  // Goes to a place. One that isn't here yet is gone to once it comes.
   go(place) {
+    this.wanted = Math.min(place, Math.max(this.run.last, this.run.known[1]));
     super.go(place);
     this.follows = this.place === this.run.done;
   }
 
   // Takes what has come of moves.
   take(kind, values) {
-    const { run, timeline, follows } = this;
-    const behind = kind === "more" ? values.cut : run.last;
+    const { run, timeline } = this;
+    const behind = kind === "more" ? Math.min(values.cut, run.last) : run.last;
     if (kind === "run") run.take(values);
     if (kind === "more") run.more(values);
     if (kind === "now") run.setNow(values);
@@ -161,19 +164,62 @@ class RoomPage extends Viewer {
     if (kind === "run") timeline.take();
     if (kind === "more") timeline.renew(behind);
     if (kind === "trims") timeline.renew(run.first - 1);
-    if (kind !== "now") this.search.renew();
-    if (this.search.words) timeline.found = this.search.places;
+    if (run.hasDone) this.showAll(kind !== "now");
+    else this.line.say("run", "");
+    this.fill();
+  }
+
+  // Shows what there is by now, as it has changed or not.
+  showAll(hasChanged) {
+    const { run, timeline, search, follows } = this;
+    if (hasChanged) search.renew();
+    if (search.words) timeline.found = search.places;
     timeline.keepInside();
     this.say();
-    this.go(follows ? run.done : this.place);
+    this.go(follows ? run.done : this.wanted);
+  }
+
+  // Asks for moves that aren't here yet, some at a time. What comes meanwhile goes first.
+  async fill() {
+    this.isWanted = true;
+    if (this.isFilling) return;
+    this.isFilling = true;
+    while (this.isWanted) {
+      this.isWanted = false;
+      if (await this.fillSome()) this.isWanted = true;
+    }
+    this.isFilling = false;
+  }
+
+  // Moves that were taken back, or else earlier ones; whether some have come.
+  async fillSome() {
+    const { run, timeline } = this;
+    const [first, last] = run.known;
+    const { changes } = run;
+    if (run.last < last) {
+      const found = await this.line.say("behind", String(run.last));
+      if (changes !== run.changes || found.cut !== run.last) return found.cut !== undefined;
+      run.more(found);
+      timeline.renew(found.cut);
+    } else if (run.first > first) {
+      const found = await this.line.say("before", String(run.first));
+      const end = run.first;
+      if (changes !== run.changes || found.last !== end) return found.last !== undefined;
+      run.prepend(found);
+      timeline.prepend(end);
+    } else {
+      return false;
+    }
+    if (run.hasDone) this.showAll(true);
+    return true;
   }
 
   say() {
     super.say();
-    const { done, undone, toCome, lost } = this.run;
+    const { done, undone, missing, lost } = this.run;
     const texts = [`the target is at ${done}`];
     if (undone) texts.push(`${counted(undone, "move")} taken back`);
-    if (toCome) texts.push(`${counted(toCome, "earlier move")} still to come`);
+    if (missing) texts.push(`${counted(missing, "earlier move")} still to come`);
     if (lost) texts.push(lost);
     byId("about").textContent = texts.join("; ");
   }
