@@ -4,8 +4,8 @@ import json
 from typing import Any, Dict, List, Mapping, Optional
 
 Values = Dict[str, Any]
-# A number of more digits is none that the protocol has.
-MOST_DIGITS = 18
+# A number of more digits isn't read.
+MOST_DIGITS = 1_000
 MOST_TEXT = 65_536
 KINDS = {str: "a text", int: "a number", bool: "true or false", dict: "an object", list: "a list"}
 
@@ -22,6 +22,27 @@ class Unreadable(Exception):
         self.seq, self.command = seq, command
 
 
+class Long:
+    """A number of too many digits, which stands where it stood and is none that anything takes."""
+
+
+def kind_of(value: Any) -> str:
+    """What a value is, in a few words."""
+    if value is None or isinstance(value, bool):
+        return {None: "null", True: "true", False: "false"}[value]
+    if isinstance(value, float):
+        return str(value)
+    if isinstance(value, Long):
+        return f"one of more than {MOST_DIGITS} digits"
+    return KINDS[type(value)]
+
+
+def unlike(kind: type, value: Any) -> str:
+    """What a value had to be, and is instead."""
+    whole = "a whole number" if kind is int and isinstance(value, float) else KINDS[kind]
+    return f"{whole}, and not {kind_of(value)}"
+
+
 def clean(value: Any) -> Any:
     """A value whose texts can be written as UTF-8."""
     if isinstance(value, str):
@@ -34,7 +55,7 @@ def clean(value: Any) -> Any:
 
 
 class Arguments:
-    """The arguments of a request. `null` counts as absent."""
+    """The arguments of a request. `null` counts as absent, where `not_null` doesn't refuse it."""
 
     def __init__(self, values: Mapping[str, Any], of: str) -> None:
         self._values, self._of = values, of
@@ -51,8 +72,13 @@ class Arguments:
             return absent
         # (true and false are numbers to Python)
         if not isinstance(value, kind) or (kind is int and isinstance(value, bool)):
-            raise Wrong(f"{self._of}: {key} must be {KINDS[kind]}")
+            raise Wrong(f"{self._of}: {key} must be {unlike(kind, value)}")
         return value
+
+    def not_null(self, key: str, kind: type) -> None:
+        """Raises `Wrong` where it is there, and is `null`."""
+        if key in self._values and self._values[key] is None:
+            raise Wrong(f"{self._of}: {key} must be {unlike(kind, None)}")
 
     def text(self, key: str, absent: Optional[str] = None) -> str:
         """A text."""
@@ -104,11 +130,9 @@ class Request:
     arguments: Arguments
 
 
-def whole(text: str) -> int:
-    """A whole number that isn't too long to be read."""
-    if len(text) > MOST_DIGITS:
-        raise ValueError(text[:MOST_DIGITS])
-    return int(text)
+def whole(text: str) -> Any:
+    """A whole number, where it isn't too long to be read."""
+    return int(text) if len(text) <= MOST_DIGITS else Long()
 
 
 def constant(text: str) -> Any:
@@ -127,16 +151,26 @@ def read(body: bytes) -> Request:
     seq, command = value.get("seq"), value.get("command")
     number = seq if isinstance(seq, int) and not isinstance(seq, bool) else 0
     name = command if isinstance(command, str) else ""
+    if isinstance(seq, Long):
+        raise Unreadable(f"the message is no JSON that is read: its seq is {kind_of(seq)}", 0, name)
     if value.get("type") != "request":
         raise Unreadable("the message is no request: its type is another", number, name)
     if not name or seq is None or number != seq:
-        raise Unreadable("a request has a number as seq, and a text as command", number, name)
+        raise Unreadable(numbered(seq), number, name)
     arguments = value.get("arguments")
     if arguments is None:
         arguments = {}
     if not isinstance(arguments, dict):
         raise Unreadable(f"{name}: arguments must be an object", number, name)
     return Request(number, name, Arguments(arguments, name))
+
+
+def numbered(seq: Any) -> str:
+    """What a request has, and what seq is where it is no number."""
+    said = "a request has a number as seq, and a text as command"
+    if isinstance(seq, int) and not isinstance(seq, bool):
+        return said
+    return f"{said}; its seq must be {unlike(int, seq)}"
 
 
 def event(name: str, body: Values) -> Values:
