@@ -15,12 +15,16 @@
 (face-spec-set 'dap-ui-verified-breakpoint-face '((((type tty)) :foreground "red")))
 (face-spec-set 'dap-ui-pending-breakpoint-face '((((type tty)) :foreground "red")))
 
+(defun rdbg-dap--starts-p (path)
+  "Say whether PATH is a file that can be started, and no folder."
+  (and (file-regular-p path) (file-executable-p path)))
+
 (defvar rdbg-program
   (let* ((here (file-name-directory (file-truename (or load-file-name buffer-file-name))))
          (checkout (expand-file-name "../../../rdbg" here))
          (installed (expand-file-name "../../../../bin/rdbg" here)))
-    (cond ((file-executable-p checkout) checkout)
-          ((file-executable-p installed) installed)
+    (cond ((rdbg-dap--starts-p checkout) checkout)
+          ((rdbg-dap--starts-p installed) installed)
           (t "rdbg")))
   "The file that starts rdbg: of the checkout or the installation that this one is of.")
 
