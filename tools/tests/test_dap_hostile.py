@@ -8,7 +8,7 @@ from typing import Any, List, Tuple
 
 from rdbg.adapter.framing import MOST_BODY
 from rdbg.adapter.server import REQUESTS
-from tests.dap_client import Client, Message, editor
+from tests.dap_client import Client, Message, editor, started
 from tests.dap_schema import Held
 from tests.paths import EXAMPLES
 
@@ -105,6 +105,98 @@ class Frames(Held):
                 client._read = 0
 
 
+class Numbers(Held):
+    """Numbers of many digits, and what isn't one."""
+
+    LARGE = (10**18, 1234567890123456789, 2**53 + 1, 2**63, -(2**63) - 1, 10**40 + 7)
+
+    def test_a_large_seq_is_answered_as_it_is(self) -> None:
+        with editor() as client:
+            for number in self.LARGE:
+                client.raw(json.dumps({**REQUEST, "seq": number}).encode())
+                self.assertTrue(client.answer(number)["success"])
+            self.assertEqual([it["request_seq"] for it in client.told], list(self.LARGE))
+
+    def test_a_large_seq_of_what_is_refused(self) -> None:
+        with editor() as client:
+            wrong: List[Message] = [{"command": "dance"}, {"arguments": 3}, {"type": "event"}]
+            for more in wrong:
+                client.raw(json.dumps({**REQUEST, "seq": 2**64, **more}).encode())
+                self.assertFalse(client.answer(2**64)["success"])
+                client.told.clear()
+                client._read = 0
+
+    def test_large_numbers_are_refused_as_what_is_not_there(self) -> None:
+        with editor() as client:
+            client.begin(LOST)
+            for number in self.LARGE:
+                wrong: List[Tuple[str, Message, str]] = [
+                    ("stackTrace", {"threadId": number}, f"there is no thread {number}"),
+                    ("scopes", {"frameId": number}, f"there is no thread {number}"),
+                    ("next", {"threadId": number}, f"there is no thread {number}"),
+                    ("variables", {"variablesReference": number}, f"no variables {number}"),
+                    ("goto", {"threadId": 2, "targetId": number}, f"no target {number}"),
+                    ("source", {"sourceReference": number}, f"there is no text {number}"),
+                ]
+                for command, asked, text in wrong:
+                    self.assertIn(text, client.refused(command, asked))
+            found = client.lines(LOST, 1234567890123456789)
+            self.assertIn("no instruction stands at this line", found[0]["message"])
+            asked = {"threadId": 2, "startFrame": 10**19, "levels": 10**19}
+            self.assertEqual(client.ask("stackTrace", asked)["stackFrames"], [])
+            self.assertEqual(client.place(), 0)
+
+    def test_what_is_no_whole_number_is_refused_as_what_it_is(self) -> None:
+        with editor() as client:
+            client.begin(LOST)
+            for text, said in (
+                ("1e19", "a whole number, and not 1e+19"),
+                ("2.0", "a whole number, and not 2.0"),
+                ("true", "a number, and not true"),
+                ('"2"', "a number, and not a text"),
+                ("[]", "a number, and not a list"),
+                ("1" * 5_000, "a number, and not one of more than 1000 digits"),
+                ("-" + "1" * 100_000, "a number, and not one of more than 1000 digits"),
+            ):
+                client._sent += 1
+                head, last = '"type": "request", "command": "next"', '"arguments": {"threadId": '
+                client.raw(f'{{"seq": {client._sent}, {head}, {last} {text}}}}}'.encode())
+                self.assertIn(f"next: threadId must be {said}", told(client, client._sent))
+                client.raw(f'{{"seq": {text}, {head}, {last} 2}}}}'.encode())
+                self.assertIn(said.split("and not ")[1], told(client))
+                client.told.clear()
+                client._read = 0
+
+    def test_digits_that_are_none(self) -> None:
+        with editor() as client:
+            client.begin(LOST)
+            reference = client.scope(2, "Registers")
+            for text in ("\u00b2", "\u0663", "1" * 5_000, "1" * 11, "0x" + "f" * 5_000):
+                asked = {"variablesReference": reference, "name": "r0", "value": text}
+                client.refused("setVariable", asked)
+                for key, value in (("hitCondition", text), ("condition", f"tick > {text}")):
+                    self.assertFalse(client.lines(LOST, 6, **{key: value})[0]["verified"])
+                for name in (
+                    f"worker {text}",
+                    f"reg worker {text} = 0",
+                    f"w{text}",
+                    f"tick > {text}",
+                ):
+                    made = client.ask("setFunctionBreakpoints", breakpoints=[{"name": name}])
+                    self.assertFalse(made["breakpoints"][0]["verified"])
+                made = client.ask(
+                    "setDataBreakpoints", breakpoints=[{"dataId": f"reg worker {text}"}]
+                )
+                self.assertFalse(made["breakpoints"][0]["verified"])
+                for context in ("hover", "watch"):
+                    expression = f"reg worker {text} = 0"
+                    client.refused("evaluate", expression=expression, context=context)
+            faults = [line for line in client.output() if "a fault of rdbg" in line]
+            self.assertEqual(faults, [])
+            with started("--port", "\u00b2") as program:
+                self.assertEqual(program.process.wait(30), 2)
+
+
 class Arguments(Held):
     """Arguments that aren't as they should be."""
 
@@ -129,7 +221,26 @@ class Arguments(Held):
             with self.subTest(program), editor() as client:
                 client.ask("initialize")
                 self.assertIn(text, client.refused("launch", program=program))
-                client.ask("launch", program=None)
+                client.ask("launch")
+
+    def test_what_counts_later_is_refused_at_launch(self) -> None:
+        with editor() as client:
+            client.ask("initialize")
+            wrong: List[Tuple[Message, str]] = [
+                ({"program": None}, "launch: program must be a text, and not null"),
+                ({"stopOnEntry": "yes"}, "stopOnEntry must be true or false, and not a text"),
+                ({"stopOnEntry": 1}, "stopOnEntry must be true or false, and not a number"),
+                ({"stopOnEntry": 0.0}, "stopOnEntry must be true or false, and not 0.0"),
+                ({"unproved": "yes"}, "unproved must be true or false, and not a text"),
+                ({"limit": 2.5}, "limit must be a whole number, and not 2.5"),
+            ]
+            for more, what in wrong:
+                self.assertIn(what, client.refused("launch", {"program": str(LOST), **more}))
+            client.ask("launch", program=str(LOST), stopOnEntry=True)
+            client.event("initialized")
+            self.assertEqual(client.stopped("configurationDone")["reason"], "entry")
+            said = client.refused("restart", {"arguments": {"program": None}})
+            self.assertIn("program must be a text, and not null", said)
 
     def test_limits(self) -> None:
         with editor() as client:

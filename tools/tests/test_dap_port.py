@@ -5,11 +5,11 @@ import subprocess
 import sys
 import time
 import unittest
-from typing import Iterator, Tuple
+from typing import Iterator, List, Tuple
 from unittest import mock
 
 from rdbg.client import Session
-from tests.dap_client import ALL, Client, editor, started
+from tests.dap_client import ALL, Client, Message, editor, started
 from tests.dap_schema import Held
 from tests.paths import COMPANION, EXAMPLES
 from tests.test_shell_port import server
@@ -48,9 +48,37 @@ class Attached(Held):
             stop = client.stopped("continue", threadId=2)
             self.assertEqual(stop["hitBreakpointIds"], [1])
             self.assertEqual(other.tell("show wheel"), "wheel -")
-            self.assertEqual(client.stopped("restart")["description"], "at 0: the start")
+            place = client.place()
             client.ask("disconnect")
-            self.assertEqual(other.tell("step 0"), "ok at 1")
+            self.assertEqual(other.tell("tick"), f"ok at {place + 1}")
+
+    def test_restart_moves_no_target_of_others(self) -> None:
+        with server() as (port, _), Session.attach(port) as other, editor() as client:
+            offered = client.ask("initialize")
+            self.assertTrue(offered["supportsRestartRequest"])
+            client.ask("attach", port=port, program=str(LOST))
+            told = client.event("capabilities")["capabilities"]
+            self.assertEqual(told, {"supportsRestartRequest": False})
+            client.stopped("configurationDone")
+            other.tell("forward 5")
+            arguments: List[Message] = [{}, {"arguments": {"program": str(LOST)}}]
+            for more in arguments:
+                said = client.refused("restart", more)
+                self.assertIn("others have this target, too", said)
+                self.assertIn("Reverse goes back to its start", said)
+            self.assertEqual(other.tell("show moves"), "moves 5 undone 0 kept 5")
+            self.assertEqual(other.tell("show wheel"), "wheel -")
+
+    def test_restart_behind_an_attach_that_was_refused(self) -> None:
+        with editor() as client:
+            client.ask("initialize")
+            client.refused("attach", port=1)
+            client.ask("launch", program=str(LOST))
+            client.event("initialized")
+            client.stopped("configurationDone")
+            client.stopped("next", threadId=client.thread("producer"))
+            self.assertEqual(client.stopped("restart")["description"], "at 0: the start")
+            self.assertEqual(client.typed("show moves"), "moves 0 undone 0 kept 0")
 
     def test_a_wheel_that_another_has_is_told(self) -> None:
         with two() as (client, other):
@@ -63,7 +91,6 @@ class Attached(Held):
             reference = client.scope(2, "Registers")
             asked = {"variablesReference": reference, "name": "r0", "value": "3"}
             self.assertIn("no Held 1", client.refused("setVariable", asked))
-            self.assertIn("no Held 1", client.refused("restart"))
             self.assertIn("no Held 1", client.typed("step 0"))
             self.assertEqual(client.within(reference)["r0"]["value"], "0")
             other.tell("wheel give")

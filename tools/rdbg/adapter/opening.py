@@ -108,6 +108,8 @@ def tell_lines(stream: IO[bytes], said: List[str], tell: Tell) -> None:
 
 def launch(given: Arguments, pause: Pause, tell: Tell) -> Shell:
     """A program of its own on a file, or on the built-in application."""
+    given.not_null("program", str)
+    given.flag("stopOnEntry", True)  # (which is asked for later)
     path = file_of(given)
     source = built_in() if path is None else read(path)
     limits = Limits(count(given, "moves", Limits.moves), count(given, "history", Limits.history, 2))

@@ -7,9 +7,13 @@ from rdbg.adapter.debugger import LIMIT, Debugger
 from rdbg.adapter.hearing import Hearing
 from rdbg.adapter.messages import Arguments, Values, Wrong, event
 from rdbg.adapter.threads import TIME
-from rdbg.replies import Refused
 from rdbg.shell.shell import Shell
 
+# Why nothing is started anew at a port.
+AT_A_PORT = (
+    "at a port nothing is started anew, since others have this target, too: Reverse goes back to"
+    " its start, and who has started it starts it with another file"
+)
 Request = Callable[[Debugger, Arguments], Optional[Values]]
 CAN = (
     "supportsConfigurationDoneRequest",
@@ -69,8 +73,11 @@ def attach(it: Debugger, given: Arguments) -> Optional[Values]:
     if it.has_shell:
         raise Wrong("something is debugged already")
     opening.count(given, "limit", LIMIT)
+    shell = opening.attach(given, it.pause, it.hear)
     it.is_attached = True
-    started(it, given, opening.attach(given, it.pause, it.hear))
+    off = {"capabilities": {"supportsRestartRequest": False}}
+    it.later.append(lambda: it.send(event("capabilities", off)))
+    started(it, given, shell)
     it.hearing = Hearing(it.shell.target.session, it.came)
     it.hearing.begin()
     return None
@@ -94,22 +101,15 @@ def configured(it: Debugger, given: Arguments) -> Optional[Values]:
 
 
 def restart(it: Debugger, given: Arguments) -> Optional[Values]:
-    """`restart`: a new program on the file as it is; a target of others goes back to its start."""
-    it.failure = ""
+    """`restart`: a new program on the file as it is. A target of others isn't moved."""
     if it.is_attached:
-        try:
-            with it.wheel():
-                it.shell.walk.goto(it.shell.target.base)
-        except Refused as refused:
-            raise it.wrong("back 1", refused) from None
-        place = it.shell.target.place
-        it.later.append(lambda: it.stopped("entry", f"at {place}: the start", it.focus))
-        it.changed()
-        return None
+        raise Wrong(AT_A_PORT)
     arguments = given.part("arguments")
+    arguments.not_null("program", str)
     chosen = arguments if arguments.has("program") else it.given
     watches = sorted(it.shell.target.watches.items())
     shell = opening.launch(chosen, it.pause, lambda text: it.say(text))
+    it.failure = ""
     it.close()
     it.take(shell)
     it.given = chosen
