@@ -2,6 +2,7 @@
 import contextlib
 import io
 import pathlib
+import re
 from typing import List, Optional, Sequence, Tuple
 
 from rdbg.client import Session
@@ -91,3 +92,12 @@ def written(folder: str, text: str, name: str = "application.json") -> str:
 def told(search: Search) -> Optional[Tuple[str, ...]]:
     """The surprises of the first find."""
     return search.finds[0].order.told if search.finds else None
+
+
+FOUND = re.compile(r"found(?: \d+)?: .*, at (\d+)(?:, (?:without a|with (\d+)) surprises?)?$")
+
+
+def found(said: Sequence[str]) -> List[Tuple[int, int]]:
+    """With how many surprises and moves each find is, as it was said."""
+    heads = filter(None, map(FOUND.match, said))
+    return [(int(it[2] or 0), int(it[1])) for it in heads]

@@ -3,6 +3,9 @@
 Behind each state that is new each busy core can move, a tick can pass, and each interrupt that is
 left can come, whose calls are a move each; no order is left out, but one that comes to a state that
 was seen, with as few moves. Where no state is new any more, that was every order there is.
+
+An order ends where the goal is met. At the start alone it goes on, so that a goal which is met there
+already hides no other.
 """
 import dataclasses
 from typing import Dict, List, Optional, Sequence, Set, Tuple
@@ -49,8 +52,9 @@ class Exhaustive:
 
     def run(self) -> None:
         """Goes through all orders, those with fewer moves first. Raises `TimeUp`, and `Full`."""
-        ((_, key),) = self.crew.do(Worker.boot, [(None, ())])
-        self._seen.add(key)
+        ((_, start),) = self.crew.do(Worker.start, [(None, ())])
+        self._seen.add(start.key)
+        self._judge(b"", start)
         layer = [b""]
         while self.depth.moves < self.hunted.moves and not self.is_done():
             layer = self._next(layer)

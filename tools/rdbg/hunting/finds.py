@@ -60,13 +60,14 @@ class Found:
         return found
 
     def _rows(self, walk: Walk) -> Iterator[str]:
-        """The head and the rows of a table of the moves that are done."""
+        """The head and the rows of a table of the moves that are done, if there are any."""
         done, tick = walk.place, walk.target.look().cores.tick
+        if not done:
+            return
         table = Table.of(self.hunted.application, done, tick)
         yield table.head()
-        if done:
-            part = look_through(walk.target, 1, min(done, MOST_ROWS))
-            yield from (table.row(row.cells) for row in rows(part.moves))
+        part = look_through(walk.target, 1, min(done, MOST_ROWS))
+        yield from (table.row(row.cells) for row in rows(part.moves))
         if done > MOST_ROWS:
             yield f"(and {done - MOST_ROWS} more)"
 

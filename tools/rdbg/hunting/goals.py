@@ -49,8 +49,8 @@ class Goal:
         raise NotImplementedError
 
     def run(self, walk: Walk, most: int) -> Optional[int]:
-        """Goes on as `forward` does, at most so many moves, and stays where the goal is met first.
-        Answers that place; none where it isn't met, and then it may stay anywhere behind here."""
+        """Goes on as `forward` does, at most so many moves, and stays where the goal is met first
+        behind here. Answers that place; where it isn't met none, and stays behind the last move."""
         raise NotImplementedError
 
     def end(self, walk: Walk) -> End:
@@ -71,7 +71,7 @@ class Goal:
 
 
 class Holds(Goal):
-    """A condition of the language holds after a move."""
+    """A condition of the language holds."""
 
     def __init__(self, condition: Condition) -> None:
         super().__init__(condition.text)

@@ -149,9 +149,16 @@ class Search:
                 return
 
     def _first_level(self) -> List[Node]:
-        """The order without a surprise, which is a try of the first part."""
+        """The order without a surprise, which is a try of the first part. Where the goal is met at
+        the start it ends there, unless more finds are wanted."""
         self.levels.append(Level(0))
         order = Order()
+        ((_, start),) = self.crew.do(Worker.start, [(None, ())])
+        if start.is_so and self.limits.part == 1:
+            here = Ran(0, end_of(start.key))
+            if self.limits.smallest or self.limits.finds == 1:
+                return self._judged(order, here)
+            self._found(order, here)
         ((_, (ran,)),) = self.crew.do(Worker.run, [(None, ([order], self._most))])
         if self.goal.compares and ran.met is not None:
             self.own = Find(order, ran.met, ran.end)

@@ -201,9 +201,11 @@ class Worker:
         views = self.walk.target.tell_all(self.views)
         return end_of(self._seen(views, place, ())[0])
 
-    def boot(self) -> Key:
-        """The state at boot."""
-        return self._seen(self._stand(Order(), self.views) or [], 0, ())[0]
+    def start(self) -> Child:
+        """The state at boot, behind no move."""
+        child = self._looked(Order(), TICK, 0)
+        assert child is not None
+        return child
 
     def expand(self, paths: Sequence[bytes]) -> List[List[Child]]:
         """The states behind each move that can be made behind each of these orders."""
@@ -224,9 +226,12 @@ class Worker:
 
     def _child(self, order: Order, move: int) -> Optional[Child]:
         further = with_move(order, move, [it.comes for it in self.hunted.interrupts])
-        views = self._stand(further, self.views)
+        return self._looked(further, move, further.place - order.place)
+
+    def _looked(self, order: Order, move: int, moves: int) -> Optional[Child]:
+        """The state at the end of an order, whose last move this is; none where it can't be made."""
+        views = self._stand(order, self.views)
         if views is None:
             return None
-        key, look = self._seen(views, further.place, further.came)
-        is_so, end = self.goal.is_so(look), self.goal.end_of(look, views)
-        return Child(move, key, is_so, end, further.place - order.place)
+        key, look = self._seen(views, order.place, order.came)
+        return Child(move, key, self.goal.is_so(look), self.goal.end_of(look, views), moves)
