@@ -8,6 +8,11 @@ before, since more are left then: so what is found, and that nothing is, are the
 In the last level states behind surprises are held against those of the levels before, and of their
 own chunk of places, alone. So each of several parts makes every Nth chunk there, before it every
 Nth try, and together they make what one search makes.
+
+For that all parts must see the same levels, whatever each of them finds. An order ends where it meets
+the goal, and no surprise comes behind that: so where a search goes on behind a find, a part sees by
+itself where the tries of others end that surprises come behind. And the fewest moves that a part has
+found don't change which states it looks at, but only which of its tries it leaves out.
 """
 import collections
 import dataclasses
@@ -62,7 +67,6 @@ class Level:
     places: int = 0
     tries: int = 0
     again: int = 0
-    is_whole: bool = False
 
 
 @dataclasses.dataclass(frozen=True)
@@ -82,18 +86,28 @@ class Piece:
     end: int
 
 
+@dataclasses.dataclass(frozen=True)
+class Try:
+    """An order that is tried, by this part or another one, and what comes of it where that is known
+    already."""
+
+    order: Order
+    known: Optional[Ran]
+    is_mine: bool = True
+
+
 @dataclasses.dataclass
 class Batch:
-    """Orders to be tried, each with what comes of it where that is known already; at how many
-    places their last surprises come; and how many more came to a state that was seen."""
+    """Orders to be tried; at how many places their last surprises come; and how many more came to a
+    state that was seen."""
 
     places: int
-    tries: List[Tuple[Order, Optional[Ran]]] = dataclasses.field(default_factory=list)
+    tries: List[Try] = dataclasses.field(default_factory=list)
     again: int = 0
 
-
-# Stands for what comes of an order that another part tries.
-OTHERS = Ran()
+    def unknown(self) -> List[Order]:
+        """The orders of which it isn't known what comes of them."""
+        return [it.order for it in self.tries if it.known is None]
 
 
 class Full(Exception):
@@ -113,7 +127,8 @@ class Search:
         # Whether further surprises would come to no other state.
         self.is_all = False
         self.on_try: Optional[Callable[[Order], None]] = None
-        self._most = hunted.moves
+        # An order may have so many moves, and be of use with so many.
+        self._moves = self._most = hunted.moves
         self._ends: Set[End] = set()
         # With how few moves a state was reached: one at which surprises came, one behind one.
         self._places: Dict[Key, int] = {}
@@ -133,6 +148,14 @@ class Search:
         """Whether as many were found as are wanted."""
         return not self.limits.smallest and len(self.finds) >= self.limits.finds
 
+    def _reach(self) -> int:
+        """States are looked at behind so many moves at the most. All parts look at the same ones."""
+        return self._most if self.limits.parts == 1 else self._moves
+
+    def _follows_others(self) -> bool:
+        """Whether it must be seen where the tries of other parts meet the goal."""
+        return self.limits.finds > 1 and not self.goal.compares
+
     def run(self) -> None:
         """Goes through the levels. Raises `TimeUp`, and `Full`."""
         nodes = self._first_level()
@@ -142,7 +165,6 @@ class Search:
             self.levels.append(Level(number))
             is_last = number == self.limits.surprises
             nodes = self._through(nodes, is_last)
-            self.level.is_whole = not self.is_done()
             has_more = self.level.tries > 0 or self.limits.parts > 1
             self.is_all = not nodes and not (is_last and has_more)
             if self.is_all:
@@ -157,17 +179,14 @@ class Search:
         if start.is_so and self.limits.part == 1:
             here = Ran(0, end_of(start.key))
             if self.limits.smallest or self.limits.finds == 1:
-                return self._judged(order, here)
+                return self._judged(Try(order, here), here)
             self._found(order, here)
         ((_, (ran,)),) = self.crew.do(Worker.run, [(None, ([order], self._most))])
         if self.goal.compares and ran.met is not None:
             self.own = Find(order, ran.met, ran.end)
             self._ends.add(ran.end)
             ran = Ran()
-        self.level.is_whole = True
-        if self.limits.part > 1:
-            return [Node(order, self._most if ran.met is None else ran.met)]
-        return self._judged(order, ran)
+        return self._judged(Try(order, None, self.limits.part == 1), ran)
 
     def _through(self, nodes: Sequence[Node], is_last: bool) -> List[Node]:
         """Goes through a level, and answers the orders of it behind which the next one goes on,
@@ -183,8 +202,8 @@ class Search:
                 left = iter(answers)
                 self.level.again += batch.again
                 self.level.places += batch.places
-                for order, known in batch.tries:
-                    found += self._judged(order, next(left) if known is None else known)
+                for it in batch.tries:
+                    found += self._judged(it, next(left) if it.known is None else it.known)
                 if self.is_done():
                     break
         return [] if is_last else sorted(found, key=lambda node: node.order.place)
@@ -197,7 +216,7 @@ class Search:
         going: Dict[int, Piece] = {}
         wanted: List[Tuple[int, Tuple[Order, int, int]]] = []
         for at, piece in enumerate(taken):
-            end = min(piece.node.end, self._most) - piece.node.order.place
+            end = min(piece.node.end, self._reach()) - piece.node.order.place
             pieces = self._pieces(piece.first, end, ROUND // len(taken))
             wanted += [(at, (piece.node.order, first, last)) for first, last in pieces]
             if pieces:
@@ -248,7 +267,7 @@ class Search:
         for chunk in chunks:
             if not is_last or self._is_mine():
                 mine.append(chunk)
-        wanted = ((it, (it.node.order, it.first, it.end - 1, self._most)) for it in mine)
+        wanted = ((it, (it.node.order, it.first, it.end - 1, self._reach())) for it in mine)
         return self.crew.do(Worker.enter, wanted)
 
     def _is_mine(self) -> bool:
@@ -270,31 +289,30 @@ class Search:
                     batch.again += 1
                     continue
                 seen[entry.key] = order.place
-                met = Ran(order.place, end_of(entry.key)) if entry.is_so else None
-                if is_last or self._is_mine():
-                    batch.tries.append((order, met))
-                elif met is None:
-                    batch.tries.append((order, OTHERS))
+                known = Ran(order.place, end_of(entry.key)) if entry.is_so else None
+                is_mine = is_last or self._is_mine()
+                if known is None and not (is_mine or self._follows_others()):
+                    known = Ran()
+                if order.place <= self._most:
+                    batch.tries.append(Try(order, known, is_mine))
             self._check_room()
-            yield batch, ([order for order, known in batch.tries if known is None], self._most)
+            yield batch, (batch.unknown(), self._most)
 
     def _was_seen(self, key: Key, place: int, seen: Dict[Key, int]) -> bool:
         """Whether a state was reached before with as few moves."""
         return any(it.get(key, place + 1) <= place for it in (self._places, self._entries, seen))
 
-    def _judged(self, order: Order, ran: Ran) -> List[Node]:
-        """Takes account of what came of an order, and answers it where surprises can come behind
-        it."""
-        if ran is OTHERS:
-            return [Node(order, self._most)]
-        self.level.tries += 1
-        if self.on_try is not None:
-            self.on_try(order)
-        if ran.met is None:
-            return [Node(order, self._most)]
-        if self.own is None or ran.end != self.own.end:
-            self._found(order, ran)
-        return [Node(order, self._most if self.goal.compares else ran.met)]
+    def _judged(self, it: Try, ran: Ran) -> List[Node]:
+        """Takes account of what came of an order, and answers it with the end up to which surprises
+        can come behind it."""
+        if it.is_mine:
+            self.level.tries += 1
+            if self.on_try is not None:
+                self.on_try(it.order)
+            if ran.met is not None and (self.own is None or ran.end != self.own.end):
+                self._found(it.order, ran)
+        end = self._moves if ran.met is None or self.goal.compares else ran.met
+        return [Node(it.order, end)]
 
     def _found(self, order: Order, ran: Ran) -> None:
         """Keeps a find, if it is wanted: one with fewer moves than before, or with another end."""
