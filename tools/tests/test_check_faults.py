@@ -356,6 +356,30 @@ class Remarks(unittest.TestCase):
             list(map(str, remarks_of(root))),
         )
 
+    def test_bytes_that_look_like_a_number(self) -> None:
+        for word, note in (
+            ("0b1010", "0a"),
+            ("0B01", "01"),
+            ("0b0000000100000000", "0100"),
+            ("0b12", ""),
+            ("1010", ""),
+            ("0b", ""),
+        ):
+            with self.subTest(word):
+                found = source("x.json", LOST.replace("data 41", f"data {word}").encode())
+                said = f"the first of these bytes is 0b; the number {word} is written data {note}"
+                assert found.application is not None and found.root is not None
+                told = [fault.message for fault in remarks_of(found.root)]
+                self.assertEqual([f"note: {said}"] if note else [], told)
+        # (where it isn't bytes, it is a fault, and no more; in lines it is written so on purpose)
+        found = source("x.json", LOST.replace("data 41", "data 0b101").encode())
+        assert found.root is not None
+        self.assertEqual([], remarks_of(found.root))
+        self.assertTrue(found.faults[0].message.endswith("; write 05"), found.faults[0].message)
+        found = source("x.fw", b"cores 1\ntask t priority 1\n    data 0x0b10\n    end\n")
+        assert found.application is not None and found.root is not None
+        self.assertEqual([], remarks_of(found.root))
+
 
 if __name__ == "__main__":
     unittest.main()

@@ -106,6 +106,43 @@ class Lines(unittest.TestCase):
             text = f"{HEAD}set r1 A\nend\n{const}\n"
             self.assertEqual(["7:"], [fault[:2] for fault in faults(text.encode())], const)
 
+    def test_a_number_that_stems_from_a_refused_const(self) -> None:
+        # (each use would be out of its bounds, were the const 0)
+        uses = (
+            "cores A\nnotes A\nqueue q length A item A\nstream s size A trigger 2\n"
+            "set all length A members q\ntask t priority 1\nsread s A 0\nnotify t A 1 set\n"
+            "const D A|2\nsread s D 0\nend\n"
+        )
+        for const in (
+            "const A B",
+            "const A",
+            "const A 4294967296",
+            "const A = 4294967296",
+            "const A B\nconst C A",
+            "const A A",
+        ):
+            with self.subTest(const):
+                text = f"{const}\n{uses}"
+                self.assertEqual(["1:"], [fault[:2] for fault in faults(text.encode())])
+
+    def test_a_number_with_a_name_that_is_refused(self) -> None:
+        for const in ("const A = 2", "const 1A 2", "const A-B 2"):
+            with self.subTest(const):
+                name = const.split()[1]
+                text = (
+                    f"{const}\ncores {name}\nnotes {name}\ntask t priority {name}\nset r0 {name}\n"
+                )
+                found = faults(f"{text}set r1 {name}\nend\n".encode())
+                self.assertEqual(["1:"], [fault[:2] for fault in found], found)
+
+    def test_a_const_that_nothing_names(self) -> None:
+        found = faults(b"cores A\ntask t priority 1\nend\n")
+        self.assertEqual(["1:7: A is no number and no const"], found)
+
+    def test_what_else_is_wrong_is_told(self) -> None:
+        text = b"const A B\ncores A\nnotes 9\ntask t priority 1\nset r0 A\nrecv q 0\nend\n"
+        self.assertEqual(["1:", "3:", "6:"], [fault[:2] for fault in faults(text)])
+
     def test_no_text(self) -> None:
         for content in (b"", b"\n", b"// nothing\n", b"/**/"):
             found = faults(content)
@@ -148,6 +185,19 @@ class Instructions(unittest.TestCase):
         (
             "set r1 1<<32",
             ":8: {}: 1 << 32 is too large: a number is at most 4294967295, 0xffffffff",
+        ),
+        (
+            "data 0b1010",
+            ":6: {}: 0b1010 is no bytes: they are pairs of hexadecimal digits: write data 0a,"
+            " or for these bytes data 0x0b1010",
+        ),
+        (
+            "data 0b101",
+            ":6: {}: 0b101 is no bytes: they are pairs of hexadecimal digits: write data 05",
+        ),
+        (
+            "data 01 0B1_0000_0001",
+            ":9: {}: 0B1_0000_0001 is no bytes: they are pairs of hexadecimal digits: write data 0101",
         ),
         ("gset flags RX|BIT_3", ":15: {}: BIT_3 is no number and no const; write 8"),
         (

@@ -135,6 +135,29 @@ class Moves(unittest.TestCase):
             found = [f"# at {place} met" for place in (2, 5, 11, 16, 11)]
             self.assertEqual(met, [*found, "# at 101 limit"])
 
+    def test_an_instruction_that_a_task_does_not_have(self) -> None:
+        with example("lost_item") as shell:
+            # (the worker has recv and jump, the producer data, send and end)
+            for line, number, has in (
+                ("break worker 99", 99, "worker has 0 to 1"),
+                ("b producer:3", 3, "producer has 0 to 2"),
+                ("break pc worker = 2", 2, "worker has 0 to 1"),
+                ("break pc worker > 1", 2, "worker has 0 to 1"),
+                ("until pc worker = 2", 2, "worker has 0 to 1"),
+                ("until! pc worker = 2", 2, "worker has 0 to 1"),
+                ("rc! pc worker > 1", 2, "worker has 0 to 1"),
+            ):
+                with self.subTest(line):
+                    said_is = [f"# there is no instruction {number}: {has}"]
+                    self.assertEqual(said_is, said(shell, line))
+            self.assertEqual("ok at 0", said(shell, "goto 0", "step 0", "back 1")[-1])
+            self.assertEqual("ok watch 0", said(shell, "break worker 1")[0])
+            self.assertEqual("ok watch 1", said(shell, "break pc worker > 0")[0])
+            self.assertEqual("ok watch 2", said(shell, "break pc worker < 99")[0])
+            # (a whole line of rdbg goes to it as it is)
+            self.assertEqual("ok at 3 limit", said(shell, "until pc worker = 99 3")[0])
+            self.assertEqual("no NoSuch", said(shell, "break workr 99")[0])
+
     def test_lines_of_the_file(self) -> None:
         with opened(source("busy.fw", BUSY.encode())) as shell:
             answers = said(shell, "break busy.fw:10", "b 8", "d 1", "b other.fw:3", "b 99")

@@ -48,6 +48,8 @@ C_NUMBERS = (
     (re.compile(rf"(?i)0x([0-9a-f_']{{1,16}}){SUFFIX}"), 16),
     (re.compile(r"(?i)0b([01_']{1,64})"), 2),
 )
+BINARY = re.compile(r"0[bB][01][01_']*")
+PAIRS = "they are pairs of hexadecimal digits"
 SHIFT = re.compile(rf"(?i)\(?1{SUFFIX}<<([0-9]{{1,2}}){SUFFIX}\)?|BIT_?([0-9]{{1,2}})")
 
 
@@ -93,10 +95,23 @@ def register_slip(symbol: str, word: str, scope: Scope) -> Optional[str]:
     return None
 
 
+def is_binary(word: str) -> bool:
+    """Whether a word is a binary number as C has it, whatever else it may be."""
+    return BINARY.fullmatch(word) is not None
+
+
+def as_bytes(word: str) -> str:
+    """The bytes of a binary number, the highest first, as an instruction has them."""
+    bits = re.sub("[_']", "", word[2:])
+    return f"{int(bits, 2):0{2 * ((len(bits) + 7) // 8)}x}"
+
+
 def bytes_slip(symbol: str, word: str, scope: Scope) -> Optional[str]:
     """What is wrong with bytes."""
     if symbol != "HEX":
         return None
+    if is_binary(word):
+        return f"write {as_bytes(word)}"
     if re.fullmatch(r"0[xX]([0-9A-Fa-f]{2})+", word):
         return f"write {word[2:]}"
     one = re.fullmatch(r"0[xX]([0-9A-Fa-f])", word)

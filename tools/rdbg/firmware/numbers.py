@@ -1,6 +1,6 @@
 """Numbers of a text in lines: decimal or hexadecimal, by name, shifted by `<<`, joined by `|`."""
 import re
-from typing import Dict, Iterable, List, Optional, Sequence
+from typing import Dict, Iterable, List, Optional, Sequence, Set
 
 from rdbg.firmware.tokens import Refusal, Token, shown
 from rdbg.near import nearest
@@ -55,15 +55,22 @@ def value_of(place: Place, text: str) -> Optional[int]:
 
 
 class Constants:
-    """The numbers that have a name."""
+    """The numbers that have a name. Where a number is refused, what is wrong with it as its name
+    stands for it in other lines (`doubtful`) only stems from that."""
 
     def __init__(self) -> None:
         self.values: Dict[str, int] = {FOREVER: LARGEST}
         self.named: Dict[str, Token] = {}
+        self.doubtful: Set[int] = set()
+        self._refused: Set[str] = set()
 
-    def define(self, name: Token, value: int) -> None:
+    def define(self, name: Token, value: int, is_refused: bool = False) -> None:
         """Names a number. Raises `Refusal` where this can't be its name."""
+        if is_refused and name.text not in self.values:
+            self._refused.add(name.text)
         if not NAME.fullmatch(name.text):
+            if name.is_word():
+                self.values.setdefault(name.text, value)
             message = f"{shown(name.text)} can't name a number: letters, digits and _ can"
             raise Refusal(name.place, message)
         if name.text in self.named:
@@ -72,6 +79,12 @@ class Constants:
         if name.text in self.values or RESERVED.fullmatch(name.text):
             raise Refusal(name.place, f"{name.text} has a meaning already")
         self.values[name.text], self.named[name.text] = value, name
+
+    def value(self, token: Token) -> Optional[int]:
+        """The number that a word stands for; none where it names none."""
+        if token.text in self._refused:
+            self.doubtful.add(token.place.line)
+        return self.values.get(token.text)
 
     def near(self, word: str) -> str:
         """The end of a message on a word that is no const: which one is near."""
@@ -140,7 +153,7 @@ class Numbers:
         except Refusal as refusal:
             self.refusals.append(refusal)
             return 0
-        value = self.constants.values.get(token.text) if value is None else value
+        value = self.constants.value(token) if value is None else value
         if value is None:
             self.refusals.append(self._unknown(token))
         return value or 0

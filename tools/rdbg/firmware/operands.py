@@ -6,7 +6,7 @@ from typing import Callable, Dict, List, Optional, Sequence
 from rdbg.firmware.numbers import FOREVER, LARGEST, NAME, NOTHING_NAMED, NUMBER, Numbers
 from rdbg.firmware.tokens import Refusal, Token, shown, written
 from rdbg.operands import NAMED, REGISTER
-from rdbg.checking.slips import CONSTANTS, slip
+from rdbg.checking.slips import CONSTANTS, PAIRS, as_bytes, is_binary, slip
 from rdbg.tree import Place
 
 BYTES = re.compile(r"(?:0[xX])?((?:[0-9a-fA-F]{2})+)")
@@ -147,12 +147,16 @@ class Operands(Numbers):
         self.at += 1
         if token.is_quoted():
             return bytes_of(token)
-        found = BYTES.fullmatch(token.text)
+        found = None if is_binary(token.text) else BYTES.fullmatch(token.text)
         if found:
             return Operand(found[1], token.columns()[found.start(1) :])
         if token.text == "-" and len(self.tokens) == 1:
             return as_written(token)
         why = "each byte has two digits" if ODD.fullmatch(token.text) else BYTES_ARE
+        if is_binary(token.text):
+            why = f"{PAIRS}: write data {shown(as_bytes(token.text))}"
+            if BYTES.fullmatch(token.text):
+                why += f", or for these bytes data 0x{shown(token.text)}"
         if token.text.startswith("'"):
             text = written(self.tokens[self.at - 1 :]).replace("'", '"')
             why = f"a text stands between double quotes: {shown(text)}"

@@ -70,6 +70,11 @@ class Reader:
         self._meant: List[Thing] = []
         self._targets: Set[str] = set()
 
+    @property
+    def doubtful(self) -> Set[int]:
+        """The lines with a number that is refused where it has its name."""
+        return self._constants.doubtful
+
     def read(self, text: str) -> Optional[Node]:
         """The tree of a text, as far as it can be read; none where the rest of it isn't read. The
         lines of consts are read first, so that those of others may stand above them."""
@@ -188,15 +193,18 @@ class Reader:
             self._unknown(tokens)
         reader = Numbers(tokens, self._constants, self.refusals)
         reader.at = 2
-        value = 0
+        if reader.is_next("="):
+            said = f"{tokens[0].text} {shown(tokens[1].text)} N"
+            self.refusals.append(Refusal(tokens[2].place, f"write {said} without ="))
+        known, value = len(self.refusals), 0
+        is_refused = True
         try:
-            if reader.is_next("="):
-                said = f"{tokens[0].text} {shown(tokens[1].text)} N"
-                raise Refusal(tokens[2].place, f"write {said} without =")
             value = reader.number()
+            doubtful = tokens[0].place.line in self._constants.doubtful
+            is_refused = doubtful or len(self.refusals) > known
             ended(reader)
         finally:
-            self._constants.define(tokens[1], value)
+            self._constants.define(tokens[1], value, is_refused)
 
     def _number(self, tokens: Sequence[Token]) -> None:
         """A line for a key of the file that is a number."""
@@ -283,8 +291,8 @@ class Reader:
 
 def read(content: bytes) -> Tuple[Optional[Node], List[Fault]]:
     """The tree of a text, none where it can't be read to its end, and what is refused of it. Where
-    that is anything, what else is wrong in other lines is among it. Raises `Failure` where the text
-    is too long."""
+    that is anything, what else is wrong in other lines is among it, but for those with a number that
+    is refused where it has its name. Raises `Failure` where the text is too long."""
     reader = Reader()
     try:
         root = reader.read(decoded(content))
@@ -293,6 +301,6 @@ def read(content: bytes) -> Tuple[Optional[Node], List[Fault]]:
         root = None
     faults = [Fault(it.place, it.kind, it.message) for it in reader.refusals]
     if root is not None and faults:
-        lines = {fault.place.line for fault in faults}
+        lines = reader.doubtful | {fault.place.line for fault in faults}
         faults += [fault for fault in faults_of(root) if fault.place.line not in lines]
     return root, sorted(faults, key=lambda fault: fault.place)

@@ -10,7 +10,7 @@ from rdbg.shell.changes import Changes
 from rdbg.shell.goals import AnyOf, Becomes, Goal, Lasting, Sleeps, is_stuck, wakes
 from rdbg.shell.interrupt import Interrupted
 from rdbg.shell.target import Unable
-from rdbg.shell.views import check_name, phase_text, script_of
+from rdbg.shell.views import check_instruction, check_name, phase_text, script_of
 
 if TYPE_CHECKING:
     from rdbg.shell.shell import Shell
@@ -88,6 +88,14 @@ def check_condition(shell: "Shell", condition: conditions.Condition) -> None:
         condition.holds(replies.read(shell.target.tell(condition.view)))
     except IndexError:
         raise Refused("NoSuch") from None
+    check_instructions(shell, condition)
+
+
+def check_instructions(shell: "Shell", condition: Optional[conditions.Condition]) -> None:
+    """Raises `Unable` where a condition is of an instruction that its task doesn't have."""
+    if condition is not None and condition.kind == "pc" and condition.operator != "<":
+        least = condition.number + (condition.operator == ">")
+        check_instruction(shell, condition.name, least)
 
 
 def goal_of(
@@ -258,6 +266,7 @@ def until(shell: "Shell", words: Sequence[str]) -> None:
     if not words or words[0] in GOALS:
         run_to(shell, words, False)
     else:
+        check_instructions(shell, conditions.read(words))
         start = shell.target.place
         shell.command(f"until {' '.join(words)} {DEFAULT_COUNT}")
         if shell.is_terminal and shell.target.place == start + DEFAULT_COUNT:

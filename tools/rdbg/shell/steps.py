@@ -5,9 +5,9 @@ from typing import TYPE_CHECKING, Optional, Sequence
 
 from rdbg import commands, replies
 from rdbg.looks import Names
-from rdbg.shell import trail
+from rdbg.shell import conditions, seek, trail
 from rdbg.shell.target import Unable
-from rdbg.shell.views import check_name, phase_text
+from rdbg.shell.views import check_instruction, check_name, phase_text
 
 if TYPE_CHECKING:
     from rdbg.shell.shell import Shell
@@ -146,10 +146,12 @@ def break_at(shell: "Shell", words: Sequence[str]) -> None:
     is_made = False
     parts = [part for word in words for part in word.split(":") if part]
     if len(parts) == 2 and commands.is_name(parts[0]) and commands.is_number(parts[1]):
+        check_instruction(shell, parts[0], int(parts[1]))
         is_made = shell.command(f"watch pc {parts[0]} = {parts[1]}")
     elif len(parts) == 1 and parts[0] in shell.target.names.tasks:
         raise Unable(f"at which instruction? `list {parts[0]}` numbers them, `break {parts[0]} 2`")
     elif words:
+        seek.check_instructions(shell, conditions.read(words))
         is_made = shell.command(f"watch {' '.join(words)}")
     else:
         raise Unable("break where? `break worker 2`, or a condition, `break count jobs > 0`")

@@ -6,6 +6,7 @@ from rdbg import commands, replies
 from rdbg.application import Instruction
 from rdbg.looks import Key, Object, hexadecimal, holding, time_of
 from rdbg.near import nearest
+from rdbg.operands import to_text
 from rdbg.shell.target import Unable
 
 if TYPE_CHECKING:
@@ -50,6 +51,14 @@ def script_of(shell: "Shell", name: str) -> Sequence[Instruction]:
     """The script of a task; empty where it isn't known."""
     task = shell.target.application.task(name) if shell.target.application else None
     return task.code if task else ()
+
+
+def check_instruction(shell: "Shell", name: str, number: int) -> None:
+    """Raises `Unable` where the script of a task is known, and has no instruction of this number."""
+    script = script_of(shell, name)
+    if script and number >= len(script):
+        has = to_text(0, len(script) - 1)
+        raise Unable(f"there is no instruction {number}: {name} has {has}")
 
 
 def written(shell: "Shell", name: str, pc: int) -> str:
