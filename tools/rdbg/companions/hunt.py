@@ -71,9 +71,7 @@ def parser() -> argparse.ArgumentParser:
     made.add_argument(
         "--ahead", type=count, metavar="K", help=f"a core up to so many moves ahead ({AHEAD})"
     )
-    made.add_argument(
-        "--moves", type=count, default=MOVES, metavar="N", help=f"moves of an order ({MOVES})"
-    )
+    made.add_argument("--moves", type=count, metavar="N", help=f"moves of an order ({MOVES})")
     made.add_argument(
         "--isr",
         action="append",
@@ -131,7 +129,8 @@ def hunted(given: argparse.Namespace) -> Hunted:
     goal = goals.read(given.goal, source.application)
     may_come = tuple(interrupts(given.isr, source.application))
     surprises = (*kinds(given.ahead or AHEAD), *may_come)
-    return Hunted(source, goal, surprises, given.moves, given.exhaustive, may_come)
+    moves, is_given = given.moves or MOVES, given.moves is not None
+    return Hunted(source, goal, surprises, moves, given.exhaustive, may_come, is_given)
 
 
 def limits_of(given: argparse.Namespace) -> Limits:
@@ -205,7 +204,7 @@ def say_tried(given: argparse.Namespace, it: Hunted, hunt: Hunt, ended: str) -> 
     if not hunt.finds:
         lines.append(f"none found: {it.goal.text}")
     if isinstance(hunt, Exhaustive):
-        lines += report.depth(hunt.depth, it, ended)
+        lines += report.depth(hunt, ended)
     else:
         lines += report.tried(hunt, limits_of(given), it, ended)
     print(*lines, sep="\n", file=said, flush=True)
@@ -219,7 +218,8 @@ def status_of(expected: Optional[str], hunt: Hunt, ended: str) -> int:
         return STOPPED
     if expected == "found":
         return FOUND
-    return CANT if ended and expected == "none" else NONE_FOUND
+    is_cut = bool(ended) or hunt.goes_on
+    return CANT if is_cut and expected == "none" else NONE_FOUND
 
 
 def main(words: Sequence[str]) -> int:

@@ -11,11 +11,12 @@ import multiprocessing.process
 import signal
 import time
 from types import TracebackType
-from typing import Any, Callable, Deque, Dict, Iterable, Iterator, List, Optional, Tuple, Type
-from typing import TypeVar
+from typing import AbstractSet, Any, Callable, Deque, Dict, Iterable, Iterator, List, Optional
+from typing import Tuple, Type, TypeVar
 
 from rdbg.client import program
 from rdbg.failure import Failure
+from rdbg.hunting.standing import At
 from rdbg.hunting.worker import Hunted, Worker
 
 Answer = TypeVar("Answer")
@@ -42,9 +43,9 @@ def serve(hunted: Hunted, jobs: Pipe) -> None:
         while True:
             job, words = jobs.recv()
             try:
-                jobs.send((job(worker, *words), None))
+                jobs.send((job(worker, *words), worker.stood(), None))
             except Exception as error:
-                jobs.send((None, error))
+                jobs.send((None, worker.stood(), error))
     worker.close()
 
 
@@ -63,11 +64,13 @@ class Ticket:
 
 class Crew:
     """So many processes, each with a program of its own; one alone is this process itself. `end`
-    is when the time is up, and `on_answer` is called after each job."""
+    is when the time is up. `on_answer` is called after each job, before it `on_stood` with where
+    tasks stood in what the job looked at."""
 
     def __init__(self, hunted: Hunted, count: int, end: Optional[float] = None) -> None:
         self._hunted, self._count, self._end = hunted, count, end
         self.on_answer: Callable[[], None] = lambda: None
+        self.on_stood: Callable[[AbstractSet[At]], None] = lambda stood: None
         self._alone = Worker(hunted) if count < 2 else None
         self._processes: List[multiprocessing.process.BaseProcess] = []
         self._idle: List[Pipe] = []
@@ -149,6 +152,7 @@ class Crew:
         if self._alone is not None:
             ticket = self._asked.popleft()
             ticket.done(ticket.job(self._alone, *ticket.words))
+            self.on_stood(self._alone.stood())
             self.on_answer()
             return
         if not self._processes:
@@ -160,11 +164,12 @@ class Crew:
         for ready in multiprocessing.connection.wait(list(self._busy), left):
             assert isinstance(ready, multiprocessing.connection.Connection)
             try:
-                answer, error = ready.recv()
+                answer, stood, error = ready.recv()
             except (EOFError, OSError):
                 raise Failure("a process of the hunt has ended") from None
             if error is not None:
                 raise error
             self._busy.pop(ready).done(answer)
             self._idle.append(ready)
+            self.on_stood(stood)
             self.on_answer()

@@ -13,6 +13,7 @@ from typing import Dict, List, Optional, Sequence, Set, Tuple
 from rdbg.hunting.crew import Crew
 from rdbg.hunting.goals import End
 from rdbg.hunting.search import Find, Full
+from rdbg.hunting.standing import Standing
 from rdbg.hunting.states import Key, end_of
 from rdbg.hunting.worker import Child, Hunted, Worker
 
@@ -23,12 +24,14 @@ CHUNK = 16
 @dataclasses.dataclass
 class Depth:
     """How far every order was gone through: so many moves, to so many states, from which so many
-    moves were made in all. `is_all` says that there is no further state."""
+    moves were made in all. `is_all` says that there is no further state, and `goes_on` that there is
+    a state behind the last move from which an order goes on."""
 
     moves: int = 0
     states: int = 1
     tries: int = 0
     is_all: bool = False
+    goes_on: bool = False
 
 
 class Exhaustive:
@@ -40,6 +43,8 @@ class Exhaustive:
         self.finds: List[Find] = []
         self.own: Optional[Find] = None
         self.depth = Depth()
+        self.standing = Standing(hunted.application)
+        crew.on_stood = self.standing.came
         self._wanted, self._states = finds, states
         self._ends: Set[End] = set()
         self._seen: Set[Key] = set()
@@ -49,6 +54,12 @@ class Exhaustive:
     def is_done(self) -> bool:
         """Whether as many were found as are wanted."""
         return len(self.finds) >= self._wanted
+
+    @property
+    def goes_on(self) -> bool:
+        """Whether orders go on past the limit of moves, which nobody asked for."""
+        is_limit = self.depth.moves == self.hunted.moves
+        return is_limit and self.depth.goes_on and not self.hunted.are_moves_given
 
     def run(self) -> None:
         """Goes through all orders, those with fewer moves first. Raises `TimeUp`, and `Full`."""
@@ -69,6 +80,7 @@ class Exhaustive:
         """The orders that come to a state that is new, with one move more than these."""
         found: List[bytes] = []
         place = self.depth.moves + 1
+        self.depth.goes_on = False
         chunks = [layer[at : at + CHUNK] for at in range(0, len(layer), CHUNK)]
         for chunk, families in self.crew.do(Worker.expand, ((it, (it,)) for it in chunks)):
             for path, children in zip(chunk, families):
@@ -94,6 +106,7 @@ class Exhaustive:
         self._seen.add(child.key)
         self.depth.states += 1
         self._judge(path, child)
+        self.depth.goes_on |= child.goes_on and not child.is_so
         return not child.is_so
 
     def _judge(self, path: bytes, child: Child) -> None:

@@ -1,11 +1,14 @@
 """What is said of a hunt: what was found, and exactly what was tried."""
 from typing import Iterator, Union
 
-from rdbg.hunting.exhaustive import Depth, Exhaustive
+from rdbg.hunting.exhaustive import Exhaustive
 from rdbg.hunting.finds import Found, differences
 from rdbg.hunting.search import Find, Level, Limits, Search
+from rdbg.hunting.standing import Standing
 from rdbg.hunting.worker import Hunted
 
+# So many instructions are named, and so many of them in a line.
+MOST_NAMED, IN_A_LINE = 12, 3
 TIME, CTRL_C, ROOM = "the time was up", "Ctrl-C came", "there are more states than --states allows"
 
 
@@ -53,6 +56,23 @@ def orders_of(level: Level) -> str:
     return text
 
 
+def not_come_to(standing: Standing) -> Iterator[str]:
+    """The instructions that no order came to, if there are any."""
+    left = [f"{task.name} {pc}: {it.written}" for task, pc, it in standing.left()]
+    if not left:
+        return
+    yield f"no order came to {counted(len(left), 'instruction')}:"
+    for at in range(0, min(len(left), MOST_NAMED), IN_A_LINE):
+        yield f"  {'; '.join(left[at : at + IN_A_LINE])}"
+    if len(left) > MOST_NAMED:
+        yield f"  and {len(left) - MOST_NAMED:,} more"
+
+
+def past(moves: int) -> str:
+    """That orders go on past the limit of moves."""
+    return f"orders go on past {counted(moves, 'move')}; --moves N tries more"
+
+
 def tried(hunt: Search, limits: Limits, it: Hunted, ended: str) -> Iterator[str]:
     """What a search has tried, and whether that was all that it was to try."""
     part = "" if limits.parts == 1 else f", part {limits.part} of {limits.parts}"
@@ -62,8 +82,11 @@ def tried(hunt: Search, limits: Limits, it: Hunted, ended: str) -> Iterator[str]
         if ended:
             yield f"that isn't all: {ended}"
         return
+    yield from (f"  {line}" for line in not_come_to(hunt.standing))
     kinds = ", ".join(kind.text for kind in it.kinds)
     yield f"each of {counted(it.moves, 'move')} at the most; {kinds}"
+    if hunt.goes_on:
+        yield past(it.moves)
     if ended:
         yield f"that isn't all: {ended}"
     elif hunt.is_all:
@@ -73,16 +96,21 @@ def tried(hunt: Search, limits: Limits, it: Hunted, ended: str) -> Iterator[str]
         yield f"{others}more surprises, moves, or other surprises weren't tried"
 
 
-def depth(it: Depth, hunted: Hunted, ended: str) -> Iterator[str]:
+def depth(hunt: Exhaustive, ended: str) -> Iterator[str]:
     """How far every order was gone through."""
+    it, hunted = hunt.depth, hunt.hunted
     moves = f"{counted(it.states, 'state')}, {counted(it.tries, 'move')} made"
     with_what = ", ".join(kind.text for kind in hunted.interrupts)
     interrupts = f", with {with_what}" if with_what else ""
     if it.is_all:
         yield f"tried: every order there is of steps and ticks{interrupts}; {moves}"
-        return
-    yield f"tried: every order of {counted(it.moves, 'move')}{interrupts}; {moves}"
-    if ended:
+    else:
+        yield f"tried: every order of {counted(it.moves, 'move')}{interrupts}; {moves}"
+    if not hunt.finds:
+        yield from not_come_to(hunt.standing)
+    if hunt.goes_on and not hunt.finds:
+        yield past(hunted.moves)
+    if ended and not it.is_all:
         yield f"that isn't all: {ended}"
 
 

@@ -21,8 +21,9 @@ from typing import Callable, Deque, Dict, Iterator, List, Optional, Sequence, Se
 from rdbg.hunting.crew import Crew
 from rdbg.hunting.goals import End
 from rdbg.hunting.orders import Order
+from rdbg.hunting.standing import Standing
 from rdbg.hunting.states import Key, end_of
-from rdbg.hunting.worker import Entry, Hunted, Ran, Worker
+from rdbg.hunting.worker import Asked, Entry, Hunted, Ran, Worker
 
 # So many places are looked at in a piece, the first one of an order and others, and so many make a
 # chunk of tries.
@@ -126,7 +127,12 @@ class Search:
         self.own: Optional[Find] = None
         # Whether further surprises would come to no other state.
         self.is_all = False
+        # Whether orders go on past the limit of moves, which nobody asked for.
+        self.goes_on = False
+        self.standing = Standing(hunted.application)
+        crew.on_stood = self.standing.came
         self.on_try: Optional[Callable[[Order], None]] = None
+        self._are_moves_given = hunted.are_moves_given
         # An order may have so many moves, and be of use with so many.
         self._moves = self._most = hunted.moves
         self._ends: Set[End] = set()
@@ -134,6 +140,10 @@ class Search:
         self._places: Dict[Key, int] = {}
         self._entries: Dict[Key, int] = {}
         self._turn = 0
+        # Orders of a level that still go on at the limit, by their states there; and those states
+        # of the level before.
+        self._open: Dict[Key, Order] = {}
+        self._open_before: Set[Key] = set()
 
     @property
     def level(self) -> Level:
@@ -142,7 +152,7 @@ class Search:
 
     def states(self) -> int:
         """How many states are kept."""
-        return len(self._places) + len(self._entries)
+        return len(self._places) + len(self._entries) + len(self._open)
 
     def is_done(self) -> bool:
         """Whether as many were found as are wanted."""
@@ -159,12 +169,14 @@ class Search:
     def run(self) -> None:
         """Goes through the levels. Raises `TimeUp`, and `Full`."""
         nodes = self._first_level()
+        self._settle(is_last=True)
         for number in range(1, self.limits.surprises + 1):
             if self.is_done() or (self.finds and self.limits.smallest):
                 return
             self.levels.append(Level(number))
             is_last = number == self.limits.surprises
             nodes = self._through(nodes, is_last)
+            self._settle(is_last)
             has_more = self.level.tries > 0 or self.limits.parts > 1
             self.is_all = not nodes and not (is_last and has_more)
             if self.is_all:
@@ -181,12 +193,35 @@ class Search:
             if self.limits.smallest or self.limits.finds == 1:
                 return self._judged(Try(order, here), here)
             self._found(order, here)
-        ((_, (ran,)),) = self.crew.do(Worker.run, [(None, ([order], self._most))])
+        words = [order], self._most, self._asked()
+        ((_, (ran,)),) = self.crew.do(Worker.run, [(None, words)])
         if self.goal.compares and ran.met is not None:
             self.own = Find(order, ran.met, ran.end)
             self._ends.add(ran.end)
-            ran = Ran()
+            ran = Ran(last=ran.last)
         return self._judged(Try(order, None, self.limits.part == 1), ran)
+
+    def _asked(self) -> Asked:
+        """What is asked beside what orders come to."""
+        is_known = self._are_moves_given or self.goes_on
+        return Asked(self.standing.border(), not is_known)
+
+    def _settle(self, is_last: bool) -> None:
+        """Sees at the end of a level whether orders still went on at the limit of moves: those of
+        the level before, since by now each state behind them has been looked at; and of the last
+        level, behind whose orders none is, those that don't go round and round."""
+        orders, self._open = self._open, {}
+        self.goes_on = self.goes_on or not self._open_before <= self._places.keys()
+        self._open_before = set() if is_last else set(orders)
+        if self.finds or not is_last:
+            return
+        rounds: Set[Key] = set()
+        for key, order in sorted(orders.items(), key=lambda it: it[1].place):
+            if self.goes_on or key in rounds or key in self._places:
+                continue
+            ((_, keys),) = self.crew.do(Worker.loop, [(None, (order, self._moves))])
+            rounds.update(keys)
+            self.goes_on = not keys
 
     def _through(self, nodes: Sequence[Node], is_last: bool) -> List[Node]:
         """Goes through a level, and answers the orders of it behind which the next one goes on,
@@ -277,7 +312,7 @@ class Search:
 
     def _sifted(
         self, entered: Iterator[Tuple[Piece, List[Entry]]], is_last: bool
-    ) -> Iterator[Tuple[Batch, Tuple[List[Order], int]]]:
+    ) -> Iterator[Tuple[Batch, Tuple[List[Order], int, Asked]]]:
         """The orders to be tried, without those that come to a state that was seen; behind them
         the words of the job for those of which it isn't known what comes of them."""
         for chunk, entries in entered:
@@ -296,7 +331,7 @@ class Search:
                 if order.place <= self._most:
                     batch.tries.append(Try(order, known, is_mine))
             self._check_room()
-            yield batch, (batch.unknown(), self._most)
+            yield batch, (batch.unknown(), self._most, self._asked())
 
     def _was_seen(self, key: Key, place: int, seen: Dict[Key, int]) -> bool:
         """Whether a state was reached before with as few moves."""
@@ -311,6 +346,8 @@ class Search:
                 self.on_try(it.order)
             if ran.met is not None and (self.own is None or ran.end != self.own.end):
                 self._found(it.order, ran)
+            if ran.last is not None and ran.last not in self._places:
+                self._open.setdefault(ran.last, it.order)
         end = self._moves if ran.met is None or self.goal.compares else ran.met
         return [Node(it.order, end)]
 

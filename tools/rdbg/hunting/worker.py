@@ -5,18 +5,19 @@ Each line takes a place of the history, and the program looks through all of it 
 program is ended, without that, before it has too many, and a new one begun.
 """
 import dataclasses
-from typing import List, Optional, Sequence, Tuple
+from typing import FrozenSet, List, Optional, Sequence, Set, Tuple
 
 from rdbg import commands
 from rdbg.application import Application
 from rdbg.failure import Failure
-from rdbg.hunting.goals import End, Goal
+from rdbg.hunting.goals import End, Goal, is_stuck
 from rdbg.hunting.interrupts import AnInterrupt
 from rdbg.hunting.orders import FIRST_INTERRUPT, TICK, Order, chosen, way, with_move
+from rdbg.hunting.standing import At
 from rdbg.hunting.states import Key, end_of, key_of, with_came
 from rdbg.hunting.surprises import Came, Kind, Ladder, Surprise
 from rdbg.looks import Look, Names
-from rdbg.replies import Cores
+from rdbg.replies import Cores, Task
 from rdbg.shell.interrupt import Interrupt
 from rdbg.shell.opening import begin
 from rdbg.shell.target import Limits, read
@@ -30,7 +31,8 @@ HISTORY, LEFT = 200_000, 20_000
 @dataclasses.dataclass(frozen=True)
 class Hunted:
     """What is hunted through: an application, the goal, the kinds of surprises, and of how many
-    moves an order is at the most; whether each move is chosen; and the interrupts that may come."""
+    moves an order is at the most; whether each move is chosen; the interrupts that may come; and
+    whether who asked has given the number of moves."""
 
     source: Source
     goal: Goal
@@ -38,6 +40,7 @@ class Hunted:
     moves: int
     is_exhaustive: bool = False
     interrupts: Tuple[AnInterrupt, ...] = ()
+    are_moves_given: bool = True
 
     @property
     def application(self) -> Application:
@@ -68,22 +71,35 @@ class Entry:
 @dataclasses.dataclass(frozen=True)
 class Ran:
     """The place where an order met the goal, or where it ended and is compared; none where it did
-    not meet it. And what it came to there."""
+    not meet it. And what it came to there. `last` is the state where it has as many moves as it may
+    have, if it still goes on there, and that is asked."""
 
     met: Optional[int] = None
     end: End = ()
+    last: Optional[Key] = None
+
+
+@dataclasses.dataclass(frozen=True)
+class Asked:
+    """What is asked beside what orders come to: whether they come to one of these instructions, and
+    whether they still go on where they have as many moves as they may have."""
+
+    border: Tuple[At, ...] = ()
+    goes_on: bool = False
 
 
 @dataclasses.dataclass(frozen=True)
 class Child:
     """A state behind one more move that is chosen: the move as a byte, whether the goal is met
-    there, what an order that ends there comes to, and how many moves of rdbg's it is."""
+    there, what an order that ends there comes to, how many moves of rdbg's it is, and whether
+    anything can happen behind it."""
 
     move: int
     key: Key
     is_so: bool
     end: Optional[End]
-    moves: int = 1
+    moves: int
+    goes_on: bool
 
 
 def is_covered(order: Order, ladder: Ladder) -> bool:
@@ -100,8 +116,15 @@ class Worker:
         self.hunted, self.goal = hunted, hunted.goal
         self.names = Names.of(hunted.application)
         self.views = self.names.lines()
+        self._tasks = [f"show task {name}" for name in self.names.tasks]
         self._walk: Optional[Walk] = None
         self._now = Order()
+        self._stood: Set[At] = set()
+
+    def stood(self) -> FrozenSet[At]:
+        """Where tasks stood in the states that were looked at since this was asked last."""
+        stood, self._stood = frozenset(self._stood), set()
+        return stood
 
     @property
     def walk(self) -> Walk:
@@ -133,8 +156,9 @@ class Worker:
         return answers[len(lines) :]
 
     def _seen(self, views: Sequence[str], place: int, came: Came) -> Tuple[Key, Look]:
-        """What stands for a state, and the state as a look."""
+        """What stands for a state, and the state as a look. Takes note of where tasks stand."""
         look = Look.of(place, [read(view) for view in views])
+        self._stood.update((name, task.pc) for name, task in look.tasks.items())
         timed, has_turn = self.hunted.is_timed(), not self.hunted.is_exhaustive
         key = key_of(views, look.cores, len(self.names.tasks), timed, has_turn)
         return with_came(key, came), look
@@ -181,18 +205,66 @@ class Worker:
         key, look = self._seen(views, order.place, order.came)
         return Entry(offset, surprise, key, self.goal.is_so(look))
 
-    def run(self, orders: Sequence[Order], most: int) -> List[Ran]:
+    def run(self, orders: Sequence[Order], most: int, asked: Asked) -> List[Ran]:
         """Goes on behind each order as `forward` does, to the goal, with at most so many moves in
-        all."""
-        return [self._run(order, most) for order in orders]
+        all; and looks at what else is asked, where it doesn't meet it."""
+        return [self._run(order, most, asked) for order in orders]
 
-    def _run(self, order: Order, most: int) -> Ran:
+    def _run(self, order: Order, most: int, asked: Asked) -> Ran:
         if self._stand(order, []) is None:
             raise Failure("an order that was gone through can't be made again")
         met = self.goal.run(self.walk, most - order.place)
         ran = Ran() if met is None else Ran(met, self._end(met))
+        if met is None or self.goal.compares:
+            is_cut = self.walk.place == most
+            return dataclasses.replace(ran, last=self._return(order, asked, is_cut))
         self.walk.goto(order.place)
         return ran
+
+    def _return(self, order: Order, asked: Asked, is_cut: bool) -> Optional[Key]:
+        """Goes back to where an order ends, from where it went on to, and looks at what is asked.
+        Answers the state there, if that is asked, and it still goes on."""
+        target = self.walk.target
+        made = self.walk.place - order.place
+        views = self.views if asked.goes_on and is_cut else []
+        back = [f"back {made}"] if made else []
+        looks = [[*back, f"until pc {task} = {pc} {made}"] for task, pc in asked.border if made]
+        answers = target.tell_all([*views, *(line for look in looks for line in look), *back])
+        if any(answer.endswith(" met") for answer in answers[len(views) :]):
+            self._look_through(order, made)
+        if not views:
+            return None
+        key, look = self._seen(answers[: len(views)], 0, order.came)
+        return key if self._goes_on(look, order.came) else None
+
+    def _look_through(self, order: Order, count: int) -> None:
+        """Looks where tasks stand in so many states behind an order, and goes back to its end."""
+        self.walk.goto(0)
+        self._now = Order()
+        self._stand(order, [])
+        for answer in self.walk.target.tell_all(["forward 1", *self._tasks] * count):
+            value = read(answer)
+            if isinstance(value, Task):
+                self._stood.add((value.name, value.pc))
+        self.walk.goto(order.place)
+
+    def _goes_on(self, look: Look, came: Came) -> bool:
+        """Whether more can happen behind a state than that ticks pass, or the goal asks for these."""
+        if self.goal.is_timed or not is_stuck(look):
+            return True
+        return any(True for it in self.hunted.interrupts if any(it.ladders(look.cores, came)))
+
+    def loop(self, order: Order, most: int) -> List[Key]:
+        """The states through which an order goes round and round behind its last surprise, if it has
+        come to such with so many moves in all."""
+        found: List[Key] = []
+        for count in range(most - order.place, -1, -1):
+            views = self._stand(order.ahead(count), self.views)
+            key = self._seen(views or [], 0, order.came)[0]
+            if found and key == found[0]:
+                return found
+            found.append(key)
+        return []
 
     def _end(self, place: int) -> End:
         """What an order has come to."""
@@ -234,4 +306,5 @@ class Worker:
         if views is None:
             return None
         key, look = self._seen(views, order.place, order.came)
-        return Child(move, key, self.goal.is_so(look), self.goal.end_of(look, views), moves)
+        is_so, end = self.goal.is_so(look), self.goal.end_of(look, views)
+        return Child(move, key, is_so, end, moves, self._goes_on(look, order.came))
