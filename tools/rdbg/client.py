@@ -15,6 +15,7 @@ from types import TracebackType
 from typing import IO, Callable, Deque, Iterable, Iterator, List, Optional, Sequence, Type, Union
 
 from rdbg import replies
+from rdbg.commands import MOST_BYTES
 from rdbg.ending import ENDING, STARTED
 from rdbg.failure import Failure
 from rdbg.shown import shown
@@ -30,6 +31,14 @@ NOTICE, REFUSED = b"#", "# no: "
 ROOM_ENDED = "# the room has ended"
 YOU = re.compile(r"# you are ([a-z][a-z0-9_]{0,15}), session ([0-9]{1,10})\b")
 READ = 65_536
+
+
+def cut(line: str) -> bytes:
+    """A line as it is sent; what doesn't fit into one is left out."""
+    content = line.replace("\n", " ").encode("utf-8", "replace")
+    if len(content) > MOST_BYTES:
+        content = content[: MOST_BYTES - 2].decode("utf-8", "ignore").encode() + b".."
+    return content + b"\n"
 
 
 def text_of(line: bytes) -> str:
@@ -112,8 +121,9 @@ class PortLines(Incoming):
 class Session:
     """One session, by the pipes of a program of its own (`start`) or a port (`attach`).
 
-    `on_line`, where it is set, is told each line with its reply; `on_notice` each notice, wherever
-    a reply is read, and at once those that came before it was set. At a room `name` and `number`
+    `on_line`, where it is set, is told each line with its reply, `on_ask` the lines that are about
+    to be sent; `on_notice` each notice, wherever a reply is read, and at once those that came before
+    it was set. At a room `name` and `number`
     are those by which the room knows the session.
     """
 
@@ -124,6 +134,7 @@ class Session:
         # (replies that nobody has read yet, as after an interrupt from the keyboard)
         self._owed = 0
         self.on_line: Optional[Callable[[str, str], None]] = None
+        self.on_ask: Optional[Callable[[Sequence[str]], None]] = None
         self.name: Optional[str] = None
         self.number: Optional[int] = None
         self._goodbye = ""
@@ -238,6 +249,8 @@ class Session:
 
     def _exchange(self, batch: Sequence[str]) -> Iterator[str]:
         self._catch_up()
+        if self.on_ask is not None:
+            self.on_ask(batch)
         try:
             self._lines.write("".join(f"{line}\n" for line in batch).encode())
             self._lines.flush()
@@ -302,6 +315,22 @@ class Session:
             self._hear(heard)
             heads = (REFUSED, "# you are ", "# here: ", "# at ", f"# {self.name} ")
             is_answered = text_of(heard).startswith(heads)
+
+    def note(self, line: str) -> None:
+        """Says a line that begins with `#`, and isn't answered, to a room; else it says nothing."""
+        if self.name is not None:
+            with contextlib.suppress(OSError):
+                self._lines.write(cut(line))
+                self._lines.flush()
+
+    @contextlib.contextmanager
+    def looking(self) -> Iterator[None]:
+        """As long as a program looks for itself: a room keeps none of it as said."""
+        self.note("# does")
+        try:
+            yield
+        finally:
+            self.note("# did")
 
     def waited_for(self) -> Optional[int]:
         """What becomes readable once a notice comes, at a port."""

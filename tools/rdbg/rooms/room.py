@@ -6,6 +6,7 @@ from typing import Callable, Deque, Dict, List, NamedTuple, Optional, Set
 
 from rdbg.commands import MOST_BYTES, Command
 from rdbg.rooms import remarks
+from rdbg.rooms.doings import Doing
 from rdbg.rooms.host import MOST_SESSIONS, Audit, Ended, Host
 from rdbg.rooms.program import HISTORY, SCARCE, Program
 from rdbg.rooms.seats import Refusal, Seat, Seats, check
@@ -46,6 +47,8 @@ class Member:
     def __init__(self, room: "Room", seat: Seat, hear: Hear, is_told: bool) -> None:
         self._room, self.seat, self.hear, self.is_told = room, seat, hear, is_told
         self.is_here = True
+        # What it is in the midst of, by several lines.
+        self.doing: Optional[Doing] = None
         # (when it last said something to the room)
         self._told_at: Deque[float] = collections.deque(maxlen=MOST_TOLD)
 
@@ -212,6 +215,7 @@ class Room:
         with self._turns:
             if not member.is_here:
                 return
+            self.end(member, f"broken off, at {self.place}")
             member.is_here = False
             self._seats.leave(member.seat)
             del self._members[member.session]
@@ -236,17 +240,37 @@ class Room:
             except Ended:
                 self._keep(member.name, line, "")
                 raise
-            self._keep(member.name, line, reply)
+            if member.doing is None or not member.doing.has(command_of(line)):
+                self._keep(member.name, line, reply)
             self._warn(member, reply)
             return reply
+
+    def begin(self, member: Member, text: str) -> None:
+        """Somebody begins what takes several lines; without a text to look for itself."""
+        self.end(member, "")
+        member.doing = Doing(text)
+
+    def end(self, member: Member, came_to: str) -> None:
+        """What somebody was in the midst of has come to an end: that is told and kept."""
+        doing = member.doing
+        if doing is not None:
+            self._tell_doing(member, came_to)
+            member.doing = None
+            if doing.text:
+                self._keep(member.name, doing.text, came_to)
+
+    def _tell_doing(self, member: Member, came_to: str = "") -> None:
+        """Tells the others what somebody has done so far of what takes several lines."""
+        if member.doing is not None:
+            for text in member.doing.take(member.name, came_to):
+                self.tell(text, but=member)
 
     def _answer(self, member: Member, line: str) -> str:
         if len(line.encode("utf-8", "replace")) > MOST_BYTES:
             return TOO_LONG
         if "\n" in line:
             return NO_COMMAND
-        sent = line.encode("ascii", "replace").decode()
-        command = read_line(sent)
+        sent, command = plain(line), command_of(line)
         if command is None:
             word = sent.split(" ")[0]
             if word in remarks.DO:
@@ -281,10 +305,24 @@ class Room:
         said = " ".join(command.words)
         for told in self._followers:
             told(said, reply)
-        self.tell(f"{member.name}: {said} -> {reply}" + (f", {effect}" if effect else ""))
-        for row in rows:
-            self.tell(row)
+        done = f"{member.name}: {said} -> {reply}" + (f", {effect}" if effect else "")
+        self._tell_done(member, command, [done, *rows])
         return reply
+
+    def _tell_done(self, member: Member, command: Command, lines: List[str]) -> None:
+        """Tells all what somebody has done; the others later where it is but a part of something.
+        What they are in the midst of themselves was done before."""
+        for other in self._members.values():
+            if other is not member:
+                self._tell_doing(other)
+        if member.doing is not None and member.doing.has(command):
+            for line in lines:
+                member.hear(f"# {shown(line)}")
+            member.doing.add(lines, self.place)
+            return
+        self._tell_doing(member)
+        for line in lines:
+            self.tell(line)
 
     def _say_who_has_it(self, member: Member) -> None:
         """Says to who was refused it who has the wheel."""
@@ -336,8 +374,8 @@ class Room:
                 return
             name, was_told = member.name, member.is_told
             answer = remarks.do(self, member, line)
-            if was_told or not member.is_told:  # (else it is kept that somebody comes)
-                self._keep(name, line, answer)
+            if answer is not None and (was_told or not member.is_told):
+                self._keep(name, line, answer)  # (else it is kept that somebody comes)
 
     def follow(self, told: Callable[[str, str], None]) -> List[str]:
         """From now on tells each line that has changed something, with its reply, in order; what is
@@ -403,6 +441,8 @@ class Room:
         self._program.wait()
         with self._turns:
             self.is_over = True
+            for member in self._members.values():
+                self.end(member, f"broken off, at {self.place}")
             audit = self._program.close()
             self._keep("room", "#", audit.text())
             self.tell(f"the room has ended: {audit.text()}")
@@ -413,3 +453,13 @@ class Room:
     def kill(self) -> None:
         """Ends the program at once, without its audit."""
         self._program.kill()
+
+
+def plain(line: str) -> str:
+    """A line as it goes to the program."""
+    return line.encode("ascii", "replace").decode()
+
+
+def command_of(line: str) -> Optional[Command]:
+    """The command that a line is, if any."""
+    return read_line(plain(line))

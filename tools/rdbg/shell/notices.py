@@ -5,7 +5,7 @@ import os
 import re
 import select
 import threading
-from typing import Callable, Iterator, List, Optional, Tuple
+from typing import Callable, Iterator, List, Optional, Sequence, Tuple
 
 from rdbg.client import ROOM_ENDED, Session
 from rdbg.failure import Failure
@@ -17,6 +17,8 @@ MOVED = re.compile(r"# \w+: .* -> ok at ([0-9]{1,10})\b")
 REMARK = re.compile(r"# *(who|wheel|name +\S+|say +\S.*|moves( +[0-9]+)?)$")
 # So many moves a room tells at the most.
 MOST_MOVES = 20
+# Between the lines of what something came to.
+BETWEEN = " | "
 # So many seconds pass until who wasn't woken is woken again.
 AGAIN = 0.05
 
@@ -36,7 +38,11 @@ class Notices:
         self._session, self._show, self._moved = session, show, moved
         self._own: List[str] = []
         self._is_own = False
-        session.on_notice = self.hear
+        # (what was typed and isn't asked yet, none while nothing is done)
+        self._typed: Optional[str] = None
+        self._is_begun = False
+        self._said: List[str] = []
+        session.on_notice, session.on_ask = self.hear, self._asking
 
     @property
     def is_room(self) -> bool:
@@ -66,6 +72,35 @@ class Notices:
         head, *rows = self._own
         _, _, behind = head.partition(f" -> {reply}")
         return behind[len(", ") :], rows
+
+    @contextlib.contextmanager
+    def doing(self, typed: str) -> Iterator[None]:
+        """As long as what was typed is done. The room keeps a line that is asked as it was typed by
+        itself. Of others it is told which word they are for, and what that came to; or, where
+        nothing was typed or it was asked already, that they are looks of sh's own."""
+        self._typed, self._is_begun = (typed if self.is_room else None), False
+        self._said.clear()
+        try:
+            yield
+        finally:
+            if self._is_begun:
+                self._session.note(f"# did {BETWEEN.join(self._said)}".rstrip())
+            self._typed, self._is_begun = None, False
+
+    def _asking(self, lines: Sequence[str]) -> None:
+        """Lines are about to be asked."""
+        if self._typed is None or self._is_begun:
+            return
+        if self._typed and list(lines) == [self._typed]:
+            self._typed = ""
+        else:
+            self._is_begun = True
+            self._session.note(f"# does {self._typed}".rstrip())
+
+    def said(self, text: str) -> None:
+        """A line was printed of what is done."""
+        if self._typed is not None:
+            self._said.append(text)
 
     def forget(self) -> None:
         """A new line begins."""

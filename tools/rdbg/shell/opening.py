@@ -87,10 +87,11 @@ def attach(port: int, source: Optional[Source], name: Optional[str] = None) -> T
     application = source.application if source else None
     target = Target(session, application, None)
     try:
-        target.places()
-        target.tell("show cores")
-        if source is not None and application is not None:
-            compare(target, application, source.path)
+        with session.looking():
+            target.places()
+            target.tell("show cores")
+            if source is not None and application is not None:
+                compare(target, application, source.path)
     except BaseException:
         session.close()
         raise

@@ -133,7 +133,7 @@ def greet(shell: "Shell") -> None:
         shell.say("`# who`, `# say TEXT` and `# wheel` are for the room")
     if shell.target.application is None:
         shell.say("the scripts aren't known without their file: `rdbg sh --port P FILE` shows them")
-    shell.line("where")
+    shell.line("where", is_typed=False)
 
 
 def talk(shell: "Shell") -> None:

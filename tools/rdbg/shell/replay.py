@@ -27,19 +27,19 @@ VALUE = re.compile("[0-9]+|r[0-7]|max")
 
 def moves(shell: "Shell", words: Sequence[str]) -> None:
     """`moves [COUNT]`: the last moves, each with what it did."""
-    places = shell.target.places()
-    done, base = places.done, places.done - places.kept
     count = DEFAULT_MOVES
-    if words == ["all"]:
-        count = max(1, done)
-    elif words:
+    if words and words != ["all"]:
         if len(words) > 1 or not commands.is_count(words[0]):
             raise Unable("`moves` shows the last 20, `moves 100` the last 100, `moves all` all")
         count = int(words[0])
-    if shell.notices.is_room and count <= MOST_MOVES:
+    if shell.notices.is_room and words != ["all"] and count <= MOST_MOVES:
         shell.notices.forget()
         shell.target.session.remark(f"# moves {count}")
         return
+    places = shell.target.places()
+    done, base = places.done, places.done - places.kept
+    if words == ["all"]:
+        count = max(1, done)
     first = max(base + 1, done - count + 1)
     with shell.wheel():
         found, _ = (

@@ -4,7 +4,7 @@ import re
 import shutil
 import sys
 import time
-from typing import Iterator, Optional
+from typing import Iterator, Optional, Sequence
 
 from rdbg import commands
 from rdbg.looks import Look, Names
@@ -56,6 +56,12 @@ class Shell:
         self._wipe()
         for line in text.split("\n"):
             print(f"# {line}".rstrip())
+            self.notices.said(line.strip())
+
+    def answer(self, reply: str) -> None:
+        """Prints a reply of rdbg's."""
+        print(reply)
+        self.notices.said(reply)
 
     def _notice(self, notice: str) -> None:
         """Prints a notice of a room."""
@@ -114,10 +120,8 @@ class Shell:
         if self.shows_lines:
             print(f"> {line}")
 
-    def line(self, text: str) -> None:
-        """Does what a line asks for."""
-        from rdbg.shell.words import find
-
+    def line(self, text: str, is_typed: bool = True) -> None:
+        """Does what a line asks for, which somebody has typed, or sh says to itself."""
         self.asked = ""
         self._shown = time.monotonic()
         if self.notices.is_room and is_remark(text):
@@ -129,6 +133,14 @@ class Shell:
         words = stripped.replace("\t", " ").split()
         if not words:
             return
+        with self.notices.doing(stripped if is_typed else ""):
+            self._do(stripped, words)
+        sys.stdout.flush()
+
+    def _do(self, stripped: str, words: Sequence[str]) -> None:
+        """Does a line: one of rdbg's as it is, or a word of sh's own."""
+        from rdbg.shell.words import find
+
         names = self.target.names
         known = (*names.tasks, *(name for _, name in names.objects))
         word = None if commands.read(stripped) else find(words, known)
@@ -146,7 +158,6 @@ class Shell:
             self.hint(hints.refusal(self, self.asked, refused))
         self.notice()
         self._warn()
-        sys.stdout.flush()
 
     @contextlib.contextmanager
     def wheel(self) -> Iterator[None]:
@@ -183,7 +194,7 @@ class Shell:
         if self.target.drift is not None:
             place, before = self.target.drift[1], None
             self.notice()
-        print(reply)
+        self.answer(reply)
         if reply.startswith("no "):
             self.hint_on(text, reply)
             if self.is_terminal and self.pieces.is_again:

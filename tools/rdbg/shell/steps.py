@@ -52,7 +52,7 @@ def tick(shell: "Shell", words: Sequence[str]) -> None:
         start = shell.target.places().done
         reply = many_ticks(shell, int(words[0]))
         here = shell.target.place
-        print(reply)
+        shell.answer(reply)
         shell.hint_on("tick", reply)
         if reply.startswith("no ") and here > start:
             shell.say(f"the moves up to {here} are made")

@@ -1,0 +1,38 @@
+"""What somebody does by several lines, and is told to the others, and kept, as one."""
+from typing import List, Optional
+
+from rdbg.commands import Command
+from rdbg.shell.notices import BETWEEN
+from rdbg.shell.target import BY_HAND
+
+
+class Doing:
+    """What was typed, and what the lines that it took have done so far that others weren't told.
+    Without a text it is a program that looks for itself."""
+
+    def __init__(self, text: str) -> None:
+        self.text = text
+        self._done: List[List[str]] = []
+        self._place = 0
+
+    def has(self, command: Optional[Command]) -> bool:
+        """Whether a line is but a part of it. What changes something by hand, and a trim, are told
+        and kept by themselves, and so is what changes something where nothing was typed."""
+        if command is None or command.form.is_look:
+            return True
+        return bool(self.text) and command.form.word not in (*BY_HAND, "trim")
+
+    def add(self, lines: List[str], place: int) -> None:
+        """One of its lines has led to a place; it would have been told so."""
+        self._done.append(lines)
+        self._place = place
+
+    def take(self, name: str, came_to: str = "") -> List[str]:
+        """What the others are told of what was done since they were last told. One line is told as
+        if it had been typed; of more it is told what was typed, and what that came to."""
+        done, self._done = self._done, []
+        if len(done) < 2:
+            return [line for lines in done for line in lines]
+        came = came_to.partition(BETWEEN)[0]
+        at = f"at {self._place}"
+        return [f"{name}: {self.text} -> ok {came if came.startswith(f'{at} ') else at}"]
