@@ -25,11 +25,21 @@ def free_port() -> int:
 class Process:
     """A room in a process of its own, and what it says at its end."""
 
-    def __init__(self, words: Sequence[str], path: str, head: Sequence[str] = ()) -> None:
+    def __init__(
+        self,
+        words: Sequence[str],
+        path: str,
+        head: Sequence[str] = (),
+        keys: Optional[int] = None,
+    ) -> None:
         self.port = free_port()
         told = [*head, sys.executable, "-B", str(COMPANION), "room", path, "--port", str(self.port)]
         self.process = subprocess.Popen(
-            [*told, *words], stdout=subprocess.PIPE, stderr=subprocess.PIPE, text=True
+            [*told, *words],
+            stdin=keys,
+            stdout=subprocess.PIPE,
+            stderr=subprocess.PIPE,
+            text=True,
         )
         self.output = self.errors = ""
 
@@ -51,10 +61,15 @@ class Process:
 
 @contextlib.contextmanager
 def room(
-    *words: str, path: str = LOST, sessions: int = 6, head: Sequence[str] = ()
+    *words: str,
+    path: str = LOST,
+    sessions: int = 6,
+    head: Sequence[str] = (),
+    keys: Optional[int] = None,
 ) -> Iterator[Process]:
-    """A room that listens, started by what stands in `head`; it ends with the block."""
-    found = Process([*words, "--sessions", str(sessions)], path, head)
+    """A room that listens, started by what stands in `head`, with `keys` as its standard input; it
+    ends with the block."""
+    found = Process([*words, "--sessions", str(sessions)], path, head, keys)
     try:
         found.wait()
         yield found

@@ -6,7 +6,7 @@ import select
 import signal
 import sys
 import time
-from typing import Dict
+from typing import Dict, Sequence
 
 from tests.paths import COMPANION
 
@@ -15,14 +15,17 @@ PATIENCE = 30.0
 
 
 class Terminal:
-    """A process with a terminal of its own. It waits for what it expects, however long that takes
+    """A companion with a terminal of its own, started by what stands in `head`. It waits for what it expects, however long that takes
     on a busy machine."""
 
-    def __init__(self, *words: str, environment: Dict[str, str]) -> None:
+    def __init__(
+        self, *words: str, environment: Dict[str, str], head: Sequence[str] = (), name: str = "sh"
+    ) -> None:
         self.pid, self._fd = pty.fork()
         if self.pid == 0:
             os.environ.update(environment, TERM="dumb", COLUMNS="200")
-            os.execv(sys.executable, [sys.executable, "-B", str(COMPANION), "sh", *words])
+            told = [*head, sys.executable, "-B", str(COMPANION), name, *words]
+            os.execvp(told[0], told)
         self.screen = ""
 
     def expect(self, pattern: str, patience: float = PATIENCE) -> str:

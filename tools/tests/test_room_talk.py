@@ -124,7 +124,7 @@ class ToldOnce(unittest.TestCase):
         with room() as here, Caller(here.port, "bo") as bo:
             bo.ask(first)
             filtered(here, *lines)
-            heard = []
+            heard: List[str] = []
             while not heard or not heard[-1].startswith("# ada is away"):
                 heard.append(bo.expect("#"))
         return [it for it in heard if it.startswith("# ada: ") or not it.startswith("# ada ")]

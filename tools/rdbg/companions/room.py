@@ -7,7 +7,7 @@ from typing import Optional, Sequence
 
 from rdbg.companions.sh import bounded, port, read
 from rdbg.failure import Failure
-from rdbg.rooms import web
+from rdbg.rooms import keys, web
 from rdbg.rooms.host import MOST_SESSIONS
 from rdbg.rooms.program import HISTORY
 from rdbg.rooms.port import Port, listening
@@ -20,7 +20,8 @@ SUMMARY = "a room for several at one target, by names: what anyone does, all are
 EPILOG = (
     "`rdbg sh --port P --name NAME` attaches to it, or any program that opens a connection, as nc."
     " Lines that begin with # are for the room: `# name NAME`, `# who`, `# say TEXT`,"
-    " `# moves COUNT`, `# wheel`. Ctrl-C, or SIGTERM, ends it with rdbg's own audit. The status is"
+    " `# moves COUNT`, `# wheel`. Typed at the room itself, `free` gives back the wheel of who is idle."
+    " Ctrl-C, or SIGTERM, ends it with rdbg's own audit. The status is"
     " 0; 1 where the application is refused, rdbg ends before, its audit finds something, or the"
     " talk couldn't be kept; 2 where a file or a port can't be had."
 )
@@ -61,6 +62,13 @@ def parser() -> argparse.ArgumentParser:
         default=MOST_SESSIONS,
         metavar="N",
         help=f"for how many at a time, 1 to {MOST_SESSIONS}",
+    )
+    made.add_argument(
+        "--idle",
+        type=bounded(1),
+        default=keys.IDLE,
+        metavar="S",
+        help=f"seconds without a line after which the wheel can be freed, else {keys.IDLE}",
     )
     made.add_argument("--moves", type=bounded(1), metavar="N", help="how many moves may be done")
     made.add_argument(
@@ -140,4 +148,5 @@ def main(words: Sequence[str]) -> int:
         print(f"web {pages.address}", flush=True)
     if sys.stdout.isatty():
         print(f"# rdbg sh --port {given.port} --name NAME {given.file}: a prompt in it", flush=True)
+    keys.listen(room, given.idle)
     return serve(room, port, talk, pages)

@@ -49,8 +49,9 @@ class Member:
         self.is_here = True
         # What it is in the midst of, by several lines.
         self.doing: Optional[Doing] = None
-        # (when it last said something to the room)
+        # (when it last said something to the room, and when it last said a line of any kind)
         self._told_at: Deque[float] = collections.deque(maxlen=MOST_TOLD)
+        self._said_at = time.monotonic()
 
     @property
     def name(self) -> str:
@@ -85,6 +86,15 @@ class Member:
         if len(self._told_at) == MOST_TOLD and now - self._told_at[0] < 1:
             raise Refusal(f"{MOST_TOLD} remarks of one are answered in a second, and no more")
         self._told_at.append(now)
+
+    def says(self) -> None:
+        """It says a line, or its program does for it: what that looks at by itself is none."""
+        if self.doing is None or self.doing.text:
+            self._said_at = time.monotonic()
+
+    def silence(self) -> int:
+        """For how many seconds it has said nothing."""
+        return int(time.monotonic() - self._said_at)
 
     def leave(self, why: str = "") -> None:
         """Is away: the session stays for who comes by this name."""
@@ -235,6 +245,7 @@ class Room:
                 raise Refusal(f"{member.name} has left")
             if self.is_over:
                 raise Ended("the room has ended")
+            member.says()
             try:
                 reply = self._answer(member, line)
             except Ended:
@@ -374,6 +385,8 @@ class Room:
                 return
             name, was_told = member.name, member.is_told
             answer = remarks.do(self, member, line)
+            if answer is not None:
+                member.says()
             if answer is not None and (was_told or not member.is_told):
                 self._keep(name, line, answer)  # (else it is kept that somebody comes)
 
@@ -428,6 +441,38 @@ class Room:
         self.tell(text)
         return text
 
+    def free_wheel(self, idle: int) -> str:
+        """Has the wheel given back by who has it, and is away, or has said nothing for so many
+        seconds. Answers what all are told. Raises `Refusal`."""
+        with self._turns:
+            try:
+                text = self._freed(idle)
+            except Refusal as refusal:
+                self._keep("room", "# free", f"no: {refusal}")
+                raise
+            self._keep("room", "# free", text)
+            self.tell(text)
+            return text
+
+    def _freed(self, idle: int) -> str:
+        holder = self._program.holder
+        if self.is_over:
+            raise Refusal("the room has ended")
+        if holder is None:
+            raise Refusal("nobody has the wheel")
+        seat, member = self._seats.of_number(holder), self._members.get(holder)
+        silence = member.silence() if member else 0
+        if member is not None and silence < idle:
+            raise Refusal(
+                f"{seat.name} has the wheel and isn't idle: {seconds(silence)} without a line,"
+                f" {seconds(idle)} would do"
+            )
+        self._program.ask(seat, "wheel give")
+        why = f"idle for {seconds(silence)}" if member else "away"
+        return (
+            f"who started the room has {seat.name}, who is {why}, give back the wheel: it is free"
+        )
+
     def _is_over(self, why: str) -> None:
         """The program has ended by itself."""
         if not self.is_over:
@@ -463,3 +508,8 @@ def plain(line: str) -> str:
 def command_of(line: str) -> Optional[Command]:
     """The command that a line is, if any."""
     return read_line(plain(line))
+
+
+def seconds(count: int) -> str:
+    """So many seconds, in words."""
+    return "1 second" if count == 1 else f"{count} seconds"

@@ -8,7 +8,7 @@ from rdbg.shown import shown
 
 GUEST = "guest"
 # Words that stand at the head of what a room says.
-NOT_NAMES = ("no", "you", "here", "away", "rdbg")
+NOT_NAMES = ("no", "you", "here", "away", "rdbg", "room")
 # A condition that every application has.
 ANY = "tick = 0"
 NAMING = "a name is 1 to 16 of a to z, 0 to 9 and _, the first a letter"
