@@ -1,5 +1,6 @@
 """How a room ends, and what is left of the talk then."""
 import contextlib
+import datetime
 import io
 import os
 import pathlib
@@ -76,11 +77,21 @@ class Ends(unittest.TestCase):
 
     def test_a_talk_goes_on_behind_another(self) -> None:
         with talk() as file:
+            began = datetime.datetime.utcnow()
             for name in ("left", "right"):
                 with room("--talk", str(file), sessions=1) as here:
                     with Caller(here.port, name) as caller:
                         caller.ask("tick")
                         here.end()
+            whens = [line.split("\t")[0] for line in file.read_text().splitlines()[1:]]
+            times = [datetime.datetime.strptime(it, "%Y-%m-%dT%H:%M:%S.%fZ") for it in whens]
+            moment = datetime.timedelta(milliseconds=1)
+            self.assertEqual(sorted(times), times)
+            self.assertLess(began - moment, times[0])
+            self.assertLess(times[-1], datetime.datetime.utcnow() + moment)
+            opens = [row for row in rows(file) if row[2].startswith("opens")]
+            self.assertEqual(opens, [["room", "#", f"opens {LOST}"]] * 2)
+            self.assertEqual(rows(file)[0], opens[0])
             lines = [row for row in rows(file) if row[1] == "tick"]
             self.assertEqual(lines, [["left", "tick", "ok at 1"], ["right", "tick", "ok at 1"]])
 

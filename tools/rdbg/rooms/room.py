@@ -124,6 +124,7 @@ class Room:
         self._asked: Set[int] = set()
         self._warned = 0
         self._audits: List[Audit] = []
+        self._keep("room", "#", f"opens {source.path}")
 
     @property
     def place(self) -> int:
