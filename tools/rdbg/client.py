@@ -185,7 +185,9 @@ class Session:
         try:
             connection = socket.create_connection((LOCAL, port))
         except OSError as error:
-            raise Failure(f"cannot attach to port {port}: {error.strerror}", 2) from None
+            is_free = isinstance(error, ConnectionRefusedError)
+            why = "nobody listens there" if is_free else error.strerror
+            raise Failure(f"cannot attach to port {port}: {why}", 2) from None
         lines = connection.makefile("wb")
         session = cls(lines, PortLines(connection), f"the server at port {port}")
         if name is not None:

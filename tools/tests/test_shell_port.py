@@ -217,6 +217,17 @@ class Ports(unittest.TestCase):
             closed = f"rdbg sh: the server at port {port} has closed the connection\n"
             self.assertEqual(errors.getvalue(), closed)
 
+    def test_a_port_where_nobody_listens(self) -> None:
+        with socket.socket() as free:
+            free.bind(("127.0.0.1", 0))
+            port = free.getsockname()[1]
+        for more in ([], ["--name", "ada"], [LOST]):
+            errors = io.StringIO()
+            with contextlib.redirect_stderr(errors):
+                self.assertEqual(main(["sh", "--port", str(port), *more]), 2)
+            why = f"rdbg sh: cannot attach to port {port}: nobody listens there\n"
+            self.assertEqual(errors.getvalue(), why)
+
     def test_a_server_that_does_not_answer(self) -> None:
         with socket.socket() as listening, mock.patch("rdbg.shell.opening.PATIENCE", 0.01):
             listening.bind(("127.0.0.1", 0))
